@@ -14,18 +14,18 @@ use Rattle.tc_machine.specs.Fetching.{fetched, fetched_size}
 use Rattle.tc_machine.specs.Stepping.{is_taken, step, run}
 use Rattle.depth_cert.specs.declared.points.Point.{Point}
 use Rattle.depth_cert.specs.Points.{find_point}
-use Rattle.depth_cert.specs.Nodes.{NodeData}
-use Rattle.depth_cert.specs.Certs.{CertData, find_node}
+use Rattle.depth_cert.specs.Nodes.{NodeData, find_node}
+use Rattle.depth_cert.specs.Certs.{CertData}
 use Rattle.depth_cert.proofs.KeyLaws.{found_in}
 use Rattle.cfg_recover.specs.Entries.{start_key}
 use Rattle.cfg_recover.specs.Duties.{Owed, duties_of}
 use Rattle.cfg_recover.specs.RulesHoldOrFail.{limits_in}
 use Rattle.cfg_recover.specs.MovesAreOwed.{InState}
-use Rattle.tc_machine.specs.Instructions.{traps}
+use Rattle.tc_machine.specs.Instructions.{is_trapping_instruction}
 use Rattle.cfg_recover.specs.Frames.{Standing, frames_by, frames_after, frames_from, frames, AreFramesHeld, HoldFrames, IsReturn}
 use Rattle.cfg_recover.specs.EdgesAreOwed.{IsEdgeWayOwed, EdgeOwed}
 use Rattle.cfg_recover.specs.StepEdges.{EdgeWay, to, call, irq, sys, aln, ret, rfe, edge_way_of_shape, edge_way_by_trap, edge_way_in_fetch, edge_way_of_step}
-use Rattle.cfg_recover.specs.FrameLaws.{StepMeetsShape, KeepsFrame, EdgeIs, EdgesAre, FramesNext, FramesAre, FramesSay, HeldFramesSay, GoesBackToFrame, StepOwed, EdgeSays, OwedEdgesSay}
+use Rattle.cfg_recover.specs.EdgeAndFrameLaws.{StepMeetsShape, KeepsFrame, EdgeIs, EdgesAre, FramesNext, FramesAre, FramesSay, HeldFramesSay, GoesBackToFrame, StepOwed, EdgeSays, OwedEdgesSay}
 
 -- ---- edges
 stays_to : (shape : Shape) (q : ℕ) → KeepsFrame shape → edge_way_of_shape shape q ≡ to q
@@ -44,10 +44,10 @@ module _ (m : Machine) (e : Event) where
       ap (λ (b : Bool). cond b (irq (step m e).pc) (edge_way_in_fetch m e (fetched m) (step m e).pc)) h.free
       ∙ ap (λ (f : Result (Shape × ℕ) Cause). edge_way_in_fetch m e f (step m e).pc) h.there
 
-  trapped : (shape : Shape) (n : ℕ) → StepMeetsShape m e shape n → traps m e shape ≡ true → edge_way_of_step m e ≡ aln (step m e).pc
+  trapped : (shape : Shape) (n : ℕ) → StepMeetsShape m e shape n → is_trapping_instruction m e shape ≡ true → edge_way_of_step m e ≡ aln (step m e).pc
   trapped shape n h t = met shape n h ∙ ap (λ (b : Bool). cond b (aln (step m e).pc) (edge_way_of_shape shape (step m e).pc)) t
 
-  stayed : (shape : Shape) (n : ℕ) → StepMeetsShape m e shape n → traps m e shape ≡ false → KeepsFrame shape → edge_way_of_step m e ≡ to (step m e).pc
+  stayed : (shape : Shape) (n : ℕ) → StepMeetsShape m e shape n → is_trapping_instruction m e shape ≡ false → KeepsFrame shape → edge_way_of_step m e ≡ to (step m e).pc
   stayed shape n h t keeps =
       met shape n h ∙ ap (λ (b : Bool). cond b (aln (step m e).pc) (edge_way_of_shape shape (step m e).pc)) t ∙ stays_to shape (step m e).pc keeps
 

@@ -21,7 +21,7 @@ use Rattle.tc_machine.specs.declared.events.End.TheVariants.{Running}
 use Rattle.tc_machine.specs.declared.state.Machine.{Machine}
 use Rattle.tc_machine.specs.Machine.{reg, a11, machine_address_ahead, IsMachine}
 use Rattle.tc_machine.specs.Fetching.{fetched}
-use Rattle.tc_machine.specs.Instructions.{does, access_address, is_trapping_access, target_of, core_register, traps}
+use Rattle.tc_machine.specs.Instructions.{does, access_address, is_trapping_access, target_of, core_register, is_trapping_instruction}
 use Rattle.tc_machine.specs.Stepping.{is_taken, load_in, store_in, where_running, stored, step}
 use Rattle.tcd_plan.specs.Regions.{IsInAreas, AnswersLoad, IsStoreInRange}
 use Rattle.tc_machine.specs.Safe.{Fits}

@@ -13,8 +13,8 @@ use Rattle.depth_cert.specs.declared.keys.Key.{Key}
 use Rattle.depth_cert.specs.declared.points.Point.{Point}
 use Rattle.depth_cert.specs.Keys.{number_of_key, IsKey}
 use Rattle.depth_cert.specs.Points.{find_point, IsPoint}
-use Rattle.depth_cert.specs.Nodes.{NodeData, IsNode}
-use Rattle.depth_cert.specs.Certs.{CertData, IsCert, find_node}
+use Rattle.depth_cert.specs.Nodes.{NodeData, IsNode, find_node}
+use Rattle.depth_cert.specs.Certs.{CertData, IsCert}
 use Rattle.depth_cert.proofs.KeyLaws.{found_in, one_number}
 use Rattle.cfg_recover.specs.Code.{IsCode, HasCode}
 use Rattle.cfg_recover.specs.Entries.{start_key}

@@ -11,7 +11,7 @@ use Rattle.tc_isa.proofs.ShapeBounds.{shape_is}
 use Rattle.tc_machine.specs.declared.events.Event.{Event}
 use Rattle.tc_machine.specs.declared.state.Machine.{Machine}
 use Rattle.tc_machine.specs.Machine.{a11, machine_address_ahead, then_}
-use Rattle.tc_machine.specs.Instructions.{advanced, does, trap, misaligned, traps}
+use Rattle.tc_machine.specs.Instructions.{advanced, does, trap, misaligned, is_trapping_instruction}
 use Rattle.tc_machine.specs.SavesAndRestores.{save, restore}
 use Rattle.tc_machine.specs.Fetching.{fetched}
 use Rattle.tc_machine.proofs.Fetched.{fetched-is}
@@ -62,7 +62,7 @@ module _ (m : Machine) (e : Event) (n : ℕ) where
   does-syscall tin = refl
 
   -- an access that traps does nothing else
-  pub does-trapped : (shape : Shape) → traps m e shape ≡ true → does m e shape n ≡ misaligned m
+  pub does-trapped : (shape : Shape) → is_trapping_instruction m e shape ≡ true → does m e shape n ≡ misaligned m
   unfolding does
   does-trapped (Load dst base offset size signed after) t = rw t refl
   does-trapped (Store src base offset size after) t = rw t refl

@@ -34,7 +34,8 @@ same_place (exit k) (exit j) = same_key k j
 same_place (point k p) (exit j) = false
 same_place (exit k) (point j q) = false
 
--- what a node states at a place of its own frame
+-- what is known at a place of an assignment, a point or an exit, by a certificate's node of that
+-- frame
 abbrev pub known_at : Place → NodeData → Option Known
 known_at (point k p) n = option_map (λ q. state q.state) (find_point p n.points)
 known_at (exit k) n = option_map leaving n.exit
@@ -64,8 +65,8 @@ abbrev pub raised_at_place : Limits → Option Known → Known → Option Known
 raised_at_place b None v = Some v
 raised_at_place b (Some w) v = joined_known b w v
 
--- Where a frame goes on after a frame that it entered, with the state after that one's exit;
--- nowhere while no exit is known.
+-- the place of an assignment where a frame goes on after one that it entered, and the state that
+-- must be known there, by that one's exit; nothing while no exit is known
 abbrev pub asked_by_resume : Key → State → Key → ℕ → Option Known → Option (Place × Known)
 asked_by_resume key s k q (Some (leaving x)) = Some (point key q, state (state_after_exit s x k.kind))
 asked_by_resume key s k q (Some (state t)) = None
@@ -112,7 +113,8 @@ pub record Joins (b : Limits) (image : ImageData) (plan : PlanData) (a after : A
 abbrev pub first_place : ImageData → PlanData → Place
 first_place image plan = point (start_key image plan) image.entry
 
--- the assignment is reached from the start point alone by such steps
+-- an assignment of what is known at places is derived from the start point alone, by steps that
+-- join in what duties of points ask for
 pub data Derived (b : Limits) (image : ImageData) (plan : PlanData) : Assignment → Type 0 where
   begins :
       (a : Assignment) → ((x : Place) → a x ≡ (if same_place x (first_place image plan) then Some (state (start_state plan)) else None))
@@ -127,3 +129,9 @@ pub record Closed (b : Limits) (image : ImageData) (plan : PlanData) (a : Assign
 -- no known point of the assignment has a fault of its own
 abbrev pub AllFaultless : Limits → ImageData → PlanData → Assignment → Type 0
 AllFaultless b image plan a = (k : Key) (p : ℕ) (s : State) → a (point k p) ≡ Some (state s) → IsFaultless b image plan k p s
+
+-- in the assignment, the point p of frame k has this state, and one of its duties is to enter the
+-- frame t
+pub record EntersInAssignment (b : Limits) (image : ImageData) (plan : PlanData) (a : Assignment) (k : Key) (p : ℕ) (s : State) (t : Key) : Type 0 where
+  pub entered : State
+  pub has : HasDuty b image plan a k p s (enter t entered)

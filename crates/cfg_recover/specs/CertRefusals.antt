@@ -12,8 +12,7 @@ use Rattle.depth_cert.specs.declared.keys.Key.{Key}
 use Rattle.depth_cert.specs.Keys.{number_of_key, same_key}
 use Rattle.cfg_recover.specs.Entries.{start_key}
 use Rattle.cfg_recover.specs.LocalFaults.{IsLocalFault}
-use Rattle.cfg_recover.specs.Duties.{enter}
-use Rattle.cfg_recover.specs.Assignments.{Place, point, exit, Assignment, same_place, Asks, HasDuty, Joins, Derived, Closed}
+use Rattle.cfg_recover.specs.Assignments.{Place, point, exit, Assignment, same_place, Asks, Joins, Derived, Closed, EntersInAssignment}
 use Rattle.depth_cert.specs.Known.{state}
 
 -- ---- limits
@@ -24,7 +23,8 @@ pub record HasManyNodes (a : Assignment) : Type 0 where
   pub stand : (k : Key) → Contains keys k → (y : Place) × IsSome (a y) × ((y ≡ exit k) ⊎ ((p : ℕ) × (y ≡ point k p)))
   pub more : 2048 < length keys
 
--- the assignment knows more than 65,536 points, a limit past which a certificate is refused
+-- a reason to refuse a certificate: the assignment knows more than 65,536 points, which is past the
+-- limit
 pub record HasManyPoints (a : Assignment) : Type 0 where
   pub places : List Place
   pub distinct : IsDistinct same_place places
@@ -66,22 +66,12 @@ pub record IsLeastAssignment (b : Limits) (image : ImageData) (plan : PlanData) 
   pub faultless : (r : ℕ) (k : Key) (p : ℕ) → IsRefusalFault b image plan r k p → ⊥
 
 -- ---- needs
--- the point p of frame k has this state, and enters the frame t
-pub record EntersInAssignment (b : Limits) (image : ImageData) (plan : PlanData) (a : Assignment) (k : Key) (p : ℕ) (s : State) (t : Key) : Type 0 where
-  pub entered : State
-  pub has : HasDuty b image plan a k p s (enter t entered)
 
--- these numbers of areas suffice for the frames of an assignment: at each point for the locals, at
--- each entry for the locals, one for the entry, and the entered frame
+-- numbers of areas by which a certificate with too great a need is refused: they suffice at each
+-- point of an assignment for the locals, and at each entry for one more and the entered frame's
 pub record MeetsNeeds (b : Limits) (image : ImageData) (plan : PlanData) (a : Assignment) (need : Key → ℕ) : Type 0 where
   pub locals : (k : Key) (p : ℕ) (s : State) → a (point k p) ≡ Some (state s) → length s.locals.items ≤ need k
   pub entered : (k : Key) (p : ℕ) (s : State) (t : Key) → EntersInAssignment b image plan a k p s t → length s.locals.items + 1 + need t ≤ need k
-
--- the least numbers of areas that meet the needs of an assignment; there are none if it is refused
--- for a recursion
-pub record AreLeastNeeds (b : Limits) (image : ImageData) (plan : PlanData) (a : Assignment) (need : Key → ℕ) : Type 0 where
-  pub meets : MeetsNeeds b image plan a need
-  pub least : (other : Key → ℕ) → MeetsNeeds b image plan a other → (k : Key) → need k ≤ other k
 
 -- the frame j is reached from the frame k by entries that the assignment's points owe, none or more
 pub data Reaches (b : Limits) (image : ImageData) (plan : PlanData) (a : Assignment) (j : Key) : Key → Type 0 where
@@ -100,8 +90,8 @@ pub record Recurs (b : Limits) (image : ImageData) (plan : PlanData) (a : Assign
 abbrev pub refused_point_number : Key → ℕ → ℕ
 refused_point_number k p = number_of_key k * 2 ^ 32 + p
 
--- a recursion for which a certificate is refused: the first point that enters a frame from which
--- its own is reached again
+-- a reason to refuse a certificate, by rule 14: this is the first point that enters a frame from
+-- which its own is reached again
 pub record IsRefusedRecursion (b : Limits) (image : ImageData) (plan : PlanData) (a : Assignment) (k : Key) (p : ℕ) : Type 0 where
   pub recurs : Recurs b image plan a k p
   pub first : (j : Key) (q : ℕ) → Recurs b image plan a j q → refused_point_number k p ≤ refused_point_number j q

@@ -1,6 +1,6 @@
 -- What a point owes: the points, entries and exits that a certificate must have, because the
 -- machine may come there from this point, and the states that they must cover.
-use Rattle.std.specs.Prelude.{◌==◌, ℕ, true, false, if◌then◌else◌, List, ◌∷◌, ◌++◌, map, Option, Some, None, unwrap_or, Contains, []}
+use Rattle.std.specs.Prelude.{◌==◌, ℕ, true, false, if◌then◌else◌, List, ◌∷◌, ◌++◌, map, Option, Some, None, unwrap_or, []}
 use Rattle.std.specs.List.{flat_map}
 use Rattle.depth_cert.specs.Keys.{sys_kind}
 use Rattle.elf_image.specs.Images.{ImageData}
@@ -58,7 +58,8 @@ abbrev pub jump_on : ℕ → Option State → List Owed
 jump_on q None = []
 jump_on q (Some s) = owed 4 (jump q s) ∷ []
 
--- the next instruction, with the state after this one
+-- what a point owes by an instruction that goes on to the next one in its frame: the duty to jump
+-- there, with the state after this one
 abbrev pub next_of : Limits → ImageData → PlanData → ℕ → State → Shape → ℕ → List Owed
 next_of b image plan p s shape n = owed 4 (jump (machine_address_ahead p n) (transfer_of b plan shape s (loaded_for_duties b image plan s shape))) ∷ []
 
@@ -74,7 +75,8 @@ successors_of b image plan p s (Syscall tin) n = []
 successors_of b image plan p s (Mtcr src number) n = []
 successors_of b image plan p s shape n = next_of b image plan p s shape n
 
--- an entry by a call (rule 5) or a system call (rule 12), and the return from it (rule 4)
+-- what a point owes by entering a frame through a call (rule 5) or a system call (rule 12): the
+-- duty to enter it, and the duty to go on after its return (rule 4)
 abbrev pub entered_and_back : ℕ → Key → State → ℕ → List Owed
 entered_and_back rule key s back = owed rule (enter key s) ∷ owed 4 (resume key back) ∷ []
 
@@ -85,7 +87,8 @@ entries_of plan key p s (Call to) n = flat_map (λ t. entered_and_back 5 (call_k
 entries_of plan key p s (Syscall tin) n = entered_and_back 12 (sys_key plan key) (sys_entry plan key s tin) (machine_address_ahead p n)
 entries_of plan key p s _ n = []
 
--- the duty to enter the handler of misaligned accesses, which rule 10 asks for
+-- what a point owes by a misaligned access: the duty to enter the handler of misaligned accesses,
+-- which rule 10 asks for
 abbrev pub misaligned_entry : PlanData → Key → State → Owed
 misaligned_entry plan key s = owed 10 (enter (aln_key plan key) (aln_entry plan key s))
 
@@ -117,16 +120,8 @@ unfoldable pub duties_of : Limits → ImageData → PlanData → Key → ℕ →
 duties_of b image plan key p s shape n =
     successors_of b image plan p s shape n ++ entries_of plan key p s shape n ++ misaligned_of b plan key s shape ++ interrupts_of plan key s ++ leavings_of key s shape
 
--- among these duties of a point is one to jump to this address, with some state
-abbrev pub OwesJump : List Owed → ℕ → Type 0
-OwesJump ds q = (t : State) × Contains ds (owed 4 (jump q t))
-
--- the key of the node whose entry a duty asks for
-abbrev pub key_by : Duty → List Key
-key_by (enter k t) = k ∷ []
-key_by _ = []
-
--- among these duties of a point is one to enter a frame of this key, by this rule and with some
--- state
-abbrev pub OwesEntry : List Owed → ℕ → Key → Type 0
-OwesEntry ds rule key = (t : State) × Contains ds (owed rule (enter key t))
+-- the key of the frame that a point's duty asks to enter, as a list; it is empty for a duty of
+-- another kind
+abbrev pub keys_entered_by_duty : Duty → List Key
+keys_entered_by_duty (enter k t) = k ∷ []
+keys_entered_by_duty _ = []

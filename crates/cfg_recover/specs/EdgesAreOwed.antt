@@ -7,19 +7,30 @@ use Rattle.tc_isa.specs.declared.shapes.Shape.{Shape}
 use Rattle.tc_machine.specs.declared.events.Event.{Event}
 use Rattle.tc_machine.specs.declared.state.Machine.{Machine}
 use Rattle.tc_machine.specs.Stepping.{step, run}
-use Rattle.tc_machine.specs.Safe.{Starts, Fits, AllFit}
+use Rattle.tc_machine.specs.Safe.{Fits, AllFit}
+use Rattle.tc_machine.specs.Starting.{Starts}
 use Rattle.depth_cert.specs.declared.keys.Key.{Key}
 use Rattle.depth_cert.specs.declared.points.Point.{Point}
 use Rattle.depth_cert.specs.Points.{find_point}
-use Rattle.depth_cert.specs.Nodes.{NodeData}
-use Rattle.depth_cert.specs.Certs.{CertData, find_node}
+use Rattle.depth_cert.specs.Nodes.{NodeData, find_node}
+use Rattle.depth_cert.specs.Certs.{CertData}
 use Rattle.cfg_recover.specs.Code.{IsCode}
 use Rattle.cfg_recover.specs.Entries.{call_key, handler_key}
-use Rattle.cfg_recover.specs.Duties.{Owed, duties_of, OwesJump, enter, owed, OwesEntry}
+use Rattle.cfg_recover.specs.Duties.{Owed, duties_of, enter, owed, jump}
 use Rattle.cfg_recover.specs.RulesHoldOrFail.{limits_in}
 use Rattle.cfg_recover.specs.StepEdges.{EdgeWay, aln, call, irq, ret, rfe, sys, to, edge_way_of_step}
 use Rattle.cfg_recover.specs.Frames.{Standing, frames, IsReturn}
 use Rattle.value_domain.specs.declared.states.State.{State}
+
+-- an edge inside a frame is owed: among these duties of a point is one to jump to this address,
+-- with some state
+abbrev pub OwesJump : List Owed → ℕ → Type 0
+OwesJump ds q = (t : State) × Contains ds (owed 4 (jump q t))
+
+-- an edge into a frame is owed: among these duties of a point is one to enter a frame of this key,
+-- by this rule and with some state
+abbrev pub OwesEntry : List Owed → ℕ → Key → Type 0
+OwesEntry ds rule key = (t : State) × Contains ds (owed rule (enter key t))
 
 -- The way of a step is a duty of the newest frame's point, or the return to the frame before it, at
 -- the address q where the step goes.

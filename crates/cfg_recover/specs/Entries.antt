@@ -1,6 +1,6 @@
 -- The frames that an instruction, an interrupt or a trap enters: their keys, and the states at
 -- their entries.
-use Rattle.std.specs.Prelude.{◌*◌, ◌^◌, ℕ, Bool, true, false, if◌then◌else◌, replicate, bit_or, nat_lt, List, filter, []}
+use Rattle.std.specs.Prelude.{◌*◌, ◌^◌, ℕ, Bool, true, false, if◌then◌else◌, replicate, bit_or, nat_lt, List, filter, ◌==◌, []}
 use Rattle.depth_cert.specs.Keys.{start_kind, call_kind, irq_kind, sys_kind, aln_kind}
 use Rattle.elf_image.specs.Images.{ImageData}
 use Rattle.tcd_plan.specs.PlanData.{PlanData}
@@ -82,3 +82,8 @@ irqs_of plan s = if s.ie then filter (λ p. nat_lt s.ccpn p) plan.irqs else []
 -- the stack pointer of a handler, from A10 of the frame that it interrupts
 abbrev pub entry_stack_with : PlanData → Key → Val → Val
 entry_stack_with plan key sp = if key.is then sp else word_val plan.isp
+
+-- the key of a frame that is entered at an address: by a call it runs on the same stack, in any
+-- other way on the interrupt stack; the priority stays
+abbrev pub entered_key : Key → ℕ → ℕ → Key
+entered_key key kind target = record { kind = kind; entry = target; prio = key.prio; is = if kind == call_kind then key.is else true }

@@ -6,12 +6,12 @@ use Rattle.tcd_plan.specs.PlanData.{PlanData}
 use Rattle.depth_cert.specs.declared.keys.Key.{Key}
 use Rattle.depth_cert.specs.declared.points.Point.{Point}
 use Rattle.depth_cert.specs.Keys.{number_of_key}
-use Rattle.depth_cert.specs.Nodes.{NodeData}
-use Rattle.depth_cert.specs.Certs.{CertData, IsCert, find_node}
+use Rattle.depth_cert.specs.Nodes.{NodeData, find_node}
+use Rattle.depth_cert.specs.Certs.{CertData, IsCert}
 use Rattle.cfg_recover.specs.RulesHoldOrFail.{Accepts, RuleHolds, HoldsAtStart, HoldsAtEntry, IsFirstFault, certified_need, limits_in}
 
--- a place where a rule fails: the start's entry for rule 1, a node's entry for rule 2, or a point
--- of a node
+-- a place that a first fault may name since a rule fails there: the start's entry for rule 1, a
+-- node's entry for rule 2, or a point of a node
 pub data IsFaultPlace (image : ImageData) (plan : PlanData) (cert : CertData) : ℕ → Key → ℕ → Type 0 where
   start : (HoldsAtStart image plan cert → ⊥) → IsFaultPlace image plan cert 1 (record { kind = 0; entry = image.entry; prio = 0; is = plan.start_is }) image.entry
   entry : (node : NodeData) → Contains cert.nodes node → (HoldsAtEntry (limits_in plan cert) node → ⊥) → IsFaultPlace image plan cert 2 node.key (node.key).entry
@@ -19,8 +19,8 @@ pub data IsFaultPlace (image : ImageData) (plan : PlanData) (cert : CertData) : 
       (node : NodeData) (point : Point) (r : ℕ) → Contains cert.nodes node → Contains node.points point
       → (RuleHolds image plan cert node point r → ⊥) → IsFaultPlace image plan cert r node.key point.addr
 
--- one fault comes before another, or has its place and rule: by key (kind, entry, prio, is), then
--- by address, then by rule
+-- the order in which the first fault is the first: one comes before another, or has its place and
+-- rule, by key (kind, entry, prio, is), then by address, then by rule
 abbrev pub IsFaultBefore : ℕ → Key → ℕ → ℕ → Key → ℕ → Type 0
 IsFaultBefore r k p q j x =
     (number_of_key k < number_of_key j) ⊎ (number_of_key k ≡ number_of_key j) × ((p < x) ⊎ (p ≡ x) × (r ≤ q))
@@ -43,7 +43,8 @@ FirstFaultsSay =
     (image : ImageData) (plan : PlanData) (cert : CertData) (r : ℕ) (k : Key) (p : ℕ) → image.entry < 2 ^ 32 → IsCert cert
     → IsFirstFault image plan cert r k p → FirstFaultSays image plan cert r k p
 
--- the law of the need that is printed when no fault is found: it is that of the node of the start
+-- the law of the certified need, which is printed where there is no first fault: it is the need of
+-- the node of the start
 abbrev pub NeedSays : Type 0
 NeedSays =
     (image : ImageData) (plan : PlanData) (cert : CertData) (node : NodeData)

@@ -1,5 +1,5 @@
 -- The duties in a Flow.
-use Rattle.std.specs.Prelude.{◌≡◌, ◌==◌, ℕ, true, if◌then◌else◌, List, [], ◌∷◌, ◌++◌, map, Option, Some, None}
+use Rattle.std.specs.Prelude.{◌≡◌, ◌==◌, ℕ, if◌then◌else◌, List, ◌∷◌, ◌++◌, map, Option, Some, None, []}
 use Rattle.std.specs.List.{flat_map}
 use Rattle.depth_cert.specs.Keys.{call_kind, sys_kind}
 use Rattle.elf_image.specs.Images.{ImageData}
@@ -15,7 +15,7 @@ use Rattle.cfg_recover.specs.declared.flows.Leave.{Leave}
 use Rattle.cfg_recover.specs.declared.flows.Leave.TheVariants.{Stays, Ret, Rfe}
 use Rattle.cfg_recover.specs.declared.flows.Flow.{Flow}
 use Rattle.cfg_recover.specs.Code.{IsCode}
-use Rattle.cfg_recover.specs.Entries.{irq_key, irq_entry}
+use Rattle.cfg_recover.specs.Entries.{irq_key, irq_entry, entered_key}
 use Rattle.depth_cert.specs.Exits.{exit_of}
 use Rattle.cfg_recover.specs.LocalFaults.{IsFaultless}
 use Rattle.cfg_recover.specs.Duties.{Owed, owed, enter, resume, leave, jumps_to, duties_of}
@@ -28,11 +28,6 @@ told_jump (Some j) = jumps_to j.state j.targets.items
 -- the duties of jumps
 abbrev pub told_jumps : List (Option Jump) → List Owed
 told_jumps jumps = flat_map told_jump jumps
-
--- the key of a frame that a Flow enters: by a call it runs on the same stack, in any other way on
--- the interrupt stack
-abbrev pub entered_key : Key → ℕ → ℕ → Key
-entered_key key kind target = record { kind = kind; entry = target; prio = key.prio; is = if kind == call_kind then key.is else true }
 
 -- where an entered frame returns to, if it returns
 abbrev pub told_flow_return : Key → Option ℕ → List Owed
@@ -55,7 +50,8 @@ rule_of_entry (Some e) = if e.kind == call_kind then 5 else 12
 abbrev pub told_irqs : PlanData → State → List ℕ → List Owed
 told_irqs plan entry irqs = map (λ p. owed 11 (enter (irq_key plan p) (record entry { ccpn = p }))) irqs
 
--- the exit that a return leaves by: RET of a function (rule 6), RFE of a system call (rule 7)
+-- the duty in a Flow by how it leaves its frame: the exit of a function by RET (rule 6), or of the
+-- handler of system calls by RFE (rule 7)
 abbrev pub told_leaving : Key → State → Leave → List Owed
 told_leaving key s Stays = []
 told_leaving key s Ret = owed 6 (leave (exit_of s)) ∷ []

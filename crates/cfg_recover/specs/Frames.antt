@@ -9,7 +9,8 @@ use Rattle.tc_machine.specs.Fetching.{fetched, fetched_size}
 use Rattle.tc_machine.specs.Stepping.{step}
 use Rattle.depth_cert.specs.declared.keys.Key.{Key}
 use Rattle.depth_cert.specs.Points.{find_point}
-use Rattle.depth_cert.specs.Certs.{CertData, find_node}
+use Rattle.depth_cert.specs.Certs.{CertData}
+use Rattle.depth_cert.specs.Nodes.{find_node}
 use Rattle.cfg_recover.specs.Entries.{start_key, call_key, handler_key}
 use Rattle.cfg_recover.specs.MovesAreOwed.{InState}
 use Rattle.cfg_recover.specs.StepEdges.{EdgeWay, aln, call, irq, ret, rfe, sys, to, edge_way_of_step}
@@ -36,8 +37,8 @@ abbrev pub frames_left : List Standing → List Standing
 frames_left [] = []
 frames_left (f ∷ fs) = fs
 
--- The frames, the newest first, after a step from p. A call and a system call return to the next
--- instruction, an interrupt and a misaligned access to p itself.
+-- the frames of a run after a step from p, the newest first: a call and a system call return to the
+-- next instruction, an interrupt and a misaligned access to p itself
 abbrev pub frames_by : ℕ → ℕ → ℕ → EdgeWay → List Standing → List Standing
 frames_by p next prio (to q) fs = frames_at q fs
 frames_by p next prio (call q) fs = frames_entered (λ k. call_key k q) next q fs
@@ -61,7 +62,8 @@ abbrev pub frames : ImageData → PlanData → Machine → List Event → List S
 frames image plan m es = frames_from m es (record { key = start_key image plan; at = m.pc } ∷ [])
 
 -- ---- what an accepted certificate says about frames
--- a node's point at this address has a state that holds the machine
+-- a frame of a run lies at a point of the certificate: the point of the frame's node, at the
+-- address where the frame is, has a state that holds the machine
 abbrev pub FrameLiesAtPoint : PlanData → CertData → Machine → Standing → Type 0
 FrameLiesAtPoint plan cert m f = IsSomeAnd (find_node f.key cert.nodes) (λ n. IsSomeAnd (find_point f.at n.points) (λ p. InState plan m p.state))
 
@@ -73,7 +75,8 @@ pub record AreFramesHeld (plan : PlanData) (cert : CertData) (m : Machine) (f : 
   pub point : FrameLiesAtPoint plan cert m f
   pub is : is_interrupt_stack_used m.psw ≡ (f.key).is
 
--- there is a newest frame, and the frames are held
+-- the frames of a run are held: there is a newest one, at pc and at a point that holds the machine,
+-- and each frame has a node in the certificate
 abbrev pub HoldFrames : PlanData → CertData → Machine → List Standing → Type 0
 HoldFrames plan cert m [] = ⊥
 HoldFrames plan cert m (f ∷ fs) = AreFramesHeld plan cert m f fs

@@ -8,7 +8,7 @@ pub mod FirstFaultLaws
 pub mod FlowStates
 pub mod HeldBytes
 pub mod FlowDuties
-pub mod FrameLaws
+pub mod EdgeAndFrameLaws
 pub mod Frames
 pub mod KnownCodes
 pub mod MovesAreOwed

@@ -21,8 +21,8 @@ use Rattle.depth_cert.specs.declared.keys.Key.{Key}
 use Rattle.cfg_recover.specs.Code.{IsCode, HasCode}
 
 -- ---- targets
--- the targets that a value's words name, with bit 0 cleared, in ascending order, each once; none
--- for a span
+-- the targets that rule 5's own part asks of a jump or a call by register: the words of its value,
+-- with bit 0 cleared, in ascending order, each once; none for a span
 abbrev pub targets_named_by : Val → Option (List ℕ)
 targets_named_by (Set ws) = Some (sorted_set_of (map (λ w. w / 2 * 2) ws))
 targets_named_by (Span lo last step) = None
@@ -60,8 +60,8 @@ MayReturnFromException key s Rfe =
     (length s.locals.items ≡ 0) × ((((key.kind ≡ irq_kind) ⊎ (key.kind ≡ aln_kind)) × (s.lower ≡ true)) ⊎ (key.kind ≡ sys_kind))
 MayReturnFromException key s _ = Unit {0}
 
--- the own part of rule 9: each possible store is in one ram range or one device range as a whole,
--- and doesn't pass 2^32
+-- rule 9's own part, for an instruction of this shape at a point: each possible store is in one ram
+-- range or one device range as a whole, and doesn't pass 2^32
 abbrev pub StoresInRange : Limits → PlanData → State → Shape → Type 0
 StoresInRange b plan s (Store src base offset size after) = AreStoresInRange plan (address_of b plan (Store src base offset size after) s) size
 StoresInRange b plan s _ = Unit {0}

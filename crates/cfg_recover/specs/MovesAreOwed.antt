@@ -9,7 +9,7 @@ use Rattle.tc_machine.specs.declared.events.Event.{Event}
 use Rattle.tc_machine.specs.declared.events.End.TheVariants.{Running}
 use Rattle.tc_machine.specs.declared.state.Machine.{Machine}
 use Rattle.tc_machine.specs.Machine.{reg, a11, machine_address_ahead, IsMachine}
-use Rattle.tc_machine.specs.Instructions.{does, traps, target_of}
+use Rattle.tc_machine.specs.Instructions.{does, is_trapping_instruction, target_of}
 use Rattle.tc_machine.specs.Stepping.{is_taken, stored}
 use Rattle.tcd_plan.specs.Regions.{IsInAreas, IsStoreInRange}
 use Rattle.tc_machine.specs.Safe.{Fits}
@@ -28,7 +28,8 @@ use Rattle.tc_mem.specs.PlanMemory.{HoldsRom, IsPlanMemory}
 use Rattle.cfg_recover.specs.StepEdges.{to}
 use Rattle.tc_isa.specs.declared.shapes.Target.{Target}
 
--- a machine is in a state of a point: the state holds its registers, IE and CCPN
+-- a machine that moves on from a point is in the point's state there: the state holds its
+-- registers, IE and CCPN
 abbrev pub InState : PlanData → Machine → State → Type 0
 InState plan m s = Holds plan (reg m) m.ie m.ccpn s
 
@@ -76,7 +77,8 @@ pub record IsMoveOwed (b : Limits) (image : ImageData) (plan : PlanData) (key : 
   pub owes : Contains (duties_of b image plan key m.pc s shape n) (owed 4 (jump (does m e shape n).pc state))
   pub moves : MovesTo image plan m (does m e shape n) s state
 
--- the effect of the instruction leaves the frame and its contexts as they are
+-- an instruction of this shape makes a move that is owed as a jump: its effect leaves the frame and
+-- its contexts as they are
 abbrev pub StaysInFrame : Shape → Type 0
 StaysInFrame (Call target) = ⊥
 StaysInFrame Ret = ⊥
@@ -92,25 +94,23 @@ StaysInFrame _ = Unit {0}
 abbrev pub MovesInFrame : Type 0
 MovesInFrame =
     (b : Limits) (image : ImageData) (plan : PlanData) (key : Key) (m : Machine) (e : Event) (s : State) (shape : Shape) (n : ℕ)
-    → IsAtPoint b image plan key m s shape n → Fits plan m e → is_taken m e ≡ false → StaysInFrame shape → traps m e shape ≡ false
+    → IsAtPoint b image plan key m s shape n → Fits plan m e → is_taken m e ≡ false → StaysInFrame shape → is_trapping_instruction m e shape ≡ false
     → IsMoveOwed b image plan key m e s shape n
 
 -- if an access traps, the point owes the entry of its handler
 abbrev pub TrapsOwed : Type 0
 TrapsOwed =
     (b : Limits) (image : ImageData) (plan : PlanData) (key : Key) (m : Machine) (e : Event) (s : State) (shape : Shape) (n : ℕ)
-    → IsAtPoint b image plan key m s shape n → traps m e shape ≡ true
+    → IsAtPoint b image plan key m s shape n → is_trapping_instruction m e shape ≡ true
     → Contains (duties_of b image plan key m.pc s shape n) (owed 10 (enter (aln_key plan key) (aln_entry plan key s)))
 
--- the key of the handler of system calls: its entry is BTV with class 6 in bits 7:5, its priority
--- that of the frame that calls, on the interrupt stack
+-- the key of the handler to which a machine moves by a system call: its entry is BTV with class 6
+-- in bits 7:5, its priority that of the calling frame, on the interrupt stack
 abbrev pub owed_system_handler : PlanData → Key → Key
 owed_system_handler plan key = record { kind = 3; entry = bit_or plan.btv (6 * 2 ^ 5); prio = key.prio; is = true }
 
--- At a system call, rule 12 asks for the entry of its handler, and rule 4 for the next instruction
--- after the handler's return. At the entry D15 is the call's number, A10 is the interrupt stack's
--- pointer (or stays, if that stack is in use), interrupts are off, and there are no locals. All
--- other registers and CCPN are as they were.
+-- a law of moves: a point with a system call owes the entry of its handler (rule 12), where D15,
+-- A10, IE and the locals are set and the rest stays, and the return from it (rule 4)
 pub record SystemCallOwed (b : Limits) (image : ImageData) (plan : PlanData) (key : Key) (m : Machine) (s : State) (tin n : ℕ) : Type 0 where
   pub state : State
   pub entered : Contains (duties_of b image plan key m.pc s (Syscall tin) n) (owed 12 (enter (owed_system_handler plan key) state))

@@ -11,8 +11,8 @@ use Rattle.depth_cert.specs.declared.keys.Key.{Key}
 use Rattle.depth_cert.specs.declared.points.Point.{Point}
 use Rattle.depth_cert.specs.Keys.{number_of_key}
 use Rattle.depth_cert.specs.Points.{find_point}
-use Rattle.depth_cert.specs.Nodes.{NodeData, need_of}
-use Rattle.depth_cert.specs.Certs.{CertData, find_node}
+use Rattle.depth_cert.specs.Nodes.{NodeData, need_of, find_node}
+use Rattle.depth_cert.specs.Certs.{CertData}
 use Rattle.cfg_recover.specs.Code.{IsCode}
 use Rattle.cfg_recover.specs.Entries.{start_key, start_state}
 use Rattle.depth_cert.specs.Exits.{state_after_exit, ExitCovers}
@@ -25,12 +25,13 @@ abbrev pub limits_in : PlanData → CertData → Limits
 limits_in plan cert = limits_for plan cert.version
 
 -- ---- points that cover a state, and duties that are met
--- the node of a certificate has a point at this address, and its state covers this one
+-- what a rule asks for, and fails without: the node of a certificate has a point at this address,
+-- and its state covers this one
 abbrev pub HasPoint : NodeData → ℕ → State → Type 0
 HasPoint node q s = IsSomeAnd (find_point q node.points) (λ p. Covers p.state s)
 
--- a rule's duty is met: what a point with this state owes is in the certificate's nodes, points and
--- exits; else the rule fails
+-- a rule holds at a duty, else it fails: what a point with this state owes by the duty is in the
+-- certificate's nodes, points and exits
 abbrev pub IsMet : CertData → NodeData → State → Duty → Type 0
 IsMet cert node s (jump q t) = HasPoint node q t
 IsMet cert node s (enter k t) = IsSomeAnd (find_node k cert.nodes) (λ n. HasPoint n k.entry t)
@@ -38,8 +39,8 @@ IsMet cert node s (resume k q) = IfSome (find_node k cert.nodes) (λ n. IfSome n
 IsMet cert node s (leave x) = IsSomeAnd node.exit (λ y. ExitCovers y x)
 
 -- ---- needs
--- rule 14 holds at a duty to enter: the node's need is at least its locals' areas, one for the
--- entry, and the entered node's need
+-- rule 14 of certificates holds at an entry, else it fails: the node's need is at least its locals'
+-- areas, one for the entry, and the entered node's need
 abbrev pub EntryNeedRuleHolds : CertData → NodeData → State → Duty → Type 0
 EntryNeedRuleHolds cert node s (enter k t) = IfSome (find_node k cert.nodes) (λ n. length s.locals.items + 1 + n.need ≤ node.need)
 EntryNeedRuleHolds cert node s _ = Unit {0}
@@ -52,9 +53,8 @@ pub record NeedRuleHolds (image : ImageData) (plan : PlanData) (cert : CertData)
   pub start : node.key ≡ start_key image plan → point.addr ≡ image.entry → node.need ≤ plan.areas - plan.reserve
 
 -- ---- rules
--- Rule r holds at a point of a node. If a value isn't of the plan's lattice (rule 2), the other
--- rules ask nothing there. If the own part of a rule fails, nothing is asked of other points and of
--- needs.
+-- rule r of certificates holds at a point, else it fails there. A value outside the plan's lattice
+-- fails rule 2 alone; where the own part of a rule fails, other points and needs aren't asked
 pub record RuleHolds (image : ImageData) (plan : PlanData) (cert : CertData) (node : NodeData) (point : Point) (r : ℕ) : Type 0 where
   pub values : r ≡ 2 → AreValues (limits_in plan cert) (point.state).regs
   pub own : AreValues (limits_in plan cert) (point.state).regs → LocalHolds (limits_in plan cert) image plan node.key point.addr point.state r
@@ -72,8 +72,8 @@ pub record RuleHolds (image : ImageData) (plan : PlanData) (cert : CertData) (no
 abbrev pub HoldsAtStart : ImageData → PlanData → CertData → Type 0
 HoldsAtStart image plan cert = IsSomeAnd (find_node (start_key image plan) cert.nodes) (λ n. HasPoint n image.entry (start_state plan))
 
--- rule 2 holds at a node's entry: there is a point, and the exit's values are of the plan's
--- lattice; else the rule fails there
+-- rule 2 of certificates holds at a node's entry, else it fails: there is a point, and the exit's
+-- values are of the plan's lattice
 pub record HoldsAtEntry (b : Limits) (node : NodeData) : Type 0 where
   pub point : IsSome (find_point (node.key).entry node.points)
   pub exit : IfSome node.exit (λ x. AreValues b x.lower)
@@ -87,12 +87,13 @@ pub data RuleFails (image : ImageData) (plan : PlanData) (cert : CertData) : ℕ
       (node : NodeData) (point : Point) (r : ℕ) → Contains cert.nodes node → Contains node.points point → (RuleHolds image plan cert node point r → ⊥)
       → RuleFails image plan cert r node.key point.addr
 
--- all rules hold at a node of a certificate: rule 2 at its entry, and each rule at each point
+-- all rules of certificates hold at a node, and none fails: rule 2 at its entry, and each rule at
+-- each point
 pub record HoldsAtNode (image : ImageData) (plan : PlanData) (cert : CertData) (node : NodeData) : Type 0 where
   pub entry : HoldsAtEntry (limits_in plan cert) node
   pub points : All (λ p. (r : ℕ) → RuleHolds image plan cert node p r) node.points
 
--- no rule fails
+-- the rules accept a certificate: none fails, at the start, at the entry of a node, or at a point
 pub record Accepts (image : ImageData) (plan : PlanData) (cert : CertData) : Type 0 where
   pub start : HoldsAtStart image plan cert
   pub nodes : All (HoldsAtNode image plan cert) cert.nodes
@@ -102,8 +103,8 @@ pub record Accepts (image : ImageData) (plan : PlanData) (cert : CertData) : Typ
 abbrev pub fault_number : ℕ → Key → ℕ → ℕ
 fault_number r k p = (number_of_key k * 2 ^ 32 + p) * 2 ^ 4 + r
 
--- the first rule that fails in a certificate: rule 1 comes before all others; if it holds, the
--- first is the least by key, address and rule
+-- the first of all rules that fail in a certificate: rule 1 comes before all others; if it holds,
+-- the first is the least by key, address and rule
 pub record IsFirstFault (image : ImageData) (plan : PlanData) (cert : CertData) (r : ℕ) (k : Key) (p : ℕ) : Type 0 where
   pub fails : RuleFails image plan cert r k p
   pub start : (r ≡ 1) ⊎ HoldsAtStart image plan cert

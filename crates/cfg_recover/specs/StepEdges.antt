@@ -7,7 +7,7 @@ use Rattle.tc_machine.specs.declared.events.Event.{Event}
 use Rattle.tc_machine.specs.declared.state.Machine.{Machine}
 use Rattle.tc_machine.specs.Fetching.{fetched}
 use Rattle.tc_machine.specs.Stepping.{is_taken, step}
-use Rattle.tc_machine.specs.Instructions.{traps}
+use Rattle.tc_machine.specs.Instructions.{is_trapping_instruction}
 
 -- How a step goes on: to an address in its frame; into the frame of a call, an interrupt, a system
 -- call or a misaligned access, at its entry; or out of its frame.
@@ -35,7 +35,7 @@ edge_way_of_shape _ q = to q
 
 -- by the instruction, or by its misaligned access if that traps
 abbrev pub edge_way_by_trap : Machine → Event → Shape → ℕ → EdgeWay
-edge_way_by_trap m e shape q = if traps m e shape then aln q else edge_way_of_shape shape q
+edge_way_by_trap m e shape q = if is_trapping_instruction m e shape then aln q else edge_way_of_shape shape q
 
 -- by what was fetched; if nothing is, the machine stays
 abbrev pub edge_way_in_fetch : Machine → Event → Result (Shape × ℕ) Cause → ℕ → EdgeWay

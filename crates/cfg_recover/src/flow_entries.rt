@@ -8,11 +8,11 @@ ghost use Rattle.cfg_recover.specs.Duties.{entries_of, misaligned_at, misaligned
 ghost use Rattle.cfg_recover.specs.FlowStates.{EntersWithValues};
 ghost use Rattle.cfg_recover.specs.FlowDuties.{told_entry, rule_of_entry, told_leaving, flow_leave_of};
 
+use crate::built_states::{address, state_after_change};
 use crate::decoded_inst::InstAt;
 use crate::entry_changes::{call_change, misaligned_change, system_change};
 use crate::flow_targets::{one_target, targets};
 use crate::keys::{ALN_VECTOR, SYS_VECTOR};
-use crate::states_after::{address, state_after_change};
 use crate::{Enter, Leave};
 use depth_cert::{ALN, CALL, Key, SYS};
 use store_ranges::aligned;
@@ -114,7 +114,8 @@ pub fn is_flow_access_aligned(b: &Bounds, at: &Val, size: u8) -> bool
     aligned(at, size)
 }
 
-/// Returns how the instruction leaves its own frame: by RET, by RFE, or not at all.
+/// Returns the leave of a Flow, which is told beside its entries: how the instruction leaves its
+/// own frame, by RET, by RFE, or not at all.
 #[tactic(auto, unfolding(crate::specs::FlowDuties::flow_leave_of))]
 pub(crate) fn flow_leave(key: &Key, s: &State, inst: &Inst) -> Leave
     ensures told { told_leaving key.now s.now result

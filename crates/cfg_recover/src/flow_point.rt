@@ -10,20 +10,20 @@ ghost use Rattle.cfg_recover.specs.FlowDuties.{told_by_flow, flow_leave_of, Flow
 ghost use Rattle.cfg_recover.specs.LocalFaults.{IsLocalFault};
 
 use crate::Flow;
+use crate::built_states::state_after_change;
 use crate::decoded_inst::InstAt;
 use crate::entry_changes::handler_change;
 use crate::flow_entries::{call_flow_entry, flow_leave, misaligned_flow_entry};
 use crate::flow_interrupts::interrupts;
 use crate::flow_successors::successors;
 use crate::local_rules::local_or_code;
-use crate::states_after::state_after_change;
 use depth_cert::Key;
 use elf_image::Image;
 use tcd_plan::Plan;
 use value_domain::{Bounds, State};
 
-/// Computes the flow of a point with this state: everything that a certificate must have because of
-/// it. If a rule's own part fails at the point, gives the least such rule.
+/// Computes the Flow of a point with this state: everything that a certificate must have because of
+/// that point. If a rule's own part fails at the point, gives the least such rule.
 pub fn flow(
     b: &Bounds,
     image: &Image,

@@ -13,9 +13,9 @@ ghost use Rattle.cfg_recover.specs.FlowStates.{JumpsWithValues};
 ghost use Rattle.cfg_recover.specs.FlowDuties.{told_jump, told_jumps};
 
 use crate::Jump;
+use crate::built_states::{refine, state_after_change};
 use crate::decoded_inst::InstAt;
 use crate::flow_targets::{one_target, targets};
-use crate::states_after::{refine, state_after_change};
 use arrayvec::ArrayVec;
 use elf_image::Image;
 use store_ranges::{LoadKind, write_load};
@@ -96,7 +96,8 @@ fn successor_by_step(b: &Bounds, image: &Image, plan: &Plan, s: &State, at: Inst
     }
 }
 
-/// Writes into `out` what an instruction of this shape loads from these addresses.
+/// Writes into `out` what a point's instruction loads from these addresses before it goes on to its
+/// successor, or any value if its shape isn't that of a load.
 fn write_flow_load(b: &Bounds, image: &Image, plan: &Plan, shape: Shape, at: &Val, out: &mut Val)
     requires shape { IsShape shape }
     requires value { IsValue b.now at.now }

@@ -1,7 +1,6 @@
 // The keys of frames.
 ghost use Rattle.std.specs.Prelude.{◌≡◌};
 ghost use Rattle.cfg_recover.specs.Entries as entries;
-ghost use Rattle.cfg_recover.specs.FlowDuties as flows;
 
 use depth_cert::{ALN, CALL, IRQ, Key, SYS};
 use tcd_plan::Plan;
@@ -16,7 +15,7 @@ pub(crate) const ALN_VECTOR: u32 = 2 * 32;
 /// (SYS) or a misaligned access (ALN). The priority stays. A called function runs on the caller's
 /// stack, a handler on the interrupt stack.
 pub fn entered_key(key: &Key, kind: u8, entry: u32) -> Key
-    ensures { result ≡ flows.entered_key key.now kind entry }
+    ensures { result ≡ entries.entered_key key.now kind entry }
 {
     Key {
         kind,

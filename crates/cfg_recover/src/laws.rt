@@ -1,6 +1,6 @@
 // The laws of points, edges, frames, faults and refusals.
 ghost use Rattle.cfg_recover.specs.FirstFaultLaws.{FirstFaultsSay, NeedSays};
-ghost use Rattle.cfg_recover.specs.FrameLaws.{EdgesAre, FramesAre, HeldFramesSay, OwedEdgesSay};
+ghost use Rattle.cfg_recover.specs.EdgeAndFrameLaws.{EdgesAre, FramesAre, HeldFramesSay, OwedEdgesSay};
 ghost use Rattle.cfg_recover.specs.MovesAreOwed.{InterruptsOwed, MovesInFrame, StoresHeld, TrapsOwed, CallsOwed, SystemCallsOwed};
 ghost use Rattle.cfg_recover.specs.RefusalLaws.{RefusalsSay};
 
@@ -27,8 +27,8 @@ pub fn frame_laws()
     ensures owed { OwedEdgesSay }
 {}
 
-/// States the laws of first faults and of needs: a first fault names a rule that fails and where it
-/// fails, before all others; the need is that of the start's node.
+/// States the laws that guard what the rules of certificates define: a first fault names a rule
+/// that fails and where, before all others; the certified need is that of the start's node.
 pub fn fault_laws()
     ensures first { FirstFaultsSay }
     ensures need { NeedSays }

@@ -1,10 +1,11 @@
 //! The rules of certificates: what a point owes, and when a certificate is accepted.
 #![tactic(auto)]
 
+mod after_return;
+mod built_states;
 mod code_cache;
 mod decoded_inst;
 mod entry_changes;
-mod flow_after;
 mod flow_entries;
 mod flow_interrupts;
 mod flow_point;
@@ -17,11 +18,11 @@ mod local_rules;
 mod operation_cache;
 mod rom_code;
 mod start;
-mod states_after;
 
+pub use after_return::{after, covers_after};
+pub use built_states::{address, refine, state_after_change, transfer};
 pub use code_cache::KnownCodes;
 pub use entry_changes::{call_change, handler_change, misaligned_change, system_change};
-pub use flow_after::{after, covers_after};
 pub use flow_entries::is_flow_access_aligned;
 pub use flow_interrupts::interrupts;
 pub use flow_point::flow;
@@ -34,4 +35,3 @@ pub use local_rules::{Located, check_located, local_check, rule_unless};
 pub use operation_cache::OperationCache;
 pub use rom_code::code_at;
 pub use start::{start_key, start_state};
-pub use states_after::{address, refine, state_after_change, transfer};

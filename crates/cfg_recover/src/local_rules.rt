@@ -425,7 +425,8 @@ fn is_allowed_at(plan: &Plan, x: u32, size: u8) -> bool
     plan.aln || x % u32::from(size) == 0
 }
 
-/// Rule 10, for an access of this size.
+/// Returns true if rule 10's own part holds for an access of this size: each address is a multiple
+/// of it, or the plan states the trap of misaligned accesses.
 fn is_allowed(plan: &Plan, at: &Val, size: u8) -> bool
     requires well { IsWell at.now }
     requires size { IsShapeAccessSize size }

@@ -143,8 +143,8 @@ pub(crate) fn code_byte_at(image: &Image, addr: u32, near: &mut usize) -> Option
     code_byte_anywhere(image, addr, near)
 }
 
-/// The byte of the image at an address. All segments are tried. If one holds the byte, `near`
-/// becomes its number.
+/// Returns the byte at an address of code in rom, as the image has it. All segments are tried. If
+/// one holds the byte, `near` becomes its number.
 #[inline(never)]
 fn code_byte_anywhere(image: &Image, addr: u32, near: &mut usize) -> Option<u8>
     ensures { result ≡ image_byte image.now addr }

@@ -6,7 +6,8 @@ use Rattle.csa_chain.specs.Chain.{link_in, link_address, area_word, chain}
 use Rattle.csa_chain.specs.ContextWordLaws.{ContextsStay}
 use Rattle.std.specs.FinMap as map
 
--- no link is on both chains, the used one and the free one
+-- no link is on both chains, the used one and the free one, as the laws of a save and a restore
+-- require
 abbrev pub AreApart : List ℕ → List ℕ → Type 0
 AreApart used free = AllByRecursion (λ l. AllByRecursion (λ k. k ≢ l) used) free
 
@@ -28,7 +29,8 @@ RestoreMoves mem pcxi fcx l used free =
     (fcx' : ℕ) → link_in fcx' ≡ l →
     (chain (with_words mem (link_address l) (fcx ∷ [])) fcx' ≡ Some (l ∷ free)) × (chain (with_words mem (link_address l) (fcx ∷ [])) (area_word mem l 0) ≡ Some used)
 
--- the n bytes from x on are in no area of these links
+-- a store to the n bytes from x on misses the areas of these links, so that by law their chain
+-- stays as it is
 abbrev pub MissesAreas : ℕ → ℕ → List ℕ → Type 0
 MissesAreas x n links = AllByRecursion (λ l. (x + n ≤ link_address l) ⊎ (link_address l + 64 ≤ x)) links
 

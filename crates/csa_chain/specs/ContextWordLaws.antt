@@ -26,7 +26,8 @@ LowerComesBack =
     × (slice_index (a_after_lower (lower_words_of pcxi d a) a') r ≡ (if is_lower_a r then slice_index a r else slice_index a' r))
     × (slice_index (lower_words_of pcxi d a) 0 ≡ pcxi)
 
--- the contexts in the areas of these links are as they were, all 16 words of each
+-- law of contexts: the 16 context words in each area of these links are as they were in the older
+-- memory
 abbrev pub ContextsStay : List ℕ → Memory → Memory → Type 0
 ContextsStay links old new = AllByRecursion (λ l. (i : ℕ) → i < 16 → area_word new l i ≡ area_word old l i) links
 
@@ -40,7 +41,8 @@ FieldsComeBack =
     × (link_in (pcxi_word_of core pcpn pie ul link) ≡ link)
     × (pcxi_word_of core pcpn pie ul link < 2 ^ 32)
 
--- the list has n words, all below 2^32
+-- what the laws of contexts require of registers and context words: the list has n words, all below
+-- 2^32
 abbrev pub HasContextWords : ℕ → List ℕ → Type 0
 HasContextWords n ws = (length ws ≡ n) × All (λ w. w < 2 ^ 32) ws
 

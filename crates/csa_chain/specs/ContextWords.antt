@@ -27,10 +27,6 @@ abbrev pub ul_of : Core → ℕ → Bool
 ul_of V13 word = word / 2 ^ 22 % 2 == 1
 ul_of V16 word = word / 2 ^ 20 % 2 == 1
 
--- the word with this link in bits 19:0, and its other bits as they are
-abbrev pub word_with_link : ℕ → ℕ → ℕ
-word_with_link word link = word / 2 ^ 20 * 2 ^ 20 + link
-
 -- ---- what a save writes
 -- The 16 words of the upper context: PCXI, PSW, A10, A11, D8 to D11, A12 to A15, D12 to D15
 -- (TriCore 1 architecture manual, volume 1, context management).
@@ -96,7 +92,8 @@ is_upper_d r = nat_le 8 r
 abbrev pub is_lower_d : ℕ → Bool
 is_lower_d r = nat_lt r 8
 
--- an upper context has the register Ar; A11 is in both contexts, A0, A1, A8 and A9 are in none
+-- the words of an upper context have the register Ar, for r from 10 on; A11 is in both contexts,
+-- A0, A1, A8 and A9 are in none
 abbrev pub is_upper_a : ℕ → Bool
 is_upper_a r = nat_le 10 r
 

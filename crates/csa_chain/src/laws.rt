@@ -3,7 +3,7 @@ ghost use Rattle.std.specs.Prelude.{ℕ, List};
 ghost use Rattle.csa_chain.specs.MemoryBytes.{Memory};
 ghost use Rattle.csa_chain.specs.ChainLaws.{SaveMoves, RestoreMoves, StoreMisses, StoreLeaves};
 ghost use Rattle.csa_chain.specs.SeveralChains.{OwnerSaves, OwnerRestores};
-ghost use Rattle.csa_chain.specs.MemoryChanges.{WordsComeBack, BytesStay};
+ghost use Rattle.csa_chain.specs.MemoryLaws.{WordsComeBack, BytesStay};
 ghost use Rattle.csa_chain.specs.ContextWordLaws.{WordsStay, UpperComesBack, LowerComesBack, FieldsComeBack};
 
 /// The laws of chains: what a save, a restore and a store do to the free list and the used list.

@@ -18,8 +18,8 @@ use Rattle.depth_cert.specs.declared.points.Point.{Point}
 use Rattle.depth_cert.specs.Keys.{cert_flag_byte, key_number, number_of_key, IsKey}
 use Rattle.depth_cert.specs.Points.{IsState, IsPoint, ArePoints, addresses}
 use Rattle.depth_cert.specs.Exits.{IsExit}
-use Rattle.depth_cert.specs.Nodes.{NodeData, IsNode, count_points}
-use Rattle.depth_cert.specs.Certs.{CertData, IsCert, key_numbers}
+use Rattle.depth_cert.specs.Nodes.{NodeData, IsNode, count_points, key_numbers}
+use Rattle.depth_cert.specs.Certs.{CertData, IsCert}
 use Rattle.depth_cert.specs.Grammar.{checked_cert_field, is_above_last_read, last_number_read, flag_at, values_at, locals_at, state_at, address_after, point_after, key_after, need_at, has_exit_at, exit_at, optional_exit_at, point_count_at, points_at, node_after, magic_at, version_at, node_count_at, cert_at, certificate_of}
 use Rattle.depth_cert.specs.Spelling.{bytes_of_value, bytes_of_state, bytes_of_point, bytes_of_key, bytes_of_exit, bytes_of_node, bytes_of_cert}
 use Rattle.depth_cert.proofs.WrittenLaws.{IsRead, done, seq, test, byte, half, word, many_read, one_of, above_map, flag, values_read}

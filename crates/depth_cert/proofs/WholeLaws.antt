@@ -15,8 +15,8 @@ use Rattle.tcd_base.proofs.FieldReads.{bind_ok}
 use Rattle.depth_cert.specs.declared.points.Exit.{Exit}
 use Rattle.depth_cert.specs.Keys.{cert_flag_byte, number_of_key}
 use Rattle.depth_cert.specs.Exits.{IsExit}
-use Rattle.depth_cert.specs.Nodes.{NodeData, IsNode, count_points}
-use Rattle.depth_cert.specs.Certs.{CertData, IsCert, key_numbers}
+use Rattle.depth_cert.specs.Nodes.{NodeData, IsNode, count_points, key_numbers}
+use Rattle.depth_cert.specs.Certs.{CertData, IsCert}
 use Rattle.depth_cert.specs.Grammar.{last_number_read, flag_at, values_at, key_after, need_at, has_exit_at, exit_at, optional_exit_at, points_at, node_after, magic_at, version_at, node_count_at, cert_at, certificate_of}
 use Rattle.depth_cert.specs.Spelling.{bytes_of_value, bytes_of_point, bytes_of_key, bytes_of_exit, bytes_of_node, bytes_of_cert}
 use Rattle.depth_cert.proofs.ManyLaws.{rising_map_push}

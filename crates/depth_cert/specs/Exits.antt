@@ -20,7 +20,8 @@ lower_values regs = take 8 regs ++ take 6 (drop 16 regs)
 abbrev pub exit_of : State → Exit
 exit_of s = record { ie = s.ie; ccpn = s.ccpn; lower = lower_values s.regs }
 
--- values from place i on, those of lower registers replaced by these, which are an exit's
+-- a state's values, from place i on, after a return by an exit: those of lower registers are the
+-- exit's
 unfoldable pub with_lower_from : ℕ → List Val → List Val → List Val
 with_lower_from i lower [] = []
 with_lower_from i lower (v ∷ vs) =

@@ -14,8 +14,8 @@ use Rattle.depth_cert.specs.declared.keys.Key.{Key}
 use Rattle.depth_cert.specs.declared.points.Exit.{Exit}
 use Rattle.depth_cert.specs.declared.points.Point.{Point}
 use Rattle.depth_cert.specs.Points.{addresses}
-use Rattle.depth_cert.specs.Nodes.{NodeData, count_points}
-use Rattle.depth_cert.specs.Certs.{CertData, key_numbers}
+use Rattle.depth_cert.specs.Nodes.{NodeData, count_points, key_numbers}
+use Rattle.depth_cert.specs.Certs.{CertData}
 
 -- ---- fields
 -- a valid number, or a fault of this kind at the field

@@ -25,8 +25,8 @@ sys_kind = 3
 abbrev pub aln_kind : ℕ
 aln_kind = 4
 
--- the kind of a key as text, which says how its frame is entered: at the start, or by a call, an
--- interrupt, a system call, or a misaligned access
+-- the kind of a certificate's key in letters: start, call, irq for an interrupt, sys for a system
+-- call, or aln for a misaligned access
 abbrev pub key_kind_words : ℕ → List ℕ
 key_kind_words kind =
     if kind == start_kind then codes "start "
@@ -39,7 +39,7 @@ key_kind_words kind =
 unfoldable pub key_kind_text : ℕ → List ℕ
 key_kind_text kind = key_kind_words kind
 
--- a truth value as a byte of a certificate, or in the number of a key
+-- a truth value as a byte of a key's number, 1 or 0; a certificate spells each truth value so
 abbrev pub cert_flag_byte : Bool → ℕ
 cert_flag_byte true = 1
 cert_flag_byte false = 0

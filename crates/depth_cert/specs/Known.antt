@@ -19,8 +19,8 @@ CoversKnown (leaving y) (leaving x) = ExitCovers y x
 CoversKnown (state u) (leaving x) = ⊥
 CoversKnown (leaving y) (state s) = ⊥
 
--- the join of what is known at a place: the least that covers both; none for states with different
--- numbers of locals
+-- the least that covers what is known twice at a place of a frame, two states or two exits; none
+-- for states with different numbers of locals
 abbrev pub joined_known : Limits → Known → Known → Option Known
 joined_known b (state s) (state t) = option_map state (joined_states b s t)
 joined_known b (leaving x) (leaving y) = Some (leaving (joined_exit b x y))
@@ -32,7 +32,7 @@ abbrev pub known_priority : Known → ℕ
 known_priority (state s) = s.ccpn
 known_priority (leaving x) = x.ccpn
 
--- u is the known state; nothing is said of an exit
+-- what is known at a place of a frame is this state u; nothing is said if it is an exit
 abbrev pub IsKnownState : Known → State → Type 0
 IsKnownState (state s) u = u ≡ s
 IsKnownState (leaving x) u = Unit {0}

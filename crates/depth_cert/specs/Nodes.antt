@@ -1,7 +1,7 @@
 -- Nodes as plain data, and what holds of them.
-use Rattle.std.specs.Prelude.{◌≡◌, ◌≤◌, ◌⊎◌, ℕ, List, Option, IfSome, Some, None, length, sum_by}
+use Rattle.std.specs.Prelude.{◌≡◌, ◌≤◌, ◌⊎◌, ℕ, List, Option, IfSome, Some, None, length, sum_by, ◌==◌, map, find}
 use Rattle.std.specs.List.{All}
-use Rattle.depth_cert.specs.Keys.{call_kind, sys_kind, IsKey}
+use Rattle.depth_cert.specs.Keys.{call_kind, sys_kind, IsKey, number_of_key}
 use Rattle.depth_cert.specs.declared.keys.Key.{Key}
 use Rattle.depth_cert.specs.declared.points.Exit.{Exit}
 use Rattle.depth_cert.specs.declared.points.Point.{Point}
@@ -15,7 +15,8 @@ pub record NodeData : Type 0 where
   pub exit : Option Exit
   pub points : List Point
 
--- a node that a certificate of the version can have; only calls and system calls have an exit
+-- what holds of a certificate's node: a valid key and need, points in order, and an exit only for a
+-- call or a system call
 pub record IsNode (version : ℕ) (n : NodeData) : Type 0 where
   pub key : IsKey n.key
   pub need : n.need ≤ 4096
@@ -31,3 +32,11 @@ need_of (Some n) = n.need
 -- the number of points of the nodes together
 abbrev pub count_points : List NodeData → ℕ
 count_points ns = sum_by (λ n. length n.points) ns
+
+-- the keys of these nodes in their order, each as one number
+abbrev pub key_numbers : List NodeData → List ℕ
+key_numbers ns = map (λ n. number_of_key n.key) ns
+
+-- the one of these nodes that has this key, if there is one
+abbrev pub find_node : Key → List NodeData → Option NodeData
+find_node k ns = find (λ n. number_of_key n.key == number_of_key k) ns

@@ -16,14 +16,16 @@ abbrev pub IsWellCertValue : ℕ → Val → Type 0
 IsWellCertValue version (Set ws) = AreWords ws × (length ws ≤ most_words_of version)
 IsWellCertValue version (Span lo last step) = (step ≤ 2) × (most_words_of version < count_in lo last step) × (last < 2 ^ 32)
 
--- what holds of a point's state: a certificate of the version can have it
+-- what holds of the state of a certificate's point: 27 values, a CCPN below 256, and no more locals
+-- than its version allows
 pub record IsState (version : ℕ) (s : State) : Type 0 where
   pub regs : length s.regs ≡ 27
   pub values : All (IsWellCertValue version) s.regs
   pub ccpn : s.ccpn < 2 ^ 8
   pub locals : length s.locals.items ≤ most_locals_of version
 
--- a point that a certificate of the version can have
+-- what holds of a certificate's point: its address is below 2^32, and its state is one that a point
+-- can have
 pub record IsPoint (version : ℕ) (p : Point) : Type 0 where
   pub addr : p.addr < 2 ^ 32
   pub state : IsState version p.state

@@ -31,11 +31,12 @@ impl Model for Cert {
 }
 
 impl Cert {
-    ghost use Rattle.depth_cert.specs.Certs.{find_node};
+    ghost use Rattle.depth_cert.specs.Nodes.{find_node};
     ghost use Rattle.depth_cert.specs.Grammar.{certificate_of};
     ghost use Rattle.depth_cert.specs.Spelling.{bytes_of_cert};
 
-    /// Makes a `Cert` of the bytes that spell a certificate, or returns their first fault.
+    /// Makes the type `Cert`, a certificate in memory, of the bytes that spell it, or returns their
+    /// first fault.
     pub fn read(alloc: Global, bytes: &[u8]) -> Result<Cert, CertErr>
         requires { length bytes.now ≤ 2 ^ 30 }
         ensures ok { IfOk result (λ c. certificate_of bytes.now ≡ Ok c) }
@@ -48,7 +49,8 @@ impl Cert {
         Ok(Cert { version, nodes })
     }
 
-    /// Writes the bytes that spell this `Cert`: at most 1,073,741,824.
+    /// Writes this `Cert`, a certificate in memory, as the bytes that spell it: at most
+    /// 1,073,741,824.
     pub fn write(&self, alloc: Global) -> Result<Vec<u8>, CertErr>
         ensures ok { IfOk result (λ out. out.items ≡ bytes_of_cert self.now) }
         ensures small { IfOk result (λ out. length out.items ≤ 2 ^ 30) }
@@ -75,7 +77,8 @@ impl Cert {
         Ok(out)
     }
 
-    /// Returns the node of a key in this `Cert`, or `None` if there is none.
+    /// Returns the node that this `Cert`, a certificate in memory, has for a key, or `None` if
+    /// there is none.
     pub fn node(&self, key: &Key) -> Option<&Node>
         ensures { option_map (λ n. n.now) result ≡ find_node key.now self.now.nodes }
     {

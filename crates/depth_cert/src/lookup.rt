@@ -3,7 +3,7 @@ ghost use Rattle.std.specs.Prelude.{◌≡◌, nat_lt, ◌==◌, true, false, fi
 ghost use Rattle.std.specs.Option.{option_map};
 ghost use Rattle.std.specs.List.Sorted.{IsPartitionPoint, IsStrictlyIncreasing};
 ghost use Rattle.depth_cert.specs.Keys.{number_of_key};
-ghost use Rattle.depth_cert.specs.Certs.{key_numbers};
+ghost use Rattle.depth_cert.specs.Nodes.{key_numbers};
 ghost use Rattle.depth_cert.specs.Points.{ArePoints, find_point};
 
 use crate::keys::number_of;

@@ -3,8 +3,7 @@ ghost use Rattle.std.specs.Prelude.{◌≡◌, ◌≤◌, ◌<◌, ◌+◌, ◌^
 ghost use Rattle.tcd_base.specs.FieldReaders.{ReadsField};
 ghost use Rattle.depth_cert.specs.Answers.{IsFaultOf};
 ghost use Rattle.depth_cert.specs.Grammar.{is_above_last_read, key_after, need_at, has_exit_at, exit_at, optional_exit_at, node_after, point_count_at, last_number_read};
-ghost use Rattle.depth_cert.specs.Nodes.{count_points};
-ghost use Rattle.depth_cert.specs.Certs.{key_numbers};
+ghost use Rattle.depth_cert.specs.Nodes.{count_points, key_numbers};
 
 use crate::keys::{number_of, number_of_key_fields};
 use crate::nodes::{Node, no_exit};

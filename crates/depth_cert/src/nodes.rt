@@ -31,7 +31,8 @@ impl Model for Node {
 }
 
 impl Node {
-    /// Returns the point of this `Node` at an address, or `None` if there is none.
+    /// Returns the point that this `Node`, a kind of frame with its points, has at an address, or
+    /// `None` if there is none.
     pub fn point(&self, addr: u32) -> Option<&Point>
         ensures { option_map (λ p. p.now) result ≡ find_point addr self.now.points }
     {

@@ -48,7 +48,7 @@ fn read_flags(c: &mut Cursor<'_>, count: u8) -> Result<ArrayVec<bool, 8>, FormEr
     Ok(flags)
 }
 
-/// Reads a state in place, or returns the first fault.
+/// Reads the fields of a point's state, in place, or returns the first fault.
 #[tactic(auto, unfolding(crate::specs::Grammar::state_at))]
 pub fn read_state(c: &mut Cursor<'_>, version: u8, out: &mut State) -> Result<(), FormErr>
     requires { length c.old.bytes ≤ 2 ^ 30 }

@@ -3,8 +3,8 @@ use Rattle.std.proofs.Common.{◌≡◌, ℕ, ◌-◌, ◌≤◌, refl, ap, ◌�
 use Rattle.std.specs.Prelude.{IsSomeAnd}
 use Rattle.elf_image.specs.Images.{ImageData}
 use Rattle.tcd_plan.specs.PlanData.{PlanData, IsPlan}
-use Rattle.depth_cert.specs.Nodes.{NodeData, need_of}
-use Rattle.depth_cert.specs.Certs.{CertData, find_node}
+use Rattle.depth_cert.specs.Nodes.{NodeData, need_of, find_node}
+use Rattle.depth_cert.specs.Certs.{CertData}
 use Rattle.cfg_recover.specs.Entries.{start_key, start_state}
 use Rattle.cfg_recover.specs.RulesHoldOrFail.{HasPoint, Accepts, certified_need}
 use Rattle.cfg_recover.proofs.FaultLaws.{fails_refutes, first_faults_say}

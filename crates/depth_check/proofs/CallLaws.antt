@@ -12,8 +12,8 @@ use Rattle.depth_cert.specs.declared.keys.Key.{Key}
 use Rattle.depth_cert.specs.declared.points.Exit.{Exit}
 use Rattle.depth_cert.specs.declared.points.Point.{Point}
 use Rattle.depth_cert.specs.Exits.{state_after_exit}
-use Rattle.depth_cert.specs.Nodes.{NodeData}
-use Rattle.depth_cert.specs.Certs.{CertData, find_node}
+use Rattle.depth_cert.specs.Nodes.{NodeData, find_node}
+use Rattle.depth_cert.specs.Certs.{CertData}
 use Rattle.cfg_recover.specs.RulesHoldOrFail.{HasPoint}
 use Rattle.cfg_recover.specs.Entries.{call_key, call_entry}
 use Rattle.cfg_recover.specs.LocalRules.{targets_named_by}

@@ -15,20 +15,20 @@ use Rattle.value_domain.specs.declared.values.Val.{Val}
 use Rattle.value_domain.specs.declared.states.State.{State}
 use Rattle.value_domain.specs.Limits.{Limits}
 use Rattle.depth_cert.specs.declared.keys.Key.{Key}
-use Rattle.depth_cert.specs.Nodes.{NodeData}
-use Rattle.depth_cert.specs.Certs.{CertData, find_node}
+use Rattle.depth_cert.specs.Nodes.{NodeData, find_node}
+use Rattle.depth_cert.specs.Certs.{CertData}
 use Rattle.cfg_recover.specs.declared.flows.Enter.{Enter}
 use Rattle.cfg_recover.specs.declared.flows.Leave.{Leave}
 use Rattle.cfg_recover.specs.declared.flows.Leave.TheVariants.{Stays, Ret, Rfe}
 use Rattle.vd_transfer.specs.EffectsOnStates.{EffectHasRoom, address_of}
 use Rattle.cfg_recover.specs.declared.local_rules.Located.{Located}
 use Rattle.cfg_recover.specs.LocalFaults.{StandsFaultless}
-use Rattle.cfg_recover.specs.Entries.{irq_key, irq_entry, aln_key, aln_entry, irqs_of}
+use Rattle.cfg_recover.specs.Entries.{irq_key, irq_entry, aln_key, aln_entry, irqs_of, entered_key}
 use Rattle.depth_cert.specs.Exits.{exit_of}
 use Rattle.cfg_recover.specs.LocalRules.{MayAccess}
 use Rattle.store_ranges.specs.Accesses.{are_aligned}
 use Rattle.cfg_recover.specs.Duties.{Owed, owed, jump, enter, resume, leave, jumps_to, successors_of, entries_of, misaligned_at, misaligned_of, interrupts_of, leavings_of, duties_of}
-use Rattle.cfg_recover.specs.FlowDuties.{entered_key, told_flow_return, told_irqs, told_leaving, flow_leave_of}
+use Rattle.cfg_recover.specs.FlowDuties.{told_flow_return, told_irqs, told_leaving, flow_leave_of}
 use Rattle.cfg_recover.specs.RulesHoldOrFail.{HasPoint}
 use Rattle.depth_check.specs.LeastBroken.{FindsLeastBroken, lesser_broken_rule, broken_rule_unless}
 use Rattle.depth_check.specs.DutiesHold.{DutyHolds, DutiesHold, HasPoints, GoesOn, HasExit, LeavingHolds}

@@ -13,7 +13,8 @@ use Rattle.tc_machine.specs.Stepping.{run}
 use Rattle.tc_machine.specs.Safe.{Fits}
 use Rattle.tc_machine.proofs.Stays.{stays_run}
 use Rattle.depth_cert.specs.Points.{find_point}
-use Rattle.depth_cert.specs.Certs.{CertData, IsCert, find_node}
+use Rattle.depth_cert.specs.Certs.{CertData, IsCert}
+use Rattle.depth_cert.specs.Nodes.{find_node}
 use Rattle.cfg_recover.specs.RulesHoldOrFail.{Accepts, certified_need}
 use Rattle.cfg_recover.specs.Frames.{Standing, FrameLiesAtPoint, HoldFrames}
 use Rattle.cfg_recover.specs.EdgesAreOwed.{EdgeOwed}

@@ -21,8 +21,8 @@ use Rattle.vd_transfer.specs.Changes.{state_after, no_put, reg_put}
 use Rattle.depth_cert.specs.declared.keys.Key.{Key}
 use Rattle.depth_cert.specs.declared.points.Point.{Point}
 use Rattle.depth_cert.specs.Points.{find_point}
-use Rattle.depth_cert.specs.Nodes.{NodeData}
-use Rattle.depth_cert.specs.Certs.{CertData, find_node}
+use Rattle.depth_cert.specs.Nodes.{NodeData, find_node}
+use Rattle.depth_cert.specs.Certs.{CertData}
 use Rattle.cfg_recover.specs.Code.{HasCode}
 use Rattle.cfg_recover.specs.Entries.{irq_key, irq_entry, entry_state_with, entry_stack_of, irqs_of, entry_stack_with}
 use Rattle.cfg_recover.specs.LocalFaults.{IsFaultless}

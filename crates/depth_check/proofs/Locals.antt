@@ -2,8 +2,8 @@
 use Rattle.std.proofs.Common.{◌≡◌, ℕ, suc, ◌-◌, ◌^◌, ◌<◌, ◌≤◌, inl, inr, Bool, true, false, not, List, [], ◌∷◌, ◌++◌, length, get_or, take, refl, sym, ap, ◌∙◌, subst, arith, IsTrue}
 use Rattle.std.proofs.lemmas.Bool.{cases_eq}
 use Rattle.csa_chain.specs.MemoryBytes.{Memory, with_words}
-use Rattle.csa_chain.specs.Chain.{link_in, link_address, area_word}
-use Rattle.csa_chain.specs.ContextWords.{pcxi_word_of, word_with_link, d_after_lower, a_after_lower}
+use Rattle.csa_chain.specs.Chain.{link_in, link_address, area_word, word_with_link}
+use Rattle.csa_chain.specs.ContextWords.{pcxi_word_of, d_after_lower, a_after_lower}
 use Rattle.csa_chain.proofs.ChainLaws.{Links, SameAreas-written, area_word-written, is_area-written}
 use Rattle.csa_chain.proofs.ContextLaws.{reg_of, lower_regs, lower_word, lower_back, link_in-pcxi_word, ul_of-pcxi_word, link_in-lt}
 use Rattle.elf_image.specs.Images.{ImageData}

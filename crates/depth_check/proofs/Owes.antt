@@ -13,7 +13,7 @@ use Rattle.tc_machine.specs.declared.events.Event.{Event}
 use Rattle.tc_machine.specs.declared.events.End.TheVariants.{Running}
 use Rattle.tc_machine.specs.declared.state.Machine.{Machine}
 use Rattle.tc_machine.specs.Machine.{reg, a11, machine_address_ahead, then_, with_reg}
-use Rattle.tc_machine.specs.Instructions.{handler_psw, advanced, trap, misaligned, does, access_address, with_base, target_of, traps}
+use Rattle.tc_machine.specs.Instructions.{handler_psw, advanced, trap, misaligned, does, access_address, with_base, target_of, is_trapping_instruction}
 use Rattle.tc_machine.specs.Stepping.{interrupt}
 use Rattle.tc_machine.specs.SavesAndRestores.{saved, save, restored, restore}
 use Rattle.csa_chain.specs.MemoryBytes.{load_number, with_bytes, extend_loaded_bytes}
@@ -105,7 +105,7 @@ module _ (m : Machine) (running : m.end ≡ Running) where
   rslcx-is is e n = restored_then m false _ is running
 
 -- an access that traps
-pub traps-is : (m : Machine) (e : Event) (shape : Shape) (n : ℕ) → traps m e shape ≡ true → does m e shape n ≡ misaligned m
+pub traps-is : (m : Machine) (e : Event) (shape : Shape) (n : ℕ) → is_trapping_instruction m e shape ≡ true → does m e shape n ≡ misaligned m
 unfolding does
 traps-is m e (Load dst base offset size signed after) n h =
     ap (λ t. cond t (misaligned m) (advanced n (with_reg (with_base m base offset after) dst (extend_loaded_bytes signed size (load_number m.mem e.input (access_address m base offset after) size))))) h

@@ -9,15 +9,16 @@ use Rattle.tc_machine.specs.declared.state.Machine.{Machine}
 use Rattle.tc_machine.specs.Machine.{reg, a11, IsMachine}
 use Rattle.tc_machine.specs.Stepping.{step, run}
 use Rattle.tc_machine.specs.PlanAreas.{plan_areas}
-use Rattle.tc_machine.specs.Safe.{Starts, AllFit, IsSafeAt}
+use Rattle.tc_machine.specs.Safe.{AllFit, IsSafeAt}
+use Rattle.tc_machine.specs.Starting.{Starts}
 use Rattle.tc_machine.proofs.Fetched.{IsAtCode-from}
 use Rattle.tc_machine.proofs.Stays.{irq_lt, stays_step, stays_run}
 use Rattle.tc_machine.proofs.Areas.{Areas-start, ChainsAreWhole-from}
 use Rattle.value_domain.specs.Values.{word_val}
 use Rattle.depth_cert.specs.Keys.{IsKey}
 use Rattle.depth_cert.specs.Points.{find_point}
-use Rattle.depth_cert.specs.Nodes.{NodeData, need_of}
-use Rattle.depth_cert.specs.Certs.{CertData, IsCert, find_node}
+use Rattle.depth_cert.specs.Nodes.{NodeData, need_of, find_node}
+use Rattle.depth_cert.specs.Certs.{CertData, IsCert}
 use Rattle.cfg_recover.specs.Entries.{start_key, start_state}
 use Rattle.cfg_recover.specs.Frames.{Standing, frames_after, frames_from, frames}
 use Rattle.cfg_recover.specs.RulesHoldOrFail.{limits_in, HasPoint, Accepts, certified_need}

@@ -16,7 +16,7 @@ use Rattle.tc_machine.specs.declared.events.Event.{Event}
 use Rattle.tc_machine.specs.declared.events.End.TheVariants.{Running}
 use Rattle.tc_machine.specs.declared.state.Machine.{Machine}
 use Rattle.tc_machine.specs.Machine.{reg, a11, is_interrupt_stack_used, machine_address_ahead, psw_with_status, IsMachine}
-use Rattle.tc_machine.specs.Instructions.{handler_psw, target_of, does, traps}
+use Rattle.tc_machine.specs.Instructions.{handler_psw, target_of, does, is_trapping_instruction}
 use Rattle.tc_machine.specs.Stepping.{interrupt, is_taken, executed, machine_after_event, step}
 use Rattle.tc_machine.specs.SavesAndRestores.{saved, save, restored, restore}
 use Rattle.tc_machine.specs.Fetching.{fetched, fetched_size}
@@ -32,13 +32,13 @@ use Rattle.depth_cert.specs.declared.keys.Key.{Key}
 use Rattle.depth_cert.specs.declared.points.Exit.{Exit}
 use Rattle.depth_cert.specs.Keys.{IsKey}
 use Rattle.depth_cert.specs.Points.{find_point}
-use Rattle.depth_cert.specs.Nodes.{NodeData}
-use Rattle.depth_cert.specs.Certs.{CertData, IsCert, find_node}
+use Rattle.depth_cert.specs.Nodes.{NodeData, find_node}
+use Rattle.depth_cert.specs.Certs.{CertData, IsCert}
 use Rattle.cfg_recover.specs.Code.{IsCode}
 use Rattle.cfg_recover.specs.Entries.{call_key, irq_key, sys_key, aln_key, call_entry, irq_entry, sys_entry, aln_entry, handler_key}
 use Rattle.depth_cert.specs.Exits.{exit_of, state_after_exit, ExitCovers}
-use Rattle.cfg_recover.specs.Duties.{Owed, jump, enter, resume, leave, owed, OwesEntry}
-use Rattle.cfg_recover.specs.EdgesAreOwed.{IsEdgeWayOwed}
+use Rattle.cfg_recover.specs.Duties.{Owed, jump, enter, resume, leave, owed}
+use Rattle.cfg_recover.specs.EdgesAreOwed.{OwesEntry, IsEdgeWayOwed}
 use Rattle.cfg_recover.specs.Frames.{IsReturn, Standing, frames_at, frames_entered, frames_left, frames_by, frames_after}
 use Rattle.cfg_recover.specs.RulesHoldOrFail.{limits_in, HasPoint, Accepts}
 use Rattle.cfg_recover.specs.StepEdges.{EdgeWay, to, call, irq, sys, aln, edge_way_of_shape, edge_way_by_trap, edge_way_in_fetch}
@@ -227,7 +227,7 @@ module _ (image : ImageData) (plan : PlanData) (ok : IsPlan plan) (cert : CertDa
       jumping q t owes = point_for frame.node q t (find_point q (frame.node).points) refl (h.met (owed 4 (jump q t)) owes)
 
       -- ---- inside the frame
-      plain : (e : Event) → Fits plan m e → is_taken m e ≡ false → StaysInFrame shape → traps m e shape ≡ false → Steps image plan cert most m frame below (duties_at image plan cert frame.node m.pc (k.point).state shape n) e n (edge_way_by_trap m e shape (does m e shape n).pc) (does m e shape n)
+      plain : (e : Event) → Fits plan m e → is_taken m e ≡ false → StaysInFrame shape → is_trapping_instruction m e shape ≡ false → Steps image plan cert most m frame below (duties_at image plan cert frame.node m.pc (k.point).state shape n) e n (edge_way_by_trap m e shape (does m e shape n).pc) (does m e shape n)
       plain e fits none stays free =
           let mv = moves_in_frame (limits_in plan cert) image plan (frame.node).key m e (k.point).state shape n at_point fits none stays free in
           let at = jumping (does m e shape n).pc mv.state mv.owes in
@@ -247,7 +247,7 @@ module _ (image : ImageData) (plan : PlanData) (ok : IsPlan plan) (cert : CertDa
           })
 
       -- ---- a misaligned access
-      trapped : (e : Event) → traps m e shape ≡ true → Steps image plan cert most m frame below (duties_at image plan cert frame.node m.pc (k.point).state shape n) e n (edge_way_by_trap m e shape (does m e shape n).pc) (does m e shape n)
+      trapped : (e : Event) → is_trapping_instruction m e shape ≡ true → Steps image plan cert most m frame below (duties_at image plan cert frame.node m.pc (k.point).state shape n) e n (edge_way_by_trap m e shape (does m e shape n).pc) (does m e shape n)
       trapped e t =
           let small : IsKey (aln_key plan (frame.node).key) = record { kind = omega arith; entry = or_lt 32 plan.btv (2 * 2 ^ 5) (ok.words).btv (omega arith); prio = key_small.prio } in
           let owes = traps_owed (limits_in plan cert) image plan (frame.node).key m e (k.point).state shape n at_point t in
@@ -389,7 +389,7 @@ module _ (image : ImageData) (plan : PlanData) (ok : IsPlan plan) (cert : CertDa
     module _ (e : Event) (fits : Fits plan m e) (none : is_taken m e ≡ false) where
       accesses : (shape : Shape) (n : ℕ) (h : PointHolds image plan cert frame.node m.pc (k.point).state shape n) → StaysInFrame shape → Steps image plan cert most m frame below (duties_at image plan cert frame.node m.pc (k.point).state shape n) e n (edge_way_by_trap m e shape (does m e shape n).pc) (does m e shape n)
       accesses shape n h stays =
-          elim (cases_Bool (traps m e shape)) [
+          elim (cases_Bool (is_trapping_instruction m e shape)) [
             | inl t ↦ trapped m words frame below k shape n h e t
             | inr f ↦ plain m words frame below k shape n h e fits none stays f
           ]

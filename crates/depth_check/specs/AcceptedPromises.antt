@@ -4,7 +4,7 @@ use Rattle.tcd_plan.specs.PlanData.{PlanData, IsPlan}
 use Rattle.tc_machine.specs.Safe.{Safe}
 use Rattle.depth_cert.specs.Certs.{CertData, IsCert}
 use Rattle.cfg_recover.specs.RulesHoldOrFail.{Accepts, certified_need}
-use Rattle.cfg_recover.specs.FrameLaws.{FramesHeld}
+use Rattle.cfg_recover.specs.EdgeAndFrameLaws.{FramesHeld}
 use Rattle.cfg_recover.specs.EdgesAreOwed.{EdgesOwed}
 
 -- a promise of every certificate that the rules accept

@@ -13,7 +13,7 @@ abbrev pub IsCheckAnswer : ImageData → PlanData → CertData → Verdict → T
 IsCheckAnswer image plan cert (Yes n) = Accepts image plan cert × (n ≡ certified_need image plan cert) × (n ≤ plan.areas - plan.reserve)
 IsCheckAnswer image plan cert (No rule key addr) = IsFirstFault image plan cert rule key addr
 
--- if the answer is yes, the fact holds of its number
+-- if the answer of a check is yes, this fact holds of the number that the answer gives
 abbrev pub IfAnswerIsYes : Verdict → (ℕ → Type 0) → Type 0
 IfAnswerIsYes (Yes n) P = P n
 IfAnswerIsYes (No rule key addr) P = Unit {0}

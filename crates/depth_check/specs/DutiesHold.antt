@@ -15,12 +15,14 @@ use Rattle.depth_cert.specs.Exits.{exit_of, state_after_exit, ExitCovers}
 use Rattle.cfg_recover.specs.Duties.{Owed}
 use Rattle.cfg_recover.specs.RulesHoldOrFail.{HasPoint, IsMet, EntryNeedRuleHolds}
 
--- what rule q asks of a duty: that it is met, and that the need has room for the entered node
+-- what the checker tests of one duty of a point for rule q: that it is met and, for rule 14, that
+-- the need has room for the entered node
 pub record DutyHolds (cert : CertData) (node : NodeData) (s : State) (q : ℕ) (d : Owed) : Type 0 where
   pub met : d.rule ≡ q → IsMet cert node s d.duty
   pub need : q ≡ 14 → EntryNeedRuleHolds cert node s d.duty
 
--- the node has a point at this address with this very state
+-- what makes a duty hold at once in the check: the node has a point at this address with this very
+-- state
 abbrev pub HasPointWithState : NodeData → ℕ → State → Type 0
 HasPointWithState node a s = find_point a node.points ≡ Some (record { addr = a; state = s })
 
@@ -48,8 +50,8 @@ LeavingHolds node s Stays q = Unit {0}
 LeavingHolds node s Ret q = 6 ≡ q → HasExit node s
 LeavingHolds node s Rfe q = (node.key).kind ≡ sys_kind → 7 ≡ q → HasExit node s
 
--- what rule 14 asks of a node apart from its duties: room for the locals and, at the start's entry,
--- that the reserve stays free
+-- what the checker tests of a node's own need for rule 14, apart from the duties: room for the
+-- locals and, at the start's entry, that the reserve stays free
 pub record HasOwnNeed (image : ImageData) (plan : PlanData) (node : NodeData) (point : Point) : Type 0 where
   pub locals : length (point.state).locals.items ≤ node.need
   pub start : node.key ≡ start_key image plan → point.addr ≡ image.entry → node.need ≤ plan.areas - plan.reserve

@@ -38,10 +38,10 @@ pub record IsBelowContext (context : InterruptContext) (node : NodeData) (s : St
 abbrev pub InterruptsHold : PlanData → CertData → NodeData → State → Type 0
 InterruptsHold plan cert node s = (q : ℕ) → DutiesHold cert node s (interrupts_of plan node.key s) q
 
--- the duties to enter the handlers of all interrupts that may be taken in a state, with this A10 of
--- a context instead of the state's
-abbrev pub entries_with : PlanData → Key → State → Val → List Owed
-entries_with plan key s sp = map (λ p. owed 11 (enter (irq_key plan p) (entry_state_with (entry_stack_with plan key sp) false p true))) (irqs_of plan s)
+-- the duties by interrupts in a context that the checker keeps: to enter the handlers of all that
+-- may be taken in a state, with this A10 of the context instead of the state's
+abbrev pub interrupt_entries_with : PlanData → Key → State → Val → List Owed
+interrupt_entries_with plan key s sp = map (λ p. owed 11 (enter (irq_key plan p) (entry_state_with (entry_stack_with plan key sp) false p true))) (irqs_of plan s)
 
 -- the context's A10 is a value of the limits, and the entries hold in each state below the context
 pub record HoldsInContext (plan : PlanData) (cert : CertData) (context : InterruptContext) : Type 0 where
@@ -60,4 +60,4 @@ pub record LastInterruptsHold (plan : PlanData) (cert : CertData) (kept : LastIn
 
 -- all rules hold of the entries of interrupts in a state, with this A10 instead of the state's
 abbrev pub InterruptsHoldWith : PlanData → CertData → NodeData → State → Val → Type 0
-InterruptsHoldWith plan cert node s sp = (q : ℕ) → DutiesHold cert node s (entries_with plan node.key s sp) q
+InterruptsHoldWith plan cert node s sp = (q : ℕ) → DutiesHold cert node s (interrupt_entries_with plan node.key s sp) q

@@ -1,7 +1,7 @@
 // A certificate, in memory or on the bytes of its file.
 ghost use Rattle.std.specs.Prelude.{◌≡◌, length};
 ghost use Rattle.std.specs.List.{slice_get};
-ghost use Rattle.depth_cert.specs.Certs.{find_node};
+ghost use Rattle.depth_cert.specs.Nodes.{find_node};
 
 use crate::any_nodes::AnyNode;
 use depth_cert::{Cert, Key};

@@ -1,6 +1,6 @@
 // The check of a certificate.
 ghost use Rattle.std.specs.Prelude.{◌≡◌, All, IsNone, IfSome, Some};
-ghost use Rattle.depth_cert.specs.Certs.{find_node};
+ghost use Rattle.depth_cert.specs.Nodes.{find_node};
 ghost use Rattle.cfg_recover.specs.RulesHoldOrFail.{HoldsAtStart};
 ghost use Rattle.depth_cert.specs.Proper.{IsWellNode};
 ghost use Rattle.depth_check.specs.CheckAnswers.{IsCheckAnswer, IfAnswerIsYes};
@@ -33,7 +33,7 @@ pub fn check(image: &Image, plan: &Plan, cert: &Cert) -> Verdict
     judge(image, plan, &AnyCert::in_memory(cert))
 }
 
-/// Checks a certificate on the bytes of its file, as [`check`] does one in memory.
+/// Checks a whole certificate that is on the bytes of its file, as [`check`] does one in memory.
 pub fn check_packed(image: &Image, plan: &Plan, cert: &PackedCert) -> Verdict
     ensures judges { IsCheckAnswer image.now plan.now cert.now result }
     ensures safe { IfAnswerIsYes result (Safe image.now plan.now) }
@@ -43,8 +43,8 @@ pub fn check_packed(image: &Image, plan: &Plan, cert: &PackedCert) -> Verdict
     judge(image, plan, &AnyCert::on_bytes(cert))
 }
 
-/// The node of the start, if it has a point at the image's entry that covers the start state.
-// A function of its own: the room of the start state is let go before the nodes are checked.
+/// Returns the certificate's node of the start, as rule 1 asks for it: with a point at the image's
+/// entry that covers the start state. `None` if there is none.
 #[inline(never)]
 pub(crate) fn start_node<'a>(image: &Image, plan: &Plan, cert: &AnyCert<'a>) -> Option<AnyNode<'a>>
     requires nodes { All IsWellNode cert.now.nodes }

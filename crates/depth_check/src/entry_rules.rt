@@ -36,8 +36,8 @@ use tc_isa::{Shape, Target};
 use value_domain::State;
 use vd_transfer::{Change, address_by};
 
-/// Returns the least rule that a point's entries, interrupts, leaving or successors break, if the
-/// instruction breaks no rule by itself.
+/// Returns the least rule that the duties of a point break: what it enters, its interrupts, how it
+/// leaves the node, or its successors. The instruction breaks no rule by itself.
 pub(crate) fn broken_by_duties(
     at: &PointCheck<'_, '_>,
     found: &Located,
@@ -312,8 +312,8 @@ fn broken_by_taken(at: &PointCheck<'_, '_>, irqs: &[u8]) -> Option<u8>
     broken_by_irqs(at, irqs, entry)
 }
 
-/// Returns the least rule that an instruction of this shape breaks when it leaves the node: RET, or
-/// RFE in the handler of system calls.
+/// Returns the least rule that a point's duty to leave the node breaks, beside those to enter
+/// others: by RET, or by RFE in the handler of system calls.
 #[tactic(auto, unfolding(cfg_recover::specs::FlowDuties::flow_leave_of))]
 fn broken_by_leaving(node: &AnyNode<'_>, s: &State, shape: Shape) -> Option<u8>
     requires node { IsWellNode node.now }

@@ -22,7 +22,8 @@ pub fn answer_laws()
     ensures { AnswersSay }
 {}
 
-/// States that the checker's answer is exact: a certificate with a first fault isn't accepted.
+/// States the law that the checker's answers are exact both ways: a certificate in which a check
+/// finds a first fault isn't one that the rules accept.
 pub fn first_fault_laws()
     ensures { AnswersAreExact }
 {}

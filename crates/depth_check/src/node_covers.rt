@@ -3,17 +3,18 @@ ghost use Rattle.std.specs.Prelude.{◌≡◌, length, IfSome, ◌↔◌, IsTrue
 ghost use Rattle.cfg_recover.specs.RulesHoldOrFail.{HasPoint};
 ghost use Rattle.depth_cert.specs.Proper.{IsWellNode};
 ghost use Rattle.depth_check.specs.DutiesHold.{HasPoints, HasExit};
-ghost use Rattle.value_domain.specs.State.{AreWell, AreBelow, AreValues};
+ghost use Rattle.value_domain.specs.State.{AreWell, AreBelow};
 ghost use Rattle.vd_transfer.specs.Changes.{state_after};
 ghost use Rattle.depth_cert.specs.Exits.{state_after_exit, exit_of, lower_values, ExitCovers};
 ghost use Rattle.depth_check.specs.PointChecks.{IsPointCheck};
 
-use crate::any_nodes::{AnyNode, NodeForm, plain_has_after};
+use crate::any_nodes::{AnyNode, NodeForm};
 use crate::points::PointCheck;
 use cfg_recover::{after, covers_after};
 use depth_cert::{Exit, Node};
 use packed_cert::{ExitAt, PackedNode};
-use value_domain::{Bounds, State, Val, covers, is_value, leq};
+use std::marker::Model;
+use value_domain::{State, Val, covers, leq};
 use vd_transfer::{Change, covers_changed};
 
 /// Whether the node has a point at this address that covers the state.
@@ -29,7 +30,8 @@ pub(crate) fn has_point(node: &AnyNode<'_>, addr: u32, s: &State) -> bool
     }
 }
 
-/// Whether the node of a point has points at all these addresses that cover the point's state.
+/// Returns true if the node of a checked point covers the point's own state at each of these
+/// addresses.
 pub(crate) fn has_points(at: &PointCheck<'_, '_>, targets: &[u32]) -> bool
     requires { IsPointCheck at.now }
     ensures { IsTrue result ↔ HasPoints at.now.node.now at.now.point.state.now targets.now }
@@ -57,8 +59,8 @@ pub(crate) fn has_next(at: &PointCheck<'_, '_>, addr: u32) -> bool
     }
 }
 
-/// Whether the node of a checked point covers the point's own state at this address. `c` is
-/// overwritten with the change that keeps this state.
+/// Returns true if the node of a checked point covers the point's own state, kept as it is, at this
+/// address. `c` is overwritten with the change that keeps this state.
 pub(crate) fn has_kept_next(at: &PointCheck<'_, '_>, addr: u32, c: &mut Change) -> bool
     requires { IsPointCheck at.now }
     ensures { IsTrue result ↔ HasPoint at.now.node.now addr at.now.point.state.now }
@@ -143,18 +145,6 @@ pub(crate) fn has_covering_exit(node: &AnyNode<'_>, s: &State) -> bool
         NodeForm::Packed(node) => packed_has_exit(node, s),
         NodeForm::Near(node, _) => packed_has_exit(node, s),
     }
-}
-
-/// Whether each of these values of a node's point or exit is a value of the plan.
-pub(crate) fn are_node_values(b: &Bounds, vs: &[Val]) -> bool
-    ensures { IsTrue result ↔ AreValues b.now vs.now }
-{
-    for v in vs {
-        if !is_value(b, v) {
-            return false;
-        }
-    }
-    true
 }
 
 /// Whether a node in memory covers the state at this address: its point there is looked up and
@@ -292,7 +282,8 @@ fn packed_has_after(
     }
 }
 
-/// Whether a node on bytes has an exit that covers the exit of the state.
+/// Returns true if a node on bytes covers the exit of the state by its own exit; false if it has
+/// none.
 fn packed_has_exit(node: &PackedNode<'_>, s: &State) -> bool
     requires node { IsWellNode node.now }
     requires state { AreWell s.now.regs }
@@ -338,4 +329,17 @@ fn are_exit_values_below(low: &[Val], high: &[Val]) -> bool
         }
     }
     true
+}
+
+/// Returns true if a node in memory has a point at this address that covers the state after a frame
+/// with this exit has returned.
+pub(crate) fn plain_has_after(node: &Node, addr: u32, s: &State, exit: &Exit, kind: u8) -> bool
+    requires node { IsWellNode node.now }
+    requires state { AreWell (state_after_exit s.now exit.now kind).regs }
+    ensures { IsTrue result ↔ HasPoint node.now addr (state_after_exit s.now exit.now kind) }
+{
+    match node.point(addr) {
+        Some(point) => covers_after(&point.state, s, exit, kind),
+        None => false,
+    }
 }

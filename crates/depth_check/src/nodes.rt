@@ -1,6 +1,6 @@
 // The rules of a node, and its first fault.
-ghost use Rattle.std.specs.Prelude.{◌≡◌, All, ◌<◌, ◌^◌, Contains, MatchOption};
-ghost use Rattle.cfg_recover.specs.RulesHoldOrFail.{limits_in, HoldsAtNode};
+ghost use Rattle.std.specs.Prelude.{◌≡◌, All, ◌<◌, ◌^◌, Contains, MatchOption, ◌↔◌, IsTrue};
+ghost use Rattle.cfg_recover.specs.RulesHoldOrFail.{limits_in, HoldsAtNode, HoldsAtEntry};
 ghost use Rattle.depth_cert.specs.Proper.{IsWellNode};
 ghost use Rattle.cfg_recover.specs.SetOperations.{HoldsCachedResults};
 ghost use Rattle.depth_check.specs.Interrupts.{LastInterruptsHold};
@@ -8,14 +8,17 @@ ghost use Rattle.depth_check.specs.NodeFaults.{IsNodeFault};
 ghost use Rattle.depth_check.specs.NodeFaults as nodes;
 
 use crate::any_certs::AnyCert;
-use crate::any_nodes::{AnyNode, NodeForm, packed_holds_at_entry, plain_holds_at_entry};
+use crate::any_nodes::{AnyNode, NodeForm};
 use crate::fast_paths::NO_REGISTERS;
 use crate::last_interrupts::LastInterrupts;
-use crate::points::{CurrentPoint, PointCheck, PointScratch, broken_by_point, walked_point};
+use crate::points::{
+    CurrentPoint, PointCheck, PointScratch, are_plan_values, broken_by_point, walked_point,
+};
 use crate::rules::BAD_VALUES;
 use depth_cert::Node;
 use elf_image::Image;
 use packed_cert::{PackedNode, PointWalk};
+use std::marker::Model;
 use tcd_plan::Plan;
 use value_domain::Bounds;
 
@@ -178,3 +181,31 @@ fn node_entry_fault(entry: u32) -> Fault
 fn node_address_limit(addr: u32)
     ensures { addr < 2 ^ 32 }
 {}
+
+/// Returns true if rule 2 holds at the entry of a node on bytes: it has a point there, and values
+/// of the plan in its exit if it has one.
+pub(crate) fn packed_holds_at_entry(b: &Bounds, node: &PackedNode<'_>) -> bool
+    ensures { IsTrue result ↔ HoldsAtEntry b.now node.now }
+{
+    if node.state(node.key.entry, 0).is_none() {
+        return false;
+    }
+    match node.exit() {
+        Some(exit) => exit.are_values(b),
+        None => true,
+    }
+}
+
+/// Returns true if rule 2 holds at the entry of a node in memory: it has a point there, and values
+/// of the plan in its exit if it has one.
+pub(crate) fn plain_holds_at_entry(b: &Bounds, node: &Node) -> bool
+    ensures { IsTrue result ↔ HoldsAtEntry b.now node.now }
+{
+    if node.point(node.key.entry).is_none() {
+        return false;
+    }
+    match &node.exit {
+        Some(exit) => are_plan_values(b, &exit.lower),
+        None => true,
+    }
+}

@@ -4,7 +4,8 @@ ghost use Rattle.cfg_recover.specs.RulesHoldOrFail.{limits_in, RuleHolds};
 ghost use Rattle.depth_check.specs.LeastBroken.{FindsLeastBroken};
 ghost use Rattle.depth_cert.specs.Proper.{IsWellNode};
 ghost use Rattle.depth_check.specs.DutiesHold.{HasPointWithState};
-ghost use Rattle.value_domain.specs.State.{AreValues, a10_of};
+ghost use Rattle.value_domain.specs.State.{AreValues};
+ghost use Rattle.vd_transfer.specs.Registers.{a10_of};
 ghost use Rattle.depth_check.specs.PointChecks.{IsPointCheck, LooksAhead, point_here};
 ghost use Rattle.cfg_recover.specs.SetOperations.{HoldsCachedResults};
 ghost use Rattle.depth_check.specs.CheckedRegisters.{RegistersHoldAt};
@@ -23,7 +24,6 @@ use crate::any_nodes::AnyNode;
 use crate::entry_rules::broken_by_duties;
 use crate::fast_paths::{CheckedRegisters, broken_on_fast_path, fast_path_next};
 use crate::last_interrupts::LastInterrupts;
-use crate::node_covers::are_node_values;
 use crate::rules::{BAD_VALUES, SMALL_NEED, has_own_need, lesser_broken_rule};
 use arrayvec::ArrayVec;
 use cfg_recover::{
@@ -31,8 +31,9 @@ use cfg_recover::{
 };
 use elf_image::Image;
 use packed_cert::{PackedNode, PointWalk};
+use std::marker::Model;
 use tcd_plan::Plan;
-use value_domain::{Bounds, State, Val};
+use value_domain::{Bounds, State, Val, is_value};
 use vd_transfer::{Base, Change, Put};
 
 /// A point that is checked: what it is checked against, its node, and the point itself.
@@ -180,7 +181,8 @@ pub(crate) fn broken_by_point(at: &PointCheck<'_, '_>, scratch: &mut PointScratc
     }
 }
 
-/// The least rule that fails at a point whose values are values of the plan.
+/// Returns the least rule that fails at a point whose values are values of the plan. The point's
+/// instruction is decoded, and then its duties and its need are checked.
 #[inline(never)]
 fn broken_by_decoded_point(at: &PointCheck<'_, '_>, scratch: &mut PointScratch) -> Option<u8>
     requires point { IsPointCheck at.now }
@@ -212,7 +214,7 @@ fn are_point_values(b: &Bounds, point: CurrentPoint<'_>) -> bool
     if point.known {
         return true;
     }
-    are_node_values(b, &point.state.regs)
+    are_plan_values(b, &point.state.regs)
 }
 
 /// Writes what the instruction changes into the change of `scratch`. The result of an operation on
@@ -276,8 +278,21 @@ pub(crate) fn walked_point<'b>(
         addr,
         state,
         again: interrupts.covers(node, state),
-        known: known && are_node_values(b, walk.anew()),
+        known: known && are_plan_values(b, walk.anew()),
         next: walk.repeats_at(),
         walk: Some(walk),
     }
+}
+
+/// Returns true if each of these values, which are of a checked point's state or of an exit, is a
+/// value of the plan.
+pub(crate) fn are_plan_values(b: &Bounds, vs: &[Val]) -> bool
+    ensures { IsTrue result ↔ AreValues b.now vs.now }
+{
+    for v in vs {
+        if !is_value(b, v) {
+            return false;
+        }
+    }
+    true
 }

@@ -121,7 +121,8 @@ fn broken_by_change(
     rule_unless(has_changed_next(at, to, c), NO_POINT)
 }
 
-/// The least rule that a jump breaks. A list of targets is made only for a register.
+/// Returns the least rule that a point breaks by its successors, if its instruction is a jump. A
+/// list of targets is made only for a jump by a register.
 fn broken_by_jump(at: &PointCheck<'_, '_>, to: Target, jumped: &mut Option<u8>) -> Option<u8>
     requires point { IsPointCheck at.now }
     requires target { IsTarget to }

@@ -13,7 +13,7 @@ use Rattle.depth_cert.specs.Keys.{same_key}
 use Rattle.cfg_recover.specs.Assignments.{Place, point, exit, Assignment, same_place, frame_of_place, Joins, Derived}
 use Rattle.depth_cert.specs.Known.{Known}
 use Rattle.cfg_recover.specs.CertRefusals.{IsPastCertLimits, IsRefusalFault, limits}
-use Rattle.depth_maker.specs.Counts.{AreCounted, AreFew}
+use Rattle.depth_maker.specs.AssignmentCounts.{AreCounted, AreFew}
 use Rattle.frame_places.proofs.KeyLaws.{key_tells, key_same}
 use Rattle.depth_maker.proofs.PlaceLaws.{place_tells, place_same}
 use Rattle.depth_maker.proofs.Sizes.{decides, any_contained, no_more}

@@ -14,7 +14,7 @@ use Rattle.depth_cert.specs.Keys.{same_key}
 use Rattle.cfg_recover.specs.Assignments.{Place, point, exit, Assignment, same_place, frame_of_place, Asks, Joins, Derived, raised_at_place}
 use Rattle.depth_cert.specs.Known.{Known}
 use Rattle.cfg_recover.specs.CertRefusals.{IsRefusalFault}
-use Rattle.depth_maker.specs.Counts.{AreCounted, AreFew, IsCountedIn}
+use Rattle.depth_maker.specs.AssignmentCounts.{AreCounted, AreFew, IsCountedIn}
 use Rattle.depth_maker.proofs.CountLaws.{none_some, distinct_more, frame_stands, counted_rises, counted_exit, counted_point, counted_entry, passed_points, passed_frames}
 use Rattle.depth_maker.proofs.Reached.{entry_of}
 use Rattle.depth_maker.proofs.PlaceLaws.{place_tells, place_same}
@@ -25,8 +25,8 @@ use Rattle.frame_places.specs.declared.refusals.Refusal.{Refusal}
 use Rattle.frame_places.specs.declared.refusals.Refusal.TheVariants.{Fault, NoMemory}
 use Rattle.frame_places.specs.Marks.{value_for}
 use Rattle.frame_places.specs.declared.places.Marked.{Marked}
-use Rattle.depth_maker.specs.Spots.{spot_of, place_of_spot}
-use Rattle.frame_places.specs.Counting.{points_after, frames_after, IsCountRefusal}
+use Rattle.depth_maker.specs.SpotsAsPlaces.{spot_of, place_of_spot}
+use Rattle.frame_places.specs.Counting.{counted_points_after, counted_frames_after, IsCountRefusal}
 use Rattle.depth_maker.specs.Answers.{Answered}
 
 -- few spots are few places
@@ -85,7 +85,7 @@ none_of (Some v) e = cc
 module _ {S T : Type 0} (b : Limits) (image : ImageData) (plan : PlanData) (cells : IndexMap Spot (Marked Known) S) (after : IndexMap Spot (Marked Known) T) where
   at_spot : (t : Bool) (y : Spot) (ps : List Spot) (ks : List Key) → Joins b image plan (λ q. value_for cells (spot_of q)) (λ q. value_for after (spot_of q)) (place_of_spot y)
       → AreCounted (λ q. value_for cells (spot_of q)) (map place_of_spot ps) ks → is_some (value_for cells y) ≡ t
-      → AreCounted (λ q. value_for after (spot_of q)) (map place_of_spot (points_after t ps y)) (frames_after t ks y)
+      → AreCounted (λ q. value_for after (spot_of q)) (map place_of_spot (counted_points_after t ps y)) (counted_frames_after t ks y)
   at_spot true (Point k p) ps ks j c e = counted_rises b image plan (λ q. value_for cells (spot_of q)) (λ q. value_for after (spot_of q)) (point k p) j (map place_of_spot ps) ks c e
   at_spot true (Exit k) ps ks j c e = counted_rises b image plan (λ q. value_for cells (spot_of q)) (λ q. value_for after (spot_of q)) (exit k) j (map place_of_spot ps) ks c e
   at_spot false (Exit k) ps ks j c e = counted_exit b image plan (λ q. value_for cells (spot_of q)) (λ q. value_for after (spot_of q)) (exit k) j (map place_of_spot ps) ks k c refl
@@ -94,11 +94,11 @@ module _ {S T : Type 0} (b : Limits) (image : ImageData) (plan : PlanData) (cell
       (counted_more b image plan (λ q. value_for cells (spot_of q)) (λ q. value_for after (spot_of q)) k p j (map place_of_spot ps) ks c (none_of (value_for cells (Point k p)) e))
 
 pub counted_after : {S T : Type 0} (b : Limits) (image : ImageData) (plan : PlanData) (cells : IndexMap Spot (Marked Known) S) (after : IndexMap Spot (Marked Known) T) (ps qs : List Spot) (ks js : List Key) (y : Spot)
-    → Joins b image plan (λ q. value_for cells (spot_of q)) (λ q. value_for after (spot_of q)) (place_of_spot y) → qs ≡ points_after (is_some (value_for cells y)) ps y
-    → js ≡ frames_after (is_some (value_for cells y)) ks y → AreFew (map place_of_spot qs) js → IsCountedIn cells ps ks → IsCountedIn after qs js
+    → Joins b image plan (λ q. value_for cells (spot_of q)) (λ q. value_for after (spot_of q)) (place_of_spot y) → qs ≡ counted_points_after (is_some (value_for cells y)) ps y
+    → js ≡ counted_frames_after (is_some (value_for cells y)) ks y → AreFew (map place_of_spot qs) js → IsCountedIn cells ps ks → IsCountedIn after qs js
 counted_after b image plan cells after ps qs ks js y j p k few c = record {
   each = subst (λ (l : List Spot). AreCounted (λ q. value_for after (spot_of q)) (map place_of_spot l) js) (sym p)
-      (subst (λ (l : List Key). AreCounted (λ q. value_for after (spot_of q)) (map place_of_spot (points_after (is_some (value_for cells y)) ps y)) l) (sym k)
+      (subst (λ (l : List Key). AreCounted (λ q. value_for after (spot_of q)) (map place_of_spot (counted_points_after (is_some (value_for cells y)) ps y)) l) (sym k)
       (at_spot b image plan cells after (is_some (value_for cells y)) y ps ks j c.each refl));
   few = few;
 }

@@ -13,7 +13,7 @@ use Rattle.cfg_recover.proofs.Members.{contains_first, contains_map}
 use Rattle.frame_places.specs.Numbers.{frame_number_in}
 use Rattle.depth_maker.specs.EnteredFrames.{entered_in}
 use Rattle.depth_maker.specs.InterruptHandlers.{AreHandlers, nodes_above, nodes_taken}
-use Rattle.depth_maker.specs.declared.handlers.Handler.{Handler}
+use Rattle.depth_maker.specs.declared.interrupt_handlers.Handler.{Handler}
 use Rattle.depth_maker.proofs.EnteredLemmas.{entered_irqs}
 use Rattle.depth_maker.proofs.InterruptLaws.{takes}
 

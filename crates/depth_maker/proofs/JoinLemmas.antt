@@ -14,7 +14,7 @@ use Rattle.cfg_recover.specs.CertRefusals.{derived}
 use Rattle.depth_maker.specs.MakerLaws.{AreMakerLaws}
 use Rattle.depth_maker.specs.TableView.{seen}
 use Rattle.depth_maker.specs.Joins.{Marks, JoinKeeps, Joined, JoinedAlone}
-use Rattle.depth_maker.specs.TableInvariant.{IsTable, IsFine, TableReadsExits}
+use Rattle.depth_maker.specs.TableInvariant.{IsTable, IsFine, TableReadsExits, CellsProper}
 use Rattle.depth_maker.proofs.TableLaws.{table_rises, settled_stays, joined_covers, derived_proper}
 use Rattle.depth_maker.proofs.PlaceKinds.{unjoined_fault}
 use Rattle.frame_places.specs.declared.places.Spot.{Spot}
@@ -24,7 +24,7 @@ use Rattle.frame_places.specs.declared.places.Mark.TheVariants.{Plain, Queued}
 use Rattle.frame_places.specs.declared.refusals.Refusal.TheVariants.{Fault}
 use Rattle.depth_maker.specs.declared.table.Table as made
 use Rattle.frame_places.specs.Spots.{spot_eq}
-use Rattle.depth_maker.specs.Spots.{spot_of, place_of_spot}
+use Rattle.depth_maker.specs.SpotsAsPlaces.{spot_of, place_of_spot}
 use Rattle.depth_maker.proofs.Below.{asks_proper}
 use Rattle.depth_maker.proofs.CountedLemmas.{counted_after}
 use Rattle.depth_maker.proofs.LevelLaws.{rank_rises}
@@ -35,9 +35,8 @@ use Rattle.depth_maker.proofs.CoveredLaws.{covered_stay}
 use Rattle.frame_places.proofs.SpotLemmas.{spot_tells}
 use Rattle.depth_maker.proofs.SpotLemmas.{forth, agrees}
 use Rattle.frame_places.specs.Marks.{AllListed, is_idle, is_queued, mark_for, value_for, AreKnown, IsAmongReaders, Requeues}
-use Rattle.depth_maker.specs.Counts.{AreFew, IsCountedIn}
+use Rattle.depth_maker.specs.AssignmentCounts.{AreFew, IsCountedIn}
 use Rattle.depth_maker.specs.Answers.{Answered}
-use Rattle.depth_maker.specs.ProperAssignments.{CellsProper}
 use Rattle.frame_places.proofs.MarkLemmas.{sides}
 use Rattle.frame_places.specs.Work.{all_work}
 

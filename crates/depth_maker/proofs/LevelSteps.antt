@@ -18,9 +18,9 @@ use Rattle.depth_maker.specs.declared.table.Table as made
 use Rattle.frame_places.specs.Marks.{AllListed, mark_for, value_for}
 use Rattle.depth_maker.specs.TableLevels.{level, level_of_place, LevelRises, LevelAdvances}
 use Rattle.frame_places.specs.Spots.{spot_eq}
-use Rattle.depth_maker.specs.ProperAssignments.{CellsProper}
-use Rattle.depth_maker.specs.Counts.{IsCountedIn}
-use Rattle.frame_places.specs.Counting.{frames_after, points_after}
+use Rattle.depth_maker.specs.TableInvariant.{CellsProper}
+use Rattle.depth_maker.specs.AssignmentCounts.{IsCountedIn}
+use Rattle.frame_places.specs.Counting.{counted_frames_after, counted_points_after}
 use Rattle.depth_maker.proofs.CountedLemmas.{few_spots}
 use Rattle.depth_maker.proofs.LevelLaws.{at_most, most_rank}
 use Rattle.frame_places.proofs.MarkLemmas.{sides}
@@ -39,12 +39,12 @@ sum_higher {X} f g (x ∷ xs) y le c lt =
       | inr i ↦ omega (arith, le x, sum_by-cons f x xs, sum_by-cons g x xs, sum_higher f g xs y le i lt)
     ]
 
-points_more : (f : Spot → ℕ) (known : Bool) (ps : List Spot) (y : Spot) → sum_by f ps ≤ sum_by f (points_after known ps y)
+points_more : (f : Spot → ℕ) (known : Bool) (ps : List Spot) (y : Spot) → sum_by f ps ≤ sum_by f (counted_points_after known ps y)
 points_more f true ps y = omega arith
 points_more f false ps (Point k p) = omega (arith, sum_by_push f ps (Point k p))
 points_more f false ps (Exit k) = omega arith
 
-frames_more : (f : Key → ℕ) (known : Bool) (ks : List Key) (y : Spot) → sum_by f ks ≤ sum_by f (frames_after known ks y)
+frames_more : (f : Key → ℕ) (known : Bool) (ks : List Key) (y : Spot) → sum_by f ks ≤ sum_by f (counted_frames_after known ks y)
 frames_more f true ks y = omega arith
 frames_more f false ks (Exit k) = omega arith
 frames_more f false ks (Point k p) = at (p == k.entry) where
@@ -54,7 +54,7 @@ frames_more f false ks (Point k p) = at (p == k.entry) where
 
 -- ---- a join
 module _ (s t : made.Table) (y : Spot) (u : Known) (known : Bool) (after : (q : Spot) → value_for t.places q ≡ (if spot_eq y q then Some u else value_for s.places q))
-    (points : t.points.items ≡ points_after known s.points.items y) (frames : t.frames.items ≡ frames_after known s.frames.items y) (counted : IsCountedIn t.places t.points.items t.frames.items)
+    (points : t.points.items ≡ counted_points_after known s.points.items y) (frames : t.frames.items ≡ counted_frames_after known s.frames.items y) (counted : IsCountedIn t.places t.points.items t.frames.items)
     (higher : level_of_place (value_for s.places y) < level_of_place (Some u)) where
   abbrev old : Spot → ℕ
   old q = level_of_place (value_for s.places q)

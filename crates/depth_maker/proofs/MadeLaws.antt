@@ -6,8 +6,8 @@ use Rattle.value_domain.specs.Thresholds.{limits_for}
 use Rattle.depth_cert.specs.declared.keys.Key.{Key}
 use Rattle.value_domain.specs.Limits.{Limits}
 use Rattle.depth_cert.specs.Keys.{IsKey}
-use Rattle.depth_cert.specs.Nodes.{IsNode, need_of}
-use Rattle.depth_cert.specs.Certs.{CertData, IsCert, find_node}
+use Rattle.depth_cert.specs.Nodes.{IsNode, need_of, find_node}
+use Rattle.depth_cert.specs.Certs.{CertData, IsCert}
 use Rattle.cfg_recover.specs.Duties.{enter}
 use Rattle.cfg_recover.specs.Entries.{start_key}
 use Rattle.cfg_recover.specs.RulesHoldOrFail.{Accepts, limits_in}

@@ -22,7 +22,7 @@ use Rattle.depth_maker.specs.SpelledCert.{AreSpelledBytes}
 use Rattle.depth_maker.specs.Needs.{NeedsOn, NeedsAre}
 use Rattle.depth_maker.specs.Recursing.{IsRecursion}
 use Rattle.depth_maker.specs.Rows.{IsRowSource}
-use Rattle.depth_maker.specs.Spots.{place_of_spot}
+use Rattle.depth_maker.specs.SpotsAsPlaces.{place_of_spot}
 use Rattle.depth_maker.specs.TableView.{seen}
 use Rattle.depth_maker.specs.declared.inputs_and_limits.Ground.{Ground}
 use Rattle.depth_maker.specs.declared.answering.MakeErr.{MakeErr}

@@ -9,9 +9,9 @@ use Rattle.depth_cert.specs.declared.keys.Key.{Key}
 use Rattle.depth_cert.specs.Certs.{CertData, IsCert}
 use Rattle.cfg_recover.specs.Duties.{Duty, enter}
 use Rattle.cfg_recover.specs.RulesHoldOrFail.{limits_in, Accepts}
-use Rattle.cfg_recover.specs.Assignments.{point, Assignment, known_in, IsBelowAt, Derived, Closed, HasDuty, AllFaultless}
+use Rattle.cfg_recover.specs.Assignments.{point, Assignment, known_in, IsBelowAt, Derived, Closed, HasDuty, AllFaultless, EntersInAssignment}
 use Rattle.depth_cert.specs.Known.{Known, state}
-use Rattle.cfg_recover.specs.CertRefusals.{EntersInAssignment, MeetsNeeds, Reaches, here, by_entry, Recurs, IsRefusalWith, fault, recursion, need, IsRefusalFault}
+use Rattle.cfg_recover.specs.CertRefusals.{MeetsNeeds, Reaches, here, by_entry, Recurs, IsRefusalWith, fault, recursion, need, IsRefusalFault}
 use Rattle.depth_maker.specs.DutiesGrow.{IsGround, IsDutyBelow}
 use Rattle.depth_maker.proofs.StateGrowth.{same_locals}
 use Rattle.depth_maker.specs.ProperAssignments.{AllProper}

@@ -12,7 +12,7 @@ use Rattle.frame_places.specs.RowNeeds.{AreRowsWithin, LeastNeeds}
 use Rattle.depth_maker.specs.Rows.{IsRowSource, RowsOn}
 use Rattle.depth_maker.specs.Needs.{NeedsOn}
 use Rattle.depth_maker.specs.Recursing.{IsRecursion}
-use Rattle.depth_maker.specs.Spots.{place_of_spot}
+use Rattle.depth_maker.specs.SpotsAsPlaces.{place_of_spot}
 use Rattle.depth_maker.specs.TableView.{seen}
 use Rattle.depth_maker.proofs.Lawful.{lawful}
 use Rattle.depth_maker.proofs.NeedLaws.{no_recursion}

@@ -20,7 +20,7 @@ use Rattle.frame_places.specs.declared.refusals.Refusal.{Refusal}
 use Rattle.depth_maker.specs.Covered.{AreCallsCovered, IsCallOf, IsWithinCall}
 use Rattle.depth_maker.specs.TableLevels.{level}
 use Rattle.depth_maker.specs.MakerLaws.{AreMakerLaws}
-use Rattle.depth_maker.specs.Spots.{spot_of}
+use Rattle.depth_maker.specs.SpotsAsPlaces.{spot_of}
 use Rattle.depth_maker.specs.TableInvariant.{IsFine}
 use Rattle.depth_maker.specs.TableView.{seen}
 use Rattle.depth_maker.specs.VisitDuties.{DutiesJoined, VisitedPointOwes}

@@ -11,10 +11,10 @@ use Rattle.cfg_recover.specs.Assignments.{point}
 use Rattle.cfg_recover.specs.Duties.{Owed, interrupts_of}
 use Rattle.frame_places.specs.Marks.{is_queued, mark_for}
 use Rattle.depth_maker.specs.InterruptHandlers.{AreHandlersEntered, ContextsEntered, IsAlike, IsContextEntered, IsContextOf, IsWithinContext, joined_context}
-use Rattle.value_domain.specs.State.{a10_of}
+use Rattle.vd_transfer.specs.Registers.{a10_of}
 use Rattle.depth_maker.specs.TableLevels.{level}
 use Rattle.depth_maker.specs.MakerLaws.{AreMakerLaws}
-use Rattle.depth_maker.specs.Spots.{spot_of}
+use Rattle.depth_maker.specs.SpotsAsPlaces.{spot_of}
 use Rattle.depth_maker.specs.TableInvariant.{IsFine}
 use Rattle.depth_maker.specs.TableView.{seen}
 use Rattle.depth_maker.specs.VisitDuties.{VisitedPointOwes, DutiesJoined}

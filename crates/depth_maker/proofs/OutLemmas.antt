@@ -24,12 +24,12 @@ use Rattle.depth_cert.specs.Proper.{IsProperExit}
 use Rattle.depth_maker.specs.Needs.{need_by}
 use Rattle.depth_maker.specs.Rows.{IsRowSource}
 use Rattle.depth_maker.specs.SpelledCert.{AreSpelledFrames, AreSpelledPointsOf, IsSpelledFrameOf, SpellsTableCert, HasSpelledCcpns, IsSpelledVersion, IsSpelledInOrder, IsSpelledOn, SpellsTablePoint, SpellsTablePoints, SpellsTableExit, SpellsTableNode, SpellsTableNodes, spelled_cert_on, spelled_exit_on, spelled_known_on, spelled_node_on, spelled_point_on, spelled_state_at}
-use Rattle.depth_maker.specs.Spots.{spots_of, spots_on, place_of_spot, spot_of}
+use Rattle.depth_maker.specs.SpotsAsPlaces.{spots_of, spots_on, place_of_spot, spot_of}
 use Rattle.frame_places.specs.Spots.{AreRangedSpots, is_point_of, spot_address}
 use Rattle.frame_places.specs.PointEntries.{is_in_frame, place_at, points_in}
 use Rattle.frame_places.specs.Marks.{value_for}
 use Rattle.frame_places.proofs.OrderLemmas.{frame_entries, in_frame_is}
-use Rattle.depth_maker.specs.Counts.{AreCounted}
+use Rattle.depth_maker.specs.AssignmentCounts.{AreCounted}
 use Rattle.depth_maker.specs.declared.table.Table as made
 use Rattle.depth_maker.proofs.PointEntries.{entries_counted, entries_few, rising_spots}
 use Rattle.depth_maker.specs.TableView.{seen}

@@ -37,7 +37,7 @@ use Rattle.frame_places.specs.declared.places.Spot.TheVariants as spots
 use Rattle.frame_places.specs.declared.places.Mark.{Mark}
 use Rattle.frame_places.specs.declared.places.Mark.TheVariants.{Queued}
 use Rattle.frame_places.specs.declared.places.Marked.{Marked}
-use Rattle.frame_places.specs.Counting.{frames_after, points_after}
+use Rattle.frame_places.specs.Counting.{counted_frames_after, counted_points_after}
 use Rattle.frame_places.proofs.MarkLemmas.{same_mark, same_number, same_value}
 use Rattle.depth_maker.specs.declared.inputs_and_limits.Ground.{Ground}
 use Rattle.frame_places.specs.Numbers.{PlaceHasNumber}
@@ -46,7 +46,7 @@ use Rattle.std.specs.declared.vec.Vec.{Vec}
 use Rattle.std.specs.declared.alloc.Global.{Global}
 use Rattle.depth_maker.specs.declared.table.Table as made
 use Rattle.frame_places.specs.Spots.{spot_eq}
-use Rattle.depth_maker.specs.Spots.{spot_of, place_of_spot}
+use Rattle.depth_maker.specs.SpotsAsPlaces.{spot_of, place_of_spot}
 use Rattle.depth_maker.proofs.SpotLemmas.{back}
 use Rattle.depth_maker.proofs.CountedLemmas.{counted_again}
 use Rattle.depth_maker.proofs.CoveredLaws.{covered_again}
@@ -439,8 +439,8 @@ raised_again b s m t y v places rest more =
       near = rose.near;
       readers = rose.readers;
       covered = rose.covered;
-      points = rose.points ∙ ap (λ (o : Option Known). points_after (is_some o) s.points.items y) (same y);
-      frames = rose.frames ∙ ap (λ (o : Option Known). frames_after (is_some o) s.frames.items y) (same y);
+      points = rose.points ∙ ap (λ (o : Option Known). counted_points_after (is_some o) s.points.items y) (same y);
+      frames = rose.frames ∙ ap (λ (o : Option Known). counted_frames_after (is_some o) s.frames.items y) (same y);
       few = rose.few;
     }
 

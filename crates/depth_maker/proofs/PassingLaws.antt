@@ -31,7 +31,7 @@ use Rattle.indexmap.specs.IndexMap.{get}
 use Rattle.depth_maker.specs.InterruptHandlers.{IsContextEntered, HasNotedInterrupts}
 use Rattle.depth_maker.specs.MakerLaws.{AreMakerLaws}
 use Rattle.depth_maker.specs.SharedStates.{SharesState}
-use Rattle.depth_maker.specs.Spots.{place_of_spot, spot_of}
+use Rattle.depth_maker.specs.SpotsAsPlaces.{place_of_spot, spot_of}
 use Rattle.depth_maker.specs.TableView.{seen}
 use Rattle.depth_maker.specs.TableInvariant.{IsFine}
 use Rattle.depth_maker.specs.Joins.{Joined, JoinedAlone, JoinKeeps}

@@ -30,7 +30,7 @@ use Rattle.frame_places.specs.declared.needs.row.NeedRow.{NeedRow}
 use Rattle.depth_maker.specs.EnteredFrames.{EntersNoFrame, IsPlainAt, entered_in}
 use Rattle.depth_maker.specs.InterruptHandlers.{nodes_taken}
 use Rattle.depth_maker.proofs.HandlerLaws.{nodes_taken-is}
-use Rattle.depth_maker.specs.Spots.{place_of_spot}
+use Rattle.depth_maker.specs.SpotsAsPlaces.{place_of_spot}
 use Rattle.depth_maker.specs.Rows.{IsPlainRow, IsPointRow, IsRowSource}
 use Rattle.depth_maker.specs.TableView.{seen}
 use Rattle.depth_maker.specs.declared.inputs_and_limits.Ground.{Ground}

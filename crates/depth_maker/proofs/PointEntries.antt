@@ -17,16 +17,15 @@ use Rattle.depth_cert.specs.Known.{Known}
 use Rattle.cfg_recover.specs.Assignments.{Place, point, exit, Assignment, same_place}
 use Rattle.cfg_recover.proofs.Members.{contains_map}
 use Rattle.frame_places.specs.PointEntries.{AreEntries, place_at, places_at, points_in}
-use Rattle.frame_places.specs.Spots.{is_point, spot_eq, spot_number}
-use Rattle.frame_places.specs.Numbers.{nowhere}
+use Rattle.frame_places.specs.Spots.{is_point, spot_eq, spot_number, nowhere}
 use Rattle.frame_places.specs.Marks.{value_for}
 use Rattle.frame_places.specs.declared.ordering.PointEntry.{PointEntry}
 use Rattle.frame_places.specs.declared.places.Marked.{Marked}
 use Rattle.frame_places.specs.declared.places.Spot.{Spot}
 use Rattle.frame_places.specs.declared.places.Spot.TheVariants.{Point, Exit}
 use Rattle.frame_places.proofs.SpotLemmas.{spot_refl, spot_tells}
-use Rattle.depth_maker.specs.Counts.{AreCounted, IsCountedIn}
-use Rattle.depth_maker.specs.Spots.{place_of_spot, spot_of}
+use Rattle.depth_maker.specs.AssignmentCounts.{AreCounted, IsCountedIn}
+use Rattle.depth_maker.specs.SpotsAsPlaces.{place_of_spot, spot_of}
 use Rattle.depth_maker.proofs.CountedLemmas.{few_spots}
 use Rattle.depth_maker.proofs.DutyGrowth.{contained_map}
 use Rattle.depth_maker.proofs.FindLemmas.{filter_has, has_filter}

@@ -8,9 +8,9 @@ use Rattle.value_domain.specs.Limits.{Limits}
 use Rattle.depth_cert.specs.declared.keys.Key.{Key}
 use Rattle.cfg_recover.specs.Entries.{start_key, start_state}
 use Rattle.cfg_recover.specs.Duties.{Duty, jump, enter, resume, leave}
-use Rattle.cfg_recover.specs.Assignments.{Place, point, exit, Assignment, same_place, frame_of_place, asked_by_duty, HasDuty, Joins, Derived, begins, joins, Closed, first_place, AllFaultless}
+use Rattle.cfg_recover.specs.Assignments.{Place, point, exit, Assignment, same_place, frame_of_place, asked_by_duty, HasDuty, Joins, Derived, begins, joins, Closed, first_place, AllFaultless, EntersInAssignment}
 use Rattle.depth_cert.specs.Known.{Known, state, leaving}
-use Rattle.cfg_recover.specs.CertRefusals.{EntersInAssignment, MeetsNeeds, Reaches, here, by_entry}
+use Rattle.cfg_recover.specs.CertRefusals.{MeetsNeeds, Reaches, here, by_entry}
 use Rattle.depth_maker.specs.ProperAssignments.{AllProper}
 use Rattle.depth_maker.specs.MakerLaws.{AreMakerLaws}
 use Rattle.depth_maker.proofs.PlaceLaws.{place_tells, place_same, from_if, resumed_some}

@@ -13,16 +13,16 @@ use Rattle.depth_cert.specs.Keys.{IsKey, number_of_key}
 use Rattle.depth_cert.proofs.KeyLaws.{one_number}
 use Rattle.cfg_recover.specs.Duties.{duties_of}
 use Rattle.cfg_recover.specs.Entries.{start_key}
-use Rattle.cfg_recover.specs.Assignments.{Place, point, Assignment, Closed}
+use Rattle.cfg_recover.specs.Assignments.{Place, point, Assignment, Closed, EntersInAssignment}
 use Rattle.depth_cert.specs.Known.{state}
-use Rattle.cfg_recover.specs.CertRefusals.{EntersInAssignment, Reaches, here, by_entry, Recurs, refused_point_number}
+use Rattle.cfg_recover.specs.CertRefusals.{Reaches, here, by_entry, Recurs, refused_point_number}
 use Rattle.cfg_recover.proofs.CodeLaws.{IsCode-one}
 use Rattle.cfg_recover.proofs.Members.{contains_map}
-use Rattle.depth_maker.specs.Counts.{AreCounted}
+use Rattle.depth_maker.specs.AssignmentCounts.{AreCounted}
 use Rattle.depth_maker.specs.EnteredFrames.{entered_in}
 use Rattle.frame_places.specs.Numbers.{frame_number_in}
 use Rattle.frame_places.specs.NodeGraph as graph
-use Rattle.frame_places.specs.NodeGraph.{edge_to, AreEdges, LeadsAlongEdges, along, IsRecurring, AreReaching, AreEdgesBetween, IsMarked}
+use Rattle.frame_places.specs.NodeGraph.{edge_to, AreEdges, LeadsAlongEdges, along, IsRecurring, AreReaching, AreEdgesBetween, IsNodeMarked}
 use Rattle.depth_maker.specs.Rows.{IsRowAt, AreRows}
 use Rattle.frame_places.specs.declared.needs.reach.FrameEdge.{FrameEdge}
 use Rattle.frame_places.specs.declared.needs.row.NeedRow.{NeedRow}
@@ -120,7 +120,7 @@ module _ (b : Limits) (image : ImageData) (plan : PlanData) (a : Assignment) (cl
         )
 
     module _ (k : Key) (hk : Contains ks k) (nodes : ℕ) (marks : List Bool) (reaching : AreReaching edges nodes (frame_number_in ks k) marks) where
-      pub marked_recurs : (p : ℕ) (s : State) (t : Key) → EntersInAssignment b image plan a k p s t → IsMarked marks (frame_number_in ks t) → Recurs b image plan a k p
+      pub marked_recurs : (p : ℕ) (s : State) (t : Key) → EntersInAssignment b image plan a k p s t → IsNodeMarked marks (frame_number_in ks t) → Recurs b image plan a k p
       marked_recurs p s t e m = record {
         before = s;
         into = t;
@@ -128,7 +128,7 @@ module _ (b : Limits) (image : ImageData) (plan : PlanData) (a : Assignment) (cl
         back = leads_reaches (frame_number_in ks k) (frame_number_in ks t) (reaching.sound (frame_number_in ks t) m) k t hk (entered k p s t e) refl refl;
       }
 
-      pub recurs_marked : (p : ℕ) (r : Recurs b image plan a k p) → IsMarked marks (frame_number_in ks r.into)
+      pub recurs_marked : (p : ℕ) (r : Recurs b image plan a k p) → IsNodeMarked marks (frame_number_in ks r.into)
       recurs_marked p r = reaching.complete (frame_number_in ks r.into) (reaches_leads k r.into r.back)
 
   -- ---- the order of frames

@@ -9,10 +9,10 @@ use Rattle.depth_cert.specs.Keys.{number_of_key}
 use Rattle.cfg_recover.specs.Assignments.{point}
 use Rattle.depth_cert.specs.Known.{Known, state}
 use Rattle.frame_places.specs.Numbers.{frame_number_in}
-use Rattle.frame_places.specs.NodeGraph.{IsFirstRecurring, IsRecurring, AreReaching, AreEdgesBetween, IsMarked}
+use Rattle.frame_places.specs.NodeGraph.{IsFirstRecurring, IsRecurring, AreReaching, AreEdgesBetween, IsNodeMarked}
 use Rattle.depth_maker.specs.Recursing.{RecursionEdgesOn, IsRecursiveByMarks, IsFirstRecursive, IsRecursion, RecursBy, RecursFirstBy, recursion_orders_in}
 use Rattle.depth_maker.specs.Rows.{IsRowAt, IsRowSource}
-use Rattle.depth_maker.specs.Spots.{place_of_spot}
+use Rattle.depth_maker.specs.SpotsAsPlaces.{place_of_spot}
 use Rattle.depth_maker.specs.TableView.{seen}
 use Rattle.frame_places.specs.declared.places.Spot.{Spot}
 use Rattle.frame_places.specs.declared.places.Spot.TheVariants.{Point}
@@ -29,14 +29,14 @@ module _ (s : Source) (source : IsRowSource s) (marks : List Bool) (k : Key) (p 
   -- a point enters a marked frame if its row has a marked number
   pub row_marked : (row : NeedRow)
       → ((u : State) × ((seen s.table.now).cells (point k p) ≡ Some (state u)) × IsRowAt (s.ground.now).bounds.now (s.ground.now).image.now (s.ground.now).plan.now (s.table.now).frames.items k p u row)
-      → (r : Bool) → (IsTrue r → (t : ℕ) × Contains row.into.items t × IsMarked marks t) × (((t : ℕ) × Contains row.into.items t × IsMarked marks t) → IsTrue r)
+      → (r : Bool) → (IsTrue r → (t : ℕ) × Contains row.into.items t × IsNodeMarked marks t) × (((t : ℕ) × Contains row.into.items t × IsNodeMarked marks t) → IsTrue r)
       → (IsTrue r → IsRecursiveByMarks s marks k p) × (IsRecursiveByMarks s marks k p → IsTrue r)
   unfolding seen
   row_marked row h r tells = (
     (λ y.
         let f = tells.0 y in
         let x = row_entered _ _ _ (seen s.table.now).cells (source.done).closed (map place_of_spot (s.table.now).points.items) (s.table.now).frames.items ((source.done).counted).each k p h.0 row h.1 h.2 f.0 f.1 in
-        record { before = h.0; next = x.0; enters = x.1; marked = subst (IsMarked marks) (sym x.2) f.2 }),
+        record { before = h.0; next = x.0; enters = x.1; marked = subst (IsNodeMarked marks) (sym x.2) f.2 }),
     (λ e. tells.1 (
       frame_number_in (s.table.now).frames.items e.next,
       row_enters _ _ _ (seen s.table.now).cells (source.done).closed (map place_of_spot (s.table.now).points.items) (s.table.now).frames.items ((source.done).counted).each k p h.0 row h.1 h.2 e.before e.next e.enters,

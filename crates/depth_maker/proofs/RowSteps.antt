@@ -23,7 +23,7 @@ use Rattle.depth_maker.specs.Rows.{IsRowAt, AddsPointRow, RowFramesKnownBy, Have
 use Rattle.depth_maker.specs.TableInvariant.{IsDone}
 use Rattle.depth_maker.specs.TableView.{seen}
 use Rattle.frame_places.specs.Spots.{spot_eq}
-use Rattle.depth_maker.specs.Spots.{place_of_spot}
+use Rattle.depth_maker.specs.SpotsAsPlaces.{place_of_spot}
 use Rattle.depth_maker.proofs.Lawful.{lawful}
 use Rattle.depth_maker.proofs.PlaceKinds.{IsOfKind, derived_kinds}
 use Rattle.depth_maker.proofs.PlaceLaws.{one_state}

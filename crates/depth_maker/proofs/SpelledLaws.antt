@@ -30,14 +30,13 @@ use Rattle.cfg_recover.specs.Entries.{start_key}
 use Rattle.cfg_recover.specs.Assignments.{Place, point, exit, Assignment, same_place, frame_of_place, known_at, known_in, Closed, Derived, AllFaultless}
 use Rattle.depth_cert.specs.Known.{Known, state, leaving, exit_if_known}
 use Rattle.depth_cert.specs.Proper.{IsProperState, IsProperExit, IsProperKnown}
-use Rattle.cfg_recover.specs.CertRefusals.{AreLeastNeeds}
+use Rattle.depth_maker.specs.LeastCertMade.{AreLeastNeeds, IsWritten, needs_in}
 use Rattle.cfg_recover.proofs.Members.{contains_map}
-use Rattle.depth_maker.specs.Counts.{AreCounted}
+use Rattle.depth_maker.specs.AssignmentCounts.{AreCounted}
 use Rattle.depth_maker.specs.DutiesGrow.{IsGround}
-use Rattle.depth_maker.specs.LeastCertMade.{IsWritten, needs_in}
 use Rattle.frame_places.specs.Spots.{AreRangedSpots, is_point_of, spot_address, spot_number}
 use Rattle.depth_maker.specs.SpelledCert.{HasSpelledCcpns, spelled_addresses_in, spelled_cert_with, spelled_node_at, spelled_point_at, spelled_state_at}
-use Rattle.depth_maker.specs.Spots.{place_of_spot}
+use Rattle.depth_maker.specs.SpotsAsPlaces.{place_of_spot}
 use Rattle.frame_places.specs.declared.places.Spot.{Spot}
 use Rattle.frame_places.specs.declared.places.Spot.TheVariants.{Point, Exit}
 use Rattle.depth_maker.proofs.Accepted.{one_number}

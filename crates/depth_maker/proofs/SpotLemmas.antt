@@ -8,7 +8,7 @@ use Rattle.frame_places.proofs.SpotLemmas.{spot_tells, spot_refl}
 use Rattle.depth_maker.proofs.PlaceLaws.{place_tells, place_same}
 use Rattle.frame_places.specs.declared.places.Spot.{Spot}
 use Rattle.frame_places.specs.declared.places.Spot.TheVariants.{Point, Exit}
-use Rattle.depth_maker.specs.Spots.{spot_of, place_of_spot}
+use Rattle.depth_maker.specs.SpotsAsPlaces.{spot_of, place_of_spot}
 use Rattle.frame_places.specs.Spots.{spot_eq}
 
 -- back and forth

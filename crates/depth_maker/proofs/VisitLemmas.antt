@@ -34,7 +34,7 @@ use Rattle.std.specs.declared.alloc.Global.{Global}
 use Rattle.depth_maker.specs.EnteredFrames.{IsPlainIn}
 use Rattle.depth_maker.specs.declared.table.Table as made
 use Rattle.frame_places.specs.Spots.{spot_eq}
-use Rattle.depth_maker.specs.Spots.{spot_of, place_of_spot}
+use Rattle.depth_maker.specs.SpotsAsPlaces.{spot_of, place_of_spot}
 use Rattle.depth_maker.proofs.SpotLemmas.{back, forth, agrees}
 use Rattle.frame_places.proofs.SpotLemmas.{spot_tells, spot_refl}
 use Rattle.frame_places.specs.Marks.{idle_mark, is_idle, is_queued, settled_mark, IsAmongReaders, mark_for, value_for, AllListed, AreKnown, MarksAs}
@@ -42,7 +42,7 @@ use Rattle.depth_maker.specs.TableInvariant.{TableReadsExits, IsFine}
 use Rattle.depth_maker.specs.TableView.{seen}
 use Rattle.depth_maker.specs.Visits.{IsVisited, IsVisitOpenAt, NoVisitOpen, VisitJoinsPoint}
 use Rattle.depth_maker.specs.VisitDuties.{AllSettledByVisit}
-use Rattle.depth_maker.specs.Counts.{IsCountedIn}
+use Rattle.depth_maker.specs.AssignmentCounts.{IsCountedIn}
 use Rattle.frame_places.proofs.MarkLemmas.{sides}
 use Rattle.frame_places.proofs.NearbyLemmas.{had_at, queued_mark}
 use Rattle.frame_places.specs.Work.{Takes, all_work}

@@ -73,8 +73,8 @@ AfterGrows =
     → Covers (state_after_exit t y kind) (state_after_exit s x kind)
 
 -- ---- effects
--- for the growth of duties: the state after an instruction grows with the one before it and with
--- the loaded value
+-- why a point's duties grow with its state: the state after the instruction grows with the one
+-- before it and with the loaded value
 abbrev pub TransfersGrow : Type 0
 TransfersGrow =
     (b : Limits) (plan : PlanData) (s t : State) (shape : Shape) (v w : Val) → IsSoundSetting b plan s → IsSoundSetting b plan t → Covers t s → IsShape shape → IsBelow v w

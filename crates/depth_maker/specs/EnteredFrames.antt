@@ -13,7 +13,6 @@ use Rattle.tc_isa.specs.InBounds.{IsShape}
 use Rattle.frame_places.specs.declared.places.Spot.{Spot}
 use Rattle.frame_places.specs.declared.places.Spot.TheVariants.{Point, Exit}
 use Rattle.cfg_recover.specs.Duties.{Duty, jump, enter, resume, leave, Owed, entries_of, misaligned_of}
-use Rattle.depth_maker.specs.declared.inputs_and_limits.Visit.{Visit}
 
 -- the frame that a duty enters, if any, as a list of entered frames
 abbrev pub entered_by : Duty → List Key
@@ -22,7 +21,7 @@ entered_by (enter k t) = k ∷ []
 entered_by (resume k q) = []
 entered_by (leave x) = []
 
--- the entered frames of a list of duties, in their order, as the maker's rows of needs have them
+-- the frames that these duties enter, in the order of the duties
 abbrev pub entered_in : List Owed → List Key
 entered_in ds = flat_map (λ d. entered_by d.duty) ds
 
@@ -32,7 +31,7 @@ abbrev pub EntersNoFrame : PlanData → Shape → Type 0
 EntersNoFrame plan shape =
     (b : Limits) (k : Key) (p : ℕ) (u : State) (n : ℕ) → LocalRule b plan k p u shape 10 → (entered_in (entries_of plan k p u shape n) ≡ []) × (entered_in (misaligned_of b plan k u shape) ≡ [])
 
--- the instruction there enters no frame by itself
+-- the duties of the instruction at this address enter no frames, except by interrupts
 pub record IsPlainAt (image : ImageData) (plan : PlanData) (p : ℕ) : Type 0 where
   pub shape : Shape
   pub size : ℕ
@@ -44,7 +43,3 @@ pub record IsPlainAt (image : ImageData) (plan : PlanData) (p : ℕ) : Type 0 wh
 abbrev pub IsPlainIn : ImageData → PlanData → Spot → Type 0
 IsPlainIn image plan (Point k p) = IsPlainAt image plan p
 IsPlainIn image plan (Exit k) = Unit {0}
-
--- the instruction at the visited point enters no frame by itself
-abbrev pub IsPlainBy : Visit → Type 0
-IsPlainBy v = IsPlainAt (v.ground.now).image.now (v.ground.now).plan.now v.addr

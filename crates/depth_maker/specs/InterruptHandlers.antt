@@ -5,7 +5,7 @@ use Rattle.tcd_plan.specs.PlanData.{PlanData}
 use Rattle.value_domain.specs.declared.values.Val.{Val}
 use Rattle.value_domain.specs.declared.states.State.{State}
 use Rattle.value_domain.specs.Limits.{Limits}
-use Rattle.value_domain.specs.State.{a10_of}
+use Rattle.vd_transfer.specs.Registers.{a10_of}
 use Rattle.value_domain.specs.Values.{join_of, IsBelow, IsValue, word_val}
 use Rattle.depth_cert.specs.Known.{state}
 use Rattle.depth_cert.specs.Proper.{IsProperState}
@@ -16,19 +16,21 @@ use Rattle.depth_maker.specs.declared.interrupt_contexts.LastInterrupts.{LastInt
 use Rattle.indexmap.specs.IndexMap.{IndexMap}
 use Rattle.depth_cert.specs.declared.keys.Key.{Key}
 use Rattle.frame_places.specs.Numbers.{AreFrameNumbers, frame_number_in}
-use Rattle.depth_maker.specs.declared.handlers.Handler.{Handler}
+use Rattle.depth_maker.specs.declared.interrupt_handlers.Handler.{Handler}
 use Rattle.depth_maker.specs.declared.table.Table as made
 
 -- the stack pointer at the entries of the interrupt handlers in a context that the maker notes
 abbrev pub context_stack : PlanData → InterruptContext → Val
 context_stack plan h = if h.is then h.sp else word_val plan.isp
 
--- the entry of the handler of interrupt p is covered
+-- the interrupt handler of priority p has its entry covered in the assignment, as it is entered
+-- from the noted context
 pub record IsHandlerEntered (b : Limits) (plan : PlanData) (a : Assignment) (h : InterruptContext) (p : ℕ) : Type 0 where
   pub proper : IsProperState b (entry_state_with (context_stack plan h) false p true)
   pub covers : CoversAt a (point (irq_key plan p) (irq_key plan p).entry) (state (entry_state_with (context_stack plan h) false p true))
 
--- the entries of the handlers of all stated interrupts above the context's priority are covered
+-- all interrupt handlers above the noted context's priority have their entries covered in the
+-- assignment
 pub record AreHandlersEntered (b : Limits) (plan : PlanData) (a : Assignment) (h : InterruptContext) : Type 0 where
   pub stack : IsValue b h.sp
   pub each : (p : ℕ) → Contains plan.irqs p → h.ccpn < p → IsHandlerEntered b plan a h p
@@ -64,7 +66,8 @@ pub record IsWithinContext (h : InterruptContext) (inner : Bool) (s : State) : T
   pub above : h.ccpn ≤ s.ccpn
   pub below : IsTrue h.is → IsBelow (a10_of s) h.sp
 
--- the handlers of these interrupts, each with the number of its frame if it is one of these frames
+-- the maker's list of interrupt handlers: each has its interrupt's priority, and its frame's number
+-- if the frame is one of these
 pub record AreHandlers (plan : PlanData) (frames : List Key) (irqs : List ℕ) (handlers : List Handler) : Type 0 where
   pub priorities : map (λ h. h.prio) handlers ≡ irqs
   pub each : (h : Handler) → Contains handlers h → Contains frames (irq_key plan h.prio) → h.node ≡ frame_number_in frames (irq_key plan h.prio)
@@ -73,7 +76,8 @@ pub record AreHandlers (plan : PlanData) (frames : List Key) (irqs : List ℕ) (
 abbrev pub nodes_above : ℕ → List Handler → List ℕ
 nodes_above m handlers = map (λ h. h.node) (filter (λ h. nat_lt m h.prio) handlers)
 
--- the frames of the handlers that may be entered: those above a priority if IE is on
+-- the numbers of the frames of the interrupt handlers that may be entered: those above a priority,
+-- or none if IE is off
 abbrev pub nodes_taken : Bool → ℕ → List Handler → List ℕ
 nodes_taken ie m handlers = if ie then nodes_above m handlers else []
 

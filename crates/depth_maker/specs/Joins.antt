@@ -16,12 +16,12 @@ use Rattle.depth_maker.specs.TableInvariant.{Settled, FineOn, IsFine}
 use Rattle.frame_places.specs.declared.places.Spot.{Spot}
 use Rattle.frame_places.specs.declared.refusals.Refusal.{Refusal}
 use Rattle.frame_places.specs.Spots.{spot_eq}
-use Rattle.depth_maker.specs.Spots.{spot_of, place_of_spot}
-use Rattle.frame_places.specs.Counting.{frames_after, points_after}
+use Rattle.depth_maker.specs.SpotsAsPlaces.{spot_of, place_of_spot}
+use Rattle.frame_places.specs.Counting.{counted_frames_after, counted_points_after}
 use Rattle.frame_places.specs.Marks.{is_queued, mark_for, value_for, AllListed, PutsPlaceValue, IsAmongReaders}
 use Rattle.frame_places.specs.Numbers.{KeepsNumbers, PlaceHasNumber}
 use Rattle.frame_places.specs.Work.{all_work}
-use Rattle.depth_maker.specs.Counts.{AreFew}
+use Rattle.depth_maker.specs.AssignmentCounts.{AreFew}
 use Rattle.depth_maker.specs.TableLevels.{LevelRises}
 use Rattle.depth_maker.specs.declared.inputs_and_limits.Ground.{Ground}
 use Rattle.depth_maker.specs.declared.table.Table as made
@@ -37,8 +37,8 @@ pub record JoinedAlone (b : Limits) (s t : made.Table) (y : Spot) (v : Known) : 
   pub near : t.near ≡ s.near
   pub readers : t.readers ≡ s.readers
   pub covered : t.covered ≡ s.covered
-  pub points : t.points.items ≡ points_after (is_some (value_for s.places y)) s.points.items y
-  pub frames : t.frames.items ≡ frames_after (is_some (value_for s.places y)) s.frames.items y
+  pub points : t.points.items ≡ counted_points_after (is_some (value_for s.places y)) s.points.items y
+  pub frames : t.frames.items ≡ counted_frames_after (is_some (value_for s.places y)) s.frames.items y
   pub few : AreFew (map place_of_spot t.points.items) t.frames.items
 
 -- a join keeps places without new work as they are

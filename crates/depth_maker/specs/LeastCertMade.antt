@@ -16,19 +16,27 @@ use Rattle.depth_cert.specs.Certs.{CertData, IsCert}
 use Rattle.cfg_recover.specs.Entries.{start_key}
 use Rattle.cfg_recover.specs.RulesHoldOrFail.{Accepts}
 use Rattle.depth_cert.specs.Keys.{same_key}
-use Rattle.cfg_recover.specs.Assignments.{Derived, Closed, IsBelowAt, known_in, point, exit, AllFaultless}
-use Rattle.cfg_recover.specs.CertRefusals.{AreLeastNeeds, IsLeastAssignment}
+use Rattle.cfg_recover.specs.Assignments.{Derived, Closed, IsBelowAt, known_in, point, exit, AllFaultless, Assignment}
+use Rattle.cfg_recover.specs.CertRefusals.{IsLeastAssignment, MeetsNeeds, need}
 use Rattle.depth_cert.specs.Spelling.{bytes_of_cert}
+use Rattle.value_domain.specs.Limits.{Limits}
 
--- the needs of frames that a certificate states, which are compared with the least ones; a frame
--- without a node needs nothing
+-- the needs of frames in the certificate that is made, which are to be the least; a frame without a
+-- node needs nothing
 abbrev pub needs_in : CertData → Key → ℕ
 needs_in cert k = need_of (find (λ n. same_key n.key k) cert.nodes)
 
--- the other certificate covers what this one says, and has no lesser need of a frame
+-- the least certificate is no worse than another one: the other covers what it says, and has no
+-- lesser need of a frame
 pub record IsNoWorse (image : ImageData) (plan : PlanData) (cert other : CertData) : Type 0 where
   pub below : IsBelowAt (known_in cert) (known_in other)
   pub needs : (k : Key) → needs_in cert k ≤ needs_in other k
+
+-- the least numbers of areas that meet the needs of an assignment, as the least certificate states
+-- them; there are none if it is refused for a recursion
+pub record AreLeastNeeds (b : Limits) (image : ImageData) (plan : PlanData) (a : Assignment) (need : Key → ℕ) : Type 0 where
+  pub meets : MeetsNeeds b image plan a need
+  pub least : (other : Key → ℕ) → MeetsNeeds b image plan a other → (k : Key) → need k ≤ other k
 
 -- the least certificate, which is to be made: it is accepted, and its assignment and its needs are
 -- the least of its version
@@ -39,9 +47,8 @@ pub record IsMade (image : ImageData) (plan : PlanData) (version : ℕ) (cert : 
   pub needs : AreLeastNeeds (limits_for plan version) image plan (known_in cert) (needs_in cert)
   pub best : (other : CertData) → IsCert other → other.version ≡ version → Accepts image plan other → IsNoWorse image plan cert other
 
--- A made certificate in plain words. It is accepted, and each accepted certificate of its version
--- has no lesser need of a frame, at each of its points a state that covers its own, and at each of
--- its exits an exit that covers its own.
+-- a made certificate is the least: it is accepted, and each accepted one of its version covers its
+-- points and exits and has no lesser need of a frame
 pub record IsLeastAccepted (image : ImageData) (plan : PlanData) (version : ℕ) (cert : CertData) : Type 0 where
   pub its_version : cert.version ≡ version
   pub accepts : Accepts image plan cert
@@ -66,7 +73,7 @@ pub record IsWritten (image : ImageData) (plan : PlanData) (version : ℕ) (cert
   pub needs : AreLeastNeeds (limits_for plan version) image plan (known_in cert) (needs_in cert)
   pub start : needs_in cert (start_key image plan) ≤ plan.areas - plan.reserve
 
--- the bytes spell the certificate that is to be made
+-- the bytes spell the least certificate, which is to be made
 pub record AreMade (image : ImageData) (plan : PlanData) (version : ℕ) (bytes : List ℕ) : Type 0 where
   pub cert : CertData
   pub spell : bytes ≡ bytes_of_cert cert

@@ -5,8 +5,8 @@ pub mod Recursing
 pub mod MakerLaws
 pub mod TableView
 pub mod LeastCertMade
-pub mod Counts
-pub mod Spots
+pub mod AssignmentCounts
+pub mod SpotsAsPlaces
 pub mod EnteredFrames
 pub mod Rows
 pub mod Needs

@@ -5,8 +5,8 @@ use Rattle.tcd_plan.specs.PlanData.{PlanData}
 use Rattle.value_domain.specs.Limits.{Limits}
 use Rattle.depth_cert.specs.declared.keys.Key.{Key}
 use Rattle.depth_cert.specs.Points.{find_point}
-use Rattle.depth_cert.specs.Nodes.{NodeData, need_of}
-use Rattle.depth_cert.specs.Certs.{CertData, IsCert, find_node}
+use Rattle.depth_cert.specs.Nodes.{NodeData, need_of, find_node}
+use Rattle.depth_cert.specs.Certs.{CertData, IsCert}
 use Rattle.cfg_recover.specs.Entries.{start_key, start_state}
 use Rattle.cfg_recover.specs.RulesHoldOrFail.{Accepts, limits_in}
 use Rattle.cfg_recover.specs.Assignments.{Assignment, Closed, Derived, IsBelowAt, known_in, AllFaultless}
@@ -50,7 +50,8 @@ pub record IsMakerSolution (b : Limits) (image : ImageData) (plan : PlanData) (a
   pub needs : MeetsNeeds b image plan a need
   pub start : need (start_key image plan) ≤ plan.areas - plan.reserve
 
--- an accepted certificate is a solution
+-- law of the maker: each accepted certificate is a closed assignment without faults, whose needs
+-- are met
 abbrev pub AcceptedIsClosed : Type 0
 AcceptedIsClosed =
     (image : ImageData) (plan : PlanData) (cert : CertData) → IsGround (limits_in plan cert) image plan → image.entry < 2 ^ 32 → IsCert cert → Accepts image plan cert
@@ -105,7 +106,7 @@ WrittenIsMade =
     (image : ImageData) (plan : PlanData) (version : ℕ) (cert : CertData) → IsGround (limits_for plan version) image plan → image.entry < 2 ^ 32
     → IsWritten image plan version cert → IsMade image plan version cert
 
--- if a refusal holds, no certificate is accepted
+-- law of the maker: if one of its refusals holds, no certificate of the version is accepted
 abbrev pub RefusedIsNone : Type 0
 RefusedIsNone =
     (image : ImageData) (plan : PlanData) (version r : ℕ) (k : Key) (p : ℕ) → IsGround (limits_for plan version) image plan → image.entry < 2 ^ 32

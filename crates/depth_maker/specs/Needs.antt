@@ -4,7 +4,8 @@ use Rattle.std.specs.declared.vec.Vec.{Vec}
 use Rattle.std.specs.declared.alloc.Global.{Global}
 use Rattle.depth_cert.specs.declared.keys.Key.{Key}
 use Rattle.cfg_recover.specs.Entries.{start_key}
-use Rattle.cfg_recover.specs.CertRefusals.{AreLeastNeeds, MeetsNeeds}
+use Rattle.cfg_recover.specs.CertRefusals.{MeetsNeeds}
+use Rattle.depth_maker.specs.LeastCertMade.{AreLeastNeeds}
 use Rattle.depth_maker.specs.Recursing.{IsRecursion}
 use Rattle.depth_maker.specs.TableView.{seen}
 use Rattle.depth_maker.specs.declared.rows.Source.{Source}

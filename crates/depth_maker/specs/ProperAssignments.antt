@@ -15,10 +15,6 @@ use Rattle.cfg_recover.specs.Assignments.{Place, Assignment}
 use Rattle.depth_cert.specs.Known.{Known}
 use Rattle.depth_cert.specs.Proper.{IsProperState, IsProperExit, IsProperKnown}
 use Rattle.depth_maker.specs.DutiesGrow.{IsGround}
-use Rattle.indexmap.specs.IndexMap.{IndexMap}
-use Rattle.frame_places.specs.declared.places.Spot.{Spot}
-use Rattle.frame_places.specs.declared.places.Marked.{Marked}
-use Rattle.frame_places.specs.Marks.{value_for}
 
 -- all that an assignment knows is at the limits
 abbrev pub AllProper : Limits → Assignment → Type 0
@@ -40,7 +36,3 @@ DutiesAreProper =
 -- law of assignments at the limits: the state after a return is at the limits too
 abbrev pub AfterIsProper : Type 0
 AfterIsProper = (b : Limits) (s : State) (x : Exit) (kind : ℕ) → IsProperState b s → IsProperExit b x → IsProperState b (state_after_exit s x kind)
-
--- all that is known is at the limits
-abbrev pub CellsProper : {S : Type 0} → Limits → IndexMap Spot (Marked Known) S → Type 0
-CellsProper b places = (q : Spot) (v : Known) → value_for places q ≡ Some v → IsProperKnown b v

@@ -3,9 +3,10 @@ use Rattle.std.specs.Prelude.{◌≤◌, ℕ, Bool, List, [], ◌∷◌, ◌++�
 use Rattle.value_domain.specs.declared.states.State.{State}
 use Rattle.depth_cert.specs.declared.keys.Key.{Key}
 use Rattle.depth_cert.specs.Keys.{number_of_key}
-use Rattle.cfg_recover.specs.CertRefusals.{EntersInAssignment, Recurs, IsRefusedRecursion}
+use Rattle.cfg_recover.specs.CertRefusals.{Recurs, IsRefusedRecursion}
+use Rattle.cfg_recover.specs.Assignments.{EntersInAssignment}
 use Rattle.frame_places.specs.Numbers.{frame_number_in}
-use Rattle.frame_places.specs.NodeGraph.{AreEdges, IsMarked}
+use Rattle.frame_places.specs.NodeGraph.{AreEdges, IsNodeMarked}
 use Rattle.depth_maker.specs.Rows.{RowsOn}
 use Rattle.depth_maker.specs.TableView.{seen}
 use Rattle.frame_places.specs.declared.places.Spot.{Spot}
@@ -44,7 +45,7 @@ pub record IsRecursiveByMarks (s : Source) (marks : List Bool) (k : Key) (p : �
   pub before : State
   pub next : Key
   pub enters : RecursionEnters s k p before next
-  pub marked : IsMarked marks (frame_number_in (s.table.now).frames.items next)
+  pub marked : IsNodeMarked marks (frame_number_in (s.table.now).frames.items next)
 
 -- the first address of the frame k among these places at which a marked frame is entered
 abbrev pub IsFirstRecursive : Source → List Bool → Key → List Spot → Option ℕ → Type 0

@@ -27,7 +27,7 @@ use Rattle.frame_places.specs.declared.places.Spot.{Spot}
 use Rattle.frame_places.specs.declared.places.Spot.TheVariants.{Point}
 use Rattle.depth_maker.specs.declared.rows.Source.{Source}
 use Rattle.depth_maker.specs.declared.spelling.Ordered.{Ordered}
-use Rattle.depth_maker.specs.Spots.{spots_of}
+use Rattle.depth_maker.specs.SpotsAsPlaces.{spots_of}
 use Rattle.depth_maker.specs.declared.inputs_and_limits.Ground.{Ground}
 
 -- ---- places in order

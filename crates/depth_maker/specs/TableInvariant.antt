@@ -13,9 +13,9 @@ use Rattle.frame_places.specs.declared.places.Spot.{Spot}
 use Rattle.frame_places.specs.declared.places.Spot.TheVariants.{Point}
 use Rattle.depth_maker.specs.declared.table.Table as made
 use Rattle.frame_places.specs.Spots.{spot_eq}
-use Rattle.frame_places.specs.Marks.{mark_for, AllListed, AreKnown, IsAmongReaders}
+use Rattle.frame_places.specs.Marks.{mark_for, AllListed, AreKnown, IsAmongReaders, value_for}
 use Rattle.frame_places.specs.Work.{all_work}
-use Rattle.depth_maker.specs.Counts.{IsCountedIn}
+use Rattle.depth_maker.specs.AssignmentCounts.{IsCountedIn}
 use Rattle.depth_maker.specs.Covered.{EntriesCovered}
 use Rattle.depth_maker.specs.declared.inputs_and_limits.Ground.{Ground}
 use Rattle.depth_cert.specs.Known.{Known, state, leaving}
@@ -28,6 +28,7 @@ use Rattle.cfg_recover.specs.Duties.{Duty, jump, enter, resume, leave, Owed, dut
 use Rattle.tc_isa.specs.declared.shapes.Shape.{Shape}
 use Rattle.cfg_recover.specs.Code.{IsCode}
 use Rattle.cfg_recover.specs.LocalFaults.{IsFaultless}
+use Rattle.depth_cert.specs.Proper.{IsProperKnown}
 
 -- ---- the table
 
@@ -71,7 +72,7 @@ pub record IsFine (b : Limits) (image : ImageData) (plan : PlanData) (t : made.T
   pub readers : (z : Spot) → AreKnown t.places (IsAmongReaders (get spot_eq t.readers z))
   pub plain : ArePlainInTable image plan t.places
 
--- the least closed assignment: no place has work
+-- the maker's table at the end: no place has work, so it is the least closed assignment
 pub record IsDone (g : Ground) (t : made.Table) : Type 0 where
   pub derived : Derived g.bounds.now g.image.now g.plan.now (seen t).cells
   pub closed : Closed g.bounds.now g.image.now g.plan.now (seen t).cells
@@ -83,3 +84,7 @@ pub record IsDone (g : Ground) (t : made.Table) : Type 0 where
 -- the table between two steps
 abbrev pub FineOn : Ground → made.Table → Type 0
 FineOn g t = IsFine g.bounds.now g.image.now g.plan.now t
+
+-- the maker's table between two steps: each state or exit that is known in it is at the limits
+abbrev pub CellsProper : {S : Type 0} → Limits → IndexMap Spot (Marked Known) S → Type 0
+CellsProper b places = (q : Spot) (v : Known) → value_for places q ≡ Some v → IsProperKnown b v

@@ -3,7 +3,7 @@ use Rattle.std.specs.Prelude.{Bool}
 use Rattle.cfg_recover.specs.Assignments.{Place, Assignment}
 use Rattle.indexmap.specs.IndexMap.{get}
 use Rattle.frame_places.specs.Spots.{spot_eq}
-use Rattle.depth_maker.specs.Spots.{spot_of}
+use Rattle.depth_maker.specs.SpotsAsPlaces.{spot_of}
 use Rattle.frame_places.specs.Marks.{is_idle, is_queued, mark_for, value_for, IsAmongReaders}
 use Rattle.depth_maker.specs.declared.table.Table as made
 

@@ -17,11 +17,12 @@ use Rattle.cfg_recover.specs.Duties.{Duty, Owed, duties_of, entered_and_back, en
 use Rattle.cfg_recover.specs.Assignments.{point}
 use Rattle.depth_maker.specs.TableView.{seen}
 use Rattle.depth_maker.specs.TableInvariant.{Settled, IsFine}
-use Rattle.depth_maker.specs.Spots.{spot_of}
+use Rattle.depth_maker.specs.SpotsAsPlaces.{spot_of}
 use Rattle.frame_places.specs.Marks.{is_queued, mark_for}
 use Rattle.depth_maker.specs.declared.inputs_and_limits.Visit.{Visit}
 use Rattle.depth_maker.specs.Joins.{JoinKeeps}
 use Rattle.depth_maker.specs.declared.table.Table as made
+use Rattle.depth_maker.specs.EnteredFrames.{IsPlainAt}
 
 -- of what the visited point p of frame k owes by its state u, these duties were joined, unless the
 -- point has new work
@@ -48,7 +49,7 @@ OwesDuty v d = VisitedPointOwes (v.ground.now).bounds.now (v.ground.now).image.n
 abbrev pub OwesAll : Visit → List Owed → Type 0
 OwesAll v ds = (d : Owed) → Contains ds d → VisitedPointOwes (v.ground.now).bounds.now (v.ground.now).image.now (v.ground.now).plan.now v.key v.addr v.state.now d.duty
 
--- of what the visited point owes, these duties were joined
+-- of the duties that the visited point owes, these were joined, unless the point has new work
 abbrev pub JoinedBy : Visit → made.Table → made.Table → List Owed → Type 0
 JoinedBy v s t ds = DutiesJoined (v.ground.now).bounds.now (v.ground.now).image.now (v.ground.now).plan.now s t v.key v.addr v.state.now ds
 
@@ -56,7 +57,7 @@ JoinedBy v s t ds = DutiesJoined (v.ground.now).bounds.now (v.ground.now).image.
 abbrev pub StandsBy : Visit → Located → Type 0
 StandsBy v found = StandsFaultless (v.ground.now).bounds.now (v.ground.now).image.now (v.ground.now).plan.now v.key v.addr v.state.now found
 
--- the state on one side of a branch, if that side is possible
+-- the state that the visited point owes on one side of its branch, if that side is possible
 abbrev pub side_by : Visit → Shape → Bool → Option State
 side_by v shape taken = refine_of (v.ground.now).bounds.now (v.ground.now).plan.now shape v.state.now taken
 
@@ -116,3 +117,7 @@ resumes_by v back targets = map (λ t. owed 4 (resume (call_key v.key t) back)) 
 -- all duties that the visited point owes are covered
 pub record AllSettledByVisit (b : Limits) (image : ImageData) (plan : PlanData) (t : made.Table) (k : Key) (p : ℕ) (u : State) : Type 0 where
   pub each : (shape : Shape) (n : ℕ) (d : Owed) → IsCode image plan p shape n → Contains (duties_of b image plan k p u shape n) d → Settled (seen t) k p u d.duty
+
+-- the visited point owes no entry of a frame by its instruction itself, only by interrupts
+abbrev pub IsPlainBy : Visit → Type 0
+IsPlainBy v = IsPlainAt (v.ground.now).image.now (v.ground.now).plan.now v.addr

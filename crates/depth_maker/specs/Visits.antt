@@ -14,7 +14,7 @@ use Rattle.depth_maker.specs.TableInvariant.{FineOn, IsFine}
 use Rattle.frame_places.specs.declared.places.Spot.{Spot}
 use Rattle.frame_places.specs.declared.places.Mark.TheVariants.{Open}
 use Rattle.frame_places.specs.declared.refusals.Refusal.{Refusal}
-use Rattle.depth_maker.specs.Spots.{spot_of, place_of_spot}
+use Rattle.depth_maker.specs.SpotsAsPlaces.{spot_of, place_of_spot}
 use Rattle.frame_places.specs.Marks.{is_queued, mark_for}
 use Rattle.frame_places.specs.Numbers.{PlaceHasNumber}
 use Rattle.frame_places.specs.Work.{all_work}
@@ -56,7 +56,7 @@ pub record IsVisited (b : Limits) (image : ImageData) (plan : PlanData) (t : mad
   pub at : is_queued (mark_for t.places (spot_of (point k p))) ≡ false → (seen t).cells (point k p) ≡ Some (state u)
   pub stands : PlaceHasNumber t.places t.near (spot_of (point k p))
 
--- what the point x owes was joined
+-- a visit of the point x: it found no fault of the point's own, and what the point owes was joined
 abbrev pub VisitJoinsPointOn : Ground → made.Table → made.Table → Spot → Type 0
 VisitJoinsPointOn g s t x = VisitJoinsPoint g.bounds.now g.image.now g.plan.now s t x
 

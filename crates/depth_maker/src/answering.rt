@@ -9,8 +9,8 @@ ghost use Rattle.depth_maker.specs.declared.answering.MakeErr.TheVariants.{NoMem
 ghost use Rattle.frame_places.specs.declared.refusals.Refusal.TheVariants.{Fault};
 
 use crate::fixpoint::least_fixpoint;
-use crate::handlers::all_handler_frames;
 use crate::inputs_and_limits::Ground;
+use crate::interrupt_handlers::all_handler_frames;
 use crate::needs::{frame_needs, needs_error};
 use crate::rows::Source;
 use crate::spelling::spelled_cert_bytes;

@@ -22,8 +22,8 @@ use tc_isa::Target;
 use value_domain::State;
 use vd_transfer::Change;
 
-/// Returns true only if the last call of several functions shows that the entries of these are
-/// covered.
+/// Returns true only if the visited point's call joins no new entries: the last noted call of
+/// several functions shows that the entries of these are covered.
 fn has_noted_call(table: &Table, v: &Visit, entry: &Change, targets: &ArrayVec<u32, 128>) -> bool
     requires visited { VisitedBy v.now table.now }
     requires entry { state_after v.now.state.now entry.now ≡ entries.call_entry v.now.state.now }

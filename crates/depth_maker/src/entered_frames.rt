@@ -1,18 +1,21 @@
 // The frames that an instruction enters.
-ghost use Rattle.std.specs.Prelude.{◌≡◌, ◌++◌, OnOk, IfOk, map, IsTrue};
-ghost use Rattle.tc_isa.specs.InBounds.{IsShape};
+ghost use Rattle.std.specs.Prelude.{◌≡◌, ◌++◌, OnOk, IfOk, map, IsTrue, ◌∷◌, [], if◌then◌else◌, not};
+ghost use Rattle.tc_isa.specs.InBounds.{IsShape, IsShapeAccessSize};
 ghost use Rattle.depth_cert.specs.Proper.{IsProperState};
 ghost use Rattle.cfg_recover.specs.Entries as frames;
 ghost use Rattle.depth_maker.specs.EnteredFrames.{entered_in, EntersNoFrame};
-ghost use Rattle.depth_maker.specs.VisitDuties.{StandsBy, access_by, entries_by};
+ghost use Rattle.depth_maker.specs.VisitDuties.{StandsBy, access_by, entries_by, misaligned_by};
+ghost use Rattle.vd_transfer.specs.EffectsOnStates.{address_of};
+ghost use Rattle.store_ranges.specs.Accesses.{are_aligned};
+ghost use Rattle.depth_cert.specs.Known.{state};
 
-use crate::handlers::may_enter_misaligned_handler;
 use crate::inputs_and_limits::Visit;
-use cfg_recover::{Located, aln_key, entered_key, sys_key, targets};
+use cfg_recover::{Located, aln_key, entered_key, is_flow_access_aligned, sys_key, targets};
 use depth_cert::{CALL, Key};
 use std::alloc::{AllocError, Global};
 use tc_isa::Shape;
 use tcd_plan::Plan;
+use vd_transfer::address_by;
 
 /// Appends the frames of these functions, which a call enters.
 fn add_called_frames(keys: &mut Vec<Key>, key: Key, targets: &[u32]) -> Result<(), AllocError>
@@ -89,4 +92,37 @@ pub(crate) fn enters_no_frame(plan: &Plan, shape: Shape) -> bool
         Shape::Store { .. } => !trapped,
         _ => true,
     }
+}
+
+/// Returns whether the instruction may enter the frame of the handler of misaligned accesses: its
+/// access may be misaligned, and the plan has such traps.
+pub(crate) fn may_enter_misaligned_handler(v: &Visit, found: &Located) -> bool
+    requires proper { IsProperState v.now.ground.now.bounds.now v.now.state.now }
+    requires stands { StandsBy v.now found.now }
+    ensures { access_by v.now found.now ≡ (if result then misaligned_by v.now ∷ [] else []) }
+{
+    let plan = v.ground.plan;
+    if !plan.aln {
+        return false;
+    }
+    match found.shape {
+        Shape::Load { size, .. } => accesses_misaligned(v, found.shape, size),
+        Shape::Store { size, .. } => accesses_misaligned(v, found.shape, size),
+        _ => false,
+    }
+}
+
+/// Returns whether the instruction's access may be misaligned, so that it may enter the frame of a
+/// handler. It is a call of its own, since it has room for a value.
+#[inline(never)]
+pub(crate) fn accesses_misaligned(v: &Visit, shape: Shape, size: u8) -> bool
+    requires proper { IsProperState v.now.ground.now.bounds.now v.now.state.now }
+    requires shape { IsShape shape }
+    requires size { IsShapeAccessSize size }
+    ensures { result ≡ not (are_aligned (address_of v.now.ground.now.bounds.now
+        v.now.ground.now.plan.now shape v.now.state.now) size) }
+{
+    let g = v.ground;
+    let at = address_by(g.bounds, g.plan, shape, v.state);
+    !is_flow_access_aligned(g.bounds, &at, size)
 }

@@ -3,7 +3,7 @@ ghost use Rattle.std.specs.Prelude.{◌≡◌, IsTrue};
 ghost use Rattle.value_domain.specs.declared.states.State.{State};
 ghost use Rattle.value_domain.specs.Values.{IsBelow, IsValue, IsWell};
 ghost use Rattle.depth_maker.specs.InterruptHandlers.{IsAlike, IsContextOf, IsWithinContext, joined_context, HasNotedInterrupts};
-ghost use Rattle.value_domain.specs.State.{a10_of};
+ghost use Rattle.vd_transfer.specs.Registers.{a10_of};
 ghost use Rattle.depth_cert.specs.Proper.{IsProperState};
 ghost use Rattle.frame_places.specs.declared.places.Spot.TheVariants.{Point};
 ghost use Rattle.frame_places.specs.Numbers.{PlaceHasNumber};

@@ -1,8 +1,7 @@
 // Joins the entries of frames that the visited point enters.
-ghost use Rattle.std.specs.Prelude.{◌≡◌, OnOk, IfErr, [], ◌∷◌, not, ℕ};
-ghost use Rattle.tc_isa.specs.InBounds.{IsShape, IsShapeAccessSize};
+ghost use Rattle.std.specs.Prelude.{◌≡◌, OnOk, IfErr, [], ◌∷◌, ℕ};
+ghost use Rattle.tc_isa.specs.InBounds.{IsShape};
 ghost use Rattle.vd_transfer.specs.Changes.{state_after};
-ghost use Rattle.depth_cert.specs.Proper.{IsProperState};
 ghost use Rattle.cfg_recover.specs.Entries.{irqs_of};
 ghost use Rattle.cfg_recover.specs.FlowDuties.{told_irqs};
 ghost use Rattle.frame_places.specs.declared.places.Spot.TheVariants.{Point, Exit};
@@ -10,29 +9,27 @@ ghost use Rattle.depth_maker.specs.Answers.{AnsweredOn};
 ghost use Rattle.depth_maker.specs.VisitDuties.{OwesAll, JoinedBy, StandsBy, access_by, entries_by, interrupts_by, misaligned_by, system_by, enters_by, OwesDuty};
 ghost use Rattle.depth_maker.specs.Visits.{VisitedBy};
 ghost use Rattle.cfg_recover.specs.Entries as entries;
-ghost use Rattle.vd_transfer.specs.EffectsOnStates.{address_of};
-ghost use Rattle.store_ranges.specs.Accesses.{are_aligned};
 ghost use Rattle.cfg_recover.specs.Duties.{owed, enter, resume, entered_and_back};
 ghost use Rattle.cfg_recover.specs.Assignments.{point};
 ghost use Rattle.depth_cert.specs.Known.{state};
 
 use crate::calls::join_call;
-use crate::handlers::may_enter_misaligned_handler;
+use crate::entered_frames::may_enter_misaligned_handler;
 use crate::inputs_and_limits::Visit;
 use crate::interrupt_contexts::{is_interrupt_context_noted, note_interrupts};
 use crate::join_place::join_at_place;
 use crate::join_successors::join_return;
 use crate::table::Table;
 use cfg_recover::{
-    Located, aln_key, entered_key, handler_change, interrupts, irq_key, is_flow_access_aligned,
-    misaligned_change, sys_key, system_change, targets,
+    Located, aln_key, entered_key, handler_change, interrupts, irq_key, misaligned_change, sys_key,
+    system_change, targets,
 };
 use depth_cert::{CALL, Key};
 use frame_places::{Refusal, Spot, has_queued_mark, register_reader};
 use small_states::Incoming;
 use std::alloc::Global;
 use tc_isa::Shape;
-use vd_transfer::{Change, address_by};
+use vd_transfer::Change;
 
 /// Joins the entry of the handler of the system call `tin`, and the state after its return. It is a
 /// call of its own, since it has room for a change.
@@ -91,9 +88,9 @@ fn join_misaligned_entry(alloc: Global, table: &mut Table, v: &Visit) -> Result<
     join_entry(alloc, table, v, aln_key(g.plan, &v.key), &entry)
 }
 
-/// Joins the entry of the handler of misaligned accesses if an access of the instruction may be
-/// misaligned.
-pub(crate) fn join_access(
+/// Joins the entry that the visited point's access may enter: that of the handler of misaligned
+/// accesses, if an address may be misaligned.
+pub(crate) fn join_access_entry(
     alloc: Global,
     table: &mut Table,
     v: &Visit,
@@ -136,10 +133,15 @@ fn join_each_handler_entry(
     Ok(())
 }
 
-/// Joins the entries of the handlers of these interrupts, which may be taken. It is a call of its
-/// own, since it has room for a change.
+/// Joins the entries that the visited point enters by these interrupts, which may be taken. It is a
+/// call of its own, since it has room for a change.
 #[inline(never)]
-fn join_handlers(alloc: Global, table: &mut Table, v: &Visit, irqs: &[u8]) -> Result<(), Refusal>
+fn join_interrupt_entries(
+    alloc: Global,
+    table: &mut Table,
+    v: &Visit,
+    irqs: &[u8],
+) -> Result<(), Refusal>
     requires visited { VisitedBy v.now table.old }
     requires irqs { irqs.now ≡ irqs_of v.now.ground.now.plan.now v.now.state.now }
     requires owes { OwesAll v.now (interrupts_by v.now) }
@@ -168,7 +170,7 @@ pub(crate) fn join_interrupts(alloc: Global, table: &mut Table, v: &Visit) -> Re
     if irqs.is_empty() {
         return Ok(());
     }
-    join_handlers(alloc, table, v, irqs.as_slice())?;
+    join_interrupt_entries(alloc, table, v, irqs.as_slice())?;
     note_interrupts(table, v);
     Ok(())
 }
@@ -192,21 +194,6 @@ pub(crate) fn join_each_entry(
         join_entry(alloc, table, v, key, entry)?;
     }
     Ok(())
-}
-
-/// Returns whether an address of an access of this shape and size may be misaligned. It is a call
-/// of its own, since it has room for a value.
-#[inline(never)]
-pub(crate) fn accesses_misaligned(v: &Visit, shape: Shape, size: u8) -> bool
-    requires proper { IsProperState v.now.ground.now.bounds.now v.now.state.now }
-    requires shape { IsShape shape }
-    requires size { IsShapeAccessSize size }
-    ensures { result ≡ not (are_aligned (address_of v.now.ground.now.bounds.now
-        v.now.ground.now.plan.now shape v.now.state.now) size) }
-{
-    let g = v.ground;
-    let at = address_by(g.bounds, g.plan, shape, v.state);
-    !is_flow_access_aligned(g.bounds, &at, size)
 }
 
 /// Joins a changed state at the entry of a frame.

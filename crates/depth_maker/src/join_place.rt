@@ -11,8 +11,8 @@ ghost use Rattle.frame_places.specs.Numbers.{PlaceHasNumber};
 ghost use Rattle.frame_places.specs.Spots.{spot_eq};
 ghost use Rattle.depth_maker.specs.TableInvariant.{TableReadsExits, FineOn};
 ghost use Rattle.depth_maker.specs.TableView.{seen};
-ghost use Rattle.depth_maker.specs.Counts.{AreFew};
-ghost use Rattle.depth_maker.specs.Spots.{place_of_spot};
+ghost use Rattle.depth_maker.specs.AssignmentCounts.{AreFew};
+ghost use Rattle.depth_maker.specs.SpotsAsPlaces.{place_of_spot};
 ghost use Rattle.depth_maker.specs.Answers.{AnsweredOn};
 ghost use Rattle.depth_maker.specs.Joins.{AddsOn, AsksOn, JoinedOn, JoinsOn};
 ghost use Rattle.depth_maker.specs.declared.inputs_and_limits.Ground.{Ground};
@@ -74,7 +74,7 @@ fn join_known_place(
 /// number and adds nothing. It is never inlined: if `join_new_place` and `pass_on` each had its
 /// text, LLVM would inline neither `add_or_find_place` nor the pushes of `count_place`.
 #[inline(never)]
-pub(crate) fn add_place(
+pub(crate) fn add_joined_place(
     table: &mut Table,
     y: Spot,
     value: SmallKnown,
@@ -115,7 +115,7 @@ fn join_new_place(
         unreachable!();
     };
     let value = own.value.apply(alloc, incoming)?;
-    match add_place(table, *y, value)? {
+    match add_joined_place(table, *y, value)? {
         None => Ok(true),
         Some(number) => join_known_place(alloc, table, v, number, y, incoming),
     }

@@ -225,7 +225,7 @@ pub(crate) fn join_successors(
     }
 }
 
-/// Joins a changed state at a point of the same frame.
+/// Joins a changed state at a successor of the visited point, which is in the same frame.
 pub(crate) fn join_jump(
     alloc: Global,
     table: &mut Table,
@@ -284,7 +284,8 @@ pub(crate) fn join_exit(alloc: Global, table: &mut Table, v: &Visit) -> Result<(
     join_at_place(alloc, table, v, &Spot::Exit(v.key), &incoming)
 }
 
-/// Joins the state after a frame returned at `back`, if the exit of that frame is known.
+/// Joins the state after a frame returned at a successor of the visited point, `back`, if the exit
+/// of that frame is known.
 pub(crate) fn join_return(
     alloc: Global,
     table: &mut Table,

@@ -3,8 +3,8 @@ ghost use Rattle.depth_maker.specs.DutiesGrow.{AddressesGrow, AfterGrows, Duties
 ghost use Rattle.depth_maker.specs.ProperAssignments.{AfterIsProper, DutiesAreProper};
 ghost use Rattle.depth_maker.specs.MakerLaws.{RefusalsHold, AcceptedIsClosed, DerivedIsBelow, FaultsRefute, RefusalsRefute, SolutionIsAccepted, RefusedIsNone, WrittenIsMade, MadeIsLeast};
 
-/// For the maker's growing states: a point without a fault of its own has none with a smaller
-/// state, and then owes less.
+/// Laws of the maker: what a point owes grows with its state. A point without a fault of its own
+/// has none with a smaller state.
 pub fn growth_laws()
     ensures faults { FaultsFall }
     ensures duties { DutiesGrow }
@@ -18,8 +18,8 @@ pub fn after_laws()
     ensures proper { AfterIsProper }
 {}
 
-/// For the maker's growing states: the effects of instructions grow with the state. A side of a
-/// branch that is possible is possible with a larger state.
+/// Laws of the maker: duties grow with states, since effects of instructions do. A side of a branch
+/// that is possible is possible with a larger state.
 pub fn effect_growth_laws()
     ensures transfers { TransfersGrow }
     ensures addresses { AddressesGrow }
@@ -33,8 +33,8 @@ pub fn derived_laws()
     ensures faults { FaultsRefute }
 {}
 
-/// For the maker: an accepted certificate is a closed assignment without faults, and then no
-/// refusal of the maker holds.
+/// Laws of the maker: an accepted certificate is a closed assignment without faults, and then no
+/// refusal of the maker holds. A certificate of a maker's solution is accepted.
 pub fn accepted_laws()
     ensures closed { AcceptedIsClosed }
     ensures refusals { RefusalsRefute }

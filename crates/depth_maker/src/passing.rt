@@ -9,7 +9,7 @@ ghost use Rattle.tc_isa.specs.InBounds.{IsShape};
 
 use crate::inputs_and_limits::Site;
 use crate::interrupt_contexts::has_noted_interrupts;
-use crate::join_place::add_place;
+use crate::join_place::add_joined_place;
 use crate::spelling::ccpn_fits_byte;
 use crate::table::Table;
 use cfg_recover::direct_target;
@@ -86,7 +86,7 @@ pub(crate) fn pass_on(alloc: Global, table: &mut Table, site: &Site) -> Result<b
         unreachable!();
     };
     let value = own.value.copy()?;
-    match add_place(table, Spot::Point(site.key, to), value)? {
+    match add_joined_place(table, Spot::Point(site.key, to), value)? {
         None => Ok(true),
         Some(_) => Ok(false),
     }

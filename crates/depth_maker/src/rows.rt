@@ -9,8 +9,8 @@ ghost use Rattle.depth_maker.specs.VisitDuties.{StandsBy};
 ghost use Rattle.depth_maker.specs.Rows.{AddsPlainRow, AddsPointRow, RowFramesKnownBy, IsDraft, IsKnownRowPoint, IsPointRow, IsRowBy, HasEqualRow, IsRowSource, RowsOn};
 
 use crate::entered_frames::entered_frames;
-use crate::handlers::{Handler, add_taken_handlers};
 use crate::inputs_and_limits::{Ground, Visit};
+use crate::interrupt_handlers::{Handler, add_taken_handlers};
 use crate::table::Table;
 use cfg_recover::{Located, local_check, start_state};
 use depth_cert::Key;

@@ -5,7 +5,7 @@ ghost use Rattle.frame_places.specs.Spots.{spot_address};
 ghost use Rattle.depth_maker.specs.Needs.{need_by, NeedsAre};
 ghost use Rattle.depth_maker.specs.Rows.{IsRowSource};
 ghost use Rattle.depth_maker.specs.SpelledCert.{AreSpelledFrames, AreSpelledPointsOf, IsSpelledFrameOf, IsSpelledVersion, IsSpelledInOrder, IsSpelledPointOf, IsSpelledOn, SpellsTableCert, SpellsTableExit, SpellsTableNode, SpellsTableNodes, SpellsTablePoint, SpellsTablePoints};
-ghost use Rattle.depth_maker.specs.Spots.{spots_on};
+ghost use Rattle.depth_maker.specs.SpotsAsPlaces.{spots_on};
 
 use crate::rows::Source;
 use depth_cert::{Key, put_u16, write_exit, write_key};
@@ -19,7 +19,7 @@ use tcd_base::{NoMemory, put_u32};
 /// The magic bytes 54 43 44 43 of a certificate, as a little-endian word.
 const MAGIC: u32 = 0x4344_4354;
 
-/// A byte, such as a CCPN that the maker spells in the certificate, is below 256.
+/// A CCPN of the table, which the maker spells in a certificate, fits a byte: it is below 256.
 pub(crate) fn ccpn_fits_byte(_byte: u8)
     ensures { _byte < 2 ^ 8 }
 {}

@@ -5,10 +5,10 @@ ghost use Rattle.cfg_recover.specs.Code.{LocatesCode};
 ghost use Rattle.depth_cert.specs.Known.{state};
 ghost use Rattle.frame_places.specs.declared.places.Spot.TheVariants.{Point};
 ghost use Rattle.cfg_recover.specs.SetOperations.{HoldsCachedResults};
-ghost use Rattle.depth_maker.specs.EnteredFrames.{IsPlainAt, IsPlainIn, IsPlainBy};
+ghost use Rattle.depth_maker.specs.EnteredFrames.{IsPlainAt, IsPlainIn};
+ghost use Rattle.depth_maker.specs.VisitDuties.{IsPlainBy, JoinedBy, StandsBy, duties_by, step_by};
 ghost use Rattle.depth_maker.specs.TableView.{seen};
 ghost use Rattle.depth_maker.specs.Answers.{AnsweredOn};
-ghost use Rattle.depth_maker.specs.VisitDuties.{JoinedBy, StandsBy, duties_by, step_by};
 ghost use Rattle.depth_maker.specs.Visits.{VisitJoinsPointOn, VisitedBy};
 ghost use Rattle.frame_places.specs.declared.places.Spot as spots;
 ghost use Rattle.frame_places.specs.Numbers.{PlaceHasNumber};
@@ -21,7 +21,7 @@ ghost use Rattle.vd_transfer.specs.EffectsOnStates.{EffectHasRoom};
 use crate::entered_frames::enters_no_frame;
 use crate::fixpoint::VisitScratch;
 use crate::inputs_and_limits::{Ground, Site, Visit};
-use crate::join_entries::{join_access, join_entries, join_interrupts};
+use crate::join_entries::{join_access_entry, join_entries, join_interrupts};
 use crate::join_successors::{join_leavings, join_successors};
 use crate::passing::pass_on;
 use crate::table::Table;
@@ -51,7 +51,7 @@ fn join_visit_duties(
 {
     join_successors(alloc, table, v, found, c, cache)?;
     join_entries(alloc, table, v, found.shape, found.size, c)?;
-    join_access(alloc, table, v, found)?;
+    join_access_entry(alloc, table, v, found)?;
     join_interrupts(alloc, table, v)?;
     join_leavings(alloc, table, v, found.shape)
 }

@@ -9,7 +9,7 @@ use Rattle.std.proofs.lemmas.Bool.Decides.{nat_tests}
 use Rattle.elf_image.specs.declared.headers.Header.{Header}
 use Rattle.elf_image.specs.declared.errors.ImageErr.TheVariants.{BadSegment}
 use Rattle.elf_image.specs.Images.{ImageData, SegmentData, IsImage, is_segment, are_apart, all_apart}
-use Rattle.elf_image.specs.ReadElf.{e_phoff, e_phnum, e_phentsize, header_at, headers_of, is_bad_header, has_bytes, meets, loads_of, segment_refusal, is_large, overlap_refusal, segment_of, image_of_file}
+use Rattle.elf_image.specs.ReadElf.{e_phoff, e_phnum, e_phentsize, header_at, headers_of, is_bad_header, has_bytes, has_overlap_with, loads_of, segment_refusal, is_large, overlap_refusal, segment_of, image_of_file}
 use Rattle.elf_image.specs.WrittenElf.{elf_header, program_header, program_headers, elf_contents_offset, elf_contents, file_of}
 use Rattle.elf_image.proofs.Fields.{written_header, header_at-written, start-elf_header, entry-elf_header, phoff-elf_header, phentsize-elf_header, phnum-elf_header, length-elf_header, length-program_header}
 use Rattle.elf_image.proofs.Refusals.{image_of-loaded}
@@ -123,11 +123,11 @@ unfolding is_large
 not_large hs few small = grind (arith, nat_tests)
 
 -- no two of the headers share an address
-not_met : (s t : SegmentData) (number offset other place : ℕ) → are_apart s t ≡ true → meets (written_header number offset s.at (len s)) (written_header other place t.at (len t)) ≡ false
-unfolding meets written_header
+not_met : (s t : SegmentData) (number offset other place : ℕ) → are_apart s t ≡ true → has_overlap_with (written_header number offset s.at (len s)) (written_header other place t.at (len t)) ≡ false
+unfolding has_overlap_with written_header
 not_met s t number offset other place h = grind (arith, nat_tests)
 
-none_met : (s : SegmentData) (number offset other place : ℕ) (ss : List SegmentData) → list_all (are_apart s) ss ≡ true → find (meets (written_header number offset s.at (len s))) (headers_from other place ss) ≡ None
+none_met : (s : SegmentData) (number offset other place : ℕ) (ss : List SegmentData) → list_all (are_apart s) ss ≡ true → find (has_overlap_with (written_header number offset s.at (len s))) (headers_from other place ss) ≡ None
 unfolding headers_from
 none_met s number offset other place [] h = refl
 none_met s number offset other place (t ∷ ss) h =

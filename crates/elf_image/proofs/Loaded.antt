@@ -10,7 +10,7 @@ use Rattle.elf_image.specs.declared.headers.Header.{Header}
 use Rattle.elf_image.specs.declared.errors.ImageErr.{ImageErr}
 use Rattle.elf_image.specs.declared.errors.ImageErr.TheVariants.{Overlap}
 use Rattle.elf_image.specs.Images.{SegmentData, AreSegmentBytes, IsImage, is_segment, are_apart, all_apart}
-use Rattle.elf_image.specs.ReadElf.{meets, loads_of, segment_refusal, is_large, overlap_refusal, segment_of}
+use Rattle.elf_image.specs.ReadElf.{has_overlap_with, loads_of, segment_refusal, is_large, overlap_refusal, segment_of}
 use Rattle.elf_image.proofs.Good.{Good, loads_good, unfound_head, unfound_tail}
 
 both : {a b : Bool} → a ≡ true → b ≡ true → (a && b) ≡ true
@@ -36,16 +36,16 @@ are_bytes bytes hs small =
     All-map (λ (s : SegmentData). All (λ b. b < 2 ^ 8) s.bytes) (segment_of bytes) hs
     (λ k h lt. All-take (λ b. b < 2 ^ 8) (get_or hs k h).file_size (drop (get_or hs k h).offset bytes) (All-drop (λ b. b < 2 ^ 8) (get_or hs k h).offset bytes small))
 
-apart : (bytes : List ℕ) (h k : Header) → Good bytes h → Good bytes k → meets h k ≡ false → are_apart (segment_of bytes h) (segment_of bytes k) ≡ true
-unfolding meets
+apart : (bytes : List ℕ) (h k : Header) → Good bytes h → Good bytes k → has_overlap_with h k ≡ false → are_apart (segment_of bytes h) (segment_of bytes k) ≡ true
+unfolding has_overlap_with
 apart bytes h k good_h good_k e =
     let len_h = length-segment_of bytes h good_h in
     let len_k = length-segment_of bytes k good_k in
     grind (arith, nat_tests)
 
-apart_all : (bytes : List ℕ) (h : Header) (hs : List Header) → Good bytes h → AllByRecursion (Good bytes) hs → find (meets h) hs ≡ None → list_all (are_apart (segment_of bytes h)) (map (segment_of bytes) hs) ≡ true
+apart_all : (bytes : List ℕ) (h : Header) (hs : List Header) → Good bytes h → AllByRecursion (Good bytes) hs → find (has_overlap_with h) hs ≡ None → list_all (are_apart (segment_of bytes h)) (map (segment_of bytes) hs) ≡ true
 apart_all bytes h [] good_h good e = refl
-apart_all bytes h (k ∷ hs) good_h good e = both (apart bytes h k good_h good.0 (unfound_head (meets h) k hs e)) (apart_all bytes h hs good_h good.1 (unfound_tail (meets h) k hs e))
+apart_all bytes h (k ∷ hs) good_h good e = both (apart bytes h k good_h good.0 (unfound_head (has_overlap_with h) k hs e)) (apart_all bytes h hs good_h good.1 (unfound_tail (has_overlap_with h) k hs e))
 
 first_none : (o : Option Header) (h : Header) (p : Option ImageErr) → option_or (option_map (λ k. Overlap h.number k.number) o) p ≡ None → (o ≡ None) × (p ≡ None)
 first_none None h p e = (refl, e)
@@ -55,7 +55,7 @@ all_are_apart : (bytes : List ℕ) (hs : List Header) → AllByRecursion (Good b
 unfolding overlap_refusal
 all_are_apart bytes [] good e = refl
 all_are_apart bytes (h ∷ hs) good e =
-    let none = first_none (find (meets h) hs) h (overlap_refusal hs) e in
+    let none = first_none (find (has_overlap_with h) hs) h (overlap_refusal hs) e in
     both (apart_all bytes h hs good.0 good.1 none.0) (all_are_apart bytes hs good.1 none.1)
 
 sizes : (bytes : List ℕ) (hs : List Header) → AllByRecursion (Good bytes) hs → sum_by (λ s. length s.bytes) (map (segment_of bytes) hs) ≡ sum_by (λ h. h.file_size) hs

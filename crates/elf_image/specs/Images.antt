@@ -35,7 +35,7 @@ abbrev pub all_apart : List SegmentData → Bool
 all_apart [] = true
 all_apart (s ∷ ss) = list_all (are_apart s) ss && all_apart ss
 
--- the bytes of the segments are numbers below 256
+-- the bytes in the segments of an image are numbers below 256
 abbrev pub AreSegmentBytes : List SegmentData → Type 0
 AreSegmentBytes segments = All (λ (s : SegmentData). All (λ b. b < 2 ^ 8) s.bytes) segments
 

@@ -98,8 +98,8 @@ unfoldable pub loads_of : List ℕ → List Header
 loads_of bytes = filter has_bytes (headers_of bytes)
 
 -- two program headers that load bytes share an address
-unfoldable pub meets : Header → Header → Bool
-meets h k = nat_lt h.address (k.address + k.file_size) && nat_lt k.address (h.address + h.file_size)
+unfoldable pub has_overlap_with : Header → Header → Bool
+has_overlap_with h k = nat_lt h.address (k.address + k.file_size) && nat_lt k.address (h.address + h.file_size)
 
 -- ---- refusals
 
@@ -127,7 +127,7 @@ is_large loads = nat_lt 64 (length loads) || nat_lt (2 ^ 24) (sum_by (λ h. h.fi
 unfoldable pub overlap_refusal : List Header → Option ImageErr
 overlap_refusal [] = None
 overlap_refusal (h ∷ hs) =
-    option_or (option_map (λ k. Overlap h.number k.number) (find (meets h) hs)) (overlap_refusal hs)
+    option_or (option_map (λ k. Overlap h.number k.number) (find (has_overlap_with h) hs)) (overlap_refusal hs)
 
 -- the first refusal, in the order of the checks
 unfoldable pub image_refusal : List ℕ → Option ImageErr

@@ -2,7 +2,7 @@
 ghost use Rattle.std.specs.Prelude.{◌≡◌, ◌+◌, ◌≤◌, ◌<◌, length, find, Option, Some, None, OnOk, ◌^◌, ◌-◌, true};
 ghost use Rattle.std.specs.Result.{result_err};
 ghost use Rattle.std.specs.Option.{option_map};
-ghost use Rattle.elf_image.specs.ReadElf.{headers_of, is_bad_header, start_refusal, segment_refusal, meets, overlap_refusal, passes_bounds, program_header_offset, header_at};
+ghost use Rattle.elf_image.specs.ReadElf.{headers_of, is_bad_header, start_refusal, segment_refusal, has_overlap_with, overlap_refusal, passes_bounds, program_header_offset, header_at};
 
 use crate::ImageErr;
 use crate::headers::{
@@ -63,10 +63,10 @@ pub(crate) fn check_segments(bytes: &[u8]) -> Result<(), ImageErr>
 
 // Returns the number of the first of `others` that shares an address with `header`.
 fn first_meeting(header: &Header, others: &[Header]) -> Option<u32>
-    ensures { result ≡ option_map (λ k. k.number) (find (meets header.now) others.now) }
+    ensures { result ≡ option_map (λ k. k.number) (find (has_overlap_with header.now) others.now) }
 {
     for other in others {
-        if meets(header, other) {
+        if has_overlap_with(header, other) {
             return Some(other.number);
         }
     }
@@ -111,11 +111,11 @@ pub(crate) fn is_bad_header(bytes: &[u8], number: u16) -> bool
     header.kind == PT_LOAD && passes_bounds(bytes.len(), &header)
 }
 
-/// Returns true if the bytes that two program headers load share an address. A check refuses such
-/// an ELF file.
-#[tactic(auto, unfolding(crate::specs::ReadElf::meets))]
-pub(crate) fn meets(header: &Header, other: &Header) -> bool
-    ensures { result ≡ meets header.now other.now }
+/// Checks whether the bytes that two program headers load share an address. Such an ELF file is
+/// refused.
+#[tactic(auto, unfolding(crate::specs::ReadElf::has_overlap_with))]
+pub(crate) fn has_overlap_with(header: &Header, other: &Header) -> bool
+    ensures { result ≡ has_overlap_with header.now other.now }
 {
     let (at, other_at) = (u64::from(header.address), u64::from(other.address));
     at < other_at + u64::from(other.file_size) && other_at < at + u64::from(header.file_size)

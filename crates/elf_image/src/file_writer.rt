@@ -6,8 +6,8 @@ ghost use Rattle.elf_image.specs.WrittenElf.{elf_header, program_header, program
 use crate::{ImageErr, Segment};
 use std::alloc::Global;
 
-/// Returns the ELF header that is written for an executable with this entry and `count` program
-/// headers.
+/// Returns the ELF header with which a written file begins: that of an executable with this entry
+/// and `count` program headers.
 #[tactic(auto, unfolding(crate::specs::WrittenElf::elf_header))]
 fn elf_header(entry: u32, count: u16) -> [u8; 52]
     ensures { result ≡ elf_header entry count }

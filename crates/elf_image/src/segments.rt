@@ -29,7 +29,7 @@ pub(crate) fn segment_byte(segment: &Segment, addr: u32) -> Option<u8>
     segment.bytes.get((addr - segment.at) as usize).copied()
 }
 
-/// A fact for proofs: the bytes of a segment are numbers below 256.
+/// Establishes a fact for proofs: the bytes of a segment of an executable are numbers below 256.
 fn segment_bytes_below_256(bytes: &[u8])
     ensures { All (λ b. b < 2 ^ 8) bytes.now }
 {

@@ -10,24 +10,24 @@ use Rattle.std.specs.declared.alloc.Global.{Global}
 use Rattle.indexmap.specs.IndexMap.{IndexMap, get}
 use Rattle.frame_places.specs.declared.needs.reach.FrameEdge.{FrameEdge}
 use Rattle.frame_places.specs.declared.needs.row.NeedRow.{NeedRow}
-use Rattle.frame_places.specs.NodeGraph.{edge_to, AreEdges, AddsEdges, AreEdgesBetween, LeadsAlongEdges, here, along, IsRecurring, unmarked_nodes, HasEdgeSource, AreEdgeSources, AreEdgeSourcesBelow, AddsEdgeSource, MarksNodes, IsMarking, AreReaching, IsFirstRecurringBefore, IsFirstRecurring, IsMarked}
+use Rattle.frame_places.specs.NodeGraph.{edge_to, AreEdges, AddsEdges, AreEdgesBetween, LeadsAlongEdges, here, along, IsRecurring, unmarked_nodes, HasEdgeSource, AreEdgeSources, AreEdgeSourcesBelow, AddsEdgeSource, MarksNodes, IsMarking, AreReaching, IsFirstRecurringBefore, IsFirstRecurring, IsNodeMarked}
 use Rattle.frame_places.specs.Hashed.{edge_eq}
 
 -- ---- one more mark
-marked_set : (marks : List Bool) (i k : ℕ) → IsMarked (set marks i true) k → IsMarked marks k ⊎ (k ≡ i)
+marked_set : (marks : List Bool) (i k : ℕ) → IsNodeMarked (set marks i true) k → IsNodeMarked marks k ⊎ (k ≡ i)
 marked_set marks i k m =
     elim (cases_eq k i) [
       | inl e ↦ inr e
       | inr ne ↦ inl (sym (get_or-set_other marks i k true false ne) ∙ m)
     ]
 
-pub marked_same : (marks : List Bool) (i : ℕ) → i < length marks → IsMarked (set marks i true) i
+pub marked_same : (marks : List Bool) (i : ℕ) → i < length marks → IsNodeMarked (set marks i true) i
 marked_same marks i lt = get_or-set_same marks i true false lt
 
-marked_keeps : (marks : List Bool) (i k : ℕ) → i < length marks → IsMarked marks k → IsMarked (set marks i true) k
+marked_keeps : (marks : List Bool) (i k : ℕ) → i < length marks → IsNodeMarked marks k → IsNodeMarked (set marks i true) k
 marked_keeps marks i k lt m =
     elim (cases_eq k i) [
-      | inl e ↦ subst (IsMarked (set marks i true)) (sym e) (marked_same marks i lt)
+      | inl e ↦ subst (IsNodeMarked (set marks i true)) (sym e) (marked_same marks i lt)
       | inr ne ↦ get_or-set_other marks i k true false ne ∙ m
     ]
 
@@ -48,7 +48,7 @@ one_node node k c = at c.0 c.1 c.2 where
 pub node_new : (node : ℕ) (marks : List Bool) (work : List ℕ) → node < length marks → get_or marks node false ≡ false → MarksNodes (node ∷ []) marks (set marks node true) work (work ++ node ∷ [])
 node_new node marks work lt free = record {
   keeps = λ k m. marked_keeps marks node k lt m;
-  marks = λ k c. subst (IsMarked (set marks node true)) (one_node node k c) (marked_same marks node lt);
+  marks = λ k c. subst (IsNodeMarked (set marks node true)) (one_node node k c) (marked_same marks node lt);
   only = λ k m.
       elim (marked_set marks node k m) [
         | inl h ↦ inl h
@@ -63,7 +63,7 @@ node_new node marks work lt free = record {
   from_new = λ k c.
       elim (Contains-push_cases work node k c) [
         | inl i ↦ inl i
-        | inr e ↦ inr (subst (IsMarked (set marks node true)) e (marked_same marks node lt))
+        | inr e ↦ inr (subst (IsNodeMarked (set marks node true)) e (marked_same marks node lt))
       ];
   less = let u = unmarked_less marks node lt free in let l = length-append work (node ∷ []) in omega (arith, u, l);
   same = length-set marks node true;
@@ -161,7 +161,7 @@ marking_past edges sources nodes j t a w are none old = record {
 pub sources_below : {S : Type 0} (edges : List FrameEdge) (sources : IndexMap ℕ (Vec ℕ Global) S) (nodes : ℕ) → AreEdgeSources edges sources → AreEdgesBetween edges nodes → AreEdgeSourcesBelow sources nodes
 sources_below edges sources nodes are between k t h = between.node (edge_to k t) (are.sound k t h)
 
-closed_marks : (edges : List FrameEdge) (nodes j : ℕ) (marks : List Bool) → IsMarking edges nodes j marks [] → (k : ℕ) → LeadsAlongEdges edges j k → IsMarked marks k
+closed_marks : (edges : List FrameEdge) (nodes j : ℕ) (marks : List Bool) → IsMarking edges nodes j marks [] → (k : ℕ) → LeadsAlongEdges edges j k → IsNodeMarked marks k
 closed_marks edges nodes j marks m _ here = m.goal
 closed_marks edges nodes j marks m _ (along k t c r) = elim (m.done k t c (closed_marks edges nodes j marks m t r)) [ inl i ↦ absurd (omega (arith, i.1)) | inr h ↦ h ]
 
@@ -173,7 +173,7 @@ zeros zero k = refl
 zeros (suc n) zero = refl
 zeros (suc n) (suc k) = zeros n k
 
-only_goal : (nodes j k : ℕ) → IsMarked (set (replicate nodes false) j true) k → k ≡ j
+only_goal : (nodes j k : ℕ) → IsNodeMarked (set (replicate nodes false) j true) k → k ≡ j
 only_goal nodes j k m =
     elim (marked_set (replicate nodes false) j k m) [
       | inl h ↦ absurd (let f : true ≡ false = sym h ∙ zeros nodes k in cc)
@@ -185,13 +185,13 @@ marking_begins edges nodes j lt len = record {
   all = length-set (replicate nodes false) j true ∙ len;
   sound = λ k m. subst (LeadsAlongEdges edges j) (sym (only_goal nodes j k m)) here;
   goal = marked_same (replicate nodes false) j (omega arith);
-  listed = λ k c. subst (IsMarked (set (replicate nodes false) j true)) (one_node j k c) (marked_same (replicate nodes false) j (omega arith));
+  listed = λ k c. subst (IsNodeMarked (set (replicate nodes false) j true)) (one_node j k c) (marked_same (replicate nodes false) j (omega arith));
   done = λ k t e m. inl (subst (λ (n : ℕ). Contains (j ∷ []) n) (sym (only_goal nodes j t m)) (0, omega arith, refl));
 }
 
 -- a node is recursive if it enters one from which it is reached
 pub recurring_marks : (edges : List FrameEdge) (nodes node : ℕ) (marks : List Bool) (r : Bool) → AreReaching edges nodes node marks
-    → (IsTrue r → (t : ℕ) × Contains edges (edge_to node t) × IsMarked marks t) × (((t : ℕ) × Contains edges (edge_to node t) × IsMarked marks t) → IsTrue r)
+    → (IsTrue r → (t : ℕ) × Contains edges (edge_to node t) × IsNodeMarked marks t) × (((t : ℕ) × Contains edges (edge_to node t) × IsNodeMarked marks t) → IsTrue r)
     → (IsTrue r → IsRecurring edges node) × (IsRecurring edges node → IsTrue r)
 recurring_marks edges nodes node marks r are tells = (
   (λ h. let f = tells.0 h in record { next = f.0; enters = f.1; back = are.sound f.0 f.2 }),

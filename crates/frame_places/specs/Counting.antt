@@ -23,10 +23,10 @@ abbrev pub IsCountRefusal : Bool → List Spot → List Key → Spot → Refusal
 IsCountRefusal known ps ks y (Fault rule x) = (rule ≡ 15) × (x ≡ y) × (known ≡ false) × PassesCountLimit ps ks y
 IsCountRefusal known ps ks y NoMemory = Unit {0}
 
--- the points after a join at y; a known place is counted already
-abbrev pub points_after : Bool → List Spot → Spot → List Spot
-points_after known ps y = if known then ps else with_point ps y
+-- the counted points after a place y flows in and is counted; a known place is counted already
+abbrev pub counted_points_after : Bool → List Spot → Spot → List Spot
+counted_points_after known ps y = if known then ps else with_point ps y
 
 -- the frames after a join at y
-abbrev pub frames_after : Bool → List Key → Spot → List Key
-frames_after known ks y = if known then ks else with_counted_frame ks y
+abbrev pub counted_frames_after : Bool → List Key → Spot → List Key
+counted_frames_after known ks y = if known then ks else with_counted_frame ks y

@@ -12,9 +12,9 @@ use Rattle.frame_places.specs.Spots.{spot_eq}
 use Rattle.frame_places.specs.declared.needs.reach.FrameEdge.{FrameEdge}
 use Rattle.frame_places.specs.contracts.needs.reach.FrameEdgePartialEq.TheImpl as block
 
--- numbers that compare as equal are the same
-numbers : (a b : ℕ) → nat_eq a b ≡ true → a ≡ b
-numbers a b e = eqb-true a b e
+-- in the hash input of places, numbers that compare as equal are the same
+equal_numbers_are_same : (a b : ℕ) → nat_eq a b ≡ true → a ≡ b
+equal_numbers_are_same a b e = eqb-true a b e
 
 -- in the keys of hashed places, flags that compare as equal are the same
 key_flags_tell : (a b : Bool) → beq a b ≡ true → a ≡ b
@@ -29,15 +29,15 @@ keys_tell f g e =
     let a = and_parts _ _ e in
     let b = and_parts _ _ a.1 in
     let c = and_parts _ _ b.1 in
-    let kind = numbers f.kind g.kind a.0 in
-    let entry = numbers f.entry g.entry b.0 in
-    let prio = numbers f.prio g.prio c.0 in
+    let kind = equal_numbers_are_same f.kind g.kind a.0 in
+    let entry = equal_numbers_are_same f.entry g.entry b.0 in
+    let prio = equal_numbers_are_same f.prio g.prio c.0 in
     let is = key_flags_tell f.is g.is c.1 in
     λ i. record { kind = kind i; entry = entry i; prio = prio i; is = is i }
 
 -- for hashing: places that compare as equal are the same
 pub spot_tells : (x y : Spot) → spot_eq x y ≡ true → x ≡ y
-spot_tells (Point f p) (Point g q) e = let h = and_parts _ _ e in let same = keys_tell f g h.0 in let addr = numbers p q h.1 in λ i. Point (same i) (addr i)
+spot_tells (Point f p) (Point g q) e = let h = and_parts _ _ e in let same = keys_tell f g h.0 in let addr = equal_numbers_are_same p q h.1 in λ i. Point (same i) (addr i)
 spot_tells (Point f p) (Exit g) e = cc
 spot_tells (Exit f) (Point g q) e = cc
 spot_tells (Exit f) (Exit g) e = ap Exit (keys_tell f g e)

@@ -16,7 +16,7 @@ pub record AreEdges (rows : List NeedRow) (edges : List FrameEdge) : Type 0 wher
   pub sound : (k t : ℕ) → Contains edges (edge_to k t) → RowHasEntry rows k t
   pub complete : (k t : ℕ) → RowHasEntry rows k t → Contains edges (edge_to k t)
 
--- the edges of one more row are added
+-- the graph of nodes gets the edges of one more row: from its node to each node that it enters
 pub record AddsEdges (old new : List FrameEdge) (node : ℕ) (into : List ℕ) : Type 0 where
   pub keeps : (e : FrameEdge) → Contains old e → Contains new e
   pub sound : (e : FrameEdge) → Contains new e → Contains old e ⊎ ((e.node ≡ node) × Contains into e.into)
@@ -46,13 +46,13 @@ unmarked_nodes [] = 0
 unmarked_nodes (true ∷ ms) = unmarked_nodes ms
 unmarked_nodes (false ∷ ms) = unmarked_nodes ms + 1
 
--- a node of the graph of entries is marked
-abbrev pub IsMarked : List Bool → ℕ → Type 0
-IsMarked marks k = slice_index_or marks k false ≡ true
+-- a node of the graph is marked, as are those from which a given node is reached
+abbrev pub IsNodeMarked : List Bool → ℕ → Type 0
+IsNodeMarked marks k = slice_index_or marks k false ≡ true
 
 -- in the graph, from each marked node j is reached along edges
 abbrev pub AllLeadAlongEdges : List FrameEdge → ℕ → List Bool → Type 0
-AllLeadAlongEdges edges j marks = (k : ℕ) → IsMarked marks k → LeadsAlongEdges edges j k
+AllLeadAlongEdges edges j marks = (k : ℕ) → IsNodeMarked marks k → LeadsAlongEdges edges j k
 
 -- a node has this source
 abbrev pub HasEdgeSource : Option (Vec ℕ Global) → ℕ → Type 0
@@ -76,12 +76,12 @@ pub record AddsEdgeSource {S T : Type 0} (old : IndexMap ℕ (Vec ℕ Global) S)
 
 -- these nodes are marked, those that weren't are queued, and nothing else changes
 pub record MarksNodes (nodes : List ℕ) (old new : List Bool) (work later : List ℕ) : Type 0 where
-  pub keeps : (k : ℕ) → IsMarked old k → IsMarked new k
-  pub marks : (k : ℕ) → Contains nodes k → IsMarked new k
-  pub only : (k : ℕ) → IsMarked new k → IsMarked old k ⊎ Contains nodes k
+  pub keeps : (k : ℕ) → IsNodeMarked old k → IsNodeMarked new k
+  pub marks : (k : ℕ) → Contains nodes k → IsNodeMarked new k
+  pub only : (k : ℕ) → IsNodeMarked new k → IsNodeMarked old k ⊎ Contains nodes k
   pub listed : (k : ℕ) → Contains work k → Contains later k
-  pub each : (k : ℕ) → IsMarked new k → IsMarked old k ⊎ Contains later k
-  pub from_new : (k : ℕ) → Contains later k → Contains work k ⊎ IsMarked new k
+  pub each : (k : ℕ) → IsNodeMarked new k → IsNodeMarked old k ⊎ Contains later k
+  pub from_new : (k : ℕ) → Contains later k → Contains work k ⊎ IsNodeMarked new k
   pub less : 2 * unmarked_nodes new + length later ≤ 2 * unmarked_nodes old + length work
   pub same : length new ≡ length old
 
@@ -90,9 +90,9 @@ pub record MarksNodes (nodes : List ℕ) (old new : List Bool) (work later : Lis
 pub record IsMarking (edges : List FrameEdge) (nodes j : ℕ) (marks : List Bool) (work : List ℕ) : Type 0 where
   pub all : length marks ≡ nodes
   pub sound : AllLeadAlongEdges edges j marks
-  pub goal : IsMarked marks j
-  pub listed : (k : ℕ) → Contains work k → IsMarked marks k
-  pub done : (k t : ℕ) → Contains edges (edge_to k t) → IsMarked marks t → Contains work t ⊎ IsMarked marks k
+  pub goal : IsNodeMarked marks j
+  pub listed : (k : ℕ) → Contains work k → IsNodeMarked marks k
+  pub done : (k t : ℕ) → Contains edges (edge_to k t) → IsNodeMarked marks t → Contains work t ⊎ IsNodeMarked marks k
 
 -- from marks on the way all marks are set
 abbrev pub SettlesMarks : {S : Type 0} → IndexMap ℕ (Vec ℕ Global) S → List Bool → List Bool → List ℕ → Type 0
@@ -104,7 +104,7 @@ SettlesMarks sources old new work =
 pub record AreReaching (edges : List FrameEdge) (nodes j : ℕ) (marks : List Bool) : Type 0 where
   pub each : length marks ≡ nodes
   pub sound : AllLeadAlongEdges edges j marks
-  pub complete : (k : ℕ) → LeadsAlongEdges edges j k → IsMarked marks k
+  pub complete : (k : ℕ) → LeadsAlongEdges edges j k → IsNodeMarked marks k
 
 -- the same, by the sources of each node
 abbrev pub AreReachingBy : {S : Type 0} → IndexMap ℕ (Vec ℕ Global) S → ℕ → ℕ → List Bool → Type 0
@@ -112,7 +112,7 @@ AreReachingBy sources nodes j marks = (edges : List FrameEdge) → AreEdgeSource
 
 -- some node that this one enters is marked
 abbrev pub HasMarkedNext : List Bool → List FrameEdge → ℕ → Type 0
-HasMarkedNext marks edges k = (t : ℕ) × Contains edges (edge_to k t) × IsMarked marks t
+HasMarkedNext marks edges k = (t : ℕ) × Contains edges (edge_to k t) × IsNodeMarked marks t
 
 -- ---- the first
 -- the recursive node that is first in an order, or that none is recursive

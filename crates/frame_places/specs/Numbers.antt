@@ -1,12 +1,11 @@
 -- Numbers of frames and of places.
-use Rattle.std.specs.Prelude.{◌≡◌, ◌+◌, ℕ, Bool, List, ◌∷◌, Some, Contains, if◌then◌else◌, slice_get, false, []}
+use Rattle.std.specs.Prelude.{◌≡◌, ◌+◌, ℕ, Bool, List, ◌∷◌, Some, Contains, if◌then◌else◌, slice_get, []}
 use Rattle.indexmap.specs.IndexMap.{IndexMap, get, keys}
 use Rattle.depth_cert.specs.declared.keys.Key.{Key}
 use Rattle.depth_cert.specs.contracts.keys.KeyPartialEq.TheImpl as block
 use Rattle.depth_cert.specs.Keys.{same_key}
 use Rattle.frame_places.specs.declared.places.Spot.{Spot}
 use Rattle.frame_places.specs.declared.places.Marked.{Marked}
-use Rattle.frame_places.specs.declared.places.Spot.TheVariants.{Exit}
 
 -- key equality, as the map of the numbers of frames compares keys
 abbrev pub frame_key_eq : Key → Key → Bool
@@ -21,14 +20,10 @@ frame_number_in (j ∷ js) k = if same_key j k then 0 else frame_number_in js k 
 pub record AreFrameNumbers {S : Type 0} (numbers : IndexMap Key ℕ S) (frames : List Key) (known : List Key) : Type 0 where
   pub each : (k : Key) → Contains known k → get frame_key_eq numbers k ≡ Some (frame_number_in frames k)
 
--- x is the place with this number
+-- the number of a place: x has this number, which is its position in the map
 abbrev pub PlaceHasNumber : {X S : Type 0} → IndexMap Spot X S → ℕ → Spot → Type 0
 PlaceHasNumber m number x = slice_get (keys m) number ≡ Some x
 
--- each place keeps its number, which is its position in the map
+-- the numbers of places stay: each place of a map keeps its number, which is its position
 abbrev pub KeepsNumbers : {V S : Type 0} → IndexMap Spot (Marked V) S → IndexMap Spot (Marked V) S → Type 0
 KeepsNumbers old new = (number : ℕ) (q : Spot) → PlaceHasNumber old number q → PlaceHasNumber new number q
-
--- a place for numbers that have none
-abbrev pub nowhere : Spot
-nowhere = Exit (record { kind = 0; entry = 0; prio = 0; is = false })

@@ -3,11 +3,10 @@ use Rattle.std.specs.Prelude.{◌≡◌, ◌<◌, ◌+◌, ◌*◌, ◌^◌, ◌
 use Rattle.indexmap.specs.IndexMap.{IndexMap, keys}
 use Rattle.depth_cert.specs.declared.keys.Key.{Key}
 use Rattle.depth_cert.specs.Keys.{number_of_key}
-use Rattle.frame_places.specs.Spots.{spot_number, is_point}
+use Rattle.frame_places.specs.Spots.{spot_number, is_point, nowhere}
 use Rattle.frame_places.specs.declared.ordering.PointEntry.{PointEntry}
 use Rattle.frame_places.specs.declared.places.Spot.{Spot}
 use Rattle.frame_places.specs.declared.places.Spot.TheVariants.{Point, Exit}
-use Rattle.frame_places.specs.Numbers.{nowhere}
 
 -- the points among the entries of a map, in its order
 abbrev pub points_in : {X S : Type 0} → IndexMap Spot X S → List Spot

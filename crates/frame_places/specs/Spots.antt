@@ -6,7 +6,7 @@ use Rattle.frame_places.specs.contracts.places.SpotPartialEq.TheImpl as block
 use Rattle.frame_places.specs.declared.places.Spot.{Spot}
 use Rattle.frame_places.specs.declared.places.Spot.TheVariants.{Point, Exit}
 
--- whether two places of frames are the same, as maps compare them
+-- two places of frames are the same, by the equality of the code's places
 abbrev pub spot_eq : Spot → Spot → Bool
 spot_eq = (block.ghosts).eq
 
@@ -30,7 +30,8 @@ abbrev pub is_point_of : Key → Spot → Bool
 is_point_of k (Point j p) = same_key j k
 is_point_of k (Exit j) = false
 
--- these places are points that a certificate may have: in a valid frame, at an address below 2^32
+-- each of these places of frames is a point in range: its frame's key is valid, and its address is
+-- below 2^32
 abbrev pub AreRangedSpots : List Spot → Type 0
 AreRangedSpots ps = (q : Spot) → Contains ps q → (k : Key) × (p : ℕ) × (q ≡ Point k p) × IsKey k × (p < 2 ^ 32)
 
@@ -48,3 +49,7 @@ is_point (Exit k) = false
 abbrev pub with_point : List Spot → Spot → List Spot
 with_point ps (Point k p) = ps ++ Point k p ∷ []
 with_point ps (Exit k) = ps
+
+-- a place that stands where there is none: the exit of a frame whose key is all zeros
+abbrev pub nowhere : Spot
+nowhere = Exit (record { kind = 0; entry = 0; prio = 0; is = false })

@@ -1,7 +1,7 @@
 // Counts the known points and frames, within the limits of certificates.
 ghost use Rattle.std.specs.Prelude.{◌≡◌, ◌≤◌, ◌^◌, OnOk, IfErr, false, length};
 ghost use Rattle.frame_places.specs.declared.places.Spot.TheVariants.{Point};
-ghost use Rattle.frame_places.specs.Counting.{IsCountRefusal, frames_after, points_after, with_counted_frame};
+ghost use Rattle.frame_places.specs.Counting.{IsCountRefusal, counted_frames_after, counted_points_after, with_counted_frame};
 ghost use Rattle.frame_places.specs.Spots.{with_point};
 
 use crate::places::Spot;
@@ -53,8 +53,10 @@ pub fn count_place(
 ) -> Result<(), Refusal>
     requires points { length points.old.items ≤ 2 ^ 16 }
     requires frames { length frames.old.items ≤ 2048 }
-    ensures points { OnOk result (points.new.items ≡ points_after known points.old.items y) }
-    ensures frames { OnOk result (frames.new.items ≡ frames_after known frames.old.items y) }
+    ensures points { OnOk result
+        (points.new.items ≡ counted_points_after known points.old.items y) }
+    ensures frames { OnOk result
+        (frames.new.items ≡ counted_frames_after known frames.old.items y) }
     ensures few_points { OnOk result (length points.new.items ≤ 2 ^ 16) }
     ensures few_frames { OnOk result (length frames.new.items ≤ 2048) }
     ensures err { IfErr result (IsCountRefusal known points.old.items frames.old.items y) }

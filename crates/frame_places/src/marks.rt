@@ -48,7 +48,8 @@ pub(crate) fn is_requeued_later<V>(
     }
 }
 
-/// Queues each of these known places.
+/// Marks each of these known places as queued, unless it is. They wait for the next round, or are
+/// next.
 pub(crate) fn requeue_all<V>(
     places: &mut IndexMap<Spot, Marked<V>>,
     work: &mut Work,

@@ -6,7 +6,7 @@ use Rattle.std.specs.List.Sorted.{IsStrictlyIncreasing, IsPartitionPoint}
 use Rattle.std.proofs.lemmas.Bool.{cases_Bool, ne_eqb}
 use Rattle.depth_cert.specs.declared.keys.Key.{Key}
 use Rattle.depth_cert.specs.Keys.{number_of_key}
-use Rattle.depth_cert.specs.Certs.{find_node}
+use Rattle.depth_cert.specs.Nodes.{find_node}
 use Rattle.depth_cert.proofs.FindLaws.{found, missing, missing_end}
 use Rattle.packed_cert.specs.declared.places.NodePlaces.{NodePlaces}
 use Rattle.packed_cert.specs.NodesInBytes.{node_of, nodes_of, HasPlaces}

@@ -12,8 +12,7 @@ use Rattle.depth_cert.specs.declared.points.Exit.{Exit}
 use Rattle.depth_cert.specs.declared.points.Point.{Point}
 use Rattle.depth_cert.specs.Keys.{number_of_key}
 use Rattle.depth_cert.specs.Answers.{IsFaultOf}
-use Rattle.depth_cert.specs.Nodes.{NodeData, count_points}
-use Rattle.depth_cert.specs.Certs.{key_numbers}
+use Rattle.depth_cert.specs.Nodes.{NodeData, count_points, key_numbers}
 use Rattle.depth_cert.specs.Grammar.{exit_at, optional_exit_at, last_number_read, key_after, need_at, points_at, node_after}
 use Rattle.packed_cert.specs.declared.places.NodePlaces.{NodePlaces}
 use Rattle.packed_cert.specs.ValuesInBytes.{place_in_bytes, read_from_bytes_or}

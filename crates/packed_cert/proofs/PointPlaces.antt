@@ -13,8 +13,7 @@ use Rattle.tcd_base.specs.FieldReaders.{u8_at}
 use Rattle.tcd_base.proofs.FieldReads.{bind_ok, u8_at_ok}
 use Rattle.depth_cert.proofs.PointReads.{point_reads}
 use Rattle.packed_cert.specs.declared.places.PackedPoint.{PackedPoint}
-use Rattle.packed_cert.specs.ValuesAtPlaces.{ValuesStandBetween}
-use Rattle.packed_cert.specs.ValuesInBytes.{place_in_bytes}
+use Rattle.packed_cert.specs.ValuesInBytes.{ValuesStandBetween, place_in_bytes}
 use Rattle.packed_cert.specs.PointsInBytes.{state_in, HasState, point_in, points_in}
 use Rattle.packed_cert.proofs.SameBytes.{Small, values_stand}
 

@@ -8,8 +8,7 @@ use Rattle.value_domain.specs.declared.values.Val.{Val}
 use Rattle.value_domain.specs.declared.states.State.{State}
 use Rattle.value_domain.specs.Values.{any_val}
 use Rattle.packed_cert.specs.declared.places.PackedPoint.{PackedPoint}
-use Rattle.packed_cert.specs.ValuesAtPlaces.{ValuesStandBetween}
-use Rattle.packed_cert.specs.ValuesInBytes.{place_after_value, place_in_bytes, place_after_values, value_in, values_in, HaveValuesInBytes, read_from_bytes_or}
+use Rattle.packed_cert.specs.ValuesInBytes.{ValuesStandBetween, place_after_value, place_in_bytes, place_after_values, value_in, values_in, HaveValuesInBytes, read_from_bytes_or}
 use Rattle.packed_cert.specs.ChangedRows.{RowBeginsAtPlace, IsWholeRow, ChangesRow}
 use Rattle.packed_cert.specs.PointsInBytes.{state_in, HasState}
 use Rattle.value_domain.specs.State.{no_state}

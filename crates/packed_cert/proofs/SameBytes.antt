@@ -18,8 +18,8 @@ use Rattle.depth_cert.specs.Spelling.{bytes_of_value}
 use Rattle.tcd_base.proofs.PassedLaws.{AreBytes, bytes_from, Passed, ok_pair}
 use Rattle.depth_cert.proofs.GrammarLaws.{value_passed}
 use Rattle.depth_cert.proofs.WrittenLaws.{IsRead, value_cases}
-use Rattle.packed_cert.specs.ValuesAtPlaces.{ValuesStandBetween, SameBytesAtPlaces}
-use Rattle.packed_cert.specs.ValuesInBytes.{value_length_by_tag, place_after_value, place_in_bytes}
+use Rattle.packed_cert.specs.RepeatedBytes.{SameBytesAtPlaces}
+use Rattle.packed_cert.specs.ValuesInBytes.{ValuesStandBetween, value_length_by_tag, place_after_value, place_in_bytes}
 
 -- all bytes are below 256
 abbrev pub Small : List ℕ → Type 0

@@ -16,7 +16,7 @@ use Rattle.depth_cert.proofs.GrammarLaws.{next, flag_passed, values_passed}
 use Rattle.depth_cert.proofs.WrittenLaws.{IsRead, done, seq, byte, flag, values_read}
 use Rattle.packed_cert.specs.declared.places.ExitPlaces.{ExitPlaces}
 use Rattle.packed_cert.specs.ValuesInBytes.{place_in_bytes}
-use Rattle.packed_cert.specs.Moves.{MovesOverRepeated}
+use Rattle.packed_cert.specs.RepeatedBytes.{MovesOverRepeated}
 use Rattle.packed_cert.specs.NodesInBytes.{ReadsExit, ExitStands}
 use Rattle.packed_cert.proofs.SameBytes.{Small, split, moved}
 

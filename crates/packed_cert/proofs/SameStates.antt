@@ -17,9 +17,8 @@ use Rattle.tcd_base.proofs.PassedLaws.{bytes_from}
 use Rattle.depth_cert.proofs.CertLaws.{state_passed}
 use Rattle.depth_cert.proofs.WrittenLaws.{IsRead, done, seq, test, byte, many_read, flag, values_read}
 use Rattle.packed_cert.specs.declared.places.StatePlaces.{StatePlaces}
-use Rattle.packed_cert.specs.ValuesAtPlaces.{ValuesStandFrom}
-use Rattle.packed_cert.specs.ValuesInBytes.{place_in_bytes}
-use Rattle.packed_cert.specs.Moves.{MovesOverRepeated}
+use Rattle.packed_cert.specs.ValuesInBytes.{ValuesStandFrom, place_in_bytes}
+use Rattle.packed_cert.specs.RepeatedBytes.{MovesOverRepeated}
 use Rattle.packed_cert.specs.PointsInBytes.{StateStandsAtPlaces}
 use Rattle.packed_cert.proofs.SameBytes.{Small, split, moved}
 

@@ -13,8 +13,7 @@ use Rattle.depth_cert.specs.declared.points.Exit.{Exit}
 use Rattle.depth_cert.specs.Grammar.{checked_cert_field, flag_at, values_at, value_at, locals_at, state_at, exit_at}
 use Rattle.tcd_base.proofs.PassedLaws.{ok_pair}
 use Rattle.depth_cert.proofs.GrammarLaws.{checked_passed, most_le}
-use Rattle.packed_cert.specs.ValuesAtPlaces.{ValuesStandBetween}
-use Rattle.packed_cert.specs.ValuesInBytes.{place_after_value, place_in_bytes, value_in, values_in, HaveValuesInBytes, read_from_bytes_or}
+use Rattle.packed_cert.specs.ValuesInBytes.{ValuesStandBetween, place_after_value, place_in_bytes, value_in, values_in, HaveValuesInBytes, read_from_bytes_or}
 use Rattle.packed_cert.specs.PointsInBytes.{flags_in}
 use Rattle.packed_cert.proofs.SameBytes.{Small, value_stands, values_stand}
 

@@ -25,7 +25,7 @@ RowBeginsAtPlace bytes x row = 0 < row.behind → row.from ≡ place_after_value
 abbrev pub IsWholeRow : ℕ → ValueRow → Type 0
 IsWholeRow n row = (row.first ≡ 0) × (row.behind ≡ n)
 
--- the row with one more value, which is after it
+-- a row of changed values with one more, which was read and is after the others
 pub record IsWithRead (row : ValueRow) (place : ℕ) (more : ValueRow) : Type 0 where
   pub first : more.first ≤ place
   pub behind : more.behind ≡ place + 1

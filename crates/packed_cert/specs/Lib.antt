@@ -4,6 +4,6 @@ pub mod ValuesInBytes
 pub mod Moves
 pub mod NodesInBytes
 pub mod PointsInBytes
-pub mod ValuesAtPlaces
+pub mod RepeatedBytes
 pub mod Walks
 pub mod ChangedRows

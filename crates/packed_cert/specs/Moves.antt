@@ -1,11 +1,10 @@
 -- What the states of points share with those of the points before them.
-use Rattle.std.specs.Prelude.{◌≡◌, ◌≤◌, ◌<◌, ◌+◌, ◌-◌, ℕ, IsTrue, slice_index_or, List, length, drop, take}
+use Rattle.std.specs.Prelude.{◌≡◌, ◌≤◌, ◌<◌, ◌+◌, ◌-◌, ℕ, IsTrue, slice_index_or, List, length, drop}
 use Rattle.value_domain.specs.declared.states.State.{State}
 use Rattle.packed_cert.specs.declared.places.PackedPoint.{PackedPoint}
 use Rattle.packed_cert.specs.ChangedRows.{ChangesRow}
 use Rattle.packed_cert.specs.PointsInBytes.{state_in}
 use Rattle.packed_cert.specs.ValuesInBytes.{values_in, HaveValuesInBytes}
-use Rattle.tcd_base.specs.Place.{Place}
 
 -- The state of a point beside the one before it: outside its row the values are the same, the row's
 -- values and those after it are where the point says, and the whole state is the same if the point
@@ -17,7 +16,8 @@ pub record IsMoved (version : ℕ) (bytes : List ℕ) (before : State) (p : Pack
   pub stand : 0 < (p.row).behind → drop (p.row).first (state_in version bytes p.place).regs ≡ values_in version bytes (p.row).from (27 - (p.row).first)
   pub same : IsTrue p.same → state_in version bytes p.place ≡ before
 
--- the state before point k: that of the point before it, or any state if it is the first
+-- the state that point k moves on from, with which it shares values: that of the point before it,
+-- or any state if it is the first
 pub record StandsBefore (version : ℕ) (bytes : List ℕ) (ps : List PackedPoint) (k : ℕ) (s : State) : Type 0 where
   pub count : length s.regs ≡ 27
   pub last : (j : ℕ) (d : PackedPoint) → j + 1 ≡ k → s ≡ state_in version bytes (slice_index_or ps j d).place
@@ -25,8 +25,3 @@ pub record StandsBefore (version : ℕ) (bytes : List ℕ) (ps : List PackedPoin
 -- each point says what it shares with the state before it
 abbrev pub AreMoves : ℕ → List ℕ → List PackedPoint → Type 0
 AreMoves version bytes ps = (k : ℕ) (d : PackedPoint) (s : State) → k < length ps → StandsBefore version bytes ps k s → IsMoved version bytes s (slice_index_or ps k d)
-
--- a cursor moved over n bytes, and the same are from x on
-abbrev pub MovesOverRepeated : List ℕ → ℕ → ℕ → Place → Place → Type 0
-MovesOverRepeated bytes x n before after =
-    (after ≡ record before { place = before.place + n }) × (before.place + n ≤ length bytes) × (take n (drop x bytes) ≡ take n (drop before.place bytes))

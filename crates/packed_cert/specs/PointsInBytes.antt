@@ -8,8 +8,8 @@ use Rattle.depth_cert.specs.Grammar.{state_at}
 use Rattle.packed_cert.specs.declared.places.PackedPoint.{PackedPoint}
 use Rattle.packed_cert.specs.declared.places.StatePlaces.{StatePlaces}
 use Rattle.packed_cert.specs.declared.places.RepeatedState.{RepeatedState}
-use Rattle.packed_cert.specs.ValuesAtPlaces.{ValuesStandFrom, SameBytesAtPlaces}
-use Rattle.packed_cert.specs.ValuesInBytes.{place_in_bytes, read_from_bytes_or}
+use Rattle.packed_cert.specs.RepeatedBytes.{IsRepeated}
+use Rattle.packed_cert.specs.ValuesInBytes.{ValuesStandFrom, place_in_bytes, read_from_bytes_or}
 use Rattle.value_domain.specs.State.{no_state}
 
 -- the state at a place
@@ -35,13 +35,8 @@ pub record StateStandsAtPlaces (version : ℕ) (bytes : List ℕ) (s : State) (p
   pub read : state_at version (place_in_bytes bytes p.start) ≡ Ok (s, place_in_bytes bytes p.end)
   pub values : ValuesStandFrom version bytes s.regs p.values p.end
 
--- so many bytes of a point's state come again at a place
-pub record IsRepeated (bytes : List ℕ) (place : ℕ) (p : RepeatedState) : Type 0 where
-  pub first : (p.at).start + p.same ≤ length bytes
-  pub second : place + p.same ≤ length bytes
-  pub alike : SameBytesAtPlaces bytes (p.at).start place p.same
-
--- these are the values of a point's state, and so many of its bytes come again at a place
+-- a point's state in the bytes has these values, and so many of its bytes come again at another
+-- place
 pub record StateComesAgain (version : ℕ) (bytes : List ℕ) (vs : List Val) (place : ℕ) (p : RepeatedState) : Type 0 where
   pub values : ValuesStandFrom version bytes vs (p.at).values (p.at).end
   pub repeated : IsRepeated bytes place p

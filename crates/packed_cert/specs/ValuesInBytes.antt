@@ -55,3 +55,12 @@ place_after_values bytes place (suc n) = place_after_values bytes (place_after_v
 -- two words in the bytes: the eight bytes from a place on, as a number
 abbrev pub eight_bytes_at_place : List ℕ → ℕ → ℕ
 eight_bytes_at_place bytes place = word_in_bytes bytes place + word_in_bytes bytes (place + 4) * 4294967296
+
+-- these values are in the bytes, one after another, from a place to another
+abbrev pub ValuesStandBetween : ℕ → List ℕ → ℕ → List Val → ℕ → Type 0
+ValuesStandBetween version bytes place [] end = place ≡ end
+ValuesStandBetween version bytes place (v ∷ vs) end = (value_at version (place_in_bytes bytes place) ≡ Ok (v, place_in_bytes bytes (place_after_value bytes place))) × ValuesStandBetween version bytes (place_after_value bytes place) vs end
+
+-- these values are in the bytes, one after another, from a place within them to another
+abbrev pub ValuesStandFrom : ℕ → List ℕ → List Val → ℕ → ℕ → Type 0
+ValuesStandFrom version bytes vs x end = (x ≤ length bytes) × ValuesStandBetween version bytes x vs end

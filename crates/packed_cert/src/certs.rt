@@ -33,12 +33,13 @@ impl Model for PackedCert {
 }
 
 impl PackedCert {
-    ghost use Rattle.depth_cert.specs.Certs.{IsCert, find_node};
-    ghost use Rattle.depth_cert.specs.Nodes.{count_points};
+    ghost use Rattle.depth_cert.specs.Certs.{IsCert};
+    ghost use Rattle.depth_cert.specs.Nodes.{find_node, count_points};
     ghost use Rattle.depth_cert.specs.Grammar.{certificate_of};
     ghost use Rattle.depth_cert.specs.Spelling.{bytes_of_cert};
 
-    /// Makes a `PackedCert` of the bytes that spell a certificate, or returns their first fault.
+    /// Makes a `PackedCert`, which keeps the bytes that spell a certificate and the places of its
+    /// nodes, or returns the first fault of the bytes.
     pub fn read(alloc: Global, bytes: Vec<u8>) -> Result<PackedCert, CertErr>
         requires { length bytes.items ≤ 2 ^ 30 }
         ensures ok { IfOk result (λ c. certificate_of bytes.items ≡ Ok c) }

@@ -11,7 +11,7 @@ ghost use Rattle.value_domain.specs.Sets.{Rising, Within};
 use crate::certs::packed_bytes_below_256;
 use crate::restored_values::ValuesAt;
 use crate::value_reader::{read_value_word, value_length_by_tag};
-use crate::values_at_places::{is_below_at, value_at_place};
+use crate::values_at_places::{is_below_value_at, value_at_place};
 use depth_cert::{SPAN, lower_value};
 use value_domain::{State, Val, extent_of, leq};
 use vd_transfer::{Change, changed_value};
@@ -49,7 +49,7 @@ pub(crate) fn are_covered_at(
     for i in 0..n {
         let tag = bytes[at];
         // All words: each value is below it.
-        if tag != 0 && !is_below_at(value_to_cover(&*values, &any, i), bytes, version, at) {
+        if tag != 0 && !is_below_value_at(value_to_cover(&*values, &any, i), bytes, version, at) {
             return false;
         }
         at += value_length_by_tag(tag);
@@ -104,7 +104,7 @@ pub(crate) fn is_read_value_covered(low: ValuesAt<'_>, high: ValuesAt<'_>) -> bo
 {
     packed_bytes_below_256(low.bytes);
     let v = value_at_place(low.bytes, low.version, low.place);
-    is_below_at(&v, high.bytes, high.version, high.place)
+    is_below_value_at(&v, high.bytes, high.version, high.place)
 }
 
 /// Returns true if a value is below the span at a place.

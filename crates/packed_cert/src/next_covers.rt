@@ -15,7 +15,7 @@ ghost use Rattle.packed_cert.specs.ChangedRows.{IsOutside};
 use crate::places::{PackedPoint, VALUES, ValueRow};
 use crate::states::StateAt;
 use crate::value_reader::value_length_by_tag;
-use crate::values_at_places::is_below_at;
+use crate::values_at_places::is_below_value_at;
 use std::marker::Model;
 use value_domain::{State, Val, are_flags_implied, leq};
 use vd_transfer::{Change, changed_value};
@@ -88,7 +88,7 @@ pub(crate) fn is_row_below(
     for i in point.row.first as usize..point.row.behind as usize {
         let tag = bytes[at];
         // All words: each value is below it.
-        if tag != 0 && !is_below_at(changed_value(s, c, &any, i), bytes, version, at) {
+        if tag != 0 && !is_below_value_at(changed_value(s, c, &any, i), bytes, version, at) {
             return false;
         }
         at += value_length_by_tag(tag);

@@ -68,7 +68,8 @@ impl<'a> PackedNode<'a> {
         self.points.len()
     }
 
-    /// Puts a walk before the first of the points, which are by ascending address.
+    /// Begins a walk over the points of this packed node, which are by ascending address: the walk
+    /// is put before the first.
     pub fn walk(&self, walk: &mut PointWalk<'a>)
         ensures all { walk.new.left ≡ self.now.points }
         ensures points { walk.new.points ≡ self.now.points }

@@ -8,7 +8,7 @@ ghost use Rattle.std.specs.List.{All};
 ghost use Rattle.depth_cert.specs.Grammar.{state_at, points_at};
 ghost use Rattle.depth_cert.specs.Answers.{IsFaultOf};
 ghost use Rattle.std.specs.List.Sorted.{IsStrictlyIncreasing};
-ghost use Rattle.packed_cert.specs.ValuesAtPlaces.{ValuesStandFrom};
+ghost use Rattle.packed_cert.specs.ValuesInBytes.{ValuesStandFrom};
 ghost use Rattle.packed_cert.specs.ChangedRows.{ChangesRow, RowBeginsAtPlace, IsWholeRow};
 ghost use Rattle.packed_cert.specs.PointsInBytes.{HasState, StateStandsAtPlaces, StateComesAgain, points_in};
 ghost use Rattle.packed_cert.specs.Moves.{AreMoves};
@@ -43,7 +43,8 @@ pub(crate) struct ExitRoom {
     pub(crate) last: Option<ExitPlaces>,
 }
 
-/// Returns a state that knows nothing, as room for the first state of a point that is read.
+/// Returns a state that knows nothing, as room for the first state of a point that is read from a
+/// packed certificate.
 pub(crate) fn blank_state_for_reading() -> State {
     State {
         regs: std::array::from_fn(|_| Val::any()),
@@ -123,8 +124,8 @@ fn for_point(read: ReadState, first: bool) -> ReadState
     }
 }
 
-/// Reads a point's state over the one whose places are `before`. If its bytes come again, they are
-/// passed over at once, and the places stay those of the first state with these bytes.
+/// Reads a point's state over that of the point before, whose places are `before`. If its bytes
+/// come again, they are passed over, and the places stay those of the first state with these bytes.
 #[inline(always)]
 pub(crate) fn read_state_like(
     c: &mut Cursor<'_>,
@@ -161,8 +162,8 @@ pub(crate) fn read_state_like(
     read_state_after(c, bytes, version, Some(repeated), out)
 }
 
-/// Reads the fields of a state over the one before. Returns the place of the values, and the row of
-/// those that were read.
+/// Reads the fields of a point's state over those of the point before. Returns the place of the
+/// values, and the row of those that were read.
 #[tactic(auto, unfolding(depth_cert::specs::Grammar::state_at))]
 pub(crate) fn read_state_fields(
     c: &mut Cursor<'_>,
@@ -192,7 +193,7 @@ pub(crate) fn read_state_fields(
     Ok((at, row))
 }
 
-/// Reads a state over the one before, whose bytes don't all come again.
+/// Reads the state of a point over that of the point before, whose bytes don't all come again.
 #[inline(never)]
 pub(crate) fn read_state_after(
     c: &mut Cursor<'_>,

@@ -11,7 +11,7 @@ use crate::certs::packed_bytes_below_256;
 use crate::covered_values::is_read_value_covered;
 use crate::places::VALUES;
 use crate::value_reader::value_length_by_tag;
-use crate::values_at_places::{is_below_at, value_at_place};
+use crate::values_at_places::{is_below_value_at, value_at_place};
 use value_domain::Val;
 use vd_transfer::is_lower_slot;
 
@@ -86,7 +86,7 @@ fn is_restored_below(regs: &[Val; 27], i: usize, low: ValuesAt<'_>, high: Values
     if is_lower_slot(i) {
         return is_read_value_covered(low, high);
     }
-    is_below_at(&regs[i], high.bytes, high.version, high.place)
+    is_below_value_at(&regs[i], high.bytes, high.version, high.place)
 }
 
 /// Returns the place of the next lower register's value: after the one at `low` if value number `i`

@@ -1,8 +1,8 @@
 // Reads values over those of the state before.
 // Fast path: a value whose bytes come again isn't read. Bytes are compared for many values at once.
 ghost use Rattle.std.specs.Prelude.{◌≡◌, ◌≤◌, ◌<◌, ◌+◌, ◌-◌, ◌^◌, ℕ, List, length, Ok, Err, OnOk, IfOk, IfErr, IfSome};
-ghost use Rattle.packed_cert.specs.ValuesAtPlaces.{ValuesStandFrom, SameBytesAtPlaces};
-ghost use Rattle.packed_cert.specs.ValuesInBytes.{place_after_values};
+ghost use Rattle.packed_cert.specs.RepeatedBytes.{SameBytesAtPlaces};
+ghost use Rattle.packed_cert.specs.ValuesInBytes.{ValuesStandFrom, place_after_values};
 ghost use Rattle.packed_cert.specs.ChangedRows.{ChangesRow, RowBeginsAtPlace, IsWithRead};
 ghost use Rattle.packed_cert.specs.ValuesInBytes as standing;
 ghost use Rattle.depth_cert.specs.Grammar.{values_at};
@@ -108,7 +108,8 @@ fn with_read(row: ValueRow, i: u8, place: u32) -> ValueRow
     }
 }
 
-/// Moves a cursor on to a place, past values that come again and so aren't read.
+/// Moves the cursor that reads values on to a place, past those that aren't read as their bytes
+/// come again.
 #[inline(always)]
 pub(crate) fn pass_unread_values_to(c: &mut Cursor<'_>, place: usize)
     requires order { c.old.place ≤ place }

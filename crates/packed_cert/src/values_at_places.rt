@@ -12,8 +12,8 @@ use crate::value_reader::{MOST_WORDS, read_value_word, value_length_by_tag};
 use depth_cert::SPAN;
 use value_domain::{Bounds, Val, is_value, set_span, set_words, write_any};
 
-/// Tests a value at a place in the bytes: returns true if another value is below it.
-pub(crate) fn is_below_at(v: &Val, bytes: &[u8], version: u8, place: usize) -> bool
+/// Tests the value that is at a place in the bytes: returns true if another value is below it.
+pub(crate) fn is_below_value_at(v: &Val, bytes: &[u8], version: u8, place: usize) -> bool
     requires short { length bytes.now ≤ 2 ^ 30 }
     requires well { IsWell v.now }
     requires stands { HasValueInBytes version bytes.now place }
@@ -97,7 +97,8 @@ pub(crate) fn value_at_place(bytes: &[u8], version: u8, place: usize) -> Val
     out
 }
 
-/// Reads the value at a place over another one. A set that is there already isn't written.
+/// Reads the value that is at a place in the bytes, without a cursor, over another value. A set
+/// that is there already isn't written.
 pub(crate) fn read_value_at_place(bytes: &[u8], version: u8, place: usize, out: &mut Val)
     requires short { length bytes.now ≤ 2 ^ 30 }
     requires stands { HasValueInBytes version bytes.now place }

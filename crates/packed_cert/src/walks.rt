@@ -110,9 +110,9 @@ impl<'a> PointWalk<'a> {
         if point.same { Some(point.addr) } else { None }
     }
 
-    /// Returns true if the next point has this address, and its state is seen to cover the one at
-    /// hand, changed. Only values that are put and those of the next point's row are compared, so a
-    /// change that doesn't begin with the values at hand gives false.
+    /// Returns true if the walk's next point has this address and is seen to cover the state at
+    /// hand, changed. Only values put or in its row are compared; a change on another base gives
+    /// false.
     pub fn covers_next(&self, addr: u32, c: &Change) -> bool
         requires hand { AreWell self.now.current.regs }
         requires changed { AreWell (state_after self.now.current c.now).regs }

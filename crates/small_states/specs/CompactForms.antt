@@ -13,8 +13,6 @@ use Rattle.depth_cert.specs.Known.{Known, state, leaving}
 use Rattle.small_states.specs.declared.known.KnownForm.{KnownForm}
 use Rattle.small_states.specs.declared.known.KnownForm.TheVariants.{Point, Leaves}
 use Rattle.small_states.specs.declared.known.Outline.{Outline}
-use Rattle.small_states.specs.declared.incoming.Given.{Given}
-use Rattle.small_states.specs.declared.incoming.Given.TheVariants.{Whole, Packed}
 
 -- a known value after unknown ones
 abbrev pub spaced_values : SpacedValue → List Val
@@ -46,11 +44,6 @@ exit_in x = record { ie = x.ie; ccpn = x.ccpn; lower = all_values x.lower.value 
 abbrev pub known_of : KnownForm → Known
 known_of (Point s) = state (state_in s)
 known_of (Leaves x) = leaving (exit_in x)
-
--- the value that a given one stands for, be it whole or in compact form
-abbrev pub given_of : Given → Val
-given_of (Whole v) = v.now
-given_of (Packed v) = v.now
 
 -- the outline is the one of the known state
 abbrev pub IsOutline : Known → Outline → Type 0

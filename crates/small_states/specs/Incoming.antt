@@ -11,6 +11,8 @@ use Rattle.small_states.specs.declared.incoming.Incoming.{Incoming}
 use Rattle.small_states.specs.declared.incoming.Context.{Context}
 use Rattle.small_states.specs.declared.incoming.Incoming.TheVariants.{Changed, After, Leaving}
 use Rattle.depth_cert.specs.declared.points.Exit.{Exit}
+use Rattle.small_states.specs.declared.incoming.Given.{Given}
+use Rattle.small_states.specs.declared.incoming.Given.TheVariants.{Whole, Packed}
 
 -- what flows in
 abbrev pub incoming_known : Incoming → Known
@@ -48,8 +50,13 @@ incoming_exit_with values k = record { ie = k.ie; ccpn = k.ccpn; lower = values 
 abbrev pub known_by : Incoming → Context → Known
 known_by incoming k = if is_incoming_exit incoming then leaving (incoming_exit_with (incoming_values incoming) k) else state (incoming_state_with (incoming_values incoming) k)
 
--- the bytes of the state that is known at a place are appended, and its CCPN is a byte; nothing is
--- said of an exit
+-- what is known at a place is appended as bytes if it is a state, and its CCPN is a byte; nothing
+-- is said of an exit
 abbrev pub AddsKnownState : Known → List ℕ → List ℕ → Type 0
 AddsKnownState (state s) old new = (new ≡ old ++ bytes_of_state s) × (s.ccpn < 2 ^ 8)
 AddsKnownState (leaving x) old new = Unit {0}
+
+-- the value that an incoming one stands for, which is given whole or in compact form
+abbrev pub given_of : Given → Val
+given_of (Whole v) = v.now
+given_of (Packed v) = v.now

@@ -30,7 +30,7 @@ impl Model for Gathered {
     ghost invariant = { λ g. AreZerosBehind g.len g.bytes };
 }
 
-/// Returns whether a range is all words.
+/// Returns whether a range is all words: then the buffer gathers a single byte for it.
 #[inline(always)]
 fn is_all_words_range(lo: u32, last: u32, step: u8) -> bool
     ensures { result ≡ is_any_span lo last step }

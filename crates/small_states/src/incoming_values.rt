@@ -3,8 +3,8 @@ ghost use Rattle.std.specs.Prelude.{◌≡◌, ◌↔◌, IsTrue, IfOk, OnOk, le
 ghost use Rattle.value_domain.specs.State.{AreBelow, AreValues, AreWell, joined_regs};
 ghost use Rattle.vd_transfer.specs.Changes.{base_of, put_in, state_after};
 ghost use Rattle.vd_transfer.specs.EffectsOnStates.{forgotten_from};
-ghost use Rattle.small_states.specs.Incoming.{sender_state, incoming_values};
-ghost use Rattle.small_states.specs.CompactForms.{all_values, given_of};
+ghost use Rattle.small_states.specs.Incoming.{sender_state, incoming_values, given_of};
+ghost use Rattle.small_states.specs.CompactForms.{all_values};
 ghost use Rattle.value_domain.specs.Values.{any_val};
 ghost use Rattle.value_domain.specs.State as states;
 ghost use Rattle.depth_cert.specs.Exits.{with_lower_from};
@@ -68,7 +68,7 @@ fn pack_own(alloc: Global, own: &Values, incoming: &Incoming) -> Result<Values, 
     }
 }
 
-/// Puts a value of a change over a list, if there is one.
+/// Puts one value of a change over a list of compact incoming values, if the change has it.
 #[inline(always)]
 fn put_over(alloc: Global, values: &mut Values, put: &Put) -> Result<(), AllocError>
     ensures { OnOk result (all_values values.new ≡ put_in (all_values values.old) put.now) }
@@ -112,7 +112,8 @@ fn upper_values(alloc: Global, own: &Values) -> Result<Values, AllocError>
     Ok(values)
 }
 
-/// Returns a state's values after a change. If no part of them changes, the list is shared.
+/// Returns the compact incoming values of a changed state: its values with the change put over
+/// them. If no part of them changes, the list is shared.
 #[inline(always)]
 fn put_all_over(alloc: Global, own: &Rc<Values>, c: &Change) -> Result<Rc<Values>, AllocError>
     requires { length (all_values own.now.value) ≡ 27 }
@@ -133,7 +134,7 @@ fn put_all_over(alloc: Global, own: &Rc<Values>, c: &Change) -> Result<Rc<Values
     Ok(Rc::new(alloc, values)?)
 }
 
-/// Returns the values of a changed state, from the state's compact values.
+/// Returns the incoming values of a changed state in compact form, from the state's compact values.
 #[inline(always)]
 fn pack_change(
     alloc: Global,

@@ -53,8 +53,8 @@ impl Model for SmallKnown {
     ghost view = { λ c. known_of c.form };
 }
 
-/// Returns whether the value that is put is the one that is known at its place in compact form, or
-/// has more words. If none is put, it returns true. The answer is only a hint.
+/// Returns whether what is known at a place, in compact form, is the value that is put there or has
+/// fewer words. If none is put, it returns true. The answer is only a hint.
 fn has_known_grown(known: &SmallState, put: &Put) -> bool {
     let Some(at) = put.at else {
         return true;
@@ -244,7 +244,8 @@ impl SmallKnown {
         }
     }
 
-    /// Appends the bytes that spell what is known at a place, if it is a state.
+    /// Appends the bytes of the state that this `SmallKnown` is, which is known at a place. For an
+    /// exit, it appends nothing.
     pub fn spell_state(&self, _b: &Bounds, out: &mut Vec<u8>) -> Result<(), NoMemory>
         requires { IsProperKnown _b.now self.now }
         ensures { OnOk result (AddsKnownState self.now out.old.items out.new.items) }

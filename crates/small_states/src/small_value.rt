@@ -5,7 +5,7 @@ ghost use Rattle.value_domain.specs.declared.values.Val.TheVariants.{Set, Span};
 ghost use Rattle.value_domain.specs.Sets.{Among, Rising};
 ghost use Rattle.value_domain.specs.Values.{IsWell, IsValue, IsBelow, IsMember, any_val, cover, members, join_of};
 ghost use Rattle.small_states.specs.SmallValues.{small_value_of};
-ghost use Rattle.small_states.specs.CompactForms.{given_of};
+ghost use Rattle.small_states.specs.Incoming.{given_of};
 
 use crate::incoming::Given;
 use depth_cert::write_value;
@@ -44,7 +44,7 @@ impl Model for Small {
     ghost view = { λ s. small_value_of s.form };
 }
 
-/// Returns true only if the words of a set are this one alone.
+/// Returns true only if a Set has this word alone, so that a small value of one word stands for it.
 #[inline(always)]
 fn is_single_word(words: &Words, x: u32) -> bool
     ensures { IsTrue result → words.now ≡ x ∷ [] }
@@ -148,7 +148,8 @@ fn is_below_range(v: &Val, lo: u32, last: u32, step: u8) -> bool
     is_extent_inside(&e, lo, last, step)
 }
 
-/// Returns whether a word, such as that of a small value, is one of a range.
+/// Returns whether a word is a member of a range: that of a small value, or one that a small value
+/// is compared with.
 #[inline(always)]
 fn is_word_in_range(x: u32, lo: u32, last: u32, step: u8) -> bool
     ensures { IsTrue result ↔ IsMember x (Span lo last step) }
@@ -370,7 +371,8 @@ impl Small {
         }
     }
 
-    /// Appends the only bytes that spell the small value. It makes the whole value first.
+    /// Appends the only bytes that spell this `Small`, one small value. It makes the whole value
+    /// first.
     #[inline(never)]
     pub(crate) fn spell(&self, out: &mut Vec<u8>) -> Result<(), NoMemory>
         requires { IsWell self.now }

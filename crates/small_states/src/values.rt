@@ -1,7 +1,8 @@
 // Sparse lists of values: only known values take room. A value is unknown if it holds all words.
 ghost use Rattle.std.specs.Prelude.{◌≡◌, ◌+◌, ◌-◌, ◌^◌, ◌<◌, ◌≤◌, ◌++◌, ◌∷◌, [], IfOk, OnOk, length, replicate, take, slice_index_or, slice_set, IsTrue};
 ghost use Rattle.value_domain.specs.Values.{any_val};
-ghost use Rattle.small_states.specs.CompactForms.{given_of, all_values, compact_front, values_from, IsFoundIn};
+ghost use Rattle.small_states.specs.CompactForms.{all_values, compact_front, values_from, IsFoundIn};
+ghost use Rattle.small_states.specs.Incoming.{given_of};
 ghost use Rattle.small_states.specs.declared.values.SpacedValue as spaced;
 ghost use Rattle.value_domain.specs.State.{AreBelow, AreWell};
 

@@ -84,7 +84,7 @@ fn write_at(b: &Bounds, image: &Image, plan: &Plan, x: u32, load: LoadKind, out:
     let _most_words = b.most_words();
     let device = device_of_load(plan, x, x, load.size);
     match rom_number(image, plan, x, load.size) {
-        Some(number) => set_words(out, &[extend(number, load)]),
+        Some(number) => set_words(out, &[extend_loaded_number(number, load)]),
         None => write_answers(b, device, load, out),
     }
 }
@@ -99,7 +99,7 @@ fn add_at(b: &Bounds, image: &Image, plan: &Plan, x: u32, load: LoadKind, out: &
 {
     let device = device_of_load(plan, x, x, load.size);
     match rom_number(image, plan, x, load.size) {
-        Some(number) => add_words(b, out, &[extend(number, load)]),
+        Some(number) => add_words(b, out, &[extend_loaded_number(number, load)]),
         None => add_answers(b, device, load, out),
     }
 }
@@ -133,8 +133,9 @@ fn device_of_load(plan: &Plan, low: u32, high: u32, size: u8) -> Option<Device>
     device_range_at(plan.devices.as_slice(), low, high, 4)
 }
 
-/// Extends a loaded number to a word.
-fn extend(number: u32, load: LoadKind) -> u32
+/// Returns the word that a load from a member of a value gives: the loaded number, extended by its
+/// sign or with zeros.
+fn extend_loaded_number(number: u32, load: LoadKind) -> u32
     requires size { IsAccessSize load.size }
     requires below { number < 2 ^ (8 * load.size) }
     ensures { result ≡ memory.extend_loaded_bytes load.signed load.size number }

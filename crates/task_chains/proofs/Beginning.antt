@@ -3,8 +3,8 @@ use Rattle.std.proofs.Common.{◌≡◌, ◌≢◌, ℕ, zero, suc, ◌+◌, ◌
 use Rattle.std.proofs.lemmas.Bool.{cases_lt}
 use Rattle.std.specs.FinMap as finite
 use Rattle.csa_chain.specs.MemoryBytes.{Memory, is_mapped, with_words, HasBytes}
-use Rattle.csa_chain.specs.Chain.{link_in, link_address, is_area, area_word}
-use Rattle.csa_chain.specs.ContextWords.{pcxi_word_of, ul_of, word_with_link}
+use Rattle.csa_chain.specs.Chain.{link_in, link_address, is_area, area_word, word_with_link}
+use Rattle.csa_chain.specs.ContextWords.{pcxi_word_of, ul_of}
 use Rattle.csa_chain.specs.SeveralChains.{times_in_list, with_chain, with_chain_word}
 use Rattle.csa_chain.proofs.ChainLaws.{Links, SameAreas, area_word_same, SameArea-written, SameAreas-written}
 use Rattle.csa_chain.proofs.ContextLaws.{ul_of-pcxi_word, link_in-with_link, with_link-lt, link_in-lt}
@@ -31,7 +31,8 @@ use Rattle.tc_machine.specs.SavesAndRestores.{has_kind, released, restored, rest
 use Rattle.tc_machine.specs.Fetching.{fetched}
 use Rattle.tc_machine.specs.Stepping.{is_taken, step}
 use Rattle.tc_machine.specs.PlanAreas.{first_link, plan_areas}
-use Rattle.tc_machine.specs.Safe.{HasGlobals, Fits, Starts}
+use Rattle.tc_machine.specs.Safe.{Fits}
+use Rattle.tc_machine.specs.Starting.{HasGlobals, Starts}
 use Rattle.tc_mem.specs.PlanMemory.{HoldsRom, IsPlanMemory}
 use Rattle.tc_machine.proofs.Areas.{Areas-start}
 use Rattle.tc_machine.proofs.Kept.{none_when_off}

@@ -19,7 +19,8 @@ use Rattle.tc_machine.specs.Instructions.{advanced, does}
 use Rattle.tc_machine.specs.SavesAndRestores.{has_kind, released, restored, restore}
 use Rattle.tc_machine.specs.Fetching.{fetched, fetched_size}
 use Rattle.tc_machine.specs.Stepping.{is_taken, load_in, step}
-use Rattle.tc_machine.specs.Safe.{HasGlobals, Fits}
+use Rattle.tc_machine.specs.Safe.{Fits}
+use Rattle.tc_machine.specs.Starting.{HasGlobals}
 use Rattle.tc_machine.proofs.Areas.{Areas}
 use Rattle.tc_machine.proofs.Kept.{none_when_off}
 use Rattle.tc_machine.proofs.Saves.{then_-running}

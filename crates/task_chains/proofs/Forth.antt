@@ -9,7 +9,7 @@ use Rattle.tc_machine.specs.declared.events.Event.{Event}
 use Rattle.tc_machine.specs.declared.events.End.TheVariants.{Running}
 use Rattle.tc_machine.specs.declared.state.Machine.{Machine}
 use Rattle.tc_machine.specs.Machine.{machine_address_ahead, then_, IsMachine}
-use Rattle.tc_machine.specs.Instructions.{advanced, at_handler, does, traps}
+use Rattle.tc_machine.specs.Instructions.{advanced, at_handler, does, is_trapping_instruction}
 use Rattle.tc_machine.specs.SavesAndRestores.{saved, save}
 use Rattle.tc_machine.specs.Fetching.{fetched}
 use Rattle.tc_machine.specs.Stepping.{is_taken, step}
@@ -62,7 +62,7 @@ module _ {plan : PlanData} (ok : IsPlan plan) (Kept : ℕ → Type 0) (kept : (x
       Alike-forth true (Syscall tin) size (λ s. record (at_handler m s (machine_address_ahead m.pc size) (bit_or m.btv (6 * 2 ^ 5))) { d = set s.d 15 tin }) (λ s. record (at_handler v s (machine_address_ahead v.pc size) (bit_or v.btv (6 * 2 ^ 5))) { d = set s.d 15 tin })
       (does-syscall m e size tin) (does-syscall v e2 size tin) refl refl refl refl refl refl at view_at
 
-  pub Alike-misaligned : (shape : Shape) (size : ℕ) → traps m e shape ≡ true → traps v e2 shape ≡ true → fetched m ≡ Ok (shape, size) → fetched v ≡ Ok (shape, size) → Alike plan n u word_of chain_of Kept view m (step m e) (step v e2)
+  pub Alike-misaligned : (shape : Shape) (size : ℕ) → is_trapping_instruction m e shape ≡ true → is_trapping_instruction v e2 shape ≡ true → fetched m ≡ Ok (shape, size) → fetched v ≡ Ok (shape, size) → Alike plan n u word_of chain_of Kept view m (step m e) (step v e2)
   Alike-misaligned shape size traps_m traps_v at view_at =
       Alike-forth true shape size (λ s. record (at_handler m s m.pc (bit_or m.btv (2 * 2 ^ 5))) { d = set s.d 15 4 }) (λ s. record (at_handler v s v.pc (bit_or v.btv (2 * 2 ^ 5))) { d = set s.d 15 4 })
       (does-trapped m e size shape traps_m) (does-trapped v e2 size shape traps_v) refl refl refl refl refl refl at view_at

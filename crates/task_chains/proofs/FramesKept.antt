@@ -14,7 +14,7 @@ use Rattle.depth_cert.specs.declared.keys.Key.{Key}
 use Rattle.depth_cert.specs.Keys.{IsKey}
 use Rattle.cfg_recover.specs.Frames.{Standing, frames_left, frames_by, frames_after}
 use Rattle.cfg_recover.specs.StepEdges.{EdgeWay, to, call, irq, sys, aln, ret, rfe, edge_way_of_shape, edge_way_in_fetch}
-use Rattle.tc_machine.specs.Instructions.{traps}
+use Rattle.tc_machine.specs.Instructions.{is_trapping_instruction}
 use Rattle.task_chains.specs.Tasks.{TasksData}
 use Rattle.task_chains.specs.SwitchRoutine.{switch_key}
 
@@ -58,7 +58,7 @@ by_way v e q P goes calls interrupts systems misaligns returns leaves = cond_bot
     by_shape Nothing = goes
 
     by_found : (r : Result (Shape × ℕ) Cause) → P (edge_way_in_fetch v e r q)
-    by_found (Ok found) = cond_both (traps v e found.0) (aln q) (edge_way_of_shape found.0 q) P (λ _. misaligns) (λ _. by_shape found.0)
+    by_found (Ok found) = cond_both (is_trapping_instruction v e found.0) (aln q) (edge_way_of_shape found.0 q) P (λ _. misaligns) (λ _. by_shape found.0)
     by_found (Err cause) = goes
 
 -- the numbers of keys are in range after a step

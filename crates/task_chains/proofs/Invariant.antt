@@ -9,7 +9,7 @@ use Rattle.tcd_plan.specs.PlanData.{PlanData}
 use Rattle.tc_machine.specs.declared.events.End.TheVariants.{Running}
 use Rattle.tc_machine.specs.declared.state.Machine.{Machine}
 use Rattle.tc_machine.specs.Machine.{reg, a11, is_interrupt_stack_used, IsMachine}
-use Rattle.tc_machine.specs.Safe.{HasGlobals}
+use Rattle.tc_machine.specs.Starting.{HasGlobals}
 use Rattle.tc_mem.specs.PlanMemory.{HoldsRom, IsPlanMemory}
 use Rattle.tc_machine.specs.PlanAreas.{first_link}
 use Rattle.task_chains.specs.Tasks.{TasksData, count, task_at}

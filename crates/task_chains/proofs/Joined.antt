@@ -19,7 +19,8 @@ use Rattle.tc_machine.specs.declared.events.End.TheVariants.{Running}
 use Rattle.tc_machine.specs.declared.state.Machine.{Machine}
 use Rattle.tc_machine.specs.SavesAndRestores.{save, saved}
 use Rattle.tc_machine.specs.Stepping.{step}
-use Rattle.tc_machine.specs.Safe.{HasGlobals, Fits}
+use Rattle.tc_machine.specs.Safe.{Fits}
+use Rattle.tc_machine.specs.Starting.{HasGlobals}
 use Rattle.tc_machine.specs.Machine.{IsMachine}
 use Rattle.tc_machine.proofs.Stays.{stays_step, irq_lt}
 use Rattle.depth_cert.specs.Certs.{CertData}

@@ -13,7 +13,7 @@ use Rattle.tc_machine.specs.declared.events.Cause.{Cause}
 use Rattle.tc_machine.specs.declared.events.End.TheVariants.{Running}
 use Rattle.tc_machine.specs.declared.state.Machine.{Machine}
 use Rattle.tc_machine.specs.Machine.{reg, a11, machine_address_ahead, then_, IsMachine}
-use Rattle.tc_machine.specs.Instructions.{advanced, access_address, is_trapping_access, at_handler, target_of, does, traps}
+use Rattle.tc_machine.specs.Instructions.{advanced, access_address, is_trapping_access, at_handler, target_of, does, is_trapping_instruction}
 use Rattle.tc_machine.specs.Stepping.{interrupt, is_taken, executed, machine_after_event, step}
 use Rattle.tc_machine.specs.SavesAndRestores.{saved, save, has_kind, restored, restore}
 use Rattle.tc_machine.specs.Fetching.{fetched, fetched_size}
@@ -129,7 +129,7 @@ module _ {plan : PlanData} (ok : IsPlan plan) (level : ℕ) (v : Machine) (words
   call_base key q base = base
 
   -- a trap of a misaligned access
-  trapped : (shape : Shape) (size : ℕ) → is_taken v e ≡ false → fetched v ≡ Ok (shape, size) → traps v e shape ≡ true → Next
+  trapped : (shape : Shape) (size : ℕ) → is_taken v e ≡ false → fetched v ≡ Ok (shape, size) → is_trapping_instruction v e shape ≡ true → Next
   trapped shape size none at traps_is =
       let next : Machine → Machine = λ s. record (at_handler v s v.pc (bit_or v.btv (2 * 2 ^ 5))) { d = set s.d 15 4 } in
       let stay : keys_of (frames_by v.pc (machine_address_ahead v.pc (fetched_size (fetched v))) e.irq (edge_way_by_trap v e shape (step v e).pc) (f ∷ fs)) ≡ handler_key 4 (step v e).pc (f.key).prio ∷ keys_of (f ∷ fs) =
@@ -139,7 +139,7 @@ module _ {plan : PlanData} (ok : IsPlan plan) (level : ℕ) (v : Machine) (words
       (λ room. leveled_upper ok level v words running f fs l free areas e room (with_event (next (saved v true)) e) (frames_after v e (f ∷ fs)) (handler_key 4 (step v e).pc (f.key).prio) refl refl refl
       (keys_are shape size none at ∙ stay) (λ k. absurd (let t : 4 ≡ 1 = k in omega arith)) (λ base. absurd (not_base 4 (step v e).pc (f.key).prio base)))
 
-  not_trapped : (shape : Shape) → traps v e shape ≡ false → keys_of (frames_by v.pc (machine_address_ahead v.pc (fetched_size (fetched v))) e.irq (edge_way_of_shape shape (step v e).pc) (f ∷ fs)) ≡ keys_of (f ∷ fs)
+  not_trapped : (shape : Shape) → is_trapping_instruction v e shape ≡ false → keys_of (frames_by v.pc (machine_address_ahead v.pc (fetched_size (fetched v))) e.irq (edge_way_of_shape shape (step v e).pc) (f ∷ fs)) ≡ keys_of (f ∷ fs)
       → keys_of (frames_by v.pc (machine_address_ahead v.pc (fetched_size (fetched v))) e.irq (edge_way_by_trap v e shape (step v e).pc) (f ∷ fs)) ≡ keys_of (f ∷ fs)
   not_trapped shape no_trap stay = ap (λ t. keys_of (frames_by v.pc (machine_address_ahead v.pc (fetched_size (fetched v))) e.irq (cond t (aln (step v e).pc) (edge_way_of_shape shape (step v e).pc)) (f ∷ fs))) no_trap ∙ stay
 

@@ -21,7 +21,7 @@ use Rattle.tc_machine.specs.declared.events.End.{End}
 use Rattle.tc_machine.specs.declared.events.End.TheVariants.{Running, Dead}
 use Rattle.tc_machine.specs.declared.state.Machine.{Machine}
 use Rattle.tc_machine.specs.Machine.{reg, a11, machine_address_ahead, then_, goes_on, IsMachine}
-use Rattle.tc_machine.specs.Instructions.{advanced, access_address, is_trapping_access, core_register, at_handler, target_of, does, traps}
+use Rattle.tc_machine.specs.Instructions.{advanced, access_address, is_trapping_access, core_register, at_handler, target_of, does, is_trapping_instruction}
 use Rattle.tc_machine.specs.Stepping.{interrupt, is_taken, executed, machine_after_event, step}
 use Rattle.tc_machine.specs.SavesAndRestores.{has_kind, restore, saved, save}
 use Rattle.tc_machine.specs.Fetching.{fetched}
@@ -253,7 +253,7 @@ module _ {image view : ImageData} {plan : PlanData} (ok : IsPlan plan) {tasks : 
       let bounded = IsCode-bounded view (view_plan_of plan tasks u) m.pc shape size at.code in
       elim (cases_Bool (is_trapping_access e (access_address m base offset after) width)) [
         | inl trapped ↦
-            let view_yes : traps v e2 shape ≡ true = ap (λ x. is_trapping_access e x width) is ∙ trapped in
+            let view_yes : is_trapping_instruction v e2 shape ≡ true = ap (λ x. is_trapping_access e x width) is ∙ trapped in
             let r = rooms_for shape size at same none rooms true (λ s. record (at_handler v s v.pc (bit_or v.btv (2 * 2 ^ 5))) { d = set s.d 15 4 }) (does-trapped v e2 size shape view_yes) refl refl runs in
             Alike-misaligned ok Kept kept m mem pcxi fcx k.words k.view_words k.running k.twins r.0 r.1 e e2 none refl refl shape size trapped view_yes (here shape size at same none) (there shape size at same none)
         | inr free_of ↦ same_memory shape size at same none (plain-load m mem pcxi fcx e e2 dst base offset width signed after size free_of refl (same_load dst base offset width signed after size at (access_lt base offset after bounded.1)))
@@ -263,7 +263,7 @@ module _ {image view : ImageData} {plan : PlanData} (ok : IsPlan plan) {tasks : 
       let is = address-same m mem pcxi fcx e e base offset after in
       elim (cases_Bool (is_trapping_access e (access_address m base offset after) width)) [
         | inl trapped ↦
-            let view_yes : traps v e shape ≡ true = ap (λ x. is_trapping_access e x width) is ∙ trapped in
+            let view_yes : is_trapping_instruction v e shape ≡ true = ap (λ x. is_trapping_access e x width) is ∙ trapped in
             let r = rooms_for shape size at same none rooms true (λ s. record (at_handler v s v.pc (bit_or v.btv (2 * 2 ^ 5))) { d = set s.d 15 4 }) (does-trapped v e size shape view_yes) refl refl runs in
             Alike-misaligned ok Kept kept m mem pcxi fcx k.words k.view_words k.running k.twins r.0 r.1 e e none refl refl shape size trapped view_yes (here shape size at same none) (there shape size at same none)
         | inr free_of ↦

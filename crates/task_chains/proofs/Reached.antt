@@ -12,7 +12,8 @@ use Rattle.tc_machine.specs.declared.state.Machine.{Machine}
 use Rattle.tc_machine.specs.Machine.{reg, is_interrupt_stack_used, IsMachine}
 use Rattle.tc_machine.specs.Instructions.{access_address, is_trapping_access}
 use Rattle.tc_machine.specs.Stepping.{step, run}
-use Rattle.tc_machine.specs.Safe.{Starts, Fits, AllFit, IsSafeAt, Safe}
+use Rattle.tc_machine.specs.Safe.{Fits, AllFit, IsSafeAt, Safe}
+use Rattle.tc_machine.specs.Starting.{Starts}
 use Rattle.tcd_plan.specs.Regions.{IsStoreInRange}
 use Rattle.tc_machine.proofs.Stays.{stays_run}
 use Rattle.value_domain.specs.declared.states.State.{State}
@@ -26,8 +27,8 @@ use Rattle.depth_cert.specs.declared.keys.Key.{Key}
 use Rattle.depth_cert.specs.declared.points.Point.{Point}
 use Rattle.depth_cert.specs.Keys.{number_of_key, IsKey}
 use Rattle.depth_cert.specs.Points.{find_point, IsPoint}
-use Rattle.depth_cert.specs.Nodes.{NodeData, IsNode}
-use Rattle.depth_cert.specs.Certs.{CertData, IsCert, find_node}
+use Rattle.depth_cert.specs.Nodes.{NodeData, IsNode, find_node}
+use Rattle.depth_cert.specs.Certs.{CertData, IsCert}
 use Rattle.cfg_recover.specs.Code.{IsCode, HasCode}
 use Rattle.cfg_recover.specs.Entries.{start_key}
 use Rattle.cfg_recover.specs.LocalRules.{LocalRule}
@@ -35,7 +36,7 @@ use Rattle.cfg_recover.specs.LocalFaults.{IsFaultless}
 use Rattle.cfg_recover.specs.RulesHoldOrFail.{limits_in, RuleHolds, HoldsAtNode, Accepts}
 use Rattle.cfg_recover.specs.MovesAreOwed.{InState}
 use Rattle.cfg_recover.specs.Frames.{Standing, frames_after, frames_from, frames, HoldFrames}
-use Rattle.cfg_recover.specs.FrameLaws.{FramesHeld}
+use Rattle.cfg_recover.specs.EdgeAndFrameLaws.{FramesHeld}
 use Rattle.depth_cert.proofs.KeyLaws.{found_in}
 use Rattle.cfg_recover.proofs.CodeLaws.{IsCode-bounded}
 use Rattle.cfg_recover.proofs.PointLaws.{limits_are}

@@ -10,7 +10,7 @@ use Rattle.tcd_plan.specs.PlanData.{PlanData}
 use Rattle.tc_isa.specs.Rows.{RowData, row, listed, is_long}
 use Rattle.tc_isa.specs.declared.table.Form.TheVariants.{Rlc, Rr, Bol, Brc, Sys}
 use Rattle.tc_isa.specs.Forms.{bounds}
-use Rattle.tc_isa.specs.ValidRows.{Fits}
+use Rattle.tc_isa.specs.ValidRows.{FieldsFitRow}
 use Rattle.tc_isa.specs.Spelling.{word_of, spelling_of, spelling}
 use Rattle.tc_isa.specs.Insts.{InstData, fields_in}
 use Rattle.tc_isa.specs.Meanings.{shape_of}
@@ -29,7 +29,7 @@ use Rattle.task_chains.specs.Views.{is_in_routine, view_image_of}
 use Rattle.task_chains.proofs.ViewImage.{seen_byte, view_byte}
 
 -- an instruction of four bytes whose spelling is at p
-code_at : (image : ImageData) (plan : PlanData) (p : ℕ) (r : RowData) (inst : InstData) (shape : Shape) → p % 2 ≡ 0 → slice_get listed inst.row ≡ Some r → Fits r (fields_in inst) → is_long r ≡ true → shape_of inst ≡ shape → IsInOneRange p 4 plan.rom
+code_at : (image : ImageData) (plan : PlanData) (p : ℕ) (r : RowData) (inst : InstData) (shape : Shape) → p % 2 ≡ 0 → slice_get listed inst.row ≡ Some r → FieldsFitRow r (fields_in inst) → is_long r ≡ true → shape_of inst ≡ shape → IsInOneRange p 4 plan.rom
     → ((j : ℕ) → j < 4 → image_byte image (p + j) ≡ Some (slice_index (spelling r (fields_in inst)) j)) → IsCode image plan p shape 4
 code_at image plan p r inst shape even listed_is fits long is in_rom held =
     let four : length (spelling r (fields_in inst)) ≡ 4 = ap (λ t. length (spelling_of t (word_of r (fields_in inst)))) long in

@@ -10,7 +10,8 @@ use Rattle.tc_machine.specs.declared.events.Event.{Event}
 use Rattle.tc_machine.specs.declared.state.Machine.{Machine}
 use Rattle.tc_machine.specs.PlanAreas.{first_link}
 use Rattle.tc_machine.specs.Stepping.{step, run, stored}
-use Rattle.tc_machine.specs.Safe.{Starts, Fits, AllFit}
+use Rattle.tc_machine.specs.Safe.{Fits, AllFit}
+use Rattle.tc_machine.specs.Starting.{Starts}
 use Rattle.tc_machine.proofs.PlanLaws.{link_lt}
 use Rattle.depth_cert.specs.Certs.{CertData}
 use Rattle.cfg_recover.specs.RulesHoldOrFail.{certified_need}

@@ -3,8 +3,8 @@
 use Rattle.std.proofs.Common.{◌≡◌, ◌≢◌, ℕ, zero, suc, ◌+◌, ◌-◌, ◌/◌, ◌^◌, ◌<◌, ◌≤◌, Bool, true, false, List, [], ◌∷◌, ◌++◌, length, get_or, refl, sym, ap, ◌∙◌, subst, arith, inl, inr}
 use Rattle.std.proofs.lemmas.Bool.{cases_eq}
 use Rattle.csa_chain.specs.MemoryBytes.{Memory, with_words, HasBytes}
-use Rattle.csa_chain.specs.Chain.{link_in, link_address, is_area, area_word}
-use Rattle.csa_chain.specs.ContextWords.{pcxi_word_of, word_with_link}
+use Rattle.csa_chain.specs.Chain.{link_in, link_address, is_area, area_word, word_with_link}
+use Rattle.csa_chain.specs.ContextWords.{pcxi_word_of}
 use Rattle.csa_chain.specs.ContextWordLaws.{HasContextWords}
 use Rattle.csa_chain.proofs.WordLaws.{area_word-lt}
 use Rattle.csa_chain.proofs.ChainLaws.{Links, SameAreas, Avoids, Distinct, area_word_same, SameAreas-written, area_word-written, used_after_save, used_after_restore}

@@ -7,7 +7,7 @@ use Rattle.tc_machine.specs.declared.events.End.TheVariants.{Running}
 use Rattle.tc_machine.specs.declared.state.Machine.{Machine}
 use Rattle.tc_machine.specs.Machine.{is_interrupt_stack_used, IsMachine}
 use Rattle.tc_machine.specs.PlanAreas.{first_link}
-use Rattle.tc_machine.specs.Safe.{Starts, HasGlobals}
+use Rattle.tc_machine.specs.Starting.{Starts, HasGlobals}
 use Rattle.tc_machine.proofs.PlanLaws.{link_lt}
 use Rattle.task_chains.specs.Tasks.{TasksData, task_at}
 use Rattle.task_chains.specs.Views.{view_image_of, view_plan_of, FitPlan}

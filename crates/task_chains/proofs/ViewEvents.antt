@@ -30,7 +30,8 @@ use Rattle.value_domain.specs.Limits.{Limits}
 use Rattle.cfg_recover.proofs.CodeLaws.{IsCode-suits}
 use Rattle.csa_chain.proofs.MemoryLaws.{get-with_bytes_other}
 use Rattle.task_chains.specs.Tasks.{TasksData, AreTasks, block_size}
-use Rattle.task_chains.specs.Views.{any_view_device, view_devices, view_plan_of, FitPlan}
+use Rattle.task_chains.specs.Views.{view_plan_of, FitPlan}
+use Rattle.task_chains.specs.Devices.{any_view_device, view_devices}
 use Rattle.task_chains.proofs.Alike.{seen_as}
 use Rattle.task_chains.proofs.Plain.{address-same}
 use Rattle.task_chains.proofs.Accesses.{store_gone}

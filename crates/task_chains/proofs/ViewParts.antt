@@ -7,7 +7,8 @@ use Rattle.tcd_base.specs.declared.range.Range.{Range}
 use Rattle.tcd_plan.specs.declared.plans.Device.{Device}
 use Rattle.tcd_plan.specs.PlanData.{PlanData}
 use Rattle.task_chains.specs.Tasks.{TasksData, task_at}
-use Rattle.task_chains.specs.Views.{view_segment, view_image_of, view_devices, view_plan_of}
+use Rattle.task_chains.specs.Views.{view_segment, view_image_of, view_plan_of}
+use Rattle.task_chains.specs.Devices.{view_devices}
 
 -- ---- the plan
 abbrev with_parts : PlanData → List Range → List Range → List Device → List ℕ → ℕ → Bool → PlanData

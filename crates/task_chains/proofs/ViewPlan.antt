@@ -15,7 +15,8 @@ use Rattle.tcd_base.proofs.RangeLaws.{in_one, IsInOne-front, IsInOne-behind}
 use Rattle.tcd_plan.proofs.ApartLaws.{device_ranges, HaveBytes, HaveBytes-ranges, HaveBytes-append, all_apart-before, all_apart-behind, all_apart-front, all_apart-append}
 use Rattle.tcd_plan.proofs.CutLaws.{IsInOne-parts, in_ranges_without, ranges_without_ranges, ranges_without_apart}
 use Rattle.task_chains.specs.Tasks.{TasksData, AreTasks, count, block_size}
-use Rattle.task_chains.specs.Views.{any_view_device, view_devices, view_plan_of, FitPlan}
+use Rattle.task_chains.specs.Views.{view_plan_of, FitPlan}
+use Rattle.task_chains.specs.Devices.{any_view_device, view_devices}
 use Rattle.task_chains.specs.SafeTasks.{MissesBlock}
 
 -- ---- devices

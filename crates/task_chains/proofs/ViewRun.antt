@@ -19,7 +19,8 @@ use Rattle.tc_machine.specs.Fetching.{fetched}
 use Rattle.tc_machine.specs.Instructions.{access_address}
 use Rattle.tc_machine.specs.Stepping.{is_taken, store_in, step}
 use Rattle.tc_machine.specs.PlanAreas.{first_link}
-use Rattle.tc_machine.specs.Safe.{HasGlobals, Starts, Fits, IsSafeAt}
+use Rattle.tc_machine.specs.Safe.{Fits, IsSafeAt}
+use Rattle.tc_machine.specs.Starting.{HasGlobals, Starts}
 use Rattle.tc_mem.specs.PlanMemory.{HoldsRom, IsPlanMemory}
 use Rattle.tc_machine.proofs.Areas.{Areas}
 use Rattle.tc_machine.proofs.Kept.{none_when_low}

@@ -12,9 +12,8 @@ use Rattle.tcd_plan.specs.PlanData.{PlanData, IsPlan, areas_range, are_all_range
 use Rattle.tcd_base.specs.Ranges.{is_address_in_ranges, IsInOneRange}
 use Rattle.tcd_plan.specs.Regions.{IsInAreas, IsMappedBy}
 use Rattle.tc_machine.specs.PlanAreas.{first_link}
-use Rattle.tc_machine.specs.Safe.{IsLinkedUp}
+use Rattle.tc_machine.specs.Starting.{IsLinkedUp, with_images, next_start_link, with_area_links}
 use Rattle.tc_mem.specs.PlanMemory.{HoldsRom, IsPlanMemory}
-use Rattle.tc_machine.specs.Starting.{with_images, next_start_link, with_area_links}
 use Rattle.tc_machine.proofs.Filled.{images_put, images_mapped, images_none, images_outside, links_mapped, links_bytes, links_outside}
 use Rattle.tc_machine.proofs.PlanLaws.{link_address-area, link_lt}
 use Rattle.tcd_base.proofs.RangeLaws.{IsInOne-front, IsInOne-behind}

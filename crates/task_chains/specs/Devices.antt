@@ -1,9 +1,19 @@
 -- The devices of a plan whose ram answers as devices do, without some of its bytes.
-use Rattle.std.specs.Prelude.{◌++◌, ℕ, List, map}
+use Rattle.std.specs.Prelude.{◌++◌, ℕ, List, map, ◌-◌, ◌^◌}
 use Rattle.tcd_plan.specs.declared.plans.Device.{Device}
 use Rattle.tcd_plan.specs.PlanData.{PlanData}
 use Rattle.tcd_plan.specs.Cutting.{cut_plan_ranges}
-use Rattle.task_chains.specs.Views.{any_view_device}
+use Rattle.tcd_base.specs.declared.range.Range.{Range}
+use Rattle.task_chains.specs.Tasks.{TasksData, block_size}
+
+-- a range that answers with any word
+abbrev pub any_view_device : Range → Device
+any_view_device r = record { range = r; lo = 0; hi = 2 ^ 32 - 1 }
+
+-- the devices of a task's view: the plan's devices, and then what is left of each ram range without
+-- the block
+abbrev pub view_devices : PlanData → TasksData → List Device
+view_devices plan tasks = plan.devices ++ map any_view_device (cut_plan_ranges tasks.block (block_size tasks) plan.ram)
 
 -- the devices of a plan whose ram answers as devices do: its own, and then what is left of each ram
 -- range without the n bytes from x on

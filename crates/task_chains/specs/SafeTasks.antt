@@ -12,7 +12,7 @@ use Rattle.tc_machine.specs.Safe.{Fits, AllFit, Safe}
 use Rattle.tcd_plan.specs.Regions.{IsStoreInRange}
 use Rattle.depth_cert.specs.Certs.{CertData, IsCert}
 use Rattle.cfg_recover.specs.RulesHoldOrFail.{Accepts, certified_need}
-use Rattle.cfg_recover.specs.FrameLaws.{FramesHeld}
+use Rattle.cfg_recover.specs.EdgeAndFrameLaws.{FramesHeld}
 use Rattle.csa_chain.specs.SeveralChains.{sum_over_chains, Share}
 use Rattle.task_chains.specs.Tasks.{TasksData, AreTasks, count, block_size}
 use Rattle.task_chains.specs.SwitchRoutine.{HasRoutine, IsInRoutine}
@@ -21,7 +21,8 @@ use Rattle.task_chains.specs.Rule17.{KeepsApart}
 use Rattle.task_chains.specs.TaskStarts.{TasksStart, block_word, current_task}
 
 -- ---- the owner
--- the task before this one in the round of n
+-- the task before this one in the round of n: it owns the chain of PCXI while the routine switches
+-- to this one
 abbrev pub task_before : ℕ → ℕ → ℕ
 task_before n u = if u == 0 then n - 1 else u - 1
 
@@ -76,8 +77,8 @@ need_of_task image plan tasks certs u =
     let n = certified_need (view_image_of image tasks u) (view_plan_of plan tasks u) (certs u) in
     if u == 0 then n else max n 2
 
--- a task's certificate is accepted for its view and keeps rule 17, and the view's runs are safe and
--- have the certificate's frames
+-- the theorem of safe tasks needs this of a task's certificate: it is accepted for its view, keeps
+-- rule 17, and the view's runs are safe and have the certificate's frames
 pub record IsJudged (image : ImageData) (plan : PlanData) (tasks : TasksData) (cert : CertData) (u : ℕ) : Type 0 where
   pub is_cert : IsCert cert
   pub accepted : Accepts (view_image_of image tasks u) (view_plan_of plan tasks u) cert
@@ -85,8 +86,8 @@ pub record IsJudged (image : ImageData) (plan : PlanData) (tasks : TasksData) (c
   pub frames : FramesHeld (view_image_of image tasks u) (view_plan_of plan tasks u) cert
   pub apart : KeepsApart (view_image_of image tasks u) (view_plan_of plan tasks u) tasks cert
 
--- If the image has the routine, each task is judged well, and the sum of the needs is at most the
--- areas without the reserve, all runs are safe.
+-- The theorem of safe tasks: if the image has the routine, each task is judged well, and the sum of
+-- the needs is at most the areas without the reserve, all runs are safe.
 abbrev pub TasksAreSafe : Type 0
 TasksAreSafe =
     (image : ImageData) (plan : PlanData) (tasks : TasksData) (certs : ℕ → CertData) → IsPlan plan → AreTasks tasks → FitPlan plan tasks → HasRoutine image plan tasks

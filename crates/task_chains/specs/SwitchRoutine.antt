@@ -69,7 +69,8 @@ bytes_of_routine is = flat_map instruction_bytes is
 abbrev pub routine_bytes : TasksData → List ℕ
 routine_bytes tasks = bytes_of_routine (routine_of (count tasks) tasks.block)
 
--- the bytes of the switch routine as a task's view has it
+-- the bytes of the switch routine's other form, beside those of the routine itself: as a task's
+-- view has it
 abbrev pub view_routine_bytes : TasksData → List ℕ
 view_routine_bytes tasks = bytes_of_routine (view_routine_of (count tasks) tasks.block)
 
@@ -100,7 +101,7 @@ pub record IsRoutineFault (image : ImageData) (plan : PlanData) (tasks : TasksDa
 abbrev pub IsRoutineStep : TasksData → ℕ → Type 0
 IsRoutineStep tasks p = (i : ℕ) × (i < 18) × (p ≡ tasks.switch + 4 * i)
 
--- the routine's frame: called at no priority and not on the interrupt stack
+-- the key of the switch routine's own frame: called at no priority and not on the interrupt stack
 abbrev pub switch_key : TasksData → Key
 switch_key tasks = record { kind = call_kind; entry = tasks.switch; prio = 0; is = false }
 

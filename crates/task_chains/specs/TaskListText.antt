@@ -13,7 +13,8 @@ use Rattle.task_chains.specs.declared.task_lists.Task.{Task}
 use Rattle.task_chains.specs.declared.task_lists.TasksErr.{TasksErr}
 use Rattle.task_chains.specs.declared.task_lists.TasksErr.TheVariants.{BadLine, TooMany, TooFew, NotRam, NoRoom, OnIsp, Count}
 use Rattle.task_chains.specs.Tasks.{TasksData, AreTasks, count, block_size}
-use Rattle.task_chains.specs.Views.{view_devices, FitPlan}
+use Rattle.task_chains.specs.Views.{FitPlan}
+use Rattle.task_chains.specs.Devices.{view_devices}
 
 -- ---- lines; the grammar is the project's own
 -- the two numbers of the words `NAME X Y`, each of eight upper-case hex digits

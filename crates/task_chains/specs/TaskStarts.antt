@@ -10,16 +10,18 @@ use Rattle.tc_machine.specs.declared.events.End.TheVariants.{Running}
 use Rattle.tc_machine.specs.declared.state.Machine.{Machine}
 use Rattle.tc_machine.specs.Machine.{is_interrupt_stack_used, IsMachine}
 use Rattle.tc_machine.specs.PlanAreas.{first_link, link_or_end}
-use Rattle.tc_machine.specs.Safe.{HasGlobals}
+use Rattle.tc_machine.specs.Starting.{HasGlobals}
 use Rattle.tc_mem.specs.PlanMemory.{HoldsRom, IsPlanMemory}
 use Rattle.task_chains.specs.Tasks.{TasksData, count, task_at}
 
 -- ---- the block
--- the word of task u in the block; that of a task that is ready to start names its contexts
+-- the word of task u in the block; where the tasks start, that of a task that is ready names its
+-- contexts
 abbrev pub block_word : TasksData → Memory → ℕ → ℕ
 block_word tasks mem u = word_at mem (tasks.block + 4 * u)
 
--- the number of the current task, the block's last word: 0 in each state that starts the tasks
+-- the number of the task that runs, the block's last word; it is 0 in each state in which the tasks
+-- start
 abbrev pub current_task : TasksData → Memory → ℕ
 current_task tasks mem = block_word tasks mem (count tasks)
 

@@ -1,13 +1,11 @@
 -- The view of a task: the image and the plan for which its certificate is judged.
-use Rattle.std.specs.Prelude.{◌≡◌, ◌+◌, ◌-◌, ◌^◌, ◌≤◌, ◌==◌, ◌&&◌, ℕ, Bool, false, nat_le, nat_lt, if◌then◌else◌, List, [], ◌∷◌, ◌++◌, length, map, slice_index_or}
+use Rattle.std.specs.Prelude.{◌≡◌, ◌+◌, ◌-◌, ◌≤◌, ◌==◌, ◌&&◌, ℕ, Bool, false, nat_le, nat_lt, if◌then◌else◌, List, ◌∷◌, length, map, slice_index_or, []}
 use Rattle.elf_image.specs.Images.{ImageData, SegmentData}
-use Rattle.tcd_base.specs.declared.range.Range.{Range}
-use Rattle.tcd_plan.specs.declared.plans.Device.{Device}
 use Rattle.tcd_plan.specs.PlanData.{PlanData}
-use Rattle.tcd_plan.specs.Cutting.{cut_plan_ranges}
 use Rattle.tcd_base.specs.Ranges.{IsInOneRange}
 use Rattle.task_chains.specs.Tasks.{TasksData, task_at, block_size}
 use Rattle.task_chains.specs.SwitchRoutine.{routine_size, view_routine_bytes}
+use Rattle.task_chains.specs.Devices.{view_devices}
 
 -- ---- the image
 -- the address is in the routine
@@ -29,13 +27,6 @@ abbrev pub view_image_of : ImageData → TasksData → ℕ → ImageData
 view_image_of image tasks u = record { entry = (task_at tasks u).entry; segments = map (view_segment tasks) image.segments }
 
 -- ---- the plan
--- a range that answers with any word
-abbrev pub any_view_device : Range → Device
-any_view_device r = record { range = r; lo = 0; hi = 2 ^ 32 - 1 }
-
--- the plan's devices, and then what is left of each ram range without the block
-abbrev pub view_devices : PlanData → TasksData → List Device
-view_devices plan tasks = plan.devices ++ map any_view_device (cut_plan_ranges tasks.block (block_size tasks) plan.ram)
 
 -- the plan with the task's stack pointer, without ram, and with interrupts off at the start of all
 -- tasks but the first
@@ -47,8 +38,8 @@ view_plan_of plan tasks u = record plan {
   start_ie = if u == 0 then plan.start_ie else false;
 }
 
--- what the views of the tasks need: the block is inside one ram range of the plan, the views have
--- at most 16 devices, and the start isn't on the interrupt stack
+-- the views of the tasks fit the plan: the block is inside one ram range of it, a view has at most
+-- 16 devices, and the start isn't on the interrupt stack
 pub record FitPlan (plan : PlanData) (tasks : TasksData) : Type 0 where
   pub in_ram : IsInOneRange tasks.block (block_size tasks) plan.ram
   pub room : length (view_devices plan tasks) ≤ 16

@@ -2,7 +2,7 @@
 ghost use Rattle.std.specs.Prelude.{◌≡◌, ◌≤◌, ◌<◌, ◌+◌, ◌*◌, ◌/◌, ◌%◌, ◌^◌, ◌↔◌, IsTrue, IfNone, IfSome, slice_index, ◌-◌, ℕ};
 ghost use Rattle.std.specs.List.{flat_map};
 ghost use Rattle.tcd_base.specs.Bytes.{four_bytes};
-ghost use Rattle.task_chains.specs.SwitchRoutine.{routine_of, bytes_of_routine, routine_bytes, HasRoutineByte, HasRoutine, IsRoutineFault};
+ghost use Rattle.task_chains.specs.SwitchRoutine.{routine_of, bytes_of_routine, routine_bytes, HasRoutineByte, HasRoutine, IsRoutineFault, view_routine_of, view_routine_bytes};
 ghost use Rattle.tcd_base.specs.Ranges.{IsInOneRange};
 
 use crate::Tasks;
@@ -88,7 +88,7 @@ pub(crate) fn switch_routine_bytes(tasks: &Tasks) -> [u8; 72]
     routine_bytes_of_words(&routine_words(tasks.list.len() as u32, tasks.block))
 }
 
-/// Returns whether the `n` addresses from `x` on are inside one rom range.
+/// Returns whether the switch routine, the `n` addresses from `x` on, is inside one rom range.
 fn is_routine_in_rom(plan: &Plan, x: u32, n: u32) -> bool
     ensures decides { IsTrue result ↔ IsInOneRange x n plan.now.rom }
     ensures fits { IsTrue result → x + n ≤ 2 ^ 32 }
@@ -135,4 +135,40 @@ pub(crate) fn is_routine_step(tasks: &Tasks, addr: u32) -> bool
     }
     let offset = addr - tasks.switch;
     offset < ROUTINE_BYTES && offset % 4 == 0
+}
+
+/// Returns the words that the view of a task has instead of those of the switch routine.
+fn view_routine_words(n: u32, b: u32) -> [u32; 18]
+    requires { n ≤ 7 }
+    ensures { flat_map four_bytes result ≡ bytes_of_routine (view_routine_of n b) }
+{
+    let upper = upper_half(b);
+    let lower = routine_offset_bits(lower_half(b));
+    [
+        0x0340_000D, // disable
+        0x0200_000D, // svlcx
+        0x2000_0091 + upper * 0x1000, // movh.a a2, hi(b)
+        0x0000_22D9 + lower, // lea.l a2, [a2]lo(b)
+        0x0000_004D, // mfcr d0, 0
+        0x3602_2001, // addsc.a a3, a2, d0, 2
+        0x1000_004D, // mfcr d1, 0
+        0x0000_000D, // nop
+        0x0000_101B, // addi d0, d0, 1
+        0x8004_00DF + n * 0x1000, // jne d0, n, .+8
+        0x0000_003B, // mov d0, 0
+        0x0000_000D, // nop
+        0x3602_2001, // addsc.a a3, a2, d0, 2
+        0x1000_004D, // mfcr d1, 0
+        0x0000_000D, // nop
+        0x04C0_000D, // isync
+        0x0240_000D, // rslcx
+        0x0180_000D, // ret
+    ]
+}
+
+/// Returns the bytes that the image of a task's view has instead of those of the switch routine.
+pub(crate) fn view_routine(tasks: &Tasks) -> [u8; 72]
+    ensures { result ≡ view_routine_bytes tasks.now }
+{
+    routine_bytes_of_words(&view_routine_words(tasks.list.len() as u32, tasks.block))
 }

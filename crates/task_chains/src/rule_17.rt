@@ -90,8 +90,8 @@ fn has_access_between(v: &Val, low: u32, high: u32) -> bool
     }
 }
 
-/// Returns whether no access of 1, 2 or 4 bytes (`size`), at an address that is a word of the
-/// value, shares a byte with the `len` bytes from `from` on.
+/// Returns whether a load keeps rule 17: no access of `size` bytes (1, 2 or 4), at an address that
+/// is a word of the value, shares a byte with the `len` bytes from `from` on.
 pub(crate) fn are_accesses_apart(at: &Val, size: u8, from: u32, len: u32) -> bool
     requires at { IsWell at.now }
     requires size { IsAccessSize size }

@@ -1,20 +1,16 @@
 // The view of a task: the image and the plan for which its certificate is judged.
-ghost use Rattle.std.specs.Prelude.{◌≡◌, ◌≤◌, ◌<◌, ◌-◌, ◌==◌, ◌&&◌, false, nat_le, nat_lt, if◌then◌else◌, set, length, IfOk, ◌+◌, ◌*◌};
+ghost use Rattle.std.specs.Prelude.{◌≡◌, ◌<◌, ◌-◌, ◌==◌, ◌&&◌, false, nat_le, nat_lt, if◌then◌else◌, set, length, IfOk, ◌+◌, ◌*◌};
 ghost use Rattle.elf_image.specs.Images.{segment_data};
 ghost use Rattle.task_chains.specs.Tasks.{count};
 ghost use Rattle.task_chains.specs.Views.{FitPlan, with_routine_from, view_segment, view_image_of, view_plan_of};
-ghost use Rattle.std.specs.List.{flat_map};
-ghost use Rattle.tcd_base.specs.Bytes.{four_bytes};
-ghost use Rattle.task_chains.specs.SwitchRoutine.{view_routine_of, bytes_of_routine, view_routine_bytes};
 
 use crate::Tasks;
 use crate::devices::devices_beside_block;
-use crate::routine::{routine_bytes_of_words, routine_offset_bits};
+use crate::routine::view_routine;
 use arrayvec::ArrayVec;
 use elf_image::{Image, Segment, read_segments};
 use std::alloc::Global;
-use tc_isa::{lower_half, upper_half};
-use tcd_base::{NoMemory, Range};
+use tcd_base::NoMemory;
 use tcd_plan::Plan;
 
 /// Writes the byte of address `x` into bytes that begin at `at`, if they reach that address.
@@ -104,40 +100,4 @@ pub fn view_plan(plan: &Plan, tasks: &Tasks, u: usize) -> Plan
         globals: plan.globals,
         core: plan.core,
     }
-}
-
-/// Returns the words that the view of a task has instead of those of the switch routine.
-fn view_routine_words(n: u32, b: u32) -> [u32; 18]
-    requires { n ≤ 7 }
-    ensures { flat_map four_bytes result ≡ bytes_of_routine (view_routine_of n b) }
-{
-    let upper = upper_half(b);
-    let lower = routine_offset_bits(lower_half(b));
-    [
-        0x0340_000D, // disable
-        0x0200_000D, // svlcx
-        0x2000_0091 + upper * 0x1000, // movh.a a2, hi(b)
-        0x0000_22D9 + lower, // lea.l a2, [a2]lo(b)
-        0x0000_004D, // mfcr d0, 0
-        0x3602_2001, // addsc.a a3, a2, d0, 2
-        0x1000_004D, // mfcr d1, 0
-        0x0000_000D, // nop
-        0x0000_101B, // addi d0, d0, 1
-        0x8004_00DF + n * 0x1000, // jne d0, n, .+8
-        0x0000_003B, // mov d0, 0
-        0x0000_000D, // nop
-        0x3602_2001, // addsc.a a3, a2, d0, 2
-        0x1000_004D, // mfcr d1, 0
-        0x0000_000D, // nop
-        0x04C0_000D, // isync
-        0x0240_000D, // rslcx
-        0x0180_000D, // ret
-    ]
-}
-
-/// Returns the bytes that the image of a task's view has instead of those of the switch routine.
-pub(crate) fn view_routine(tasks: &Tasks) -> [u8; 72]
-    ensures { result ≡ view_routine_bytes tasks.now }
-{
-    routine_bytes_of_words(&view_routine_words(tasks.list.len() as u32, tasks.block))
 }

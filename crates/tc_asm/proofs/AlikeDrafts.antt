@@ -15,10 +15,10 @@ use Rattle.tc_asm.specs.declared.symbols.Place.{Place}
 use Rattle.tc_stmt.specs.declared.item.Item.{Item}
 use Rattle.tc_stmt.specs.Lines.{lines_in, items_in}
 use Rattle.tc_asm.specs.Symbols.{SymbolData, seen, labelled, made_global}
-use Rattle.tc_asm.specs.Drafts.{PartData, DraftData, part, start, draft_place, has_section, has_room, here, with_label, number_of_part, with_current_section, with_global, with_part_bytes, with_bytes, with_part_use, with_use, with_reference, with_content, code_bytes, draft_after_item, part_size_at}
+use Rattle.tc_asm.specs.Drafts.{PartData, DraftData, part, start, draft_place, has_section, has_room, here, with_label, number_of_part, with_current_section, with_global, with_part_bytes, with_bytes, with_part_use, with_use, with_reference, with_content, code_bytes, draft_after_item, part_size_at, assembled_code_size}
 use Rattle.tc_asm.specs.DraftedSources.{symbols_of, symbols_in}
-use Rattle.tc_asm.specs.AddedItems.{IsAddedCode, IsAddedItem}
-use Rattle.tc_asm.specs.AlikeDrafts.{PartSizeData, draft_part_size, Alike, assembled_code_size}
+use Rattle.tc_asm.specs.ItemInvariants.{IsAddedCode, IsAddedItem}
+use Rattle.tc_asm.specs.AlikeDrafts.{PartSizeData, draft_part_size, Alike}
 use Rattle.tc_asm.specs.DraftInvariants.{EachInDraft}
 use Rattle.tc_stmt.proofs.Cases.{by_test}
 use Rattle.tc_asm.proofs.ListLaws.{changed, changed-set, size_at-get}

@@ -7,7 +7,7 @@ use Rattle.tc_isa.specs.declared.table.Row.{Row}
 use Rattle.std.specs.Option.{option_map_or}
 use Rattle.tc_isa.specs.declared.fields.Fields.{Fields}
 use Rattle.tc_isa.specs.Rows.{RowData, row_of, listed}
-use Rattle.tc_isa.specs.ValidRows.{Fits}
+use Rattle.tc_isa.specs.ValidRows.{FieldsFitRow}
 use Rattle.tc_isa.specs.Spelling.{spelling, Spells}
 use Rattle.tc_isa.specs.Insts.{InstData, IsInst}
 use Rattle.tc_stmt.specs.Items.{ReferenceData}
@@ -22,7 +22,7 @@ unfolding assembled_row_code
 spells-bytes_of k f i bs e s =
     let at : slice_get listed k ≡ Some s.inst.row = ap (λ (j : InstData). slice_get listed j.row) (sym e) ∙ s.inst.at in
     let same : Fields → Fields = λ g. g in
-    let fits : Fits s.inst.row f = subst (λ (j : InstData). Fits s.inst.row (record { c = j.c; s1 = j.s1; s2 = j.s2; n = j.n; k = j.k })) e s.inst.fits in
+    let fits : FieldsFitRow s.inst.row f = subst (λ (j : InstData). FieldsFitRow s.inst.row (record { c = j.c; s1 = j.s1; s2 = j.s2; n = j.n; k = j.k })) e s.inst.fits in
     s.is
     ∙ ap (λ (j : InstData). spelling s.inst.row (record { c = j.c; s1 = j.s1; s2 = j.s2; n = j.n; k = j.k })) e
     ∙ sym (ap (λ b. cond b (spelling s.inst.row f) []) (fits_true s.inst.row f fits))

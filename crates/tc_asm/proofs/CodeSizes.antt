@@ -5,7 +5,7 @@ use Rattle.std.specs.Option.{option_map_or}
 use Rattle.std.proofs.lemmas.Bool.Decides.{Decides-eqb}
 use Rattle.tc_isa.specs.declared.fields.Fields.{Fields}
 use Rattle.tc_isa.specs.Rows.{RowData, listed, is_long}
-use Rattle.tc_isa.specs.ValidRows.{Fits, uses_of, are_registers_apart}
+use Rattle.tc_isa.specs.ValidRows.{FieldsFitRow, uses_of, are_registers_apart}
 use Rattle.tc_isa.specs.Spelling.{spelling_of, spelling, word_of}
 use Rattle.tc_stmt.specs.RowFields.{RowFieldsData, set_field, with_rule}
 use Rattle.tc_stmt.specs.Items.{ReferenceData, ItemData, code, bytes}
@@ -19,44 +19,44 @@ use Rattle.tc_stmt.proofs.Cases.{by_test}
 use Rattle.tc_asm.specs.Statements.{is_open_statement}
 use Rattle.tc_stmt.specs.StatedRows.{TakesAnySymbol}
 use Rattle.tc_stmt.proofs.StatedRows.{Sound, sound_displaced}
-use Rattle.tc_asm.specs.AddedItems.{IsAddedCode, IsAddedItem}
+use Rattle.tc_asm.specs.ItemInvariants.{IsAddedCode, IsAddedItem}
 pub use Rattle.tc_encode.proofs.Spelled.{fits_true}
 use Rattle.tc_asm.proofs.SourceItems.{source_are}
 use Rattle.tc_asm.proofs.Uses.{GoodItem, GoodItems}
 
 -- ---- a target that is resolved at once
-fit_sound : (row : RowData) (f : Fields) → Fits row f → Sound row (drafted_fields f)
+fit_sound : (row : RowData) (f : Fields) → FieldsFitRow row f → Sound row (drafted_fields f)
 fit_sound row f h = record { below = h.below; zero = h.zero; symbols = record { some = λ s e. cc } }
 
 displaced_apart : (row : RowData) (minus : Bool) (size : ℕ) (f : RowFieldsData) → are_registers_apart row (with_displacement row minus size f).fields ≡ are_registers_apart row f.fields
 unfolding with_displacement set_field
 displaced_apart row minus size f = by_test (λ (g : RowFieldsData). are_registers_apart row g.fields ≡ are_registers_apart row f.fields) (displacement_rule row minus size == 15) _ _ (λ b. refl) (λ b. refl)
 
-displaced_fits : (row : RowData) (minus : Bool) (size : ℕ) (f : Fields) → (uses_of row).k ≡ true → Fits row f → Fits row (with_displacement row minus size (drafted_fields f)).fields
+displaced_fits : (row : RowData) (minus : Bool) (size : ℕ) (f : Fields) → (uses_of row).k ≡ true → FieldsFitRow row f → FieldsFitRow row (with_displacement row minus size (drafted_fields f)).fields
 displaced_fits row minus size f used h =
     let s = sound_displaced row minus size (drafted_fields f) used (fit_sound row f h) in
     record { below = s.below; zero = s.zero; apart = displaced_apart row minus size (drafted_fields f) ∙ h.apart }
 
-jumped_fits : (labels : List SymbolData) (d : DraftData) (row : RowData) (f : Fields) (r : ReferenceData) → (uses_of row).k ≡ true → Fits row f → Fits row (fields_with_label_distance labels d row f r).fields
+jumped_fits : (labels : List SymbolData) (d : DraftData) (row : RowData) (f : Fields) (r : ReferenceData) → (uses_of row).k ≡ true → FieldsFitRow row f → FieldsFitRow row (fields_with_label_distance labels d row f r).fields
 unfolding fields_with_label_distance
 jumped_fits labels d row f r used h = by (label_distance labels d r)
   where
-    by : (o : Option (Bool × ℕ)) → Fits row (option_map_or (λ n. with_displacement row n.0 n.1 (drafted_fields f)) o (with_rule 10 (drafted_fields f))).fields
+    by : (o : Option (Bool × ℕ)) → FieldsFitRow row (option_map_or (λ n. with_displacement row n.0 n.1 (drafted_fields f)) o (with_rule 10 (drafted_fields f))).fields
     by None = h
     by (Some n) = displaced_fits row n.0 n.1 f used h
 
-targeted_fits : (labels : List SymbolData) (d : DraftData) (row : RowData) (f : Fields) (o : Option ReferenceData) → TakesAnySymbol row o → Fits row f → Fits row (fields_with_target labels d row f o).fields
+targeted_fits : (labels : List SymbolData) (d : DraftData) (row : RowData) (f : Fields) (o : Option ReferenceData) → TakesAnySymbol row o → FieldsFitRow row f → FieldsFitRow row (fields_with_target labels d row f o).fields
 targeted_fits labels d row f None s h = h
 targeted_fits labels d row f (Some r) s h =
-    by_test (λ (g : RowFieldsData). Fits row g.fields) (r.kind == 0) _ _
+    by_test (λ (g : RowFieldsData). FieldsFitRow row g.fields) (r.kind == 0) _ _
     (λ b. jumped_fits labels d row f r ((s.some r refl).target ((Decides-eqb r.kind 0).0 b)).0 h) (λ b. h)
 
-pub resolved_fits : (labels : List SymbolData) (d : DraftData) (k : ℕ) (f : Fields) (o : Option ReferenceData) (row : RowData) → slice_get listed k ≡ Some row → TakesAnySymbol row o → Fits row f → Fits row (row_fields_with_target labels d k f o).fields
+pub resolved_fits : (labels : List SymbolData) (d : DraftData) (k : ℕ) (f : Fields) (o : Option ReferenceData) (row : RowData) → slice_get listed k ≡ Some row → TakesAnySymbol row o → FieldsFitRow row f → FieldsFitRow row (row_fields_with_target labels d k f o).fields
 resolved_fits labels d k f o row at s h =
-    subst (λ (q : Option RowData). Fits row (option_map_or (λ x. fields_with_target labels d x f o) q (drafted_fields f)).fields) (sym at) (targeted_fits labels d row f o s h)
+    subst (λ (q : Option RowData). FieldsFitRow row (option_map_or (λ x. fields_with_target labels d x f o) q (drafted_fields f)).fields) (sym at) (targeted_fits labels d row f o s h)
 
 -- ---- the bytes of an instruction
-spelled_length : (row : RowData) (f : Fields) → Fits row f → length (assembled_row_code row f) ≡ cond (is_long row) 4 2
+spelled_length : (row : RowData) (f : Fields) → FieldsFitRow row f → length (assembled_row_code row f) ≡ cond (is_long row) 4 2
 unfolding assembled_row_code
 spelled_length row f h = ap (λ b. length (cond b (spelling row f) [])) (fits_true row f h) ∙ by (is_long row) (word_of row f)
   where

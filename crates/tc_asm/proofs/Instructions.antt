@@ -14,7 +14,7 @@ use Rattle.tc_asm.specs.Statements.{StatementData, statement, standing_statement
 use Rattle.tc_asm.specs.InstructionLaws.{InstructionSpellsRow, InstructionsLaw}
 use Rattle.tc_stmt.proofs.ListItems.{get_behind}
 use Rattle.tc_asm.proofs.Uses.{statements-append, fits, fits_too, then_fifteen}
-use Rattle.tc_asm.specs.AddedItems.{IsAddedCode, IsAddedItem}
+use Rattle.tc_asm.specs.ItemInvariants.{IsAddedCode, IsAddedItem}
 use Rattle.tc_asm.proofs.SourceItems.{source_are}
 use Rattle.tc_asm.proofs.SourceDrafts.{source_items}
 use Rattle.tc_asm.proofs.CodeSizes.{resolved_fits}

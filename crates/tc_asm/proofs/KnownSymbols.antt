@@ -11,11 +11,11 @@ use Rattle.tc_stmt.specs.RowFields.{RowFieldsData}
 use Rattle.tc_stmt.specs.Items.{ReferenceData, ItemData, item_of, label, section, global, code, bytes, zeros}
 use Rattle.tc_stmt.specs.declared.item.Item.{Item}
 use Rattle.tc_stmt.specs.Lines.{LineData, line_data, lines_in, items_in}
-use Rattle.tc_stmt.specs.LinesRead.{lines_of}
+use Rattle.tc_stmt.specs.SourceViews.{lines_of}
 use Rattle.tc_stmt.specs.declared.source.Line.{Line}
 use Rattle.tc_stmt.specs.declared.source.Source.{Source}
 use Rattle.tc_stmt.proofs.ReadLines.{length-lines_read}
-use Rattle.tc_asm.specs.AddedItems.{IsAddedItem}
+use Rattle.tc_asm.specs.ItemInvariants.{IsAddedItem}
 use Rattle.tc_asm.specs.AlikeDrafts.{Alike}
 use Rattle.tc_asm.specs.DraftInvariants.{EachInDraft}
 use Rattle.tc_asm.specs.Symbols.{SymbolData, entry_in, place_in, seen, labelled, made_global}

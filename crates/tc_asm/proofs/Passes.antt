@@ -9,7 +9,7 @@ use Rattle.tc_stmt.specs.declared.item.Item.{Item}
 use Rattle.tc_stmt.specs.declared.source.Line.{Line}
 use Rattle.tc_stmt.specs.Items.{ItemData, item_of}
 use Rattle.tc_stmt.specs.Lines.{LineData, line_data, lines_in, items_in}
-use Rattle.tc_stmt.specs.LinesRead.{lines_read, lines_of}
+use Rattle.tc_stmt.specs.SourceViews.{lines_read, lines_of}
 use Rattle.tc_stmt.specs.declared.source.Source.{Source}
 use Rattle.tc_object.specs.Objects.{ObjectData}
 use Rattle.tc_asm.specs.declared.errors.AsmErr.{AsmErr}

@@ -10,13 +10,13 @@ use Rattle.tc_isa.specs.declared.table.Form.TheVariants.{Sb, Sbr}
 use Rattle.tc_isa.specs.Rows.{RowData, listed, is_long}
 use Rattle.tc_isa.specs.Forms.{bounds, form_index}
 use Rattle.tc_isa.specs.Arithmetic.{sign_extended}
-use Rattle.tc_isa.specs.Meanings.{doubled_displacement, ahead_only}
+use Rattle.tc_isa.specs.FromFields.{doubled_displacement, ahead_only}
 use Rattle.tc_stmt.specs.declared.want.Field.TheVariants.{K}
 use Rattle.tc_stmt.specs.RowFields.{RowFieldsData, with_rule, with_value, set_field}
 use Rattle.tc_stmt.specs.Items.{ReferenceData, ItemData, label, section, code, bytes}
 use Rattle.tc_stmt.specs.Displacements.{is_far_displacement, is_odd_displacement, displacement_rule, with_displacement}
-use Rattle.tc_stmt.specs.OperandForms.{wrap_into_field}
-use Rattle.tc_stmt.specs.StatedRows.{is_short_jump}
+use Rattle.tc_stmt.specs.OperandForms.{operand_number_modulo}
+use Rattle.tc_stmt.specs.StatedRows.{can_take_symbol_directly}
 use Rattle.tc_asm.specs.declared.symbols.Place.{Place}
 use Rattle.tc_stmt.specs.Lines.{lines_in, items_in}
 use Rattle.tc_asm.specs.Symbols.{SymbolData, place_in}
@@ -29,7 +29,7 @@ use Rattle.tc_asm.specs.Statements.{StatementData, statement, content_of}
 use Rattle.tc_asm.specs.InstructionLaws.{InstructionSpellsRow}
 use Rattle.tc_asm.specs.ShortJumps.{short_jump_displacement, ShortJumpsLaw}
 use Rattle.tc_asm.proofs.Uses.{fits}
-use Rattle.tc_asm.specs.AddedItems.{IsAddedCode, IsAddedItem}
+use Rattle.tc_asm.specs.ItemInvariants.{IsAddedCode, IsAddedItem}
 use Rattle.tc_asm.proofs.SourceItems.{source_are}
 use Rattle.tc_asm.proofs.SourceDrafts.{source_items}
 use Rattle.tc_asm.proofs.AlikeDrafts.{passes_agree}
@@ -48,7 +48,7 @@ even : (s : ℕ) → is_odd_displacement s ≡ false → s % 2 ≡ 0
 even s e = grind (arith, nat_tests)
 
 -- in form SB
-both_ways : (minus : Bool) (s : ℕ) → cond minus (nat_lt 256 s) (nat_lt (256 - 2) s) ≡ false → is_odd_displacement s ≡ false → 2 * sign_extended 8 (wrap_into_field 256 minus (s / 2) % 2 ^ 8) % 2 ^ 32 ≡ cond minus ((2 ^ 32 - s) % 2 ^ 32) s
+both_ways : (minus : Bool) (s : ℕ) → cond minus (nat_lt 256 s) (nat_lt (256 - 2) s) ≡ false → is_odd_displacement s ≡ false → 2 * sign_extended 8 (operand_number_modulo 256 minus (s / 2) % 2 ^ 8) % 2 ^ 32 ≡ cond minus ((2 ^ 32 - s) % 2 ^ 32) s
 both_ways false s far odd =
     let less = ltb-false (256 - 2) s far in
     let two = even s odd in
@@ -74,7 +74,7 @@ both_ways true s far odd = by (s / 2 == 0) refl
         high_twice (256 - s / 2) big small ∙ back
 
 -- in form SBR
-forwards : (minus : Bool) (s : ℕ) → cond minus (not (s == 0)) (nat_lt (2 * (16 - 1)) s) ≡ false → is_odd_displacement s ≡ false → 2 * wrap_into_field 16 minus (s / 2) % 2 ^ 32 ≡ cond minus ((2 ^ 32 - s) % 2 ^ 32) s
+forwards : (minus : Bool) (s : ℕ) → cond minus (not (s == 0)) (nat_lt (2 * (16 - 1)) s) ≡ false → is_odd_displacement s ≡ false → 2 * operand_number_modulo 16 minus (s / 2) % 2 ^ 32 ≡ cond minus ((2 ^ 32 - s) % 2 ^ 32) s
 forwards false s far odd = let less = ltb-false (2 * (16 - 1)) s far in let two = even s odd in omega arith
 forwards true s far odd = let none : s ≡ 0 = by (s == 0) refl far in rw none refl
   where
@@ -82,8 +82,8 @@ forwards true s far odd = let none : s ≡ 0 = by (s == 0) refl far in rw none r
     by true e h = (Decides-eqb s 0).0 e
     by false e h = cc
 
-displacement_is : (form : Form) (f : Fields) (minus : Bool) (s : ℕ) → is_short_jump form ≡ true → is_far_displacement form (bounds form).k minus s ≡ false → is_odd_displacement s ≡ false →
-    cond (form_index form == 13) (ahead_only (record f { k = wrap_into_field (bounds form).k minus (s / 2) })) (doubled_displacement 8 (record f { k = wrap_into_field (bounds form).k minus (s / 2) })) ≡ cond minus ((2 ^ 32 - s) % 2 ^ 32) s
+displacement_is : (form : Form) (f : Fields) (minus : Bool) (s : ℕ) → can_take_symbol_directly form ≡ true → is_far_displacement form (bounds form).k minus s ≡ false → is_odd_displacement s ≡ false →
+    cond (form_index form == 13) (ahead_only (record f { k = operand_number_modulo (bounds form).k minus (s / 2) })) (doubled_displacement 8 (record f { k = operand_number_modulo (bounds form).k minus (s / 2) })) ≡ cond minus ((2 ^ 32 - s) % 2 ^ 32) s
 unfolding bounds form_index
 displacement_is Sb f minus s short far odd = both_ways minus s far odd
 displacement_is Sbr f minus s short far odd = forwards minus s far odd
@@ -114,12 +114,12 @@ not_both : (b : Bool) → b ≡ true → b ≡ false → ⊥
 not_both b e g = cc
 
 displaced_is : (row : RowData) (minus : Bool) (s : ℕ) (f : Fields) → 15 ≤ (with_displacement row minus s (drafted_fields f)).rule →
-    ((displacement_rule row minus s == 15) ≡ true) × ((with_displacement row minus s (drafted_fields f)).fields ≡ record f { k = wrap_into_field (bounds row.form).k minus (s / 2) })
+    ((displacement_rule row minus s == 15) ≡ true) × ((with_displacement row minus s (drafted_fields f)).fields ≡ record f { k = operand_number_modulo (bounds row.form).k minus (s / 2) })
 unfolding with_displacement set_field
 displaced_is row minus s f h = by (displacement_rule row minus s == 15) refl h
   where
-    by : (b : Bool) → (displacement_rule row minus s == 15) ≡ b → 15 ≤ (cond b (with_value K (wrap_into_field (bounds row.form).k minus (s / 2)) (drafted_fields f)) (with_rule (displacement_rule row minus s) (drafted_fields f))).rule
-        → (b ≡ true) × ((cond b (with_value K (wrap_into_field (bounds row.form).k minus (s / 2)) (drafted_fields f)) (with_rule (displacement_rule row minus s) (drafted_fields f))).fields ≡ record f { k = wrap_into_field (bounds row.form).k minus (s / 2) })
+    by : (b : Bool) → (displacement_rule row minus s == 15) ≡ b → 15 ≤ (cond b (with_value K (operand_number_modulo (bounds row.form).k minus (s / 2)) (drafted_fields f)) (with_rule (displacement_rule row minus s) (drafted_fields f))).rule
+        → (b ≡ true) × ((cond b (with_value K (operand_number_modulo (bounds row.form).k minus (s / 2)) (drafted_fields f)) (with_rule (displacement_rule row minus s) (drafted_fields f))).fields ≡ record f { k = operand_number_modulo (bounds row.form).k minus (s / 2) })
     by true e h = (refl, refl)
     by false e h =
         let most = at_most row minus s in
@@ -131,7 +131,7 @@ record IsJumped (labels : List SymbolData) (d : DraftData) (row : RowData) (f : 
   size : ℕ
   is : label_distance labels d r ≡ Some (minus, size)
   rule : (displacement_rule row minus size == 15) ≡ true
-  fields : (fields_with_label_distance labels d row f r).fields ≡ record f { k = wrap_into_field (bounds row.form).k minus (size / 2) }
+  fields : (fields_with_label_distance labels d row f r).fields ≡ record f { k = operand_number_modulo (bounds row.form).k minus (size / 2) }
 
 jumped_is : (labels : List SymbolData) (d : DraftData) (row : RowData) (f : Fields) (r : ReferenceData) → 15 ≤ (fields_with_label_distance labels d row f r).rule → IsJumped labels d row f r
 unfolding fields_with_label_distance
@@ -206,7 +206,7 @@ gone true false base place offset size s far e h small = omega arith
 gone false true base place offset size s far e h small = let less = small refl in omega arith
 gone false false base place offset size s far e h small = omega arith
 
-back_small : (form : Form) (s : ℕ) → is_short_jump form ≡ true → is_far_displacement form (bounds form).k true s ≡ false → s ≤ 2 ^ 32
+back_small : (form : Form) (s : ℕ) → can_take_symbol_directly form ≡ true → is_far_displacement form (bounds form).k true s ≡ false → s ≤ 2 ^ 32
 unfolding bounds form_index
 back_small Sb s short far = let less = ltb-false 256 s far in omega arith
 back_small Sbr s short far = let none : s ≡ 0 = by (s == 0) refl far in omega arith
@@ -223,7 +223,7 @@ record Jumps (labels : List SymbolData) (d : DraftData) (r : ReferenceData) (row
   here : label.section ≡ d.section
   reaches : (base : ℕ) → (base + draft_place d + short_jump_displacement row f) % 2 ^ 32 ≡ ((base + label.offset) % 2 ^ 32 + assembled_addend r) % 2 ^ 32
 
-jumps_row : (labels : List SymbolData) (d : DraftData) (row : RowData) (f : Fields) (r : ReferenceData) → is_short_jump row.form ≡ true → 15 ≤ (fields_with_label_distance labels d row f r).rule → Jumps labels d r row (fields_with_label_distance labels d row f r).fields
+jumps_row : (labels : List SymbolData) (d : DraftData) (row : RowData) (f : Fields) (r : ReferenceData) → can_take_symbol_directly row.form ≡ true → 15 ≤ (fields_with_label_distance labels d row f r).rule → Jumps labels d r row (fields_with_label_distance labels d row f r).fields
 jumps_row labels d row f r short h =
     let j = jumped_is labels d row f r h in
     let n = near_even row j.minus j.size j.rule in

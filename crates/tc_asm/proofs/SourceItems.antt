@@ -9,17 +9,17 @@ use Rattle.tc_lex.specs.declared.kinds.Token.{Token}
 use Rattle.tc_lex.specs.declared.kinds.TokenKind.TheVariants as kind
 use Rattle.tc_lex.specs.Cut.{tokens_of}
 use Rattle.tcd_base.specs.Bytes.{four_bytes}
-use Rattle.tc_stmt.specs.Names.{is_source_name}
+use Rattle.tc_stmt.specs.Names.{is_source_name, symbol_rule}
 use Rattle.tc_lex.specs.Pieces.{PieceData, is_kind, text_at}
 use Rattle.tc_lex.specs.Operands.{OperandData, operands}
 use Rattle.tc_stmt.specs.RowFields.{RowFieldsData}
 use Rattle.tc_stmt.specs.Items.{ReferenceData, ItemData, section, global, bytes, zeros}
-use Rattle.tc_stmt.specs.Filling.{symbol_rule, reference}
-use Rattle.tc_stmt.specs.OperandForms.{shape_index, is_symbol_operand, is_half_operand, wrap_into_field}
+use Rattle.tc_stmt.specs.Filling.{reference}
+use Rattle.tc_stmt.specs.OperandForms.{shape_index, is_symbol_operand, is_half_operand, operand_number_modulo}
 use Rattle.tc_stmt.specs.DataDirectives.{is_value_within_width, value_rule, value_item, space_item}
 use Rattle.tc_stmt.specs.StatementRow.{statement}
 use Rattle.tc_stmt.specs.Lines.{LineData, line_data, only_operand_name, named_line, space_line, values_line, code_line, stated_line, line_from, pieces_line, line_token_with_text, label_of, label_before, cut_line, line_in, lines_in, items_in}
-use Rattle.tc_asm.specs.AddedItems.{IsAddedData, IsAddedItem}
+use Rattle.tc_asm.specs.ItemInvariants.{IsAddedData, IsAddedItem}
 use Rattle.tc_asm.specs.DraftInvariants.{EachInDraft}
 use Rattle.tc_stmt.proofs.Cases.{by_test}
 use Rattle.tc_stmt.specs.StatedRows.{IsStatedRow}
@@ -67,9 +67,9 @@ value_is width o = by (value_rule width o == 15) (shape_index o.value.shape == 1
     given r e = cc
 
     by : (fits number : Bool) → (value_rule width o == 15) ≡ fits → (shape_index o.value.shape == 1) ≡ number
-        → IsAddedItem (cond (not fits) (zeros width) (cond number (bytes (take width (four_bytes (wrap_into_field (2 ^ 32) o.value.minus o.value.size))) None) (bytes (take width (0 ∷ 0 ∷ 0 ∷ 0 ∷ [])) (Some (reference 7 o.value)))))
+        → IsAddedItem (cond (not fits) (zeros width) (cond number (bytes (take width (four_bytes (operand_number_modulo (2 ^ 32) o.value.minus o.value.size))) None) (bytes (take width (0 ∷ 0 ∷ 0 ∷ 0 ∷ [])) (Some (reference 7 o.value)))))
     by false number e n = tt
-    by true true e n = plain_good (take width (four_bytes (wrap_into_field (2 ^ 32) o.value.minus o.value.size)))
+    by true true e n = plain_good (take width (four_bytes (operand_number_modulo (2 ^ 32) o.value.minus o.value.size)))
     by true false e n =
         let p = symbol_value width o e n in
         record {

@@ -19,7 +19,7 @@ use Rattle.tc_asm.specs.DraftInvariants.{EachInDraft}
 use Rattle.tc_asm.specs.Statements.{StatementData, statement, content_of}
 use Rattle.tc_asm.specs.RelocationLaws.{UnfilledLaw}
 use Rattle.tc_asm.specs.InstructionLaws.{is_resolved_jump}
-use Rattle.tc_asm.specs.AddedItems.{IsAddedCode, IsAddedItem}
+use Rattle.tc_asm.specs.ItemInvariants.{IsAddedCode, IsAddedItem}
 use Rattle.tc_asm.proofs.SourceItems.{source_are}
 use Rattle.tc_asm.proofs.CodeSizes.{fits_true, resolved_fits}
 use Rattle.tc_asm.proofs.StatementItems.{item_at, each_there}

@@ -17,7 +17,7 @@ use Rattle.tc_asm.specs.Statements.{StatementData, statement, content_of, standi
 use Rattle.tc_stmt.proofs.Cases.{by_test}
 use Rattle.tc_asm.proofs.ListLaws.{changed, changed-set, size_at-get}
 use Rattle.tc_asm.proofs.LaidLaws.{drafted-bytes}
-use Rattle.tc_asm.specs.AddedItems.{AddedBytesFitSymbol}
+use Rattle.tc_asm.specs.ItemInvariants.{AddedBytesFitSymbol}
 
 -- ---- statements and their uses
 -- the use of a statement with these bytes at this offset

@@ -1,7 +1,5 @@
 -- Drafts with the same symbols and the same sizes of sections.
-use Rattle.std.specs.Prelude.{◌≡◌, ℕ, if◌then◌else◌, List, length, map, slice_get}
-use Rattle.std.specs.Option.{option_map_or}
-use Rattle.tc_isa.specs.Rows.{listed, is_long}
+use Rattle.std.specs.Prelude.{◌≡◌, ℕ, List, length, map}
 use Rattle.tc_asm.specs.Drafts.{PartData, DraftData}
 
 -- the name and the size in bytes of a section, in which alike drafts agree
@@ -19,8 +17,3 @@ pub record Alike (d e : DraftData) : Type 0 where
   pub sizes : map draft_part_size d.parts ≡ map draft_part_size e.parts
   pub symbols : d.symbols ≡ e.symbols
   pub total : d.total ≡ e.total
-
--- the size in bytes of assembled instructions of the row with this number, and 0 if there is no
--- such row
-unfoldable pub assembled_code_size : ℕ → ℕ
-assembled_code_size k = option_map_or (λ row. if is_long row then 4 else 2) (slice_get listed k) 0

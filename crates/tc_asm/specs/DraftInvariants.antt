@@ -14,7 +14,7 @@ abbrev pub EachInDraft : {A : Type 0} → (A → Type 0) → List A → Type 0
 EachInDraft P [] = Unit {0}
 EachInDraft P (x ∷ xs) = P x × EachInDraft P xs
 
--- a list of a draft's names holds this name
+-- these names, which a valid draft has in its sections or symbols, hold this name
 abbrev pub is_drafted_name : List (List ℕ) → List ℕ → Bool
 is_drafted_name names name = list_any (λ n. bytes_eq name n) names
 

@@ -10,15 +10,17 @@ use Rattle.tc_asm.specs.Rules.{line_rule}
 unfoldable pub with_line : List SymbolData → DraftData → LineData → DraftData
 with_line labels d l = fold (draft_after_item labels) d l.items
 
--- the draft of all these lines of a source, given the symbols of the whole source
+-- the draft of a source: that of all its lines, one after another, given the symbols of the whole
+-- source
 abbrev pub draft_from_lines : List SymbolData → List LineData → DraftData
 draft_from_lines labels lines = fold (with_line labels) start lines
 
--- the symbols in the draft of a source's lines, which don't depend on the targets of its jumps
+-- the symbols of a source: those in the draft of all its lines, which don't depend on the targets
+-- of its jumps
 abbrev pub symbols_of : List LineData → List SymbolData
 symbols_of lines = (draft_from_lines [] lines).symbols
 
--- the least rule that the line at this place breaks
+-- the least rule that a source's line at this place breaks, after the draft of the lines before it
 abbrev pub rule_in : List LineData → ℕ → LineData → ℕ
 rule_in lines k l = line_rule (symbols_of lines) (draft_from_lines (symbols_of lines) (take k lines)) l
 

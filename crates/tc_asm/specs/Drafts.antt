@@ -4,7 +4,7 @@ use Rattle.std.specs.Option.{option_map_or}
 use Rattle.std.specs.Str.{bytes_eq}
 use Rattle.tc_stmt.specs.SourceRules.{no_rule, misplaced_symbol}
 use Rattle.tc_isa.specs.declared.fields.Fields.{Fields}
-use Rattle.tc_isa.specs.Rows.{RowData, listed}
+use Rattle.tc_isa.specs.Rows.{RowData, listed, is_long}
 use Rattle.tc_isa.specs.Spelling.{spelling}
 use Rattle.tc_isa.specs.Relocations.{is_reloc}
 use Rattle.tc_encode.specs.Decoding.{are_fitting_fields}
@@ -52,7 +52,7 @@ draft_place d = option_map_or (λ p. length p.bytes) (slice_get d.parts d.sectio
 abbrev pub has_section : DraftData → Bool
 has_section d = nat_lt d.section (length d.parts)
 
--- n more bytes are within the limit of 16,777,216 in all sections
+-- a draft has room for n more bytes: they are within the limit of 16,777,216 in all its sections
 abbrev pub has_room : DraftData → ℕ → Bool
 has_room d n = nat_le (d.total + n) (2 ^ 24)
 
@@ -97,14 +97,16 @@ with_bytes d bs =
 unfoldable pub with_part_use : List PartData → ℕ → UseData → List PartData
 with_part_use parts i u = option_map_or (λ p. slice_set parts i (record p { uses = p.uses ++ u ∷ [] })) (slice_get parts i) parts
 
--- a relocation for the next four bytes, if there are fewer than 65,535
+-- the draft of an object with a use of a symbol in its next four bytes, for a relocation, if it has
+-- fewer than 65,535
 unfoldable pub with_use : DraftData → ℕ → ReferenceData → DraftData
 with_use d size r =
     if has_section d && has_room d size && size == 4 && is_reloc r.kind && nat_lt d.count 65535
     then record d { parts = with_part_use d.parts d.section (record { offset = draft_place d; reference = r }); count = d.count + 1 }
     else d
 
--- the draft after it takes the symbol of the next bytes, of which there are this many
+-- the draft of an object with the symbol of its next bytes, of which there are this many, in its
+-- table and, if it needs a relocation, among its uses
 unfoldable pub with_reference : DraftData → ℕ → Option ReferenceData → DraftData
 with_reference d size None = d
 with_reference d size (Some r) = if is_source_name r.name then with_use (record d { symbols = seen d.symbols r.name }) size r else d
@@ -126,26 +128,29 @@ label_distance labels d r =
     else None)
     (place_in labels r.name) None
 
--- the fields of an instruction of a draft, if they break no rule and wait for no symbol
+-- the fields with which a draft spells an instruction, where no rule is broken and no symbol is
+-- waited for
 abbrev pub drafted_fields : Fields → RowFieldsData
 drafted_fields f = record { fields = f; rule = no_rule; reference = None }
 
--- the fields of a draft's next instruction, whose target is resolved at once to the distance of a
--- label, and the least rule that the target breaks
+-- the fields with which a draft spells its next instruction, with the distance to a label as its
+-- displacement, and the least rule that the target breaks
 unfoldable pub fields_with_label_distance : List SymbolData → DraftData → RowData → Fields → ReferenceData → RowFieldsData
 fields_with_label_distance labels d row f r = option_map_or (λ n. with_displacement row n.0 n.1 (drafted_fields f)) (label_distance labels d r) (with_rule misplaced_symbol (drafted_fields f))
 
--- the fields of a draft's next instruction, with its target resolved if it needs no relocation
+-- the fields with which a draft spells its next instruction, of this row, with its target resolved
+-- if it needs no relocation
 abbrev pub fields_with_target : List SymbolData → DraftData → RowData → Fields → Option ReferenceData → RowFieldsData
 fields_with_target labels d row f None = drafted_fields f
 fields_with_target labels d row f (Some r) = if r.kind == 0 then fields_with_label_distance labels d row f r else drafted_fields f
 
--- the bytes that a draft gets from an instruction of the row: its spelling, if the fields fit it
+-- the bytes that the assembler's draft of an object gets from an instruction of this row: its
+-- spelling, if the fields fit it
 unfoldable pub assembled_row_code : RowData → Fields → List ℕ
 assembled_row_code row f = if are_fitting_fields row f then spelling row f else []
 
--- the fields of a draft's next instruction, of the row with this number, with its target resolved
--- if it needs no relocation
+-- the fields with which a draft spells its next instruction, of the row with this number, with its
+-- target resolved if it needs no relocation
 abbrev pub row_fields_with_target : List SymbolData → DraftData → ℕ → Fields → Option ReferenceData → RowFieldsData
 row_fields_with_target labels d k f r = option_map_or (λ row. fields_with_target labels d row f r) (slice_get listed k) (drafted_fields f)
 
@@ -160,7 +165,8 @@ unfoldable pub code_bytes : List SymbolData → DraftData → ℕ → Fields →
 code_bytes labels d k f r = assembled_code k (row_fields_with_target labels d k f r).fields
 
 -- ---- a further item, given the symbols of the whole source
--- the draft after a further item, given the symbols of the whole source
+-- the draft of an object one step further: with the label, section, global name or bytes of this
+-- item, given the symbols of the whole source
 unfoldable pub draft_after_item : List SymbolData → DraftData → ItemData → DraftData
 draft_after_item labels d (label name) = with_label d name
 draft_after_item labels d (section name) = with_current_section d name
@@ -189,3 +195,8 @@ abbrev pub bytes_at : List PartData → ℕ → List ℕ
 bytes_at [] s = []
 bytes_at (p ∷ ps) zero = p.bytes
 bytes_at (p ∷ ps) (suc s) = bytes_at ps s
+
+-- the size in bytes of an instruction in a draft, of the row with this number, and 0 if there is no
+-- such row
+unfoldable pub assembled_code_size : ℕ → ℕ
+assembled_code_size k = option_map_or (λ row. if is_long row then 4 else 2) (slice_get listed k) 0

@@ -2,7 +2,7 @@
 use Rattle.std.specs.Prelude.{◌≡◌, ◌==◌, ◌++◌, ℕ, Bool, false, List, ◌∷◌, length, slice_get, Option, Some, None}
 use Rattle.tc_isa.specs.declared.fields.Fields.{Fields}
 use Rattle.tc_isa.specs.Rows.{RowData, listed}
-use Rattle.tc_isa.specs.ValidRows.{Fits}
+use Rattle.tc_isa.specs.ValidRows.{FieldsFitRow}
 use Rattle.tc_isa.specs.Spelling.{spelling}
 use Rattle.tc_stmt.specs.Items.{ReferenceData, ItemData, code}
 use Rattle.tc_stmt.specs.Lines.{lines_in, items_in}
@@ -16,7 +16,7 @@ pub record InstructionSpellsRow (place : ℕ) (bytes : List ℕ) : Type 0 where
   pub row : RowData
   pub is_row : slice_get listed place ≡ Some row
   pub fields : Fields
-  pub fits : Fits row fields
+  pub fits : FieldsFitRow row fields
   pub spelled : bytes ≡ spelling row fields
 
 -- the symbol of a jump of 16 bits, which is resolved at once, so that the law of instructions

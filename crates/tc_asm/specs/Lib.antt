@@ -10,7 +10,7 @@ pub mod Errors
 pub mod Statements
 pub mod RelocationLaws
 pub mod InstructionLaws
-pub mod AddedItems
+pub mod ItemInvariants
 pub mod AlikeDrafts
 pub mod ShortJumps
 pub mod KnownSymbols

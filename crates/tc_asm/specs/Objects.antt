@@ -24,7 +24,7 @@ symbol_at name is_global (Some p) = record { name = name; kind = if is_global th
 abbrev pub symbol_of : SymbolData → object.SymbolData
 symbol_of s = symbol_at s.name s.entry.is_global s.entry.place
 
--- the number added to a symbol, modulo 2^32
+-- the addend of an object's relocation: the number that a source adds to the symbol, modulo 2^32
 abbrev pub assembled_addend : ReferenceData → ℕ
 assembled_addend r = if r.minus then (2 ^ 32 - r.size % 2 ^ 32) % 2 ^ 32 else r.size % 2 ^ 32
 

@@ -24,7 +24,7 @@ name_rule name = if is_source_name name then no_rule else bad_name
 abbrev pub section_room : DraftData → List ℕ → ℕ
 section_room d name = if nat_lt (number_of_part d.parts name) (length d.parts) || nat_lt (length d.parts) 64 then no_rule else past_limits
 
--- there is room for one more symbol
+-- one more symbol doesn't break rule 13: there are fewer than 65,535
 abbrev pub has_symbol_room : List SymbolData → Bool
 has_symbol_room ss = nat_lt (length ss) 65535
 

@@ -4,7 +4,7 @@ use Rattle.std.specs.Prelude.{◌≡◌, ◌+◌, ◌%◌, ◌^◌, ℕ, if◌th
 use Rattle.tc_isa.specs.declared.fields.Fields.{Fields}
 use Rattle.tc_isa.specs.Rows.{RowData}
 use Rattle.tc_isa.specs.Forms.{is_sbr}
-use Rattle.tc_isa.specs.Meanings.{doubled_displacement, ahead_only}
+use Rattle.tc_isa.specs.FromFields.{doubled_displacement, ahead_only}
 use Rattle.tc_stmt.specs.Items.{ReferenceData}
 use Rattle.tc_asm.specs.declared.symbols.Place.{Place}
 use Rattle.tc_stmt.specs.Lines.{lines_in}

@@ -2,19 +2,19 @@
 ghost use Rattle.std.specs.Prelude.{◌≡◌, ◌≤◌, ◌<◌, ◌^◌, ◌&&◌, if◌then◌else◌, All, true, map, length, min, IfOk, OnOk, IfErr, fold, take, drop, []};
 ghost use Rattle.tc_stmt.specs.Items.{item_of};
 ghost use Rattle.tc_stmt.specs.Lines.{line_data, lines_in, items_in};
-ghost use Rattle.tc_asm.specs.AddedItems.{IsAddedItem};
+ghost use Rattle.tc_asm.specs.ItemInvariants.{IsAddedItem};
 ghost use Rattle.tc_asm.specs.Drafts.{start, draft_after_item};
 ghost use Rattle.tc_asm.specs.DraftedSources.{draft_from_lines, with_line, symbols_of as symbols_in, KeepsRules, IsLeastBrokenLine};
 ghost use Rattle.tc_asm.specs.KnownSymbols.{kept, kept_rule, are_new};
 ghost use Rattle.tc_asm.specs.Objects.{object_of};
 ghost use Rattle.tc_asm.specs.Errors.{IfBad};
 ghost use Rattle.tc_asm.specs.DraftInvariants.{IsDraft};
-ghost use Rattle.tc_stmt.specs.LinesRead.{lines_of};
+ghost use Rattle.tc_stmt.specs.SourceViews.{lines_of};
 
 use crate::AsmErr;
 use crate::draft::Draft;
 use crate::emit::emit_object;
-use crate::put_items::add_items;
+use crate::put_checked_items::add_items;
 use crate::symbols::Symbols;
 use std::alloc::{AllocError, Global};
 use tc_object::Object;

@@ -49,7 +49,7 @@ const NO_NUMBER: usize = 64;
 impl<'a> Draft<'a> {
     ghost use Rattle.std.specs.Prelude.{◌≡◌, [], OnOk, IfOk, Some, option_map, replicate};
     ghost use Rattle.tc_stmt.specs.Items.{reference_of, item_of, label, code, bytes as data_item};
-    ghost use Rattle.tc_asm.specs.AddedItems.{IsAddedCode, IsAddedData, IsAddedItem, AddedSymbolIsNamed};
+    ghost use Rattle.tc_asm.specs.ItemInvariants.{IsAddedCode, IsAddedData, IsAddedItem, AddedSymbolIsNamed};
     ghost use Rattle.tc_asm.specs.AlikeDrafts.{Alike};
     ghost use Rattle.tc_asm.specs.Drafts.{DraftData, start, draft_place, has_section, has_room, with_label, with_current_section, with_global, with_bytes, with_use, with_reference, with_content, draft_after_item};
     ghost use Rattle.tc_asm.specs.Symbols.{seen};
@@ -112,8 +112,8 @@ impl<'a> Draft<'a> {
         Ok(before.is_none())
     }
 
-    /// Makes the section of this name the draft's current one. If there is none, and there are
-    /// fewer than 64, a new one begins. A bad name changes nothing.
+    /// Makes the section of this name the current one in the draft of an object. If there is none,
+    /// and there are fewer than 64, a new one begins. A bad name changes nothing.
     #[inline(never)]
     #[tactic(auto, unfolding(crate::specs::Drafts::with_current_section))]
     fn enter(&mut self, alloc: Global, name: &'a [u8]) -> Result<(), AllocError>
@@ -141,7 +141,7 @@ impl<'a> Draft<'a> {
         Ok(())
     }
 
-    /// Makes the symbol of this name global in the draft. A bad name changes nothing.
+    /// Makes the symbol of this name global in the draft of an object. A bad name changes nothing.
     #[inline(never)]
     #[tactic(auto, unfolding(crate::specs::Drafts::with_global))]
     fn make_global(&mut self, name: &'a [u8]) -> Result<(), AllocError>
@@ -153,7 +153,8 @@ impl<'a> Draft<'a> {
         Ok(())
     }
 
-    /// Adds bytes at the end of the current section, if they are within the limit.
+    /// Adds bytes to the draft of an object, at the end of its current section, if they are within
+    /// the limit.
     #[inline(always)]
     #[tactic(auto, unfolding(crate::specs::Drafts::with_bytes))]
     pub(crate) fn add_bytes(&mut self, bytes: &[u8]) -> Result<(), AllocError>
@@ -186,7 +187,8 @@ impl<'a> Draft<'a> {
         Ok(())
     }
 
-    /// Notes in the draft the symbol of the next bytes, of which there are `size`.
+    /// Notes in the draft of an object the symbol of its next bytes, of which there are `size`, and
+    /// a relocation if they need one.
     #[inline(never)]
     #[tactic(auto, unfolding(crate::specs::Drafts::with_reference))]
     fn add_named(&mut self, size: usize, r: &Reference<'a>) -> Result<(), AllocError>
@@ -240,7 +242,8 @@ impl<'a> Draft<'a> {
         Ok(())
     }
 
-    /// Adds an instruction to the draft, with its target resolved if it needs no relocation.
+    /// Extends the draft of an object by the bytes of an instruction, with its target resolved if
+    /// it needs no relocation.
     #[inline(never)]
     #[tactic(auto, unfolding(crate::specs::Drafts::draft_after_item))]
     fn add_code(
@@ -366,8 +369,8 @@ impl<'a> Draft<'a> {
         Ok(())
     }
 
-    /// Adds a section, a global name or zeros to the first pass's draft, with an empty table of
-    /// labels.
+    /// Extends the draft of the first pass by a section, a global name or zeros, with an empty
+    /// table of labels.
     fn count_other(
         &mut self,
         alloc: Global,

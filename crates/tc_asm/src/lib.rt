@@ -7,7 +7,7 @@ mod emit;
 mod encode;
 mod errors;
 mod laws;
-mod put_items;
+mod put_checked_items;
 mod rules;
 mod sections;
 mod symbols;

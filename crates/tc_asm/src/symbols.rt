@@ -108,7 +108,7 @@ impl<'a> Symbols<'a> {
         self.known.get_index_of(&name).unwrap_or(0)
     }
 
-    /// The entry of a name, if it is in the table.
+    /// Returns the entry of a name in the assembler's table of symbols, if it is there.
     pub fn get(&self, name: &[u8]) -> Option<Entry>
         ensures { result ≡ entry_in self.now name.now }
     {
@@ -138,7 +138,7 @@ impl<'a> Symbols<'a> {
         Ok(self.known.insert(name, entry)?)
     }
 
-    /// Adds a name to the assembler's table of symbols, if it isn't there.
+    /// Adds a name that is used to the assembler's table of symbols, if it isn't there.
     #[tactic(auto, using(crate::proofs::SymbolLaws::seen_known, crate::proofs::SymbolLaws::seen_new))]
     pub fn see(&mut self, name: &'a [u8]) -> Result<(), AllocError>
         ensures { OnOk result (self.new ≡ seen self.old name.entry.now) }

@@ -6,7 +6,8 @@ use Rattle.tc_machine.specs.declared.events.Event.{Event}
 use Rattle.tc_machine.specs.declared.events.End.TheVariants.{Running}
 use Rattle.tc_machine.specs.declared.state.Machine.{Machine}
 use Rattle.tc_machine.specs.Stepping.{run}
-use Rattle.tc_machine.specs.Safe.{Starts, Fits, AllFit, IsSafeAt, Safe}
+use Rattle.tc_machine.specs.Safe.{Fits, AllFit, IsSafeAt, Safe}
+use Rattle.tc_machine.specs.Starting.{Starts}
 use Rattle.tc_machine.specs.Machine.{IsMachine}
 use Rattle.tc_mem.specs.PlanMemory.{IsPlanMemory, HoldsRom}
 use Rattle.tc_boot.specs.declared.judging.BootErr.{BootErr}

@@ -6,7 +6,8 @@ use Rattle.tc_machine.specs.declared.events.Event.{Event}
 use Rattle.tc_machine.specs.declared.events.End.TheVariants.{Running}
 use Rattle.tc_machine.specs.declared.state.Machine.{Machine}
 use Rattle.tc_machine.specs.Stepping.{run}
-use Rattle.tc_machine.specs.Safe.{Starts, Fits, AllFit, IsSafeAt}
+use Rattle.tc_machine.specs.Safe.{Fits, AllFit, IsSafeAt}
+use Rattle.tc_machine.specs.Starting.{Starts}
 use Rattle.tc_machine.specs.Machine.{IsMachine}
 use Rattle.tc_mem.specs.PlanMemory.{IsPlanMemory, HoldsRom}
 use Rattle.tc_boot.specs.Sequence.{boot_events}
@@ -37,8 +38,8 @@ pub record BootsFrom (image : ImageData) (plan : PlanData) (at : ℕ) (m : Machi
   pub starts : Starts image plan (run m es)
   pub before : (n : ℕ) → n < length es → IsBooting at (run m (take n es))
 
--- The promise of the command for boot sequences, from any state at reset: under fitting events, the
--- sequence leads to a start state, and each state after it is safe.
+-- from any state at reset, under fitting events, the boot sequence leads to a start state, and each
+-- state after it is safe: what the command for boot sequences promises
 abbrev pub BootsSafely : ImageData → PlanData → ℕ → ℕ → Type 0
 BootsSafely image plan at most =
     (m : Machine) (boot es : List Event) (e : Event) → Reset image plan at m → AllFit plan m boot → length boot ≡ boot_events plan

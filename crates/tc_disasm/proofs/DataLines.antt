@@ -15,7 +15,7 @@ use Rattle.tc_lex.specs.Operands.{OperandData, operand, operands, operand_value_
 use Rattle.tc_stmt.specs.OperandForms.{shape_index}
 use Rattle.tc_stmt.specs.Items.{bytes, section}
 use Rattle.tc_stmt.specs.DataDirectives.{value_rule, value_item, values_rule}
-use Rattle.tc_stmt.specs.Lines.{line_data, pieces_line, stated_line, values_line, named_line, only_operand_name, is_word_operand}
+use Rattle.tc_stmt.specs.Lines.{line_data, pieces_line, stated_line, values_line, named_line, only_operand_name, is_named_line_operand}
 use Rattle.tcd_text.specs.Digits.{hex_byte}
 use Rattle.tc_disasm.specs.Tokens.{printed_token}
 use Rattle.tc_disasm.specs.Lexed.{IsListingStop}
@@ -123,7 +123,7 @@ reads-byte a rest low stop h =
 
 -- ---- sections
 section_one : (text : List ℕ) → named_line section (plain_operand (operand_value_data shape.Word text false 0) ∷ []) ≡ line_data 15 (section text ∷ [])
-unfolding named_line only_operand_name is_word_operand shape_index
+unfolding named_line only_operand_name is_named_line_operand shape_index
 section_one text = refl
 
 lexes-section : (n : ℕ) (rest : List ℕ) → n < 2 ^ 64 → IsListingStop rest → Lexes rest [] → Lexes (codes ".section s" ++ (decimal n ++ rest)) (printed_token kind.Word (codes ".section") ∷ printed_token kind.Word (115 ∷ decimal n) ∷ [])

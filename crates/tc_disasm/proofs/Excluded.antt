@@ -12,7 +12,8 @@ use Rattle.tc_stmt.specs.declared.want.Want.{Want}
 use Rattle.tc_stmt.specs.declared.want.Want.TheVariants.{Reg, A10, Number, Target, Absolute, Memory}
 use Rattle.tc_lex.specs.Operands.{OperandData, ValueData, bracketed_operand}
 use Rattle.tc_stmt.specs.RowFields.{RowFieldsData, with_rule, with_value}
-use Rattle.tc_stmt.specs.Filling.{reference, fill, fill_plain, fill_register, fill_a10, fill_value, fill_memory, fill_target, fill_absolute, put_register, put_number, put_absolute, with_symbol, with_misplaced, half_operand_relocation, symbol_rule}
+use Rattle.tc_stmt.specs.Filling.{reference, fill, fill_plain, fill_register, fill_a10, fill_value, fill_memory, fill_target, fill_absolute, put_register, put_number, put_absolute, with_symbol, with_misplaced, half_operand_relocation}
+use Rattle.tc_stmt.specs.Names.{symbol_rule}
 use Rattle.tc_stmt.specs.Displacements.{target_operand_relocation, with_displacement}
 use Rattle.tc_stmt.specs.OperandForms.{shape_index, register_by_name, is_symbol_operand, is_half_operand}
 use Rattle.tc_disasm.specs.Texts.{register_text}

@@ -5,7 +5,7 @@ use Rattle.std.proofs.lemmas.Bool.Decides.{nat_tests}
 use Rattle.tc_lex.specs.declared.kinds.TokenKind.TheVariants as kind
 use Rattle.tc_isa.specs.Forms.{form_index, bounds}
 use Rattle.tc_isa.specs.Rows.{is_long, RowData}
-use Rattle.tc_isa.specs.Meanings.{address_in_constant, code_address_in_constant}
+use Rattle.tc_isa.specs.FromFields.{address_in_constant, code_address_in_constant}
 use Rattle.tc_isa.specs.declared.fields.Fields.{Fields}
 use Rattle.tc_stmt.specs.declared.want.Field.TheVariants.{K}
 use Rattle.std.specs.Fmt.{decimal}
@@ -18,7 +18,7 @@ use Rattle.tc_lex.specs.Numbers.{token_number}
 use Rattle.tc_stmt.specs.RowFields.{RowFieldsData, with_value, with_rule, field_of}
 use Rattle.tc_stmt.specs.Filling.{fill, fill_plain, fill_register, fill_value, fill_target, put_register, put_number}
 use Rattle.tc_stmt.specs.Displacements.{with_displacement, displacement_rule, is_odd_displacement, is_two_way}
-use Rattle.tc_stmt.specs.OperandForms.{shape_index, wrap_into_field}
+use Rattle.tc_stmt.specs.OperandForms.{shape_index, operand_number_modulo}
 use Rattle.tc_disasm.specs.Texts.{register_text, is_printed_minus, printed_size}
 use Rattle.tc_disasm.specs.Tokens.{field_number_tokens, printed_token, target_tokens}
 use Rattle.tc_disasm.proofs.Registers.{register_of-text}
@@ -53,7 +53,7 @@ pub put_number-printed : (r : RowData) (signed : Bool) (field : Field) (v : ℕ)
 unfolding put_number
 put_number-printed r signed field v acc h even =
     let bound = field_of field (bounds r.form) in
-    ap (λ b. cond b (with_value field (wrap_into_field bound (is_printed_minus signed bound v) (printed_size signed bound v)) acc) (with_rule 5 acc)) (fits-printed signed bound v h even)
+    ap (λ b. cond b (with_value field (operand_number_modulo bound (is_printed_minus signed bound v) (printed_size signed bound v)) acc) (with_rule 5 acc)) (fits-printed signed bound v h even)
     ∙ ap (λ w. with_value field w acc) (wrapped-printed signed bound v h even)
 
 -- a printed constant, read and filled in
@@ -93,8 +93,8 @@ displaced-printed r v acc h even =
     let bound = (bounds r.form).k in
     let minus = is_printed_minus (is_two_way r.form) bound v in
     let size = printed_size (is_two_way r.form) bound v in
-    ap (λ n. cond (n == 15) (with_value K (wrap_into_field bound minus (2 * size / 2)) acc) (with_rule n acc)) (rule-printed r v h even)
-    ∙ ap (λ n. with_value K (wrap_into_field bound minus n) acc) (half size)
+    ap (λ n. cond (n == 15) (with_value K (operand_number_modulo bound minus (2 * size / 2)) acc) (with_rule n acc)) (rule-printed r v h even)
+    ∙ ap (λ n. with_value K (operand_number_modulo bound minus n) acc) (half size)
     ∙ ap (λ n. with_value K n acc) (wrapped-printed (is_two_way r.form) bound v h even)
 
 pub fill-target : (r : RowData) (v : ℕ) (acc : RowFieldsData) → v < (bounds r.form).k → (bounds r.form).k % 2 ≡ 0 → 2 * printed_size (is_two_way r.form) (bounds r.form).k v < 2 ^ 64

@@ -9,8 +9,7 @@ use Rattle.tc_stmt.specs.declared.want.Field.TheVariants.{C, S1, S2, N, K}
 use Rattle.tc_stmt.specs.declared.want.Want.{Want}
 use Rattle.tc_stmt.specs.declared.want.Want.TheVariants.{Reg, A10, Number, Target, Absolute, Memory}
 use Rattle.tc_stmt.specs.RowFields.{set_field, field_of}
-use Rattle.tc_disasm.specs.GivenFields.{is_field_named}
-use Rattle.tc_stmt.specs.Wants.{with_wanted_fields}
+use Rattle.tc_disasm.specs.GivenFields.{is_field_named, with_wanted_fields}
 
 byte : (n : ℕ) → n < 16 → n % 256 ≡ n
 byte n h = omega arith

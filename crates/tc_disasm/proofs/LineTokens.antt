@@ -12,7 +12,8 @@ use Rattle.tc_lex.specs.declared.kinds.Front.TheVariants as front
 use Rattle.tc_lex.specs.Cut.{cut, token_front_of, token_front_by_byte, cut_from_front, with_front, token}
 use Rattle.tc_lex.proofs.CutLaws.{cut-skip}
 use Rattle.tc_lex.specs.Pieces.{PieceData}
-use Rattle.tc_stmt.specs.Lines.{LineData, line_in, cut_line, pieces_line, line_token_with_text, line_text_between}
+use Rattle.tc_stmt.specs.Lines.{LineData, line_in, cut_line, pieces_line, line_token_with_text}
+use Rattle.tc_disasm.specs.Lexed.{lexed_text_between}
 use Rattle.tc_disasm.specs.Tokens.{printed_token}
 
 -- the tokens of a text after `pre` in its line, at most `room`
@@ -57,7 +58,7 @@ lexes-blank rest ps h = record { tokens = after; plain = h.plain }
         }
 
 -- the text of a token
-text_here : (pre w rest : List ℕ) → line_text_between (pre ++ (w ++ rest)) (length pre) (length pre + length w) ≡ w
+text_here : (pre w rest : List ℕ) → lexed_text_between (pre ++ (w ++ rest)) (length pre) (length pre + length w) ≡ w
 text_here pre w rest =
     let low : nat_le (length pre) (length pre + length w) ≡ true = grind (arith, nat_tests) in
     let high : nat_le (length pre + length w) (length (pre ++ (w ++ rest))) ≡ true = rw (length-append pre (w ++ rest), length-append w rest) (grind (arith, nat_tests)) in

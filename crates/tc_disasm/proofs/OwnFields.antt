@@ -8,7 +8,7 @@ use Rattle.tc_isa.specs.Rows.{RowData}
 use Rattle.tc_isa.specs.declared.fields.Fields.{Fields}
 use Rattle.tc_isa.specs.Forms.{bounds, form_index}
 use Rattle.tc_isa.specs.InBounds.{IsBelow}
-use Rattle.tc_isa.specs.Meanings.{address_in_constant, code_address_in_constant}
+use Rattle.tc_isa.specs.FromFields.{address_in_constant, code_address_in_constant}
 use Rattle.tc_lex.specs.declared.operand.Shape.TheVariants as shape
 use Rattle.tc_stmt.specs.declared.want.Field.TheVariants.{S2, K}
 use Rattle.tc_stmt.specs.declared.want.Want.{Want}
@@ -21,7 +21,7 @@ use Rattle.tcd_text.specs.Digits.{hex_word}
 use Rattle.tc_disasm.specs.Texts.{register_text, is_printed_minus, printed_size, absolute_text, absolute_operand_address}
 use Rattle.tc_stmt.specs.Displacements.{is_two_way}
 use Rattle.tc_disasm.specs.Tokens.{operand_tokens, base_tokens, number_tokens}
-use Rattle.tc_stmt.specs.Wants.{with_wanted_fields}
+use Rattle.tc_disasm.specs.GivenFields.{with_wanted_fields}
 use Rattle.tc_disasm.proofs.Decimals.{number_of-decimal}
 use Rattle.tc_disasm.proofs.Hexes.{number_of-hex}
 use Rattle.tc_disasm.proofs.Bounds.{field_of-below}

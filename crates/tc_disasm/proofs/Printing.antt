@@ -9,14 +9,15 @@ use Rattle.tc_isa.specs.Rows.{RowData, listed}
 use Rattle.tc_isa.specs.declared.fields.Fields.{Fields}
 use Rattle.tc_isa.specs.Forms.{bounds, fields}
 use Rattle.tc_isa.specs.InBounds.{IsBelow, AreSmall}
-use Rattle.tc_isa.specs.ValidRows.{uses_of, rest_is_zero, Fits}
+use Rattle.tc_isa.specs.ValidRows.{uses_of, are_unused_fields_zero, FieldsFitRow}
 use Rattle.tc_isa.specs.Insts.{InstData, IsInst, fields_in}
 use Rattle.tc_isa.proofs.Shaped.{small}
 use Rattle.tc_lex.specs.declared.operand.Shape.TheVariants as shape
 use Rattle.tc_stmt.specs.declared.want.Field.TheVariants.{C, S1, S2, N, K}
 use Rattle.tc_stmt.specs.declared.want.Want.{Want}
 use Rattle.tc_stmt.specs.declared.want.Want.TheVariants.{Reg, A10, Number, Target, Absolute, Memory}
-use Rattle.tc_stmt.specs.Wants.{wants_of, with_wanted_fields}
+use Rattle.tc_stmt.specs.Wants.{wants_of}
+use Rattle.tc_disasm.specs.GivenFields.{with_wanted_fields, uses_by_wants, is_field_named}
 use Rattle.tc_lex.specs.Operands.{operand, plain_operand, plain_number, with_number}
 use Rattle.tc_stmt.specs.StatementRow.{statement}
 use Rattle.tc_stmt.specs.RowFields.{no_fields, with_rule, field_of}
@@ -24,7 +25,6 @@ use Rattle.tc_stmt.specs.Filling.{fields_of_row, check_registers_apart}
 use Rattle.tc_disasm.specs.Texts.{register_text, is_printed_minus, printed_size, absolute_text, absolute_operand_address}
 use Rattle.tc_stmt.specs.Displacements.{is_two_way}
 use Rattle.tc_disasm.specs.Tokens.{operand_tokens, printed_operands, base_tokens}
-use Rattle.tc_disasm.specs.GivenFields.{uses_by_wants, is_field_named}
 use Rattle.tc_disasm.specs.Printable.{Prints, AllPrint}
 use Rattle.tc_disasm.proofs.Decimals.{some_is, number_of-decimal}
 use Rattle.tc_disasm.proofs.Bounds.{field_of-below}
@@ -49,7 +49,7 @@ zero_of : (b : Bool) (n : ℕ) → (b || n == 0) ≡ true → cond b n 0 ≡ n
 zero_of true n e = refl
 zero_of false n e = grind (arith, nat_tests)
 
-pub fields_back : (f : Fields) (ws : List Want) → AreSmall f → rest_is_zero (uses_by_wants ws) f ≡ true → fold (with_wanted_fields f) (fields 0 0 0 0 0) ws ≡ f
+pub fields_back : (f : Fields) (ws : List Want) → AreSmall f → are_unused_fields_zero (uses_by_wants ws) f ≡ true → fold (with_wanted_fields f) (fields 0 0 0 0 0) ws ≡ f
 unfolding uses_by_wants field_of
 fields_back f ws small rest =
     let four = and_parts _ (list_any (is_field_named K) ws || f.k == 0) rest in
@@ -98,10 +98,10 @@ printed_all r f (w ∷ ws) s h =
     (printed_one r f w two.0 h, printed_all r f ws two.1 h)
 
 -- ---- the row itself
-judged-printed : (k : ℕ) (r : RowData) (f : Fields) → slice_get listed k ≡ Some r → Fits r f → AreSmall f → fields_of_row r (wants_of r) (printed_operands r f) ≡ Some (record no_fields { fields = f })
+judged-printed : (k : ℕ) (r : RowData) (f : Fields) → slice_get listed k ≡ Some r → FieldsFitRow r f → AreSmall f → fields_of_row r (wants_of r) (printed_operands r f) ≡ Some (record no_fields { fields = f })
 unfolding fields_of_row
 judged-printed k r f at fits small =
-    let rest : rest_is_zero (uses_by_wants (wants_of r)) f ≡ true = ap (λ u. rest_is_zero u f) (sym (uses_at listed k r uses_are at)) ∙ fits.zero in
+    let rest : are_unused_fields_zero (uses_by_wants (wants_of r)) f ≡ true = ap (λ u. are_unused_fields_zero u f) (sym (uses_at listed k r uses_are at)) ∙ fits.zero in
     ap (option_and_then (λ g. Some (check_registers_apart r g))) (fill_all-printed r f (wants_of r) no_fields (wants_suit k r at) fits.below)
     ∙ ap (λ g. Some (check_registers_apart r (record no_fields { fields = g }))) (fields_back f (wants_of r) small rest)
     ∙ ap (λ b. Some (cond b (record no_fields { fields = f }) (with_rule 12 (record no_fields { fields = f })))) fits.apart

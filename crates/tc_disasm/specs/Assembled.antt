@@ -33,6 +33,7 @@ pub record ReadsBack (i : ImageData) : Type 0 where
   pub never : (line rule : ℕ) → IsLeastBrokenLine (lines_in (listing_of i)) line rule → ⊥
   pub holds : HoldsSegments i.segments (object_of (draft_from_lines (symbols_of (lines_in (listing_of i))) (lines_in (listing_of i))))
 
--- each image reads back
+-- the listing of each image, when it is assembled, gives an object with the image's segments as its
+-- sections
 abbrev pub ListingLaw : Type 0
 ListingLaw = (i : ImageData) → IsImage i → ReadsBack i

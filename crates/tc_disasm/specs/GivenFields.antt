@@ -3,12 +3,23 @@ use Rattle.std.specs.Prelude.{List, fold, Bool, true, false}
 use Rattle.tc_isa.specs.declared.fields.Fields.{Fields}
 use Rattle.tc_isa.specs.Forms.{fields}
 use Rattle.tc_stmt.specs.declared.want.Want.{Want}
-use Rattle.tc_stmt.specs.Wants.{with_wanted_fields}
 use Rattle.tc_isa.specs.declared.fields.Uses.{Uses}
 use Rattle.tc_stmt.specs.declared.want.Field.{Field}
 use Rattle.tc_stmt.specs.declared.want.Field.TheVariants.{C, S1, S2, N, K}
-use Rattle.tc_stmt.specs.declared.want.Want.TheVariants.{Reg, Number, Target, Absolute, Memory}
+use Rattle.tc_stmt.specs.declared.want.Want.TheVariants.{Reg, Number, Target, Absolute, Memory, A10}
 use Rattle.std.specs.List.{list_any}
+use Rattle.tc_stmt.specs.RowFields.{set_field, field_of}
+
+-- the fields g with those of the fields f that are given by this operand of a row, as a listing
+-- prints it
+unfoldable pub with_wanted_fields : Fields → Fields → Want → Fields
+with_wanted_fields f g (Reg p x) = set_field x (field_of x f) g
+with_wanted_fields f g A10 = g
+with_wanted_fields f g (Number s x) = set_field x (field_of x f) g
+with_wanted_fields f g Target = set_field K f.k g
+with_wanted_fields f g Absolute = set_field K f.k g
+with_wanted_fields f g (Memory p true) = set_field K f.k (set_field S2 f.s2 g)
+with_wanted_fields f g (Memory p false) = set_field S2 f.s2 g
 
 -- the fields of f that some want names, and zeros elsewhere
 abbrev pub all_given : Fields → List Want → Fields

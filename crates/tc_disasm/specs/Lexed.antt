@@ -1,9 +1,9 @@
 -- The tokens of a text with their texts, without places: `lexed_listing text room skip`.
-use Rattle.std.specs.Prelude.{◌≡◌, ℕ, zero, suc, ◌-◌, ◌==◌, false, if◌then◌else◌, List, [], ◌∷◌, take, Option, Some, None, option_map}
+use Rattle.std.specs.Prelude.{◌≡◌, ℕ, zero, suc, ◌-◌, ◌==◌, false, if◌then◌else◌, List, ◌∷◌, take, Option, Some, None, option_map, []}
 use Rattle.tc_lex.specs.declared.kinds.Front.{Front}
 use Rattle.tc_lex.specs.declared.kinds.Front.TheVariants as front
 use Rattle.tc_lex.specs.Cut.{token_front_of}
-use Rattle.tc_lex.specs.Pieces.{PieceData}
+use Rattle.tc_lex.specs.Pieces.{PieceData, text_in as text_between}
 use Rattle.tc_disasm.specs.Tokens.{printed_token}
 use Rattle.tcd_base.specs.NameBytes.{is_name_byte}
 
@@ -25,3 +25,7 @@ lexed_listing (c ∷ cs) room (suc skip) = lexed_listing cs room skip
 abbrev pub IsListingStop : List ℕ → Type 0
 IsListingStop [] = Unit {0}
 IsListingStop (c ∷ cs) = is_name_byte c ≡ false
+
+-- the text of a token in a line of a listing, from one place to another, as the line is lexed
+abbrev pub lexed_text_between : List ℕ → ℕ → ℕ → List ℕ
+lexed_text_between line from to = text_between line from to

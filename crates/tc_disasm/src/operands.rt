@@ -2,7 +2,7 @@
 ghost use Rattle.std.specs.Prelude.{◌≡◌, ◌≤◌, ◌*◌, ◌++◌, OnOk, string_bytes, ◌<◌, ◌^◌, codes};
 ghost use Rattle.tc_isa.specs.Forms.{bounds};
 ghost use Rattle.tc_isa.specs.InBounds.{IsBelow};
-ghost use Rattle.tc_isa.specs.Meanings.{code_address_in_constant};
+ghost use Rattle.tc_isa.specs.FromFields.{code_address_in_constant};
 ghost use Rattle.tc_stmt.specs.declared.want.Want.TheVariants.{Memory};
 ghost use Rattle.tc_stmt.specs.RowFields.{field_of};
 ghost use Rattle.tc_disasm.specs.Texts.{register_text, number_text, target_text, absolute_operand_address, absolute_text, base_text, operand_text, operands_text};
@@ -191,8 +191,13 @@ fn append_next(text: &mut String, form: Form, f: &Fields, want: Want) -> Result<
     append_operand(text, form, f, want)
 }
 
-// Appends the operands after the first one.
-fn append_others(text: &mut String, form: Form, f: &Fields, wants: &[Want]) -> Result<(), NoMemory>
+/// Appends the text of each operand after the first one, with a comma before it.
+fn append_other_operands(
+    text: &mut String,
+    form: Form,
+    f: &Fields,
+    wants: &[Want],
+) -> Result<(), NoMemory>
     requires { IsBelow f.now (bounds form) }
     ensures { OnOk result
         (string_bytes text.new
@@ -220,7 +225,7 @@ pub(crate) fn append_operands(
     if let Some((first, others)) = wants.split_first() {
         append_listing_text(text, " ")?;
         append_operand(text, form, f, *first)?;
-        append_others(text, form, f, others)?;
+        append_other_operands(text, form, f, others)?;
     }
     Ok(())
 }

@@ -6,11 +6,11 @@ use Rattle.tc_isa.specs.declared.fields.Fields.{Fields}
 use Rattle.tc_isa.specs.declared.fields.Uses.{Uses}
 use Rattle.tc_isa.specs.Forms.{fields_of}
 use Rattle.tc_encode.specs.WordSearch.{mix_low_bytes, word_part_span}
-use Rattle.tc_isa.specs.ValidRows.{Fits, IsRow, uses_of, rest_is_zero, are_registers_apart, least_fields}
+use Rattle.tc_isa.specs.ValidRows.{FieldsFitRow, IsRow, uses_of, are_unused_fields_zero, are_registers_apart, least_fields}
 use Rattle.tc_isa.specs.Spelling.{word_of}
 use Rattle.tc_encode.proofs.Mixed.{Mixed, mixed1, mixed2, mixed3}
 
-mixed : (r : RowData) (n : ℕ) (f : Fields) → IsRow r → Fits r f → 1 ≤ n → n ≤ 3 → Mixed r.form r.op1 r.op2 f (least_fields r) (mix_low_bytes n (word_of r f) (word_of r (least_fields r)))
+mixed : (r : RowData) (n : ℕ) (f : Fields) → IsRow r → FieldsFitRow r f → 1 ≤ n → n ≤ 3 → Mixed r.form r.op1 r.op2 f (least_fields r) (mix_low_bytes n (word_of r f) (word_of r (least_fields r)))
 mixed r zero f row fits low high = absurd (omega arith)
 mixed r (suc zero) f row fits low high = mixed1 r.form r.op1 r.op2 f (least_fields r) row.first row.second fits.below row.has_least.below
 mixed r (suc (suc zero)) f row fits low high = mixed2 r.form r.op1 r.op2 f (least_fields r) row.first row.second fits.below row.has_least.below
@@ -20,7 +20,7 @@ one_zero : (u : Bool) (a b x : ℕ) → (u || a == 0) ≡ true → (u || b == 0)
 one_zero true a b x p q f = refl
 one_zero false a b x p q f = eq-eqb x 0 (f (eqb-true a 0 p) (eqb-true b 0 q))
 
-zero_of : (u : Uses) (f g x : Fields) → rest_is_zero u f ≡ true → rest_is_zero u g ≡ true → (f.c ≡ 0 → g.c ≡ 0 → x.c ≡ 0) → (f.s1 ≡ 0 → g.s1 ≡ 0 → x.s1 ≡ 0) → (f.s2 ≡ 0 → g.s2 ≡ 0 → x.s2 ≡ 0) → (f.n ≡ 0 → g.n ≡ 0 → x.n ≡ 0) → (f.k ≡ 0 → g.k ≡ 0 → x.k ≡ 0) → rest_is_zero u x ≡ true
+zero_of : (u : Uses) (f g x : Fields) → are_unused_fields_zero u f ≡ true → are_unused_fields_zero u g ≡ true → (f.c ≡ 0 → g.c ≡ 0 → x.c ≡ 0) → (f.s1 ≡ 0 → g.s1 ≡ 0 → x.s1 ≡ 0) → (f.s2 ≡ 0 → g.s2 ≡ 0 → x.s2 ≡ 0) → (f.n ≡ 0 → g.n ≡ 0 → x.n ≡ 0) → (f.k ≡ 0 → g.k ≡ 0 → x.k ≡ 0) → are_unused_fields_zero u x ≡ true
 zero_of u f g x p q c s1 s2 n k =
     let p1 = and_parts _ _ p in let p2 = and_parts _ _ p1.0 in let p3 = and_parts _ _ p2.0 in let p4 = and_parts _ _ p3.0 in
     let q1 = and_parts _ _ q in let q2 = and_parts _ _ q1.0 in let q3 = and_parts _ _ q2.0 in let q4 = and_parts _ _ q3.0 in
@@ -35,7 +35,7 @@ apart_of r f g x (inl e) p q = apart_as r g x e.0 e.1 q
 apart_of r f g x (inr e) p q = apart_as r f x e.0 e.1 p
 
 -- the beginning of a spelling, completed by the least fields, is a spelling
-pub completed : (r : RowData) (n : ℕ) (f : Fields) → IsRow r → Fits r f → 1 ≤ n → n ≤ 3 → (x : Fields) × Fits r x × (word_of r x ≡ mix_low_bytes n (word_of r f) (word_of r (least_fields r)))
+pub completed : (r : RowData) (n : ℕ) (f : Fields) → IsRow r → FieldsFitRow r f → 1 ≤ n → n ≤ 3 → (x : Fields) × FieldsFitRow r x × (word_of r x ≡ mix_low_bytes n (word_of r f) (word_of r (least_fields r)))
 completed r n f row fits low high =
     let m = mixed r n f row fits low high in
     let x = fields_of r.form (mix_low_bytes n (word_of r f) (word_of r (least_fields r))) in

@@ -7,10 +7,10 @@ use Rattle.std.proofs.lemmas.List.{take_all, take-append-drop, append-nil, lengt
 use Rattle.tc_isa.specs.Rows.{RowData, listed, is_long}
 use Rattle.tc_isa.specs.Insts.{InstData, fields_in}
 use Rattle.tc_isa.specs.ValidRows.{least_fields}
-use Rattle.tc_isa.specs.Spelling.{word_of, spelling, Spells, Begins, IsFront}
+use Rattle.tc_isa.specs.Spelling.{word_of, spelling, Spells}
+use Rattle.tc_encode.specs.Decoding.{Begins, IsFront, decoded_row_length, goes_on_as, fields_at, instruction_at_row, first_of, answer_of, decoded_of}
 use Rattle.tc_encode.specs.declared.errors.DecodeErr.{DecodeErr}
 use Rattle.tc_encode.specs.declared.errors.DecodeErr.TheVariants.{Short, NotListed}
-use Rattle.tc_encode.specs.Decoding.{decoded_row_length, goes_on_as, fields_at, instruction_at_row, first_of, answer_of, decoded_of}
 use Rattle.tc_encode.specs.DecodeLaws.{MoreChangesNothing, LengthsAreRight, DecodedSpells, DecodedBegins, SpelledDecodes, ShortIsFront, NotListedIsRest, DecodeLaws, NoneSpellsTwo, NoneIsPrefix, SpellingLaws}
 use Rattle.tc_encode.proofs.Bytes.{word-lt}
 use Rattle.tc_isa.proofs.TableFacts.{row_at}

@@ -10,9 +10,9 @@ use Rattle.tc_isa.specs.declared.fields.Uses.{Uses}
 use Rattle.tc_isa.specs.declared.fields.Fields.{Fields}
 use Rattle.tc_isa.specs.declared.table.Form.{Form}
 use Rattle.tc_isa.specs.Rows.{RowData, listed}
-use Rattle.tc_isa.specs.Forms.{bounds, fields_of, second_of, form_index, is_long_form}
+use Rattle.tc_isa.specs.Forms.{bounds, fields_of, second_code_by_form, form_index, is_long_form}
 use Rattle.tc_isa.specs.InBounds.{IsBelow}
-use Rattle.tc_isa.specs.ValidRows.{Fits, uses_of, rest_is_zero, are_registers_apart}
+use Rattle.tc_isa.specs.ValidRows.{FieldsFitRow, uses_of, are_unused_fields_zero, are_registers_apart}
 use Rattle.tc_isa.specs.Spelling.{word_of}
 use Rattle.tc_isa.specs.Insts.{InstData, IsInst, fields_in}
 use Rattle.tc_isa.proofs.TableFacts.{row_at}
@@ -34,10 +34,10 @@ row_is place r i is at same = some_same is.row r (sym is.at ∙ ap (slice_get li
 pub makes_listed : (place w : ℕ) (r : RowData) (f : Fields) → slice_get listed place ≡ Some r → f ≡ fields_of r.form w → (i : InstData) → Makes w i → i.row ≡ place → IsInst (instruction_at_row place f) × (word_of r f ≡ w)
 makes_listed place w r f at is i m same =
     let row = row_is place r i m.inst at same in
-    let fits : Fits r (fields_in i) = subst (λ (s : RowData). Fits s (fields_in i)) row m.inst.fits in
+    let fits : FieldsFitRow r (fields_in i) = subst (λ (s : RowData). FieldsFitRow s (fields_in i)) row m.inst.fits in
     let word : word_of r (fields_in i) ≡ w = subst (λ (s : RowData). word_of s (fields_in i) ≡ w) row m.is in
     let fields : fields_in i ≡ f = sym (is ∙ only r (fields_in i) w (row_at place r at) fits word) in
-    (record { row = r; at = at; fits = subst (λ (g : Fields). Fits r g) fields fits }, subst (λ (g : Fields). word_of r g ≡ w) fields word)
+    (record { row = r; at = at; fits = subst (λ (g : Fields). FieldsFitRow r g) fields fits }, subst (λ (g : Fields). word_of r g ≡ w) fields word)
 
 pub makes_by : (place w : ℕ) (r : RowData) (f : Fields) (i : InstData) → slice_get listed place ≡ Some r → i ≡ instruction_at_row place f → IsInst i → word_of r f ≡ w → Makes w i
 makes_by place w r f i at is inst word =
@@ -45,11 +45,11 @@ makes_by place w r f i at is inst word =
     record { inst = inst; is = ap (λ (s : RowData). word_of s (fields_in i)) row ∙ ap (λ (j : InstData). word_of r (fields_in j)) is ∙ word }
 
 -- the second code of the instruction is in the word
-pub second_is : (place w : ℕ) (r : RowData) (form : Form) (i : InstData) → slice_get listed place ≡ Some r → (m : Makes w i) → i.row ≡ place → form_index m.inst.row.form ≡ form_index form → second_of form w ≡ r.op2
+pub second_is : (place w : ℕ) (r : RowData) (form : Form) (i : InstData) → slice_get listed place ≡ Some r → (m : Makes w i) → i.row ≡ place → form_index m.inst.row.form ≡ form_index form → second_code_by_form form w ≡ r.op2
 second_is place w r form i at m same index =
     let s = m.inst.row in let row = row_at i.row s m.inst.at in
-    ap (λ f. second_of f w) (sym (same_form s.form form index))
-    ∙ ap (second_of s.form) (sym m.is)
+    ap (λ f. second_code_by_form f w) (sym (same_form s.form form index))
+    ∙ ap (second_code_by_form s.form) (sym m.is)
     ∙ second-word s.form s.op1 s.op2 (fields_in i) row.first row.second m.inst.fits.below
     ∙ ap (λ (t : RowData). t.op2) (row_is place r i m.inst at same)
 
@@ -111,28 +111,28 @@ none_map (Some x) p f = tt
 -- what an instruction's word says of the row at its place and of its fields
 pub record Stands (w : ℕ) (r : RowData) (f : Fields) : Type 0 where
   pub first : r.op1 ≡ w % 256
-  pub second : r.op2 ≡ second_of r.form w
+  pub second : r.op2 ≡ second_code_by_form r.form w
   pub full : has_zero_word_gaps r.form w ≡ true
-  pub fits : Fits r f
+  pub fits : FieldsFitRow r f
 
 pub stands : (place w : ℕ) (r : RowData) → slice_get listed place ≡ Some r → (i : InstData) → Makes w i → i.row ≡ place → Stands w r (fields_of r.form w)
 stands place w r at i m same =
     let row = row_is place r i m.inst at same in
     let own = row_at place r at in
-    let fits : Fits r (fields_in i) = subst (λ (s : RowData). Fits s (fields_in i)) row m.inst.fits in
+    let fits : FieldsFitRow r (fields_in i) = subst (λ (s : RowData). FieldsFitRow s (fields_in i)) row m.inst.fits in
     let word : word_of r (fields_in i) ≡ w = subst (λ (s : RowData). word_of s (fields_in i) ≡ w) row m.is in
     record {
       first = sym (first-word r.form r.op1 r.op2 (fields_in i) own.first own.second fits.below) ∙ ap (λ x. x % 256) word;
-      second = sym (second-word r.form r.op1 r.op2 (fields_in i) own.first own.second fits.below) ∙ ap (second_of r.form) word;
+      second = sym (second-word r.form r.op1 r.op2 (fields_in i) own.first own.second fits.below) ∙ ap (second_code_by_form r.form) word;
       full = ap (has_zero_word_gaps r.form) (sym word) ∙ full_word r.form r.op1 r.op2 (fields_in i) own.first own.second fits.below;
-      fits = subst (λ (g : Fields). Fits r g) (sym (only r (fields_in i) w own fits word)) fits;
+      fits = subst (λ (g : Fields). FieldsFitRow r g) (sym (only r (fields_in i) w own fits word)) fits;
     }
 
 even_of : (op1 w : ℕ) → (op1 % 2 == 1) ≡ false → op1 ≡ w % 256 → w % 2 ≡ 0
 even_of op1 w e is = let odd = eqb-false (op1 % 2) 1 e in elim (cases_eq (op1 % 2) 1) [ inl x ↦ absurd (odd x) | inr y ↦ omega (arith, y) ]
 
 -- a word with the row's codes and no gap is the spelling of its fields, if they fit
-pub makes_of : (place w : ℕ) (r : RowData) (f : Fields) → slice_get listed place ≡ Some r → f ≡ fields_of r.form w → w < 2 ^ 32 → (w % 2 ≡ 0 → w < 2 ^ 16) → r.op1 ≡ w % 256 → r.op2 ≡ second_of r.form w → has_zero_word_gaps r.form w ≡ true → rest_is_zero (uses_of r) f ≡ true → are_registers_apart r f ≡ true → Makes w (instruction_at_row place f)
+pub makes_of : (place w : ℕ) (r : RowData) (f : Fields) → slice_get listed place ≡ Some r → f ≡ fields_of r.form w → w < 2 ^ 32 → (w % 2 ≡ 0 → w < 2 ^ 16) → r.op1 ≡ w % 256 → r.op2 ≡ second_code_by_form r.form w → has_zero_word_gaps r.form w ≡ true → are_unused_fields_zero (uses_of r) f ≡ true → are_registers_apart r f ≡ true → Makes w (instruction_at_row place f)
 makes_of place w r f at is word short first second full rest apart =
     let row = row_at place r at in
     let small : is_long_form r.form ≡ false → w < 2 ^ 16 = λ e. short (even_of r.op1 w (row.size ∙ e) first) in
@@ -193,7 +193,7 @@ one_plain : (u : Bool) (x b : ℕ) → (u || b == 1) ≡ true → x < b → (u |
 one_plain true x b e low = refl
 one_plain false x b e low = let one : b ≡ 1 = eqb-true b 1 e in eq-eqb x 0 (omega arith)
 
-pub plain_zero : (u : Uses) (f b : Fields) → names_or_lacks u b ≡ true → IsBelow f b → rest_is_zero u f ≡ true
+pub plain_zero : (u : Uses) (f b : Fields) → names_or_lacks u b ≡ true → IsBelow f b → are_unused_fields_zero u f ≡ true
 plain_zero u f b e low =
     let p = and_parts _ _ e in let q = and_parts _ _ p.0 in let r = and_parts _ _ q.0 in let s = and_parts _ _ r.0 in
     and_from _ _ (and_from _ _ (and_from _ _ (and_from _ _
@@ -204,8 +204,8 @@ pub plain_at : (plain : List Bool) (place : ℕ) (d : Bool) (r : RowData) → pl
 plain_at plain place d r are at =
     ap (λ bs. get_or bs place d) are ∙ get_or-map is_plain_row listed place r d (slice_get_within listed place r at) ∙ ap is_plain_row (get_or_from_slice_get listed place r r at)
 
-pub second_at : (form : Form) (place first second w : ℕ) (r : RowData) → ((place : ℕ) (r : RowData) → slice_get listed place ≡ Some r → r.op1 ≡ first → form_index r.form ≡ form_index form) → second ≡ second_of form w → slice_get listed place ≡ Some r → r.op1 ≡ first → second ≡ second_of r.form w
-second_at form place first second w r forms is at one = is ∙ ap (λ f. second_of f w) (sym (same_form r.form form (forms place r at one)))
+pub second_at : (form : Form) (place first second w : ℕ) (r : RowData) → ((place : ℕ) (r : RowData) → slice_get listed place ≡ Some r → r.op1 ≡ first → form_index r.form ≡ form_index form) → second ≡ second_code_by_form form w → slice_get listed place ≡ Some r → r.op1 ≡ first → second ≡ second_code_by_form r.form w
+second_at form place first second w r forms is at one = is ∙ ap (λ f. second_code_by_form f w) (sym (same_form r.form form (forms place r at one)))
 
 pub uses_at : (uses : List Uses) (place : ℕ) (d : Uses) (r : RowData) → uses ≡ map uses_of listed → slice_get listed place ≡ Some r → get_or uses place d ≡ uses_of r
 uses_at uses place d r are at =

@@ -6,7 +6,7 @@ use Rattle.std.proofs.lemmas.List.{take_at, append-nil}
 use Rattle.tc_isa.specs.declared.fields.Fields.{Fields}
 use Rattle.tc_isa.specs.Rows.{RowData, is_long}
 use Rattle.tc_encode.specs.WordSearch.{mix_low_bytes}
-use Rattle.tc_isa.specs.ValidRows.{Fits, IsRow, least_fields}
+use Rattle.tc_isa.specs.ValidRows.{FieldsFitRow, IsRow, least_fields}
 use Rattle.tc_isa.specs.Spelling.{word_of, spelling_of, spelling}
 use Rattle.tc_encode.specs.Decoding.{decoded_row_length, begins_with, goes_on_as}
 use Rattle.tc_encode.proofs.Complete.{completed}
@@ -44,7 +44,7 @@ least_goes_on : (r : RowData) → IsRow r → begins_with (spelling r (least_fie
 least_goes_on r row = subst (λ bs. begins_with bs r ≡ true) (append-nil (spelling r (least_fields r))) (begins_here r (least_fields r) [] row row.has_least)
 
 -- the first n bytes, completed
-gone_on : (r : RowData) (f : Fields) (n : ℕ) → IsRow r → Fits r f → n < decoded_row_length r → begins_with (take n (spelling r f) ++ drop n (spelling r (least_fields r))) r ≡ true
+gone_on : (r : RowData) (f : Fields) (n : ℕ) → IsRow r → FieldsFitRow r f → n < decoded_row_length r → begins_with (take n (spelling r f) ++ drop n (spelling r (least_fields r))) r ≡ true
 gone_on r f zero row fits short = least_goes_on r row
 gone_on r f (suc n) row fits short =
     let x = completed r (suc n) f row fits (omega arith) (omega (arith, size_small (is_long r))) in
@@ -56,7 +56,7 @@ has_some : (rest : List ℕ) → rest ≢ [] → 1 ≤ length rest
 has_some [] some = absurd (some refl)
 has_some (b ∷ bs) some = omega arith
 
-pub front_goes_on : (bytes rest : List ℕ) (r : RowData) (f : Fields) → IsRow r → Fits r f → rest ≢ [] → bytes ++ rest ≡ spelling r f → goes_on_as bytes r ≡ true
+pub front_goes_on : (bytes rest : List ℕ) (r : RowData) (f : Fields) → IsRow r → FieldsFitRow r f → rest ≢ [] → bytes ++ rest ≡ spelling r f → goes_on_as bytes r ≡ true
 front_goes_on bytes rest r f row fits some is =
     let size : length bytes + length rest ≡ decoded_row_length r = sym (length-append bytes rest) ∙ ap length is ∙ size_spelling r f in
     let short : length bytes < decoded_row_length r = omega (arith, has_some rest some, size) in

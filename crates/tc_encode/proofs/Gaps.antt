@@ -4,7 +4,7 @@ use Rattle.std.proofs.lemmas.Bool.{and_parts, and_from, eqb-true, eq-eqb}
 use Rattle.tc_isa.specs.declared.fields.Fields.{Fields}
 use Rattle.tc_isa.specs.declared.table.Form.{Form}
 use Rattle.tc_isa.specs.declared.table.Form.TheVariants.{Rlc, Rr, Sys, Sr, Sc, Sb, Sbr, Src, Srr, Slr, Ssr}
-use Rattle.tc_isa.specs.Forms.{bounds, second_bound, fields_of, second_of, is_long_form}
+use Rattle.tc_isa.specs.Forms.{bounds, second_bound, fields_of, second_code_by_form, is_long_form}
 use Rattle.tc_isa.specs.Spelling.{word_by_form}
 use Rattle.tc_isa.specs.InBounds.{IsBelow}
 use Rattle.tc_encode.specs.WordSearch.{has_zero_word_gaps}
@@ -14,8 +14,8 @@ unfolding fields_of bounds
 fields_below Rlc w h = record { c = omega arith; s1 = omega arith; s2 = omega arith; n = omega arith; k = omega arith }
 fields_below _ w h = record { c = omega arith; s1 = omega arith; s2 = omega arith; n = omega arith; k = omega arith }
 
-pub word_back : (form : Form) (op1 op2 w : ℕ) → w < 2 ^ 32 → (is_long_form form ≡ false → w < 2 ^ 16) → op1 ≡ w % 256 → op2 ≡ second_of form w → has_zero_word_gaps form w ≡ true → word_by_form form op1 op2 (fields_of form w) ≡ w
-unfolding word_by_form fields_of second_of has_zero_word_gaps is_long_form
+pub word_back : (form : Form) (op1 op2 w : ℕ) → w < 2 ^ 32 → (is_long_form form ≡ false → w < 2 ^ 16) → op1 ≡ w % 256 → op2 ≡ second_code_by_form form w → has_zero_word_gaps form w ≡ true → word_by_form form op1 op2 (fields_of form w) ≡ w
+unfolding word_by_form fields_of second_code_by_form has_zero_word_gaps is_long_form
 word_back Rr op1 op2 w h short first second full = let gap : w / 2 ^ 18 % 4 ≡ 0 = eqb-true _ _ full in omega arith
 word_back Sys op1 op2 w h short first second full = let p = and_parts _ _ full in let high : w / 2 ^ 28 ≡ 0 = eqb-true _ _ p.0 in let low : w / 2 ^ 8 % 2 ^ 14 ≡ 0 = eqb-true _ _ p.1 in omega arith
 word_back Sr op1 op2 w h short first second full = let small = short refl in omega arith

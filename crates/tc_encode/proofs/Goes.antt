@@ -2,7 +2,7 @@
 use Rattle.std.proofs.Common.{◌≡◌, ◌+◌, ◌*◌, ◌/◌, ◌%◌, ◌<◌, ◌≤◌, ℕ, zero, suc, true, List, length, get_or, refl, sym, ap, subst, ◌∙◌, arith, Option, Some, None}
 use Rattle.std.specs.Prelude.{slice_get, IfSome}
 use Rattle.tc_isa.specs.Rows.{RowData, listed}
-use Rattle.tc_isa.specs.ValidRows.{Fits, least_fields}
+use Rattle.tc_isa.specs.ValidRows.{FieldsFitRow, least_fields}
 use Rattle.tc_isa.specs.Spelling.{word_of}
 use Rattle.tc_isa.specs.Insts.{InstData, fields_in}
 use Rattle.tc_isa.proofs.TableFacts.{row_at}
@@ -35,7 +35,7 @@ goes_from place n part rest s r i at longer small is same m =
 pub goes_least : (place n part rest s : ℕ) (r : RowData) (i : InstData) → slice_get listed place ≡ Some r → 1 ≤ n → n ≤ 3 → s ≡ word_part_span n → rest ≡ word_of r (least_fields r) → i.row ≡ place → GoesOn n part i → (j : InstData) × (j.row ≡ place) × Makes (part + rest / s * s) j
 goes_least place n part rest s r i at low high is least_is same g =
     let row = row_is place r i g.inst at same in
-    let fits : Fits r (fields_in i) = subst (λ (t : RowData). Fits t (fields_in i)) row g.inst.fits in
+    let fits : FieldsFitRow r (fields_in i) = subst (λ (t : RowData). FieldsFitRow t (fields_in i)) row g.inst.fits in
     let part_is : word_of r (fields_in i) % word_part_span n ≡ part = subst (λ (t : RowData). word_of t (fields_in i) % word_part_span n ≡ part) row g.is in
     let x = completed r n (fields_in i) (row_at place r at) fits low high in
     (instruction_at_row place x.0, refl, record { inst = record { row = r; at = at; fits = x.1 }; is = x.2 ∙ same_mix n (word_of r (fields_in i)) (word_of r (least_fields r)) part rest s part_is least_is is })

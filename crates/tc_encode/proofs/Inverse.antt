@@ -3,7 +3,7 @@ use Rattle.std.proofs.Common.{◌≡◌, ◌%◌, ◌<◌, ℕ, arith}
 use Rattle.tc_isa.specs.declared.table.Form.{Form}
 use Rattle.tc_isa.specs.declared.table.Form.TheVariants.{Rlc}
 use Rattle.tc_isa.specs.declared.fields.Fields.{Fields}
-use Rattle.tc_isa.specs.Forms.{bounds, second_bound, fields_of, second_of}
+use Rattle.tc_isa.specs.Forms.{bounds, second_bound, fields_of, second_code_by_form}
 use Rattle.tc_isa.specs.Spelling.{word_by_form}
 use Rattle.tc_isa.specs.InBounds.{IsBelow}
 
@@ -15,8 +15,8 @@ unfolding word_by_form fields_of bounds second_bound
 fields-word Rlc op1 op2 f first second below = same _ _ (omega arith) (omega arith) (omega arith) (omega arith) (omega arith)
 fields-word _ op1 op2 f first second below = same _ _ (omega arith) (omega arith) (omega arith) (omega arith) (omega arith)
 
-pub second-word : (form : Form) (op1 op2 : ℕ) (f : Fields) → op1 < 256 → op2 < second_bound form → IsBelow f (bounds form) → second_of form (word_by_form form op1 op2 f) ≡ op2
-unfolding word_by_form second_of bounds second_bound
+pub second-word : (form : Form) (op1 op2 : ℕ) (f : Fields) → op1 < 256 → op2 < second_bound form → IsBelow f (bounds form) → second_code_by_form form (word_by_form form op1 op2 f) ≡ op2
+unfolding word_by_form second_code_by_form bounds second_bound
 second-word Rlc op1 op2 f first second below = omega arith
 second-word _ op1 op2 f first second below = omega arith
 

@@ -8,7 +8,7 @@ use Rattle.tc_isa.specs.declared.fields.Fields.{Fields}
 use Rattle.tc_isa.specs.Rows.{RowData, is_long}
 use Rattle.tc_isa.specs.Forms.{bounds, fields_of}
 use Rattle.tc_isa.specs.InBounds.{IsBelow, is_below_test}
-use Rattle.tc_isa.specs.ValidRows.{Fits, IsRow}
+use Rattle.tc_isa.specs.ValidRows.{FieldsFitRow, IsRow}
 use Rattle.tc_isa.specs.Spelling.{word_of, spelling_of, spelling}
 use Rattle.tcd_base.specs.Bytes.{two_bytes, four_bytes, number_of_bytes}
 use Rattle.tc_encode.specs.Decoding.{decoded_row_length, are_fitting_fields, fields_at, begins_with}
@@ -24,12 +24,12 @@ below_from f b e =
 pub below_true : (f b : Fields) → IsBelow f b → is_below_test f b ≡ true
 below_true f b e = and_from _ _ (and_from _ _ (and_from _ _ (and_from _ _ (lt-ltb _ _ e.c) (lt-ltb _ _ e.s1)) (lt-ltb _ _ e.s2)) (lt-ltb _ _ e.n)) (lt-ltb _ _ e.k)
 
-pub fits_from : (r : RowData) (f : Fields) → are_fitting_fields r f ≡ true → Fits r f
+pub fits_from : (r : RowData) (f : Fields) → are_fitting_fields r f ≡ true → FieldsFitRow r f
 fits_from r f e =
     let p = and_parts _ _ e in let q = and_parts _ _ p.0 in
     record { below = below_from f (bounds r.form) q.0; zero = q.1; apart = p.1 }
 
-pub fits_true : (r : RowData) (f : Fields) → Fits r f → are_fitting_fields r f ≡ true
+pub fits_true : (r : RowData) (f : Fields) → FieldsFitRow r f → are_fitting_fields r f ≡ true
 fits_true r f fits = and_from _ _ (and_from _ _ (below_true f (bounds r.form) fits.below) fits.zero) fits.apart
 
 -- a row's spelling has the row's size
@@ -55,14 +55,14 @@ pub front_is : (r : RowData) (f : Fields) (rest : List ℕ) → take (decoded_ro
 front_is r f rest = take_at (spelling r f) rest (decoded_row_length r) (size_spelling r f)
 
 -- the fields in a spelling are those that it spells
-pub fields_here : (r : RowData) (f : Fields) (rest : List ℕ) → IsRow r → Fits r f → fields_at (spelling r f ++ rest) r ≡ f
+pub fields_here : (r : RowData) (f : Fields) (rest : List ℕ) → IsRow r → FieldsFitRow r f → fields_at (spelling r f ++ rest) r ≡ f
 fields_here r f rest row fits =
     ap (λ bs. fields_of r.form (number_of_bytes bs)) (front_is r f rest)
     ∙ ap (fields_of r.form) (spelled_number (is_long r) (word_of r f) (word-lt r.form r.op1 r.op2 f row.first row.second fits.below))
     ∙ fields-word r.form r.op1 r.op2 f row.first row.second fits.below
 
 -- bytes that begin with a spelling of the row pass the test
-pub begins_here : (r : RowData) (f : Fields) (rest : List ℕ) → IsRow r → Fits r f → begins_with (spelling r f ++ rest) r ≡ true
+pub begins_here : (r : RowData) (f : Fields) (rest : List ℕ) → IsRow r → FieldsFitRow r f → begins_with (spelling r f ++ rest) r ≡ true
 begins_here r f rest row fits =
     let same = fields_here r f rest row fits in
     and_from _ _
@@ -70,7 +70,7 @@ begins_here r f rest row fits =
     ((bytes_eq-Decides _ _).1 (front_is r f rest ∙ sym (ap (spelling r) same)))
 
 -- bytes that pass the test begin with fields that fit
-pub fits_there : (bytes : List ℕ) (r : RowData) → begins_with bytes r ≡ true → Fits r (fields_at bytes r)
+pub fits_there : (bytes : List ℕ) (r : RowData) → begins_with bytes r ≡ true → FieldsFitRow r (fields_at bytes r)
 fits_there bytes r e = fits_from r (fields_at bytes r) (and_parts _ _ e).0
 
 pub stands_there : (bytes : List ℕ) (r : RowData) → begins_with bytes r ≡ true → take (decoded_row_length r) bytes ≡ spelling r (fields_at bytes r)

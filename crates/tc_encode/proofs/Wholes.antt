@@ -4,13 +4,13 @@ use Rattle.std.specs.Prelude.{All, if◌then◌else◌}
 use Rattle.std.proofs.lemmas.Bool.{eq-eqb}
 use Rattle.std.proofs.lemmas.List.{take-append-drop}
 use Rattle.tc_isa.specs.Forms.{fields_of, bounds}
-use Rattle.tc_isa.specs.Spelling.{word_by_form, word_of, spelling_of, spelling, Begins, IsFront}
+use Rattle.tc_isa.specs.Spelling.{word_by_form, word_of, spelling_of, spelling}
+use Rattle.tc_encode.specs.Decoding.{Begins, IsFront, decoded_of, decoded_length, decoded_row_length}
 use Rattle.tc_isa.specs.Insts.{InstData, IsInst, fields_in}
 use Rattle.tc_isa.specs.Rows.{is_long}
 use Rattle.tcd_base.specs.Bytes.{two_bytes, four_bytes, number_of_bytes}
 use Rattle.tc_isa.proofs.TableFacts.{row_at}
 use Rattle.tc_encode.specs.declared.errors.DecodeErr.TheVariants.{Short, NotListed}
-use Rattle.tc_encode.specs.Decoding.{decoded_of, decoded_length, decoded_row_length}
 use Rattle.tc_encode.specs.WordSearch.{Makes, GoesOn, word_part_span}
 use Rattle.tc_encode.proofs.Inverse.{first-word}
 use Rattle.tc_encode.proofs.Spelled.{size_spelling}

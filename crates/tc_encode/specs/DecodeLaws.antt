@@ -1,9 +1,9 @@
 -- The laws of spelling, and of decoding, for all bytes.
 use Rattle.std.specs.Prelude.{◌≡◌, ◌≤◌, ◌⊎◌, ◌↔◌, ℕ, List, [], ◌++◌, length, take, Ok, Err}
 use Rattle.tc_isa.specs.Insts.{InstData}
-use Rattle.tc_isa.specs.Spelling.{Spells, Begins, IsFront}
+use Rattle.tc_isa.specs.Spelling.{Spells}
+use Rattle.tc_encode.specs.Decoding.{Begins, IsFront, decoded_of}
 use Rattle.tc_encode.specs.declared.errors.DecodeErr.TheVariants.{Short, NotListed}
-use Rattle.tc_encode.specs.Decoding.{decoded_of}
 
 -- no bytes spell two instructions
 abbrev pub NoneSpellsTwo : Type 0

@@ -1,13 +1,13 @@
 -- Bytes, decoded as an instruction.
-use Rattle.std.specs.Prelude.{◌%◌, ◌==◌, ◌&&◌, ℕ, suc, Bool, List, ◌∷◌, ◌++◌, length, take, drop, Option, Some, None, Result, Ok, Err, nat_lt, if◌then◌else◌, []}
+use Rattle.std.specs.Prelude.{◌%◌, ◌==◌, ◌&&◌, ℕ, suc, Bool, List, ◌∷◌, ◌++◌, length, take, drop, Option, Some, None, Result, Ok, Err, nat_lt, if◌then◌else◌, ◌≢◌, ◌≤◌, []}
 use Rattle.std.specs.List.{list_any}
 use Rattle.std.specs.Str.{bytes_eq}
 use Rattle.tc_isa.specs.declared.fields.Fields.{Fields}
 use Rattle.tc_isa.specs.Rows.{RowData, listed}
 use Rattle.tc_isa.specs.Forms.{bounds, fields_of}
-use Rattle.tc_isa.specs.ValidRows.{uses_of, rest_is_zero, are_registers_apart, least_fields}
+use Rattle.tc_isa.specs.ValidRows.{uses_of, are_unused_fields_zero, are_registers_apart, least_fields}
 use Rattle.tc_isa.specs.InBounds.{is_below_test}
-use Rattle.tc_isa.specs.Spelling.{spelling}
+use Rattle.tc_isa.specs.Spelling.{spelling, Spells}
 use Rattle.tc_isa.specs.Insts.{InstData}
 use Rattle.tc_encode.specs.declared.errors.DecodeErr.{DecodeErr}
 use Rattle.tc_encode.specs.declared.errors.DecodeErr.TheVariants.{Short, NotListed}
@@ -24,7 +24,7 @@ decoded_row_length r = decoded_length r.op1
 -- the fields fit the row: they are below the bounds of its form, those that the row doesn't have
 -- are 0, and its registers are apart
 abbrev pub are_fitting_fields : RowData → Fields → Bool
-are_fitting_fields r f = is_below_test f (bounds r.form) && rest_is_zero (uses_of r) f && are_registers_apart r f
+are_fitting_fields r f = is_below_test f (bounds r.form) && are_unused_fields_zero (uses_of r) f && are_registers_apart r f
 
 -- the fields at the front of the bytes, in the row's form
 abbrev pub fields_at : List ℕ → RowData → Fields
@@ -58,3 +58,15 @@ answer_of bytes None = if list_any (goes_on_as bytes) listed then Err Short else
 -- the beginning of one, else NotListed
 unfoldable pub decoded_of : List ℕ → Result (InstData × ℕ) DecodeErr
 decoded_of bytes = answer_of bytes (first_of bytes 0 listed)
+
+-- the first n bytes are the spelling of the instruction
+pub record Begins (bytes : List ℕ) (i : InstData) (n : ℕ) : Type 0 where
+  pub within : n ≤ length bytes
+  pub spells : Spells (take n bytes) i
+
+-- the bytes are the first few of the spelling of an instruction, but not all
+pub record IsFront (bytes : List ℕ) : Type 0 where
+  pub rest : List ℕ
+  pub more : rest ≢ []
+  pub inst : InstData
+  pub spells : Spells (bytes ++ rest) inst

@@ -16,15 +16,16 @@ pub record Makes (w : ℕ) (i : InstData) : Type 0 where
   pub inst : IsInst i
   pub is : word_of inst.row (fields_in i) ≡ w
 
--- the word with the low byte of a, and the rest of b
+-- the word for a search by its low byte: the low byte of a, and the rest of b
 abbrev pub mix_low_byte : ℕ → ℕ → ℕ
 mix_low_byte a b = a % 2 ^ 8 + b / 2 ^ 8 * 2 ^ 8
 
--- the word with the low three bytes of a, and the rest of b
+-- the word for a search by its low three bytes: those of a, and the rest of b
 abbrev pub mix_three_bytes : ℕ → ℕ → ℕ
 mix_three_bytes a b = a % 2 ^ 24 + b / 2 ^ 24 * 2 ^ 24
 
--- the number of values of the low n bytes of a word, for n up to 3: 256 to the power of n
+-- the number of values that the low n bytes of a searched word can have, for n up to 3: 256 to the
+-- power of n
 abbrev pub word_part_span : ℕ → ℕ
 word_part_span zero = 1
 word_part_span (suc zero) = 2 ^ 8
@@ -35,7 +36,7 @@ word_part_span (suc (suc (suc n))) = 2 ^ 24
 abbrev pub mix_low_bytes : ℕ → ℕ → ℕ → ℕ
 mix_low_bytes n a b = a % word_part_span n + b / word_part_span n * word_part_span n
 
--- the instruction is longer than n bytes, and these are the low n bytes of its word
+-- the search has read the low n bytes of the word of an instruction, and the instruction is longer
 pub record GoesOn (n part : ℕ) (i : InstData) : Type 0 where
   pub inst : IsInst i
   pub longer : n < decoded_row_length inst.row
@@ -69,7 +70,8 @@ abbrev pub is_at_index_place : List ℕ → ℕ → RowData → Option ℕ → B
 is_at_index_place places place r None = false
 is_at_index_place places place r (Some base) = is_index_place place (slice_get places (base + r.op2))
 
--- each row, numbered from here on, is where the index by first byte and second code has it
+-- the index by first byte and second code, for the search by a word, has each row at its place,
+-- numbered from here on
 abbrev pub are_at_index_places : List ℕ → List ℕ → ℕ → List RowData → Bool
 are_at_index_places bases places place [] = true
 are_at_index_places bases places place (r ∷ rs) = is_at_index_place places place r (slice_get bases r.op1) && are_at_index_places bases places (suc place) rs
@@ -78,11 +80,11 @@ are_at_index_places bases places place (r ∷ rs) = is_at_index_place places pla
 abbrev pub names_or_lacks : Uses → Fields → Bool
 names_or_lacks u b = (u.c || b.c == 1) && (u.s1 || b.s1 == 1) && (u.s2 || b.s2 == 1) && (u.n || b.n == 1) && (u.k || b.k == 1)
 
--- the row has all fields of its form, so that none must be checked to be 0
+-- the row has all fields of its form, so that the search by a word needn't test that others are 0
 abbrev pub is_plain_row : RowData → Bool
 is_plain_row r = names_or_lacks (uses_of r) (bounds r.form)
 
--- the bits of a word that its form has for no field are 0
+-- the word to search an instruction by is 0 in the bits that its form has for no field and no code
 unfoldable pub has_zero_word_gaps : Form → ℕ → Bool
 has_zero_word_gaps Rlc w = true
 has_zero_word_gaps Rr w = w / 2 ^ 18 % 4 == 0

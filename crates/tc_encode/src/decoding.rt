@@ -1,8 +1,7 @@
 // Decodes the instruction that bytes begin with.
 ghost use Rattle.std.specs.Prelude.{◌≡◌, ◌↔◌, Ok, ◌<◌, ◌≤◌, ◌%◌, ◌^◌, ℕ, List, [], ◌∷◌, length, Err, All, slice_index, IfOk, IfSome, IfNone, slice_get, Some};
 ghost use Rattle.tc_isa.specs.Insts.{InstData};
-ghost use Rattle.tc_isa.specs.Spelling.{Begins, IsFront};
-ghost use Rattle.tc_encode.specs.Decoding.{decoded_of, decoded_length};
+ghost use Rattle.tc_encode.specs.Decoding.{Begins, IsFront, decoded_of, decoded_length};
 ghost use Rattle.tcd_base.specs.Bytes.{number_of_bytes};
 ghost use Rattle.tc_isa.specs.Rows.{row_of, listed};
 ghost use Rattle.tc_encode.specs.WordSearch.{Makes};

@@ -1,6 +1,6 @@
 // The words of instructions, form by form.
 ghost use Rattle.std.specs.Prelude.{◌≡◌, ◌<◌, ◌^◌, ◌↔◌, IsTrue};
-ghost use Rattle.tc_isa.specs.Forms.{bounds, second_bound, fields_of, second_of};
+ghost use Rattle.tc_isa.specs.Forms.{bounds, second_bound, fields_of, second_code_by_form};
 ghost use Rattle.tc_isa.specs.Spelling.{word_by_form};
 ghost use Rattle.tc_isa.specs.InBounds.{IsBelow};
 
@@ -119,10 +119,10 @@ pub fn fields_of_word(form: Form, w: u32) -> Fields
 }
 
 /// Returns the second code of a word.
-#[tactic(auto, unfolding(tc_isa::specs::Forms::second_of))]
+#[tactic(auto, unfolding(tc_isa::specs::Forms::second_code_by_form))]
 pub fn second_code(form: Form, w: u32) -> u8
     requires { w < 2 ^ 32 }
-    ensures { result ≡ second_of form w }
+    ensures { result ≡ second_code_by_form form w }
 {
     match form {
         Form::Rr => (w / 1048576 % 256) as u8,

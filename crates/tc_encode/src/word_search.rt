@@ -1,9 +1,9 @@
 // Finds the instruction of a word by the index of codes.
 ghost use Rattle.std.specs.Prelude.{◌≡◌, ◌<◌, ◌%◌, ◌^◌, ℕ, IfSome, IfNone, slice_get, Some};
 ghost use Rattle.tc_isa.specs.Rows.{RowData, row_of, listed};
-ghost use Rattle.tc_isa.specs.Forms.{second_of, bounds};
+ghost use Rattle.tc_isa.specs.Forms.{second_code_by_form, bounds};
 ghost use Rattle.tc_isa.specs.InBounds.{IsBelow};
-ghost use Rattle.tc_isa.specs.ValidRows.{uses_of, rest_is_zero};
+ghost use Rattle.tc_isa.specs.ValidRows.{uses_of, are_unused_fields_zero};
 ghost use Rattle.tc_isa.specs.Insts.{InstData};
 ghost use Rattle.tc_encode.specs.WordSearch.{Makes, has_zero_word_gaps};
 
@@ -30,7 +30,7 @@ pub fn find_by_word(w: u32) -> Option<Inst>
 /// Returns the second code of the word, in the form of the rows that begin with this byte.
 fn second_by(first: u8, w: u32) -> u8
     ensures { (place : ℕ) (r : RowData) → slice_get listed place ≡ Some r → r.op1 ≡ first
-        → result ≡ second_of r.form w }
+        → result ≡ second_code_by_form r.form w }
 {
     second_code(form_by(first), w)
 }
@@ -41,7 +41,7 @@ pub(crate) fn find_word_in_row(place: u8, row: &Row, w: u32) -> Option<Inst>
     requires place { slice_get listed place ≡ Some (row_of row.now) }
     requires within { place < ROW_COUNT }
     requires first { row.now.op1 ≡ w % 256 }
-    requires second { row.now.op2 ≡ second_of row.now.form w }
+    requires second { row.now.op2 ≡ second_code_by_form row.now.form w }
     requires short { w % 2 ≡ 0 → w < 2 ^ 16 }
     ensures some { IfSome result (Makes w) }
     ensures none { IfNone result ((i : InstData) → Makes w i → i.row ≡ place → ⊥) }
@@ -83,7 +83,7 @@ fn has_zero_other_fields(place: u8, row: &Row, f: &Fields) -> bool
     requires place { slice_get listed place ≡ Some (row_of row.now) }
     requires within { place < ROW_COUNT }
     requires below { IsBelow f.now (bounds row.now.form) }
-    ensures { result ≡ rest_is_zero (uses_of (row_of row.now)) f.now }
+    ensures { result ≡ are_unused_fields_zero (uses_of (row_of row.now)) f.now }
 {
     let at = usize::from(place);
     plain_rows()[at] || is_zero_elsewhere(&uses()[at], f)
@@ -94,7 +94,7 @@ pub(crate) fn find_word_at(place: u8, first: u8, second: u8, w: u32) -> Option<I
     requires place { place < ROW_COUNT }
     requires first { first ≡ w % 256 }
     requires second { (r : RowData) → slice_get listed place ≡ Some r → r.op1 ≡ first
-        → second ≡ second_of r.form w }
+        → second ≡ second_code_by_form r.form w }
     requires short { w % 2 ≡ 0 → w < 2 ^ 16 }
     ensures some { IfSome result (Makes w) }
     ensures none { IfNone result ((i : InstData) → Makes w i → i.row ≡ place → ⊥) }

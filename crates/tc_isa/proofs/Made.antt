@@ -6,7 +6,7 @@ use Rattle.std.proofs.lemmas.Option.{slice_get_within}
 use Rattle.tc_isa.specs.Rows.{RowData, row_of, listed}
 use Rattle.tc_isa.specs.declared.table.Row.{Row}
 use Rattle.tc_isa.specs.declared.fields.Uses.{Uses}
-use Rattle.tc_isa.specs.ValidRows.{Fits, uses_of}
+use Rattle.tc_isa.specs.ValidRows.{FieldsFitRow, uses_of}
 use Rattle.tc_isa.specs.Insts.{InstData, IsInst, fields_in}
 use Rattle.tc_isa.proofs.Places.{at_here, uses_here}
 
@@ -17,12 +17,12 @@ pub at_listed : (rows : List Row) (p : ℕ) (d : Row) → map row_of rows ≡ li
 at_listed rows p d are within = ap (λ rs. slice_get rs p) (sym are) ∙ at_here rows p d within
 
 -- the instruction whose row is at this place of the program's table
-pub made : (rows : List Row) (p : ℕ) (d : Row) (i : InstData) → map row_of rows ≡ listed → p ≡ i.row → p < length rows → Fits (row_of (get_or rows p d)) (fields_in i) → IsInst i
+pub made : (rows : List Row) (p : ℕ) (d : Row) (i : InstData) → map row_of rows ≡ listed → p ≡ i.row → p < length rows → FieldsFitRow (row_of (get_or rows p d)) (fields_in i) → IsInst i
 made rows p d i are same within fits = record { row = row_of (get_or rows p d); at = ap (slice_get listed) (sym same) ∙ at_listed rows p d are within; fits = fits }
 
-pub made_fits : (rows : List Row) (p : ℕ) (d : Row) (i : InstData) → map row_of rows ≡ listed → p ≡ i.row → p < length rows → IsInst i → Fits (row_of (get_or rows p d)) (fields_in i)
+pub made_fits : (rows : List Row) (p : ℕ) (d : Row) (i : InstData) → map row_of rows ≡ listed → p ≡ i.row → p < length rows → IsInst i → FieldsFitRow (row_of (get_or rows p d)) (fields_in i)
 made_fits rows p d i are same within is =
-    subst (λ (r : RowData). Fits r (fields_in i)) (some_same is.row (row_of (get_or rows p d)) (sym is.at ∙ ap (slice_get listed) (sym same) ∙ at_listed rows p d are within)) is.fits
+    subst (λ (r : RowData). FieldsFitRow r (fields_in i)) (some_same is.row (row_of (get_or rows p d)) (sym is.at ∙ ap (slice_get listed) (sym same) ∙ at_listed rows p d are within)) is.fits
 
 pub inst_within : (rows : List Row) (i : InstData) → map row_of rows ≡ listed → IsInst i → i.row < length rows
 inst_within rows i are is =

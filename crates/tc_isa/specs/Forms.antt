@@ -4,7 +4,8 @@ use Rattle.tc_isa.specs.declared.fields.Fields.{Fields}
 use Rattle.tc_isa.specs.declared.table.Form.{Form}
 use Rattle.tc_isa.specs.declared.table.Form.TheVariants.{Rlc, Rr, Rc, Bol, Bo, Brr, Brc, B, Abs, Sys, Sr, Sc, Sb, Sbr, Src, Srr, Slr, Ssr}
 
--- the fields c, s1, s2, n and k that the forms of instructions have places for
+-- the record of the numbers c, s1, s2, n and k, one for each field that a form of instructions can
+-- have a place for
 abbrev pub fields : ℕ → ℕ → ℕ → ℕ → ℕ → Fields
 fields c s1 s2 n k = record { c = c; s1 = s1; s2 = s2; n = n; k = k }
 
@@ -71,26 +72,27 @@ fields_of Srr w = fields (0) (w / 2 ^ 8 % 16) (w / 2 ^ 12 % 16) (0) (0)
 fields_of Slr w = fields (0) (w / 2 ^ 8 % 16) (w / 2 ^ 12 % 16) (0) (0)
 fields_of Ssr w = fields (0) (w / 2 ^ 8 % 16) (w / 2 ^ 12 % 16) (0) (0)
 
--- the second code of the number of an instruction, at the place that its form gives
-unfoldable pub second_of : Form → ℕ → ℕ
-second_of Rlc w = 0
-second_of Rr w = w / 2 ^ 20 % 256
-second_of Rc w = w / 2 ^ 21 % 128
-second_of Bol w = 0
-second_of Bo w = w / 2 ^ 22 % 64
-second_of Brr w = w / 2 ^ 31
-second_of Brc w = w / 2 ^ 31
-second_of B w = 0
-second_of Abs w = w / 2 ^ 26 % 4
-second_of Sys w = w / 2 ^ 22 % 64
-second_of Sr w = w / 2 ^ 12 % 16
-second_of Sc w = 0
-second_of Sb w = 0
-second_of Sbr w = 0
-second_of Src w = 0
-second_of Srr w = 0
-second_of Slr w = 0
-second_of Ssr w = 0
+-- the second code in the word of an instruction, from the bits where its form has it; 0 for a form
+-- without one
+unfoldable pub second_code_by_form : Form → ℕ → ℕ
+second_code_by_form Rlc w = 0
+second_code_by_form Rr w = w / 2 ^ 20 % 256
+second_code_by_form Rc w = w / 2 ^ 21 % 128
+second_code_by_form Bol w = 0
+second_code_by_form Bo w = w / 2 ^ 22 % 64
+second_code_by_form Brr w = w / 2 ^ 31
+second_code_by_form Brc w = w / 2 ^ 31
+second_code_by_form B w = 0
+second_code_by_form Abs w = w / 2 ^ 26 % 4
+second_code_by_form Sys w = w / 2 ^ 22 % 64
+second_code_by_form Sr w = w / 2 ^ 12 % 16
+second_code_by_form Sc w = 0
+second_code_by_form Sb w = 0
+second_code_by_form Sbr w = 0
+second_code_by_form Src w = 0
+second_code_by_form Srr w = 0
+second_code_by_form Slr w = 0
+second_code_by_form Ssr w = 0
 
 -- a form of 32 bits
 unfoldable pub is_long_form : Form → Bool
@@ -113,7 +115,8 @@ is_long_form Srr = false
 is_long_form Slr = false
 is_long_form Ssr = false
 
--- the number of a form, so that forms can be compared
+-- the number of a form of instruction words, from 0 for RLC to 17 for SSR, so that forms can be
+-- compared
 unfoldable pub form_index : Form → ℕ
 form_index Rlc = 0
 form_index Rr = 1
@@ -146,7 +149,7 @@ is_b form = form_index form == 7
 abbrev pub is_abs : Form → Bool
 is_abs form = form_index form == 8
 
--- the form of jumps of 16 bits that go both ways
+-- the form of an instruction word is SB, that of jumps of 16 bits that go both ways
 abbrev pub is_sb : Form → Bool
 is_sb form = form_index form == 12
 

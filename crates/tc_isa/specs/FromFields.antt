@@ -1,5 +1,5 @@
 -- What an instruction does, in terms of its fields.
-use Rattle.std.specs.Prelude.{◌%◌, ◌^◌, ℕ}
+use Rattle.std.specs.Prelude.{◌%◌, ◌^◌, ℕ, ◌+◌, ◌*◌, ◌/◌}
 use Rattle.tc_isa.specs.declared.fields.Fields.{Fields}
 use Rattle.tc_isa.specs.declared.meaning.RegField.{RegField}
 use Rattle.tc_isa.specs.declared.meaning.RegField.TheVariants.{Dc, Ds1, Ds2, D15, Ac, As1, As2, A10}
@@ -20,7 +20,43 @@ use Rattle.tc_isa.specs.declared.shapes.Target.TheVariants as target
 use Rattle.tc_isa.specs.declared.shapes.Shape.{Shape}
 use Rattle.tc_isa.specs.declared.shapes.Shape.TheVariants.{Compute, Scaled, Load, Store, Branch, Jump, Call, Bisr, Syscall, Mfcr, Mtcr}
 use Rattle.tc_isa.specs.Arithmetic.{sign_extended}
-use Rattle.tc_isa.specs.Meanings.{d, a, sk, uk, high_constant, address_in_constant, code_address_in_constant, doubled_displacement, ahead_only}
+
+-- the number of the data register Dn, for n from a field of an instruction: n itself
+abbrev pub d : ℕ → ℕ
+d n = n
+
+-- the number of the address register An, for n from a field of an instruction: 16 more than n
+abbrev pub a : ℕ → ℕ
+a n = 16 + n
+
+-- the low n bits of the constant k, sign-extended
+abbrev pub sk : ℕ → Fields → ℕ
+sk n f = sign_extended n (f.k % 2 ^ n)
+
+-- the unsigned constant of an instruction: its field k itself
+abbrev pub uk : Fields → ℕ
+uk f = f.k
+
+-- the upper-half constant of an instruction: its field k times 2^16, as a word
+abbrev pub high_constant : Fields → ℕ
+high_constant f = f.k * 2 ^ 16 % 2 ^ 32
+
+-- the absolute address that the 18 bits of k encode: four bits of segment, and 14 of offset
+abbrev pub address_in_constant : Fields → ℕ
+address_in_constant f = f.k / 2 ^ 14 % 2 ^ 4 * 2 ^ 28 + f.k % 2 ^ 14
+
+-- the absolute address that the 24 bits of k encode in ja and calla: four bits of segment, and 20
+-- of offset in halfwords
+abbrev pub code_address_in_constant : Fields → ℕ
+code_address_in_constant f = f.k / 2 ^ 20 % 2 ^ 4 * 2 ^ 28 + f.k % 2 ^ 20 * 2
+
+-- the distance of a jump, a call or a branch: twice the displacement k of n bits, sign-extended
+abbrev pub doubled_displacement : ℕ → Fields → ℕ
+doubled_displacement n f = 2 * sk n f % 2 ^ 32
+
+-- the distance of a branch that only goes forwards: twice the displacement k, not sign-extended
+abbrev pub ahead_only : Fields → ℕ
+ahead_only f = 2 * f.k % 2 ^ 32
 
 -- the register that a field names, or a fixed one
 abbrev pub shape_register : RegField → Fields → ℕ

@@ -10,7 +10,7 @@ use Rattle.tc_isa.specs.declared.fields.Fields.{Fields}
 use Rattle.tcd_base.specs.Bytes.{IsWord}
 use Rattle.tc_isa.specs.Forms.{bounds}
 
--- one of the 32 registers
+-- the number of a register in the shape of an instruction is in bounds: below 32
 abbrev pub IsRegister : ℕ → Type 0
 IsRegister r = r < 32
 

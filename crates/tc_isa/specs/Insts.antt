@@ -3,7 +3,7 @@ use Rattle.std.specs.Prelude.{◌≡◌, ℕ, Some, slice_get}
 use Rattle.tc_isa.specs.Rows.{RowData, listed}
 use Rattle.tc_isa.specs.declared.fields.Fields.{Fields}
 use Rattle.tc_isa.specs.Forms.{fields}
-use Rattle.tc_isa.specs.ValidRows.{Fits}
+use Rattle.tc_isa.specs.ValidRows.{FieldsFitRow}
 
 -- the number of a row, and fields
 pub record InstData : Type 0 where
@@ -22,4 +22,4 @@ fields_in i = fields i.c i.s1 i.s2 i.n i.k
 pub record IsInst (i : InstData) : Type 0 where
   pub row : RowData
   pub at : slice_get listed i.row ≡ Some row
-  pub fits : Fits row (fields_in i)
+  pub fits : FieldsFitRow row (fields_in i)

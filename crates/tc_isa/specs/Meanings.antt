@@ -1,5 +1,5 @@
 -- What each instruction does (TriCore 1 architecture manual, volume 2, instruction set).
-use Rattle.std.specs.Prelude.{◌+◌, ◌*◌, ◌/◌, ◌%◌, ◌^◌, ℕ, Bool, true, false, List, [], ◌∷◌, codes, Option, Some, None, slice_get}
+use Rattle.std.specs.Prelude.{◌%◌, ◌^◌, ℕ, Bool, true, false, List, ◌∷◌, codes, Option, Some, None, slice_get, []}
 use Rattle.tc_isa.specs.declared.fields.Fields.{Fields}
 use Rattle.tc_isa.specs.declared.shapes.Op.{Op}
 use Rattle.tc_isa.specs.declared.shapes.Op.TheVariants.{Second, Add, Sub, And, Nand, Or, Nor, Xor, Xnor, Andn, Orn, Eq, Ne, Lt, LtU, Ge, GeU, Sh, Sha}
@@ -11,43 +11,7 @@ use Rattle.tc_isa.specs.declared.shapes.Shape.{Shape}
 use Rattle.tc_isa.specs.declared.shapes.Shape.TheVariants.{Compute, Scaled, Load, Store, Branch, Jump, Call, Ret, Rfe, Svlcx, Rslcx, Bisr, Enable, Disable, Syscall, Mfcr, Mtcr, Nothing}
 use Rattle.tc_isa.specs.Arithmetic.{sign_extended}
 use Rattle.tc_isa.specs.Insts.{InstData, fields_in}
-
--- the register Dn
-abbrev pub d : ℕ → ℕ
-d n = n
-
--- the register An
-abbrev pub a : ℕ → ℕ
-a n = 16 + n
-
--- the low n bits of the constant k, sign-extended
-abbrev pub sk : ℕ → Fields → ℕ
-sk n f = sign_extended n (f.k % 2 ^ n)
-
--- the unsigned constant: k itself
-abbrev pub uk : Fields → ℕ
-uk f = f.k
-
--- the constant k times 2 ^ 16
-abbrev pub high_constant : Fields → ℕ
-high_constant f = f.k * 2 ^ 16 % 2 ^ 32
-
--- the absolute address that the 18 bits of k encode: four bits of segment, and 14 of offset
-abbrev pub address_in_constant : Fields → ℕ
-address_in_constant f = f.k / 2 ^ 14 % 2 ^ 4 * 2 ^ 28 + f.k % 2 ^ 14
-
--- the absolute address that the 24 bits of k encode in ja and calla: four bits of segment, and 20
--- of offset in halfwords
-abbrev pub code_address_in_constant : Fields → ℕ
-code_address_in_constant f = f.k / 2 ^ 20 % 2 ^ 4 * 2 ^ 28 + f.k % 2 ^ 20 * 2
-
--- the distance of a jump, a call or a branch: twice the displacement k of n bits, sign-extended
-abbrev pub doubled_displacement : ℕ → Fields → ℕ
-doubled_displacement n f = 2 * sk n f % 2 ^ 32
-
--- the distance of a branch that only goes forwards: twice the displacement k, not sign-extended
-abbrev pub ahead_only : Fields → ℕ
-ahead_only f = 2 * f.k % 2 ^ 32
+use Rattle.tc_isa.specs.FromFields.{a, address_in_constant, ahead_only, code_address_in_constant, d, doubled_displacement, high_constant, sk, uk}
 
 -- a meaning: what an instruction with given fields does
 abbrev pub Meaning : Type 0

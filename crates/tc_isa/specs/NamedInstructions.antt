@@ -103,7 +103,8 @@ abbrev pub ret : InstData
 ret = bare_instruction 52
 
 -- ---- words in halves
--- the lower half of a word, for an instruction addi or lea that adds it to the upper half
+-- the lower half of a word, as the constant of a named instruction addi or lea that adds it to the
+-- upper half
 abbrev pub lower_half : ℕ → ℕ
 lower_half x = x % 2 ^ 16
 

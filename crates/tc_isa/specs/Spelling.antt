@@ -1,5 +1,5 @@
 -- The bytes of instructions (TriCore 1 architecture manual, volume 2, instruction formats).
-use Rattle.std.specs.Prelude.{◌≡◌, ◌≢◌, ◌≤◌, ℕ, List, ◌++◌, length, take, slice_get, Bool, true, false, Option, Some, None, ◌+◌, ◌*◌, ◌/◌, ◌%◌, ◌^◌, []}
+use Rattle.std.specs.Prelude.{◌≡◌, ℕ, List, slice_get, Bool, true, false, Option, Some, None, ◌+◌, ◌*◌, ◌/◌, ◌%◌, ◌^◌, []}
 use Rattle.tc_isa.specs.Insts.{InstData, IsInst, fields_in}
 use Rattle.tc_isa.specs.Rows.{RowData, listed, is_long}
 use Rattle.tc_isa.specs.declared.fields.Fields.{Fields}
@@ -47,18 +47,6 @@ spelling r f = spelling_of (is_long r) (word_of r f)
 pub record Spells (bytes : List ℕ) (i : InstData) : Type 0 where
   pub inst : IsInst i
   pub is : bytes ≡ spelling inst.row (fields_in i)
-
--- the first n bytes are the spelling of the instruction
-pub record Begins (bytes : List ℕ) (i : InstData) (n : ℕ) : Type 0 where
-  pub within : n ≤ length bytes
-  pub spells : Spells (take n bytes) i
-
--- the bytes are the first few of the spelling of an instruction, but not all
-pub record IsFront (bytes : List ℕ) : Type 0 where
-  pub rest : List ℕ
-  pub more : rest ≢ []
-  pub inst : InstData
-  pub spells : Spells (bytes ++ rest) inst
 
 -- the bytes of an instruction by its row of the table, if it has one
 abbrev pub spelling_by : Option RowData → InstData → List ℕ

@@ -7,7 +7,8 @@ use Rattle.tc_isa.specs.declared.fields.Uses.{Uses}
 use Rattle.tc_isa.specs.Forms.{bounds, second_bound, fields, is_long_form, form_index}
 use Rattle.tc_isa.specs.InBounds.{IsBelow, is_below_test}
 
--- two bytes are neighbours in the text of a row's operands
+-- the text of a row's operands has two letters side by side, such as s1, by which it is known that
+-- the row has a field
 abbrev pub has_operand_pair : ℕ → ℕ → List ℕ → Bool
 has_operand_pair a b [] = false
 has_operand_pair a b (x ∷ []) = false
@@ -28,20 +29,20 @@ uses_of r = record {
   k = has_operand_byte 107 r.operands || has_operand_byte 84 r.operands || has_operand_byte 85 r.operands;
 }
 
--- each field that the row doesn't have is 0
-abbrev pub rest_is_zero : Uses → Fields → Bool
-rest_is_zero u f = (u.c || f.c == 0) && (u.s1 || f.s1 == 0) && (u.s2 || f.s2 == 0) && (u.n || f.n == 0) && (u.k || f.k == 0)
+-- the fields are valid where the row has none: each field that the row doesn't have is 0
+abbrev pub are_unused_fields_zero : Uses → Fields → Bool
+are_unused_fields_zero u f = (u.c || f.c == 0) && (u.s1 || f.s1 == 0) && (u.s2 || f.s2 == 0) && (u.n || f.n == 0) && (u.k || f.k == 0)
 
--- the row allows these registers: an address register that is loaded or stored with post-increment
--- isn't the base too
+-- the registers are valid for the row: an address register that is loaded or stored with
+-- post-increment isn't the base too
 abbrev pub are_registers_apart : RowData → Fields → Bool
 are_registers_apart r f = not ((r.op1 == 9 || r.op1 == 137) && r.op2 == 6) || not (f.s1 == f.s2)
 
--- the fields fit the row: they are below its bounds, those that the row doesn't have are 0, and its
--- registers are apart
-pub record Fits (r : RowData) (f : Fields) : Type 0 where
+-- the fields are valid for the row: below the bounds of its form, 0 if the row doesn't have them,
+-- and with its registers apart
+pub record FieldsFitRow (r : RowData) (f : Fields) : Type 0 where
   pub below : IsBelow f (bounds r.form)
-  pub zero : rest_is_zero (uses_of r) f ≡ true
+  pub zero : are_unused_fields_zero (uses_of r) f ≡ true
   pub apart : are_registers_apart r f ≡ true
 
 -- both tests hold, or neither
@@ -57,12 +58,12 @@ least_fields r = if are_registers_apart r (fields 0 0 0 0 0) then fields 0 0 0 0
 pub record IsRow (r : RowData) : Type 0 where
   pub first : r.op1 < 256
   pub second : r.op2 < second_bound r.form
-  pub has_least : Fits r (least_fields r)
+  pub has_least : FieldsFitRow r (least_fields r)
   pub size : is_long r ≡ is_long_form r.form
 
 -- the test of IsRow
 unfoldable pub is_row : RowData → Bool
-is_row r = nat_lt r.op1 256 && nat_lt r.op2 (second_bound r.form) && is_below_test (least_fields r) (bounds r.form) && rest_is_zero (uses_of r) (least_fields r) && are_registers_apart r (least_fields r) && are_bools_equal (is_long r) (is_long_form r.form)
+is_row r = nat_lt r.op1 256 && nat_lt r.op2 (second_bound r.form) && is_below_test (least_fields r) (bounds r.form) && are_unused_fields_zero (uses_of r) (least_fields r) && are_registers_apart r (least_fields r) && are_bools_equal (is_long r) (is_long_form r.form)
 
 -- two rows clash if some word could be both: they have one first code, and different forms or equal
 -- second codes

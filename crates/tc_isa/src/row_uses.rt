@@ -1,7 +1,7 @@
 // The fields that each row has, as its operands say. Printed by tools/rows.py.
 ghost use Rattle.std.specs.Prelude.{◌≡◌, map};
 ghost use Rattle.tc_isa.specs.Rows.{listed};
-ghost use Rattle.tc_isa.specs.ValidRows.{uses_of, rest_is_zero};
+ghost use Rattle.tc_isa.specs.ValidRows.{uses_of, are_unused_fields_zero};
 
 use crate::{Fields, ROW_COUNT, Uses};
 
@@ -256,7 +256,7 @@ pub fn uses() -> &'static [Uses]
 /// Returns true if the fields that the row doesn't have, by its uses, are 0.
 #[inline(always)]
 pub fn is_zero_elsewhere(uses: &Uses, f: &Fields) -> bool
-    ensures { result ≡ rest_is_zero uses.now f.now }
+    ensures { result ≡ are_unused_fields_zero uses.now f.now }
 {
     (uses.c || f.c == 0)
         && (uses.s1 || f.s1 == 0)

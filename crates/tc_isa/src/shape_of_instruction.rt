@@ -90,8 +90,8 @@ fn shape_from_fields(meaning: &Meaning, f: &Fields) -> Shape
     }
 }
 
-/// Returns the register in the shape of an instruction, as the meaning of its row names it: that of
-/// a field, or a fixed one.
+/// Returns the number of a register in what an instruction does (its shape), by the meaning of its
+/// row: that of a field, or a fixed one.
 fn shape_register(place: RegField, f: &Fields) -> u8
     requires { AreSmall f.now }
     ensures { result ≡ shape_register place f.now }
@@ -150,8 +150,8 @@ pub fn shape_laws()
     ensures names { map (λ l. l.name) meanings ≡ map (λ r. r.name) listed }
 {}
 
-/// Returns the word of a constant in the shape of an instruction, as the meaning of its row names
-/// it.
+/// Returns the word that a constant has in what an instruction does (its shape), by the meaning of
+/// its row.
 pub(crate) fn shape_constant(constant: Immediate, f: &Fields) -> u32
     ensures { result ≡ shape_constant constant f.now }
 {

@@ -11,7 +11,8 @@ use Rattle.tcd_base.specs.NameBytes.{is_name_byte, is_name_first}
 use Rattle.tc_lex.specs.Bytes.{is_digit, is_hex, is_blank}
 use Rattle.tc_lex.specs.Texts.{is_token}
 
--- the text begins with `0x` and a hex digit, so its token is a hexadecimal number
+-- the text that is cut begins with `0x` and a hex digit, so that its first token is a hexadecimal
+-- number
 unfoldable pub has_hex_front : List ℕ → Bool
 has_hex_front bs = nat_lt 2 (length bs) && slice_index bs 0 == 48 && slice_index bs 1 == 120 && is_hex (slice_index bs 2)
 

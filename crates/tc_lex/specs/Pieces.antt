@@ -34,8 +34,8 @@ is_kind ps i kind = option_map_or (λ p. kind_index p.kind == kind_index kind) (
 unfoldable pub text_at : List PieceData → ℕ → List ℕ
 text_at ps i = option_map_or (λ p. p.text) (slice_get ps i) []
 
--- the text of a token in its line: the bytes from one place to another; a token is always within
--- its line
+-- the text of a piece, which is a token with its text: the bytes of the line from one place to
+-- another; a token is always within its line
 abbrev pub text_in : List ℕ → ℕ → ℕ → List ℕ
 text_in line from to = if nat_le from to && nat_le to (length line) then slice_range line from to else []
 

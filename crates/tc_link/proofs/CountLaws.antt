@@ -11,7 +11,7 @@ use Rattle.std.proofs.lemmas.List.Concat.{flat_map-append}
 use Rattle.std.proofs.lemmas.List.Sums.{sum_by-append, sum_by_more}
 use Rattle.tc_object.specs.Objects.{SymbolData, ObjectData}
 use Rattle.tc_link.specs.declared.definitions.Definition.{Definition}
-use Rattle.tc_link.specs.Names.{twice_of_count, has_global_name, globals_named}
+use Rattle.tc_link.specs.GlobalSymbols.{twice_of_count, has_global_name, globals_named}
 use Rattle.tc_object.proofs.UsedLaws.{bytes_eq-sym}
 
 -- a name that n symbols have, and a further symbol

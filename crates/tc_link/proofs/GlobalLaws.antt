@@ -11,7 +11,7 @@ use Rattle.std.proofs.lemmas.List.Concat.{flat_map-append}
 use Rattle.std.proofs.lemmas.List.Elements.{filter-append}
 use Rattle.tc_object.specs.Objects.{SymbolData}
 use Rattle.tc_link.specs.Placing.{PlacedData}
-use Rattle.tc_link.specs.Names.{GlobalData, is_global, global_data, globals_of, global_address}
+use Rattle.tc_link.specs.GlobalSymbols.{GlobalData, is_global, global_data, globals_of, global_address}
 use Rattle.tc_object.proofs.UsedLaws.{bytes_eq-sym}
 
 map_or : {A B : Type 0} (f : A → B) (a b : Option A) → option_map f (option_or a b) ≡ option_or (option_map f a) (option_map f b)

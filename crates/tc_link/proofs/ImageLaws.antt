@@ -8,7 +8,7 @@ use Rattle.std.proofs.lemmas.List.Sums.{sum_by-cons}
 use Rattle.elf_image.specs.Images.{SegmentData, ImageData, AreSegmentBytes, IsImage, is_segment, are_apart, all_apart}
 use Rattle.tc_object.specs.Objects.{SectionData, InTurn}
 use Rattle.tc_link.specs.Layouts.{PlaceData, LayoutData, IsPlace, IsPlaceAfter, IsLayout, are_overlapping_places}
-use Rattle.tc_link.specs.PlaceSizes.{taken_bytes, are_places_overfull, total_place_size}
+use Rattle.tc_link.specs.PlaceSizes.{taken_place_size, are_places_overfull, total_place_size}
 use Rattle.tc_link.specs.Segments.{joined_sections, segment_of, segments_of}
 use Rattle.tc_link.specs.Shapes.{section_shape}
 use Rattle.tc_link.proofs.ShapeLaws.{length-joined, taken-shapes}
@@ -23,12 +23,12 @@ Fits contents [] = Unit {0}
 Fits contents (p ∷ ps) = (IsPlace p × (length (joined_sections p.section contents) ≤ p.most)) × Fits contents ps
 
 fits_from : (contents sections : List SectionData) (before places : List PlaceData) → map section_shape contents ≡ map section_shape sections → InTurn IsPlaceAfter before places
-    → list_any (λ p. ltb p.most (taken_bytes p.section sections)) places ≡ false → Fits contents places
+    → list_any (λ p. ltb p.most (taken_place_size p.section sections)) places ≡ false → Fits contents places
 fits_from contents sections before [] same turn e = tt
 fits_from contents sections before (p ∷ ps) same turn e =
-    let parts = or_false (ltb p.most (taken_bytes p.section sections)) (list_any (λ q. ltb q.most (taken_bytes q.section sections)) ps) e in
-    let most : taken_bytes p.section sections ≤ p.most = ltb-false _ _ parts.0 in
-    let len : length (joined_sections p.section contents) ≡ taken_bytes p.section sections = length-joined p.section contents ∙ taken-shapes p.section contents sections same in
+    let parts = or_false (ltb p.most (taken_place_size p.section sections)) (list_any (λ q. ltb q.most (taken_place_size q.section sections)) ps) e in
+    let most : taken_place_size p.section sections ≤ p.most = ltb-false _ _ parts.0 in
+    let len : length (joined_sections p.section contents) ≡ taken_place_size p.section sections = length-joined p.section contents ∙ taken-shapes p.section contents sections same in
     ((turn.0.place, omega arith), fits_from contents sections (before ++ p ∷ []) ps same turn.1 parts.1)
 
 abbrev has_bytes : SegmentData → Bool
@@ -111,20 +111,20 @@ few_segments contents (p ∷ ps) = by_bytes (few_segments contents ps) (has_byte
     by_bytes rest false = omega arith
 
 small_segments : (contents sections : List SectionData) (ps : List PlaceData) → map section_shape contents ≡ map section_shape sections
-    → sum_by (λ s. length s.bytes) (segments contents ps) ≤ sum_by (λ p. taken_bytes p.section sections) ps
+    → sum_by (λ s. length s.bytes) (segments contents ps) ≤ sum_by (λ p. taken_place_size p.section sections) ps
 small_segments contents sections [] same = omega arith
 small_segments contents sections (p ∷ ps) same =
-    subst (λ n. sum_by (λ (s : SegmentData). length s.bytes) (segments contents (p ∷ ps)) ≤ n) (sym (sum_by-cons (λ (q : PlaceData). taken_bytes q.section sections) p ps)) (by_bytes (small_segments contents sections ps same) (has_bytes (segment_of contents p)))
+    subst (λ n. sum_by (λ (s : SegmentData). length s.bytes) (segments contents (p ∷ ps)) ≤ n) (sym (sum_by-cons (λ (q : PlaceData). taken_place_size q.section sections) p ps)) (by_bytes (small_segments contents sections ps same) (has_bytes (segment_of contents p)))
   where
-    len : length (joined_sections p.section contents) ≡ taken_bytes p.section sections
+    len : length (joined_sections p.section contents) ≡ taken_place_size p.section sections
     len = length-joined p.section contents ∙ taken-shapes p.section contents sections same
 
-    by_bytes : sum_by (λ s. length s.bytes) (segments contents ps) ≤ sum_by (λ q. taken_bytes q.section sections) ps → (b : Bool) → sum_by (λ s. length s.bytes) (cond b (segment_of contents p ∷ segments contents ps) (segments contents ps)) ≤ taken_bytes p.section sections + sum_by (λ q. taken_bytes q.section sections) ps
+    by_bytes : sum_by (λ s. length s.bytes) (segments contents ps) ≤ sum_by (λ q. taken_place_size q.section sections) ps → (b : Bool) → sum_by (λ s. length s.bytes) (cond b (segment_of contents p ∷ segments contents ps) (segments contents ps)) ≤ taken_place_size p.section sections + sum_by (λ q. taken_place_size q.section sections) ps
     by_bytes rest true =
-        let l : length (joined_sections p.section contents) ≡ taken_bytes p.section sections = len in
+        let l : length (joined_sections p.section contents) ≡ taken_place_size p.section sections = len in
         let f : SegmentData → ℕ = λ s. length s.bytes in
         let more : sum_by f (segment_of contents p ∷ segments contents ps) ≡ length (joined_sections p.section contents) + sum_by f (segments contents ps) = sum_by-cons f (segment_of contents p) (segments contents ps) in
-        let most : sum_by f (segment_of contents p ∷ segments contents ps) ≤ taken_bytes p.section sections + sum_by (λ q. taken_bytes q.section sections) ps = omega (arith, more, rest, l) in
+        let most : sum_by f (segment_of contents p ∷ segments contents ps) ≤ taken_place_size p.section sections + sum_by (λ q. taken_place_size q.section sections) ps = omega (arith, more, rest, l) in
         most
     by_bytes rest false = omega arith
 
@@ -144,11 +144,11 @@ pub image_is : (layout : LayoutData) (contents sections : List SectionData) (ent
     → KeepsLimits (record { entry = entry; segments = segments_of layout.places contents })
 unfolding are_places_overfull total_place_size segments_of
 image_is layout contents sections entry good same room small =
-    let parts = or_false (list_any (λ p. ltb p.most (taken_bytes p.section sections)) layout.places) (ltb (2 ^ 24) (sum_by (λ p. taken_bytes p.section sections) layout.places)) room in
+    let parts = or_false (list_any (λ p. ltb p.most (taken_place_size p.section sections)) layout.places) (ltb (2 ^ 24) (sum_by (λ p. taken_place_size p.section sections) layout.places)) room in
     let fits = fits_from contents sections [] layout.places same good.places parts.0 in
     let few : length (segments contents layout.places) ≤ length layout.places = few_segments contents layout.places in
-    let most : sum_by (λ p. taken_bytes p.section sections) layout.places ≤ 2 ^ 24 = ltb-false _ _ parts.1 in
-    let size : sum_by (λ s. length s.bytes) (segments contents layout.places) ≤ sum_by (λ p. taken_bytes p.section sections) layout.places = small_segments contents sections layout.places same in
+    let most : sum_by (λ p. taken_place_size p.section sections) layout.places ≤ 2 ^ 24 = ltb-false _ _ parts.1 in
+    let size : sum_by (λ s. length s.bytes) (segments contents layout.places) ≤ sum_by (λ p. taken_place_size p.section sections) layout.places = small_segments contents sections layout.places same in
     record {
       entry = small;
       few = omega (arith, few, good.few);

@@ -6,7 +6,7 @@ use Rattle.elf_image.specs.Images.{ImageData}
 use Rattle.tc_object.specs.Objects.{SectionData, ObjectData, IsObject}
 use Rattle.tc_link.specs.Layouts.{PlaceData, LayoutData, IsLayout}
 use Rattle.tc_link.specs.Placing.{PlacedData, sections_to_link, placed_after, placed_of}
-use Rattle.tc_link.specs.Names.{globals_of, global_address}
+use Rattle.tc_link.specs.GlobalSymbols.{globals_of, global_address}
 use Rattle.tc_link.specs.Segments.{segments_of}
 use Rattle.tcd_base.specs.Refusing.{unless_refused}
 use Rattle.tc_link.specs.Linked.{image_with_entry, image_of, made_of, image_of_objects}

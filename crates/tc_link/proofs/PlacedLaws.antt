@@ -7,7 +7,7 @@ use Rattle.std.proofs.lemmas.Option.{slice_get-get_or}
 use Rattle.tc_object.specs.Objects.{SectionData, SymbolData, ObjectData}
 use Rattle.tc_link.specs.Layouts.{PlaceData}
 use Rattle.tc_link.specs.Placing.{PlacedData, address_in_section, placed_after, address_of}
-use Rattle.tc_link.specs.Names.{GlobalData, is_global, global_data, global_address}
+use Rattle.tc_link.specs.GlobalSymbols.{GlobalData, is_global, global_data, global_address}
 use Rattle.tc_link.proofs.ItemLaws.{same_item}
 
 -- the object of a number, with its place

@@ -11,7 +11,7 @@ use Rattle.tc_object.specs.declared.relocs.Reloc.{Reloc}
 use Rattle.tc_object.specs.Objects.{SectionData, ObjectData, InTurn, IsReloc, IsObject, section_size, section_size_at}
 use Rattle.tc_link.specs.Layouts.{PlaceData}
 use Rattle.tc_link.specs.Placing.{PlacedData, sections_to_link, bases_after, placed_after}
-use Rattle.tc_link.specs.Names.{GlobalData}
+use Rattle.tc_link.specs.GlobalSymbols.{GlobalData}
 use Rattle.tc_link.specs.Relocated.{with_filled_field, with_relocation, with_relocated_item, with_reloc, field_place, reloc_value, relocated_sections, reloc_field_at}
 use Rattle.tc_link.specs.Refusals.{reloc_refusal, reloc, refusal_at}
 use Rattle.tc_reloc.specs.declared.refusals.RelocErr.{RelocErr}

@@ -15,18 +15,18 @@ use Rattle.std.proofs.lemmas.List.Quantifiers.{position-Some}
 use Rattle.tc_object.specs.Objects.{SectionData, ObjectData}
 use Rattle.tc_link.specs.Layouts.{PlaceData}
 use Rattle.tc_link.specs.Placing.{PlacedData, sections_to_link, base_of, bases_after, placed_after}
-use Rattle.tc_link.specs.PlaceSizes.{round_up_place_size, place_size_with_section, taken_bytes, AreTaken, are_places_overfull, total_place_size}
+use Rattle.tc_link.specs.PlaceSizes.{round_up_place_size, place_size_with_section, taken_place_size, AreTaken, are_places_overfull, total_place_size}
 use Rattle.tc_link.specs.Refusals.{Refusal, no_room, no_room_of, no_room_after}
 use Rattle.std.specs.Bool.{then_some}
 use Rattle.std.proofs.lemmas.Bool.Decides.{nat_tests}
 
-pub taken_none : (name : List ℕ) → taken_bytes name [] ≡ 0
-unfolding taken_bytes
+pub taken_none : (name : List ℕ) → taken_place_size name [] ≡ 0
+unfolding taken_place_size
 taken_none name = refl
 
 -- a further section
-pub taken_more : (name : List ℕ) (before : List SectionData) (s : SectionData) → taken_bytes name (before ++ s ∷ []) ≡ place_size_with_section name (taken_bytes name before) s
-unfolding taken_bytes
+pub taken_more : (name : List ℕ) (before : List SectionData) (s : SectionData) → taken_place_size name (before ++ s ∷ []) ≡ place_size_with_section name (taken_place_size name before) s
+unfolding taken_place_size
 taken_more name before s = fold-append (place_size_with_section name) 0 before (s ∷ [])
 
 pub bases_push : (places : List PlaceData) (before ss : List SectionData) (s : SectionData) → bases_after places before (ss ++ s ∷ []) ≡ bases_after places before ss ++ base_of places (before ++ ss) s ∷ []
@@ -100,7 +100,7 @@ find_some {A} p xs i d e =
     find_at p xs ∙ slice_get-get_or xs (position_or_len p xs) d (ltb-true _ _ w.0) ∙ ap (λ k. Some (get_or xs k d)) w.1
 
 pub base_none : (places : List PlaceData) (before : List SectionData) (s : SectionData) → position (λ p. bytes_eq s.name p.section) places ≡ None → 0 ≡ base_of places before s
-base_none places before s e = sym (ap (λ (o : Option PlaceData). option_map_or (λ p. p.at + round_up_place_size (taken_bytes s.name before)) o 0) (find_none (λ p. bytes_eq s.name p.section) places e))
+base_none places before s e = sym (ap (λ (o : Option PlaceData). option_map_or (λ p. p.at + round_up_place_size (taken_place_size s.name before)) o 0) (find_none (λ p. bytes_eq s.name p.section) places e))
 
 -- a section begins after the earlier sections of its place
 pub base_some : (places : List PlaceData) (before : List SectionData) (s : SectionData) (i : ℕ) (p : PlaceData) (sizes : List ℕ) → AreTaken places before sizes
@@ -108,9 +108,9 @@ pub base_some : (places : List PlaceData) (before : List SectionData) (s : Secti
 base_some places before s i p sizes t e is =
     let at = position-Some (λ q. bytes_eq s.name q.section) places i p e in
     let named : s.name ≡ (get_or places i p).section = (bytes_eq-Decides s.name (get_or places i p).section).0 at.1 in
-    ap (λ n. p.at + round_up_place_size n) (t i p at.0 ∙ ap (λ (name : List ℕ). taken_bytes name before) (sym named))
-    ∙ ap (λ (q : PlaceData). q.at + round_up_place_size (taken_bytes s.name before)) is
-    ∙ sym (ap (λ (o : Option PlaceData). option_map_or (λ q. q.at + round_up_place_size (taken_bytes s.name before)) o 0) (find_some (λ q. bytes_eq s.name q.section) places i p e))
+    ap (λ n. p.at + round_up_place_size n) (t i p at.0 ∙ ap (λ (name : List ℕ). taken_place_size name before) (sym named))
+    ∙ ap (λ (q : PlaceData). q.at + round_up_place_size (taken_place_size s.name before)) is
+    ∙ sym (ap (λ (o : Option PlaceData). option_map_or (λ q. q.at + round_up_place_size (taken_place_size s.name before)) o 0) (find_some (λ q. bytes_eq s.name q.section) places i p e))
 
 -- ---- the end
 then_none : {A : Type 0} (b : Bool) (x : A) → then_some b x ≡ None → b ≡ false
@@ -132,18 +132,18 @@ room_end places before (s ∷ ss) room e =
 never_below : (n : ℕ) → ltb n 0 ≡ false
 never_below n = grind (arith, nat_tests)
 
-none_over : (places : List PlaceData) → (list_any (λ p. ltb p.most (taken_bytes p.section [])) places ≡ false) × (sum_by (λ p. taken_bytes p.section []) places ≡ 0)
-unfolding taken_bytes
+none_over : (places : List PlaceData) → (list_any (λ p. ltb p.most (taken_place_size p.section [])) places ≡ false) × (sum_by (λ p. taken_place_size p.section []) places ≡ 0)
+unfolding taken_place_size
 none_over [] = (refl, refl)
 none_over (p ∷ ps) =
     let rest = none_over ps in
-    (ap (λ b. b || list_any (λ q. ltb q.most (taken_bytes q.section [])) ps) (never_below p.most) ∙ rest.0, omega (arith, rest.1))
+    (ap (λ b. b || list_any (λ q. ltb q.most (taken_place_size q.section [])) ps) (never_below p.most) ∙ rest.0, omega (arith, rest.1))
 
 pub room_start : (places : List PlaceData) → are_places_overfull places [] ≡ false
 unfolding are_places_overfull total_place_size
 room_start places =
     let n = none_over places in
-    ap (λ b. b || ltb (2 ^ 24) (sum_by (λ p. taken_bytes p.section []) places)) n.0 ∙ ap (ltb (2 ^ 24)) n.1
+    ap (λ b. b || ltb (2 ^ 24) (sum_by (λ p. taken_place_size p.section []) places)) n.0 ∙ ap (ltb (2 ^ 24)) n.1
 
 -- ---- one item more
 pub take_next : {A : Type 0} (xs : List A) (i : ℕ) (x : A) → i < length xs → x ≡ get_or xs i x → take (i + 1) xs ≡ take i xs ++ x ∷ []

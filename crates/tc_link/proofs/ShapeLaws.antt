@@ -5,7 +5,7 @@ use Rattle.std.specs.Str.{bytes_eq}
 use Rattle.std.proofs.lemmas.List.{length-take-le, length-replicate}
 use Rattle.tc_object.specs.declared.relocs.Reloc.{Reloc}
 use Rattle.tc_object.specs.Objects.{SectionData}
-use Rattle.tc_link.specs.PlaceSizes.{round_up_place_size, place_size_with_section, taken_bytes}
+use Rattle.tc_link.specs.PlaceSizes.{round_up_place_size, place_size_with_section, taken_place_size}
 use Rattle.tc_link.specs.Shapes.{SectionShape, section_shape}
 use Rattle.tc_link.specs.Relocated.{with_relocated_field, with_filled_field}
 use Rattle.tc_link.specs.Segments.{with_segment_padding, with_section, joined_sections}
@@ -25,8 +25,8 @@ joined_from : (name : List ℕ) (ss : List SectionData) (bytes : List ℕ) → l
 joined_from name [] bytes = refl
 joined_from name (s ∷ ss) bytes = joined_from name ss (with_section name bytes s) ∙ ap (λ n. fold (place_size_with_section name) n ss) (section_length name bytes s)
 
-pub length-joined : (name : List ℕ) (ss : List SectionData) → length (joined_sections name ss) ≡ taken_bytes name ss
-unfolding joined_sections taken_bytes
+pub length-joined : (name : List ℕ) (ss : List SectionData) → length (joined_sections name ss) ≡ taken_place_size name ss
+unfolding joined_sections taken_place_size
 length-joined name ss = joined_from name ss []
 
 -- ---- shapes
@@ -38,8 +38,8 @@ taken_from name n [] = refl
 taken_from name n (s ∷ ss) = taken_from name (place_size_with_section name n s) ss
 
 -- sections of the same shapes take as much
-pub taken-shapes : (name : List ℕ) (ss ts : List SectionData) → map section_shape ss ≡ map section_shape ts → taken_bytes name ss ≡ taken_bytes name ts
-unfolding taken_bytes
+pub taken-shapes : (name : List ℕ) (ss ts : List SectionData) → map section_shape ss ≡ map section_shape ts → taken_place_size name ss ≡ taken_place_size name ts
+unfolding taken_place_size
 taken-shapes name ss ts e = taken_from name 0 ss ∙ ap (fold (with_shape name) 0) e ∙ sym (taken_from name 0 ts)
 
 -- ---- fields

@@ -3,7 +3,7 @@ use Rattle.std.proofs.Common.{◌≡◌, ◌+◌, ◌∷◌, [], ℕ, Bool, true
 use Rattle.std.specs.Bool.{then_some}
 use Rattle.std.specs.Option.{option_or}
 use Rattle.tc_object.specs.Objects.{SymbolData, ObjectData}
-use Rattle.tc_link.specs.Names.{is_global, globals_named}
+use Rattle.tc_link.specs.GlobalSymbols.{is_global, globals_named}
 use Rattle.tc_link.specs.Refusals.{Refusal, twice, twice_of, twice_in, first_refusal_from}
 
 -- no answer at any item

@@ -34,7 +34,8 @@ first_fault before (line ∷ lines) = option_or (fault_after before line) (first
 abbrev pub layout_in : List (List ℕ) → Result LayoutData LayoutErr
 layout_in lines = unless_refused (first_fault [] lines) (with_entry (length lines) (layout_entries lines) (places_of lines))
 
--- the layout that a text spells, or the fault of its first line that has one
+-- the fault of a layout's text, at its first line that has one, or else the layout that the text
+-- spells
 abbrev pub layout_of : List ℕ → Result LayoutData LayoutErr
 layout_of text = layout_in (text_lines text)
 

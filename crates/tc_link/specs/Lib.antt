@@ -7,7 +7,7 @@ pub mod Placing
 pub mod Relocated
 pub mod Linked
 pub mod Errors
-pub mod Names
+pub mod GlobalSymbols
 pub mod PlaceSizes
 pub mod Shapes
 pub mod Segments

@@ -5,7 +5,7 @@ use Rattle.tc_object.specs.Objects.{ObjectData}
 use Rattle.elf_image.specs.Images.{ImageData}
 use Rattle.tc_link.specs.Layouts.{PlaceData, LayoutData}
 use Rattle.tc_link.specs.Placing.{PlacedData, placed_of}
-use Rattle.tc_link.specs.Names.{globals_of, global_address}
+use Rattle.tc_link.specs.GlobalSymbols.{globals_of, global_address}
 use Rattle.tc_link.specs.Relocated.{contents_of}
 use Rattle.tc_link.specs.Segments.{segments_of}
 use Rattle.tc_link.specs.Refusals.{Refusal, no_entry, reloc_in, refused_early}

@@ -13,13 +13,14 @@ round_up_place_size n = (n + 3) / 4 * 4
 abbrev pub place_size_with_section : List ℕ → ℕ → SectionData → ℕ
 place_size_with_section name n s = if bytes_eq name s.name then round_up_place_size n + length s.bytes else n
 
--- the number of bytes of their place that the sections of this name use, each at a multiple of 4
-unfoldable pub taken_bytes : List ℕ → List SectionData → ℕ
-taken_bytes name sections = fold (place_size_with_section name) 0 sections
+-- the size that the sections of this name use of their place in the layout, in bytes, each at a
+-- multiple of 4
+unfoldable pub taken_place_size : List ℕ → List SectionData → ℕ
+taken_place_size name sections = fold (place_size_with_section name) 0 sections
 
 -- for each place, the number of bytes that these sections use of it
 abbrev pub AreTaken : List PlaceData → List SectionData → List ℕ → Type 0
-AreTaken places sections sizes = (k : ℕ) (d : PlaceData) → k < length places → slice_index sizes k ≡ taken_bytes (slice_index_or places k d).section sections
+AreTaken places sections sizes = (k : ℕ) (d : PlaceData) → k < length places → slice_index sizes k ≡ taken_place_size (slice_index_or places k d).section sections
 
 -- all numbers are at most 2^32
 abbrev pub AreSmallPlaceSizes : List ℕ → Type 0
@@ -27,8 +28,8 @@ AreSmallPlaceSizes sizes = (k : ℕ) → slice_index sizes k ≤ 2 ^ 32
 
 -- the number of bytes that the sections use in all places
 unfoldable pub total_place_size : List PlaceData → List SectionData → ℕ
-total_place_size places sections = sum_by (λ p. taken_bytes p.section sections) places
+total_place_size places sections = sum_by (λ p. taken_place_size p.section sections) places
 
 -- these sections are too large for a place, or for the 16,777,216 bytes of an image
 unfoldable pub are_places_overfull : List PlaceData → List SectionData → Bool
-are_places_overfull places sections = list_any (λ p. nat_lt p.most (taken_bytes p.section sections)) places || nat_lt (2 ^ 24) (total_place_size places sections)
+are_places_overfull places sections = list_any (λ p. nat_lt p.most (taken_place_size p.section sections)) places || nat_lt (2 ^ 24) (total_place_size places sections)

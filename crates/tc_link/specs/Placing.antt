@@ -4,17 +4,17 @@ use Rattle.std.specs.Option.{option_map_or}
 use Rattle.std.specs.List.{flat_map}
 use Rattle.tc_object.specs.Objects.{SectionData, ObjectData}
 use Rattle.tc_link.specs.Layouts.{PlaceData, LayoutData, place_of}
-use Rattle.tc_link.specs.PlaceSizes.{round_up_place_size, taken_bytes}
+use Rattle.tc_link.specs.PlaceSizes.{round_up_place_size, taken_place_size}
 use Rattle.tc_link.specs.declared.definitions.Definition.{Definition}
 
 -- ---- sections
--- the sections of all objects, in order
+-- the sections of all objects, in the order in which the linker places them
 abbrev pub sections_to_link : List ObjectData → List SectionData
 sections_to_link objects = flat_map (λ o. o.sections) objects
 
 -- the address of a section after these sections, and 0 if it has no place
 abbrev pub base_of : List PlaceData → List SectionData → SectionData → ℕ
-base_of places before s = option_map_or (λ p. p.at + round_up_place_size (taken_bytes s.name before)) (place_of places s.name) 0
+base_of places before s = option_map_or (λ p. p.at + round_up_place_size (taken_place_size s.name before)) (place_of places s.name) 0
 
 -- the addresses of sections after these sections, each after the one before it
 unfoldable pub bases_after : List PlaceData → List SectionData → List SectionData → List ℕ
@@ -33,7 +33,8 @@ placed_after places before (o ∷ os) = record { object = o; bases = bases_after
 
 -- ---- symbols
 
--- the address of an offset in a section of this number
+-- the address of an offset in a section of this number, if the linker places the sections of its
+-- object at these addresses
 abbrev pub address_in_section : List ℕ → ℕ → ℕ → ℕ
 address_in_section bases section offset = (slice_index bases section + offset) % 2 ^ 32
 

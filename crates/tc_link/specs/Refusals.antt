@@ -8,7 +8,7 @@ use Rattle.tc_object.specs.declared.relocs.Reloc.{Reloc}
 use Rattle.tc_reloc.specs.declared.refusals.RelocErr.{RelocErr}
 use Rattle.tc_link.specs.Layouts.{PlaceData, is_placed, LayoutData}
 use Rattle.tc_link.specs.Placing.{PlacedData, sections_to_link}
-use Rattle.tc_link.specs.Names.{GlobalData, is_global, globals_named}
+use Rattle.tc_link.specs.GlobalSymbols.{GlobalData, is_global, globals_named}
 use Rattle.tc_link.specs.PlaceSizes.{are_places_overfull}
 use Rattle.tc_reloc.specs.Refusals.{reloc_value_refusal}
 use Rattle.tc_link.specs.Relocated.{field_place, reloc_value}
@@ -74,7 +74,7 @@ unfoldable pub no_room_after : List PlaceData → List SectionData → List Sect
 no_room_after places before [] = None
 no_room_after places before (s ∷ ss) = option_or (no_room_of places before s) (no_room_after places (before ++ s ∷ []) ss)
 
--- the reason why a relocation can't be written, if there is one
+-- why the linker refuses a relocation: the reason why it can't be written, if there is one
 abbrev pub reloc_refusal : List GlobalData → PlacedData → Reloc → Option RelocErr
 reloc_refusal globals p r = reloc_value_refusal r.kind (field_place p r) (reloc_value globals p r)
 

@@ -5,15 +5,15 @@ use Rattle.tc_object.specs.declared.relocs.Reloc.{Reloc}
 use Rattle.tc_object.specs.Objects.{SectionData, undefined_symbol, SymbolData}
 use Rattle.tc_reloc.specs.Fields.{reloc_field_number, with_reloc_field}
 use Rattle.tc_link.specs.Placing.{PlacedData, address_in_section}
-use Rattle.tc_link.specs.Names.{GlobalData, global_address, globals_of}
+use Rattle.tc_link.specs.GlobalSymbols.{GlobalData, global_address, globals_of}
 use Rattle.std.specs.List.{flat_map}
 
 -- the address of a relocation's field
 abbrev pub field_place : PlacedData → Reloc → ℕ
 field_place p r = address_in_section p.bases r.section r.offset
 
--- The address of a symbol of a placed object. A defined symbol has its own address, an undefined
--- one that of the global symbol with its name, or 0 if there is none.
+-- the address of a symbol that relocations write: a defined symbol has its own, an undefined one
+-- that of the global symbol with its name, or 0 if there is none
 abbrev pub symbol_address : List GlobalData → List ℕ → SymbolData → ℕ
 symbol_address globals bases s = if s.kind == undefined_symbol then option_map_or (λ a. a) (global_address globals s.name) 0 else address_in_section bases s.section s.offset
 

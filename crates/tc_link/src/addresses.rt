@@ -1,7 +1,7 @@
 // Computes the addresses of symbols.
 ghost use Rattle.std.specs.Prelude.{◌≡◌, List, slice_index, map, IfOk, IfErr, ◌<◌, None};
 ghost use Rattle.tc_link.specs.Placing.{address_in_section, address_of};
-ghost use Rattle.tc_link.specs.Names.{GlobalData, address_named, AreGlobals};
+ghost use Rattle.tc_link.specs.GlobalSymbols.{GlobalData, address_named, AreGlobals};
 ghost use Rattle.tc_link.specs.Relocated.{symbol_address, symbol_addresses};
 ghost use Rattle.tc_link.specs.declared.errors.LinkErr.TheVariants.{NoMemory};
 
@@ -47,7 +47,8 @@ pub(crate) fn address_named(
     }
 }
 
-// The address of a symbol of an object whose sections begin at `bases`, and 0 if it has none.
+/// Computes the address of a symbol of an object whose sections begin at `bases`: its own, or that
+/// of the global symbol with its name, and 0 if it has none.
 fn symbol_address(
     names: &HashMap<&str, Definition>,
     placed: &[Placed<'_, '_>],

@@ -2,7 +2,7 @@
 ghost use Rattle.std.specs.Prelude.{◌≡◌, ◌+◌, ◌++◌, ◌∷◌, ℕ, List, [], true, false, map, OnOk, IfOk, IfErr, if◌then◌else◌, None, Some};
 ghost use Rattle.std.specs.Str.{bytes_eq};
 ghost use Rattle.tc_link.specs.Placing.{PlacedData, address_of};
-ghost use Rattle.tc_link.specs.Names.{GlobalData, global_at_name, twice_at, twice_of_count, AreGlobals};
+ghost use Rattle.tc_link.specs.GlobalSymbols.{GlobalData, global_at_name, twice_at, twice_of_count, AreGlobals};
 ghost use Rattle.tc_link.specs.declared.errors.LinkErr.TheVariants.{NoMemory};
 
 use crate::LinkErr;

@@ -1,6 +1,7 @@
 // Layouts, with the invariant of each layout.
-ghost use Rattle.std.specs.Prelude.{◌≡◌, ◌<◌, length, position, IfSome};
+ghost use Rattle.std.specs.Prelude.{◌≡◌, ◌<◌, length, position, IfSome, ◌==◌};
 ghost use Rattle.std.specs.Str.{bytes_eq};
+ghost use Rattle.tc_link.specs.Layouts.{is_placed};
 
 use crate::LayoutErr;
 use crate::drafts::Draft;
@@ -85,4 +86,11 @@ pub(crate) fn find_place(places: &[Place], name: &str) -> Option<usize>
     places
         .iter()
         .position(|place| name == place.section.as_str())
+}
+
+/// Returns true if a layout with these places has one for sections of this name.
+pub(crate) fn is_placed(places: &[Place], name: &str) -> bool
+    ensures { result ≡ is_placed places.now name.now }
+{
+    places.iter().any(|place| name == place.section.as_str())
 }

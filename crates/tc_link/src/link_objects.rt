@@ -3,7 +3,7 @@ ghost use Rattle.std.specs.Prelude.{◌≡◌, ◌≤◌, ◌<◌, ◌^◌, ℕ,
 ghost use Rattle.elf_image.specs.Images.{ImageData, AreSegmentBytes, IsImage};
 ghost use Rattle.tc_object.specs.Objects.{ObjectData, IsObject};
 ghost use Rattle.tc_link.specs.Layouts.{IsLayout};
-ghost use Rattle.tc_link.specs.Names.{globals_of, AreGlobals, CountsGlobals};
+ghost use Rattle.tc_link.specs.GlobalSymbols.{globals_of, AreGlobals, CountsGlobals};
 ghost use Rattle.tc_link.specs.Segments.{segments_of};
 ghost use Rattle.tc_link.specs.Linked.{made_of, image_of_objects};
 ghost use Rattle.tc_link.specs.Refusals.{refused_early, no_room_after};
@@ -88,7 +88,7 @@ pub fn link_borrowed(
     make_linked_image(alloc, &names, &placed, layout)
 }
 
-// Borrows each object.
+/// Borrows each object that is to be linked, for `link_borrowed`.
 fn borrow_objects(alloc: Global, objects: &[Object]) -> Result<Vec<ObjectRef<'_>>, NoMemory>
     ensures { IfOk result (λ parts. parts.items ≡ objects.now) }
 {

@@ -92,8 +92,8 @@ pub(crate) fn base_of(places: &[Place], sizes: &[u64], section: &SectionRef<'_>)
     }
 }
 
-/// Returns the addresses at which the sections of an object are placed, or the first section
-/// without room.
+/// Gives the sections of an object their addresses, one after another, and returns these, or the
+/// first section without room.
 pub(crate) fn bases_of(
     alloc: Global,
     places: &[Place],

@@ -2,7 +2,7 @@
 ghost use Rattle.std.specs.Prelude.{◌≡◌, ◌≤◌, ◌<◌, ◌+◌, List, length, map, Some, None, OnOk, IfOk, IfErr, MatchResult};
 ghost use Rattle.tc_object.specs.Objects.{section_size_at};
 ghost use Rattle.tc_reloc.specs.Refusals.{reloc_value_refusal};
-ghost use Rattle.tc_link.specs.Names.{GlobalData, globals_of, AreGlobals};
+ghost use Rattle.tc_link.specs.GlobalSymbols.{GlobalData, globals_of, AreGlobals};
 ghost use Rattle.tc_link.specs.Relocated.{symbol_addresses, with_relocated_field, with_filled_field, with_reloc, relocated_sections, contents_of, reloc_value, reloc_field_at};
 ghost use Rattle.tc_link.specs.Refusals.{reloc_refusal, first_refusal_over, refusal_at, reloc_in};
 ghost use Rattle.tc_link.specs.Shapes.{section_shape};
@@ -19,7 +19,7 @@ use std::collections::HashMap;
 use tc_object::Reloc;
 use tc_reloc::{RelocErr, apply};
 
-/// Returns the four bytes of a relocation's field, at an offset of the section that is relocated.
+/// Returns the four bytes at an offset of a section into which the linker writes a relocation.
 fn reloc_field_at(bytes: &[u8], at: usize) -> [u8; 4]
     requires { at + 4 ≤ length bytes.now }
     ensures { result ≡ reloc_field_at bytes.now at }
@@ -159,7 +159,8 @@ pub(crate) fn contents_of<'a>(
     Ok(contents)
 }
 
-/// The value of a relocation: the address of its symbol plus the addend.
+/// Returns the value that the linker writes into a section for a relocation: the address of its
+/// symbol plus the addend.
 pub(crate) fn reloc_value(addresses: &[u32], reloc: &Reloc) -> u32
     ensures { (all : List GlobalData) (p : PlacedData) → addresses.now ≡ symbol_addresses all p
         → result ≡ reloc_value all p reloc.now }

@@ -1,5 +1,5 @@
 // Checks that sections have places.
-ghost use Rattle.std.specs.Prelude.{◌≡◌, ◌<◌, ◌==◌, ◌&&◌, ◌||◌, nat_lt, not, ℕ, Bool, List, length, slice_index_or, None, OnOk, IfOk, IfErr};
+ghost use Rattle.std.specs.Prelude.{◌≡◌, ◌<◌, ◌&&◌, ◌||◌, nat_lt, not, ℕ, Bool, List, length, slice_index_or, None, OnOk, IfOk, IfErr};
 ghost use Rattle.std.specs.Option.{option_map};
 ghost use Rattle.tc_object.specs.Objects.{SymbolData};
 ghost use Rattle.tc_link.specs.Layouts.{is_placed};
@@ -7,17 +7,11 @@ ghost use Rattle.tc_link.specs.Refusals.{no_place, no_place_of, no_place_in, fir
 ghost use Rattle.tc_link.specs.Errors.{IsRefusal};
 ghost use Rattle.tc_link.specs.declared.errors.LinkErr.TheVariants.{NoMemory};
 
+use crate::layouts::is_placed;
 use crate::symbol_checks::set_check_mark;
 use crate::{LinkErr, Place};
 use std::alloc::Global;
 use tc_object::{ObjectRef, SectionRef, UNDEFINED_SYMBOL};
-
-/// Whether there is a place for sections of this name.
-pub(crate) fn is_placed(places: &[Place], name: &str) -> bool
-    ensures { result ≡ is_placed places.now name.now }
-{
-    places.iter().any(|place| name == place.section.as_str())
-}
 
 // For each section of an object, whether a symbol is defined in it.
 fn sections_with_symbols(alloc: Global, object: &ObjectRef<'_>) -> Result<Vec<bool>, LinkErr>

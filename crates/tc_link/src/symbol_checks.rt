@@ -3,7 +3,7 @@ ghost use Rattle.std.specs.Prelude.{◌≡◌, ◌<◌, ◌==◌, ◌&&◌, nat_
 ghost use Rattle.std.specs.Option.{option_map};
 ghost use Rattle.tc_object.specs.declared.relocs.Reloc.{Reloc};
 ghost use Rattle.tc_object.specs.Objects.{ObjectData};
-ghost use Rattle.tc_link.specs.Names.{is_global, globals_named, CountsGlobals};
+ghost use Rattle.tc_link.specs.GlobalSymbols.{is_global, globals_named, CountsGlobals};
 ghost use Rattle.tc_link.specs.Refusals.{twice, missing, twice_of, twice_in, missing_of, missing_in, first_refusal_over, is_used_by_relocs};
 ghost use Rattle.tc_link.specs.Errors.{IsRefusal};
 ghost use Rattle.tc_link.specs.declared.errors.LinkErr.TheVariants.{NoMemory};

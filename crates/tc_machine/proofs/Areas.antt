@@ -3,15 +3,15 @@ use Rattle.std.proofs.Common.{◌≡◌, ◌≢◌, ℕ, zero, suc, ◌+◌, ◌
 use Rattle.std.proofs.lemmas.Bool.{le-ltb, lt-ltb, ltb-true}
 use Rattle.std.specs.Prelude.{nat_lt}
 use Rattle.csa_chain.specs.MemoryBytes.{Memory, with_words}
-use Rattle.csa_chain.specs.Chain.{link_in, link_address, is_area, area_word}
-use Rattle.csa_chain.specs.ContextWords.{word_with_link}
+use Rattle.csa_chain.specs.Chain.{link_in, link_address, is_area, area_word, word_with_link}
 use Rattle.csa_chain.proofs.ChainLaws.{Links, Avoids, Avoids-before, Distinct, Distinct-after, reverse_onto, reverse-append_onto, free_after_save, free_after_restore, chain_within-Links, are_mapped_from}
 use Rattle.csa_chain.proofs.ContextLaws.{link_in-with_link, with_link-lt, link_in-lt}
 use Rattle.elf_image.specs.Images.{ImageData}
 use Rattle.tcd_plan.specs.PlanData.{PlanData, IsPlan}
 use Rattle.tc_machine.specs.declared.state.Machine.{Machine}
 use Rattle.tc_machine.specs.PlanAreas.{area_links_up, first_link, plan_areas}
-use Rattle.tc_machine.specs.Safe.{Starts, ChainsAreWhole}
+use Rattle.tc_machine.specs.Safe.{ChainsAreWhole}
+use Rattle.tc_machine.specs.Starting.{Starts}
 use Rattle.tc_machine.proofs.PlanLaws.{length-links_up, Distinct-links_up, length-reverse_onto, place_of, link_address-area, some_link, link_lt}
 
 -- the free areas are a chain, with the used ones they are the plan's, and the limit of the list is

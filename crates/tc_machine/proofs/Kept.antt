@@ -19,7 +19,7 @@ use Rattle.tc_machine.specs.declared.state.Machine.{Machine}
 use Rattle.tc_machine.specs.Machine.{with_reg, then_, goes_on, psw_with_status}
 use Rattle.tc_machine.specs.Instructions.{does, with_base, lowered, access_address}
 use Rattle.tc_machine.specs.Fetching.{fetched, mapped_bytes, fetched_shape}
-use Rattle.tc_machine.specs.Stepping.{is_taken, executed, machine_after_event, step, used_of}
+use Rattle.tc_machine.specs.Stepping.{is_taken, executed, machine_after_event, step, used_area_count}
 use Rattle.tc_machine.specs.InstructionKinds.{is_area_keeping_shape}
 
 -- two states with equal memory and PCXI
@@ -34,7 +34,7 @@ through : (m n k : Machine) → Same m n → Same n k → Same m k
 through m n k a b = record { mem = b.mem ∙ a.mem; pcxi = b.pcxi ∙ a.pcxi }
 
 -- they have as many areas in use
-pub same_used : (m n : Machine) → Same m n → used_of n ≡ used_of m
+pub same_used : (m n : Machine) → Same m n → used_area_count n ≡ used_area_count m
 same_used m n s = ap (λ (mem : Memory). option_map length (chain mem n.pcxi)) s.mem ∙ ap (λ (w : ℕ). option_map length (chain m.mem w)) s.pcxi
 
 of_cond : (m a b : Machine) (t : Bool) → Same m a → Same m b → Same m (cond t a b)
@@ -93,7 +93,7 @@ same_then : (m : Machine) (end : End) (next : Machine → Machine) → Same m (n
 same_then m Running next s = s
 same_then m (Dead cause) next s = itself m
 
-pub kept_areas : (m : Machine) (e : Event) (shape : Shape) (n : ℕ) → is_taken m e ≡ false → Ok (shape, n) ≡ fetched_shape (decoded_of (mapped_bytes 4 m.mem m.pc)) → is_area_keeping_shape e shape ≡ true → used_of (step m e) ≡ used_of m
+pub kept_areas : (m : Machine) (e : Event) (shape : Shape) (n : ℕ) → is_taken m e ≡ false → Ok (shape, n) ≡ fetched_shape (decoded_of (mapped_bytes 4 m.mem m.pc)) → is_area_keeping_shape e shape ≡ true → used_area_count (step m e) ≡ used_area_count m
 unfolding step
 kept_areas m e shape n free at k =
     same_used m _ (same_then m m.end (λ m. then_ (machine_after_event m e) (λ n. record n { psw = psw_with_status n.psw e.status })) (through m (machine_after_event m e) _ (same_done m e shape n free at k) (status_set (machine_after_event m e) e (machine_after_event m e).end)))
@@ -109,6 +109,6 @@ and_false false = refl
 pub none_when_low : (m : Machine) (e : Event) → e.irq ≤ m.ccpn → is_taken m e ≡ false
 none_when_low m e low = ap (λ (t : Bool). m.ie && t) (lt-leb (suc m.ccpn) e.irq (omega arith)) ∙ and_false m.ie
 
-pub kept_where : (m : Machine) (e : Event) (shape : Shape) (n : ℕ) (t : Bool) → is_taken m e ≡ false → Ok (shape, n) ≡ fetched_shape (decoded_of (mapped_bytes 4 m.mem m.pc)) → t ≡ is_area_keeping_shape e shape → OnTrue t (used_of (step m e) ≡ used_of m)
+pub kept_where : (m : Machine) (e : Event) (shape : Shape) (n : ℕ) (t : Bool) → is_taken m e ≡ false → Ok (shape, n) ≡ fetched_shape (decoded_of (mapped_bytes 4 m.mem m.pc)) → t ≡ is_area_keeping_shape e shape → OnTrue t (used_area_count (step m e) ≡ used_area_count m)
 kept_where m e shape n true free at is = kept_areas m e shape n free at (sym is)
 kept_where m e shape n false free at is = tt

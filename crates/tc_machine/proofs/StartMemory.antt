@@ -10,8 +10,7 @@ use Rattle.elf_image.specs.Images.{ImageData, image_byte}
 use Rattle.tcd_plan.specs.PlanData.{PlanData, IsPlan, areas_range, are_all_ranges_apart}
 use Rattle.tc_mem.specs.PlanMemory.{IsMemoryOfZeros, HoldsRom, IsPlanMemory}
 use Rattle.tcd_base.specs.Ranges.{is_address_in_ranges, IsInOneRange}
-use Rattle.tc_machine.specs.Safe.{IsLinkedUp}
-use Rattle.tc_machine.specs.Starting.{with_images, next_start_link, with_area_links, start_memory_ranges, IsFilledStartMemory}
+use Rattle.tc_machine.specs.Starting.{IsLinkedUp, with_images, next_start_link, with_area_links, start_memory_ranges, IsFilledStartMemory}
 use Rattle.tc_machine.proofs.Filled.{images_put, images_mapped, images_none, images_outside, links_mapped, links_bytes, links_outside}
 use Rattle.tc_machine.proofs.PlanLaws.{link_address-area, link_lt}
 use Rattle.tc_machine.proofs.Zeros.{is_in-one, zero_at}

@@ -12,8 +12,7 @@ use Rattle.tc_machine.specs.declared.events.End.TheVariants.{Running}
 use Rattle.tc_machine.specs.declared.state.Machine.{Machine}
 use Rattle.tc_machine.specs.Machine.{is_interrupt_stack_used, AreRegisters, IsMachine}
 use Rattle.tc_machine.specs.PlanAreas.{first_link}
-use Rattle.tc_machine.specs.Safe.{Starts}
-use Rattle.tc_machine.specs.Starting.{a_at_start, psw_at_start, start_memory_ranges, StartsInZeros}
+use Rattle.tc_machine.specs.Starting.{Starts, a_at_start, psw_at_start, start_memory_ranges, StartsInZeros}
 use Rattle.tc_machine.proofs.PlanLaws.{link_lt}
 use Rattle.tc_machine.proofs.StartMemory.{IsStartMemory}
 

@@ -9,9 +9,8 @@ use Rattle.csa_chain.specs.MemoryBytes.{Memory, is_mapped, byte_at, are_mapped, 
 use Rattle.csa_chain.specs.Chain.{link_address, is_area, area_word}
 use Rattle.csa_chain.proofs.ChainLaws.{are_mapped_each}
 use Rattle.tcd_base.specs.Bytes.{bytes_of_word}
-use Rattle.tc_mem.specs.Blocks.{are_in_block, mapped_block_word, memory_half_at, mapped_block_half, with_block_word, with_block_half}
+use Rattle.tc_mem.specs.Blocks.{are_in_block, mapped_block_word, memory_half_at, mapped_block_half, with_block_word, with_block_half, with_half}
 use Rattle.tc_mem.specs.Areas.{area_first_word}
-use Rattle.tc_mem.specs.Written.{with_half}
 use Rattle.tc_machine.specs.Fetching.{mapped_bytes}
 
 -- ---- the bytes of a block

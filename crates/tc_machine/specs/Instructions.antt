@@ -35,7 +35,8 @@ at_handler m s back entry = record s {
   pc = entry;
 }
 
--- a trap of a class, with its identification number in D15: volume 1, traps
+-- what a trap does, as of an instruction syscall or a misaligned access: the upper context is
+-- saved, the handler of its class entered, and D15 set to the trap's number
 abbrev pub trap : Machine → ℕ → ℕ → ℕ → Machine
 trap m class tin back =
     then_ (save m true) (λ s. record (at_handler m s back (bit_or m.btv (class * 2 ^ 5))) { d = slice_set s.d 15 tin })
@@ -142,9 +143,9 @@ does m e (Mfcr dst number) n = advanced n (with_reg m dst (core_register m e num
 does m e (Mtcr src number) n = advanced n (with_core_register m number (reg m src))
 does m e Nothing n = advanced n m
 
--- this shape of instruction is a load or a store, and what it does is a trap, as its access is
--- misaligned
-abbrev pub traps : Machine → Event → Shape → Bool
-traps m e (Load dst base offset size signed after) = is_trapping_access e (access_address m base offset after) size
-traps m e (Store src base offset size after) = is_trapping_access e (access_address m base offset after) size
-traps m e _ = false
+-- what the instruction does is a trap: it is a load or a store whose access is misaligned, and the
+-- event says that such accesses trap
+abbrev pub is_trapping_instruction : Machine → Event → Shape → Bool
+is_trapping_instruction m e (Load dst base offset size signed after) = is_trapping_access e (access_address m base offset after) size
+is_trapping_instruction m e (Store src base offset size after) = is_trapping_access e (access_address m base offset after) size
+is_trapping_instruction m e _ = false

@@ -17,7 +17,8 @@ use Rattle.tc_machine.specs.Machine.{psw_with_status, IsMachine}
 use Rattle.tc_machine.specs.SavesAndRestores.{saved, save, has_kind, restored, restore}
 use Rattle.tc_machine.specs.Fetching.{fetched}
 use Rattle.tc_machine.specs.Stepping.{is_taken, step, run, load_at_pc, stored}
-use Rattle.tc_machine.specs.Safe.{Starts, AllFit, SpellsAt, ChainsAreWhole, Fits, Safe, IsRun}
+use Rattle.tc_machine.specs.Safe.{AllFit, SpellsAt, ChainsAreWhole, Fits, Safe, IsRun}
+use Rattle.tc_machine.specs.Starting.{Starts}
 use Rattle.tc_mem.specs.PlanMemory.{HoldsRom}
 use Rattle.csa_chain.specs.MemoryBytes.{Memory, is_mapped}
 use Rattle.tcd_base.specs.declared.range.Range.{Range}
@@ -33,8 +34,8 @@ use Rattle.std.specs.FinMap as bytes
 abbrev pub StartsWhole : Type 0
 StartsWhole = (image : ImageData) (plan : PlanData) (m : Machine) → IsPlan plan → Starts image plan m → ChainsAreWhole plan 0 m
 
--- if the memory has the image's bytes in rom, a spelling in rom at an even pc is fetched as its
--- instruction
+-- law for all programs: if the machine's memory has the image's bytes in rom, a spelling in rom at
+-- an even pc is fetched as its instruction
 abbrev pub FetchesSpelled : Type 0
 FetchesSpelled =
     (image : ImageData) (plan : PlanData) (m : Machine) (bytes : List ℕ) (inst : InstData) → IsPlan plan → HoldsRom image plan m.mem →
@@ -124,14 +125,15 @@ EveryStartStarts =
     })
 
 -- ---- what is safe
--- The links that a word leads to: its low 20 bits name a mapped area of 64 bytes, whose word 0
--- leads to the next one. The last area has 0 there.
+-- what the guard law of safety says of a chain: the links that a word leads to, each of a mapped
+-- area of 64 bytes whose word 0 leads to the next; the last has 0 there
 abbrev pub IsAreaWalk : Memory → ℕ → List ℕ → Type 0
 IsAreaWalk mem word [] = word % 2 ^ 20 ≡ 0
 IsAreaWalk mem word (l ∷ ls) =
     (l ≢ 0) × (word % 2 ^ 20 ≡ l) × ((i : ℕ) → i < 64 → is_mapped mem (link_address l + i) ≡ true) × IsAreaWalk mem (area_word mem l 0) ls
 
--- the n addresses from x on are inside one of the ranges
+-- what the guard law of safety says of code and stores: the n addresses from x on are inside one of
+-- the ranges
 pub record LiesInRange (ranges : List Range) (x n : ℕ) : Type 0 where
   pub place : ℕ
   pub range : Range
@@ -160,8 +162,8 @@ pub record HasFiveParts (image : ImageData) (plan : PlanData) (most : ℕ) (m : 
   pub there : (i : ℕ) → i < length code → bytes.get m.mem (m.pc + i) ≡ Some (slice_index code i)
   pub store : (x n : ℕ) → stored m e ≡ Some (x, n) → (x + n ≤ 2 ^ 32) × (LiesInRange plan.ram x n ⊎ LiesInRange (map (λ d. d.range) plan.devices) x n)
 
--- in each state of each run that is written out, and for each next event that fits, what is safe
--- has these five parts
+-- guard law of safety: in each state of each run that is written out, and for each next event that
+-- fits, what is safe has these five parts
 abbrev pub SafeHasFiveParts : Type 0
 SafeHasFiveParts =
     (image : ImageData) (plan : PlanData) (most : ℕ) (states : ℕ → Machine) (events : ℕ → Event) (n : ℕ) (e : Event) → Safe image plan most

@@ -1,8 +1,7 @@
 -- Start states, events that fit, and what safe means: the definitions under the headline.
-use Rattle.std.specs.Prelude.{◌≡◌, ℕ, ◌+◌, ◌-◌, ◌/◌, ◌%◌, ◌^◌, ◌<◌, ◌≤◌, ◌⊎◌, false, nat_lt, if◌then◌else◌, List, ◌∷◌, ◌++◌, length, reverse, slice_index, Some, IfSome, Contains, suc, []}
+use Rattle.std.specs.Prelude.{◌≡◌, ℕ, ◌+◌, ◌^◌, ◌<◌, ◌≤◌, ◌⊎◌, false, List, ◌∷◌, ◌++◌, length, reverse, slice_index, Some, IfSome, Contains, suc, []}
 use Rattle.std.specs.FinMap as map
-use Rattle.csa_chain.specs.MemoryBytes.{Memory}
-use Rattle.csa_chain.specs.Chain.{chain, area_word}
+use Rattle.csa_chain.specs.Chain.{chain}
 use Rattle.elf_image.specs.Images.{ImageData, image_byte}
 use Rattle.tcd_plan.specs.PlanData.{PlanData}
 use Rattle.tc_isa.specs.Insts.{InstData}
@@ -10,47 +9,14 @@ use Rattle.tc_isa.specs.Spelling.{Spells}
 use Rattle.tc_machine.specs.declared.events.Event.{Event}
 use Rattle.tc_machine.specs.declared.events.End.TheVariants.{Running}
 use Rattle.tc_machine.specs.declared.state.Machine.{Machine}
-use Rattle.tc_machine.specs.Machine.{is_interrupt_stack_used, IsMachine}
 use Rattle.tc_machine.specs.Stepping.{step, run, stored, is_taken, load_at_pc}
 use Rattle.tcd_base.specs.Ranges.{IsInOneRange}
 use Rattle.tcd_plan.specs.Regions.{AnswersLoad, IsStoreInRange}
-use Rattle.tc_mem.specs.PlanMemory.{HoldsRom, IsPlanMemory}
-use Rattle.tc_machine.specs.PlanAreas.{first_link, plan_areas}
+use Rattle.tc_machine.specs.PlanAreas.{plan_areas}
+use Rattle.tc_machine.specs.Starting.{Starts}
 
--- in a start state, word 0 of each area is the link of the next one, and 0 in the last
-abbrev pub IsLinkedUp : PlanData → Memory → Type 0
-IsLinkedUp plan mem =
-    (i : ℕ) → i < plan.areas → area_word mem (first_link plan + i) 0 ≡ (if nat_lt (i + 1) plan.areas then first_link plan + (i + 1) else 0)
-
--- in a start state, A0, A1, A8 and A9 are the plan's globals
-abbrev pub HasGlobals : PlanData → List ℕ → Type 0
-HasGlobals plan a = slice_index a 0 ∷ slice_index a 1 ∷ slice_index a 8 ∷ slice_index a 9 ∷ [] ≡ plan.globals
-
--- The machine is in a start state of the image under the plan. Registers, bits of PSW and bytes
--- that aren't stated here can be anything.
-pub record Starts (image : ImageData) (plan : PlanData) (m : Machine) : Type 0 where
-  pub machine : IsMachine m
-  pub memory : IsPlanMemory plan m.mem
-  pub rom : HoldsRom image plan m.mem
-  pub linked : IsLinkedUp plan m.mem
-  pub fcx : m.fcx ≡ first_link plan
-  pub lcx : m.lcx ≡ first_link plan + (plan.areas - plan.reserve)
-  pub pcxi : m.pcxi ≡ 0
-  pub pc : m.pc ≡ image.entry
-  pub sp : slice_index m.a 10 ≡ plan.sp
-  pub globals : HasGlobals plan m.a
-  pub biv : m.biv ≡ plan.biv
-  pub btv : m.btv ≡ plan.btv
-  pub isp : m.isp ≡ plan.isp
-  pub ie : m.ie ≡ plan.start_ie
-  pub ccpn : m.ccpn ≡ plan.start_ccpn
-  pub is : is_interrupt_stack_used m.psw ≡ plan.start_is
-  pub io : m.psw / 2 ^ 10 % 4 ≡ 2
-  pub end : m.end ≡ Running
-  pub core : m.core ≡ plan.core
-
--- An event that fits the plan and the state. Its interrupt is none or a stated one. If no interrupt
--- is taken, a word that the instruction loads from a device is within that device's bounds.
+-- an event that safe runs allow: its interrupt is none or one of the plan's, and if none is taken,
+-- a word that is loaded from a device is within that device's bounds
 pub record Fits (plan : PlanData) (m : Machine) (e : Event) : Type 0 where
   pub irq : (e.irq ≡ 0) ⊎ Contains plan.irqs e.irq
   pub input : e.input < 2 ^ 32
@@ -72,8 +38,8 @@ pub record ChainsAreWhole (plan : PlanData) (most : ℕ) (m : Machine) : Type 0 
   pub areas_partition : reverse used ++ free ≡ plan_areas plan
   pub within_need : length used ≤ most
 
--- the bytes at p are in one rom range, are held by segments of the image, and spell this
--- instruction
+-- safe code at an address p: the bytes are in one rom range of the plan, are held by segments of
+-- the image, and spell this instruction
 pub record SpellsAt (image : ImageData) (plan : PlanData) (p : ℕ) (bytes : List ℕ) (inst : InstData) : Type 0 where
   pub spelled : Spells bytes inst
   pub in_rom : IsInOneRange p (length bytes) plan.rom

@@ -1,8 +1,8 @@
 -- Saving and restoring contexts (TriCore 1 architecture manual, volume 1, context management).
 use Rattle.std.specs.Prelude.{ℕ, Bool, not, ◌==◌, if◌then◌else◌, List, [], ◌∷◌, map}
 use Rattle.csa_chain.specs.MemoryBytes.{Memory, with_words}
-use Rattle.csa_chain.specs.Chain.{link_in, link_address, is_area, area_word}
-use Rattle.csa_chain.specs.ContextWords.{pcxi_word_of, ul_of, word_with_link, upper_words_of, lower_words_of, d_after_upper, a_after_upper, d_after_lower, a_after_lower}
+use Rattle.csa_chain.specs.Chain.{link_in, link_address, is_area, area_word, word_with_link}
+use Rattle.csa_chain.specs.ContextWords.{pcxi_word_of, ul_of, upper_words_of, lower_words_of, d_after_upper, a_after_upper, d_after_lower, a_after_lower}
 use Rattle.tc_machine.specs.declared.events.Cause.TheVariants.{Fcd, Fcu, Csu, Ctyp, NoArea}
 use Rattle.tc_machine.specs.declared.state.Machine.{Machine}
 use Rattle.tc_machine.specs.Machine.{died}
@@ -45,7 +45,7 @@ released m =
       fcx = word_with_link m.fcx used;
     }
 
--- the 16 words that a restore reads from the area of a link
+-- the 16 words that the machine reads from the area of a link when it restores a context
 abbrev pub saved_area_words : Memory → ℕ → List ℕ
 saved_area_words mem link = map (area_word mem link) (0 ∷ 1 ∷ 2 ∷ 3 ∷ 4 ∷ 5 ∷ 6 ∷ 7 ∷ 8 ∷ 9 ∷ 10 ∷ 11 ∷ 12 ∷ 13 ∷ 14 ∷ 15 ∷ [])
 

@@ -1,16 +1,17 @@
 -- The state that a machine starts in, and how its memory is filled.
-use Rattle.std.specs.Prelude.{◌≡◌, ℕ, zero, suc, ◌+◌, ◌*◌, ◌^◌, ◌<◌, ◌≤◌, ◌⊎◌, Bool, true, nat_lt, if◌then◌else◌, List, ◌∷◌, ◌++◌, slice_index, Option, Some, None, []}
+use Rattle.std.specs.Prelude.{◌≡◌, ℕ, zero, suc, ◌+◌, ◌*◌, ◌^◌, ◌<◌, ◌≤◌, ◌⊎◌, Bool, true, nat_lt, if◌then◌else◌, List, ◌∷◌, ◌++◌, slice_index, Option, Some, None, ◌-◌, ◌/◌, ◌%◌, []}
 use Rattle.std.specs.FinMap as map
 use Rattle.csa_chain.specs.MemoryBytes.{Memory, is_mapped, with_byte, with_words, HasBytes}
 use Rattle.csa_chain.specs.Chain.{area_word, link_at}
 use Rattle.elf_image.specs.Images.{ImageData, SegmentData, segments_byte, image_byte}
 use Rattle.tcd_base.specs.declared.range.Range.{Range}
 use Rattle.tcd_plan.specs.PlanData.{PlanData}
-use Rattle.tc_mem.specs.PlanMemory.{IsMemoryOfZeros}
+use Rattle.tc_mem.specs.PlanMemory.{IsMemoryOfZeros, HoldsRom, IsPlanMemory}
 use Rattle.tc_machine.specs.declared.state.Machine.{Machine}
 use Rattle.tcd_base.specs.Ranges.{IsInOneRange}
-use Rattle.tc_machine.specs.Safe.{Starts}
 use Rattle.tc_machine.specs.PlanAreas.{first_link}
+use Rattle.tc_machine.specs.declared.events.End.TheVariants.{Running}
+use Rattle.tc_machine.specs.Machine.{is_interrupt_stack_used, IsMachine}
 
 -- ---- the memory is filled
 -- the memory with a byte at x, if there is one
@@ -67,6 +68,38 @@ a_at_start plan =
 -- PSW at the start: IO (bits 11:10) is 2, IS (bit 9) is the plan's, the other bits are 0
 abbrev pub psw_at_start : Bool → ℕ
 psw_at_start is = if is then 2 * 2 ^ 10 + 2 ^ 9 else 2 * 2 ^ 10
+
+-- in a start state, word 0 of each area is the link of the next one, and 0 in the last
+abbrev pub IsLinkedUp : PlanData → Memory → Type 0
+IsLinkedUp plan mem =
+    (i : ℕ) → i < plan.areas → area_word mem (first_link plan + i) 0 ≡ (if nat_lt (i + 1) plan.areas then first_link plan + (i + 1) else 0)
+
+-- in a start state, A0, A1, A8 and A9 are the plan's globals
+abbrev pub HasGlobals : PlanData → List ℕ → Type 0
+HasGlobals plan a = slice_index a 0 ∷ slice_index a 1 ∷ slice_index a 8 ∷ slice_index a 9 ∷ [] ≡ plan.globals
+
+-- The machine is in a start state of the image under the plan: pc, the lists of areas, memory and
+-- the stated registers. All that isn't stated here can be anything.
+pub record Starts (image : ImageData) (plan : PlanData) (m : Machine) : Type 0 where
+  pub machine : IsMachine m
+  pub memory : IsPlanMemory plan m.mem
+  pub rom : HoldsRom image plan m.mem
+  pub linked : IsLinkedUp plan m.mem
+  pub fcx : m.fcx ≡ first_link plan
+  pub lcx : m.lcx ≡ first_link plan + (plan.areas - plan.reserve)
+  pub pcxi : m.pcxi ≡ 0
+  pub pc : m.pc ≡ image.entry
+  pub sp : slice_index m.a 10 ≡ plan.sp
+  pub globals : HasGlobals plan m.a
+  pub biv : m.biv ≡ plan.biv
+  pub btv : m.btv ≡ plan.btv
+  pub isp : m.isp ≡ plan.isp
+  pub ie : m.ie ≡ plan.start_ie
+  pub ccpn : m.ccpn ≡ plan.start_ccpn
+  pub is : is_interrupt_stack_used m.psw ≡ plan.start_is
+  pub io : m.psw / 2 ^ 10 % 4 ≡ 2
+  pub end : m.end ≡ Running
+  pub core : m.core ≡ plan.core
 
 -- The state that starts the image under the plan, and in which all that a start state may choose is
 -- 0. These are the registers that the plan doesn't give, the other bits of PSW, and the bytes of

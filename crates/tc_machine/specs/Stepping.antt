@@ -48,12 +48,14 @@ abbrev pub where_running : End → Option (ℕ × ℕ) → Option (ℕ × ℕ)
 where_running Running found = found
 where_running (Dead cause) found = None
 
--- the address and the size of the load that this instruction does
+-- what the machine loads in a step with this fetched instruction: the address and the size, if it
+-- is a load
 abbrev pub load_in : Machine → Result (Shape × ℕ) Cause → Option (ℕ × ℕ)
 load_in m (Ok (Load dst base offset size signed after, n)) = Some (access_address m base offset after, size)
 load_in m _ = None
 
--- the address and the size of the load that the instruction at pc does
+-- what the machine's next step loads: the address and the size of the load that the instruction at
+-- pc does
 abbrev pub load_at_pc : Machine → Option (ℕ × ℕ)
 load_at_pc m = load_in m (fetched m)
 
@@ -62,10 +64,10 @@ load_at_pc m = load_in m (fetched m)
 abbrev pub next_load_of : Machine → Option (ℕ × ℕ)
 next_load_of m = where_running m.end (load_in m (fetched_shape (decoded_of (mapped_bytes 4 m.mem m.pc))))
 
--- the number of areas in use between steps of a machine: the length of the chain from PCXI; none if
--- it has more than 4,096 links or reaches an area that isn't mapped
-abbrev pub used_of : Machine → Option ℕ
-used_of m = option_map length (chain m.mem m.pcxi)
+-- the number of areas in use between two steps of a machine: the length of the chain from its PCXI;
+-- none if it has over 4,096 links or reaches an area that isn't mapped
+abbrev pub used_area_count : Machine → Option ℕ
+used_area_count m = option_map length (chain m.mem m.pcxi)
 
 -- what a step with this event and this found instruction stores at: the address and the size, if it
 -- is a store and its access doesn't trap
@@ -74,7 +76,7 @@ store_in m e (Ok (Store src base offset size after, n)) =
     if is_trapping_access e (access_address m base offset after) size then None else Some (access_address m base offset after, size)
 store_in m e _ = None
 
--- The address and the size that the step of this event stores at. There is none if the machine is
--- dead, an interrupt or the trap of a misaligned access is taken, or the instruction is no store.
+-- What the machine's step of this event stores at: address and size. None if it is dead, an
+-- interrupt or a misaligned access's trap is taken, or it does no store.
 unfoldable pub stored : Machine → Event → Option (ℕ × ℕ)
 stored m e = where_running m.end (if is_taken m e then None else store_in m e (fetched m))

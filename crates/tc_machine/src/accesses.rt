@@ -7,7 +7,7 @@ ghost use Rattle.csa_chain.specs.MemoryBytes.{load_number, with_bytes, extend_lo
 ghost use Rattle.tc_machine.specs.Instructions.{is_trapping_access};
 
 use crate::Event;
-use crate::operands::machine_address_ahead;
+use crate::operand_addresses::machine_address_ahead;
 use tc_mem::Mem;
 use tcd_base::sext;
 

@@ -12,7 +12,8 @@ use csa_chain::{
 };
 use tc_mem::Mem;
 
-/// Returns the link in bits 19:0 of a word, such as FCX or PCXI.
+/// Returns the link in bits 19:0 of FCX, PCXI or another word, for the machine's saves and restores
+/// of contexts.
 pub(crate) fn context_link(word: u32) -> u32
     ensures { result ≡ link_in word }
 {

@@ -5,7 +5,7 @@ ghost use Rattle.tc_isa.specs.InBounds.{IsShape};
 ghost use Rattle.tc_encode.specs.Decoding.{decoded_of};
 ghost use Rattle.tc_machine.specs.Fetching.{mapped_bytes, fetch_failure_cause, fetched, fetched_shape};
 
-use crate::operands::machine_address_ahead;
+use crate::operand_addresses::machine_address_ahead;
 use crate::{Cause, Machine};
 use tc_encode::{DecodeErr, decode};
 use tc_isa::{Inst, Shape, shape};

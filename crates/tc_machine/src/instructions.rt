@@ -6,7 +6,7 @@ ghost use Rattle.tc_machine.specs.Instructions.{does};
 ghost use Rattle.tc_machine.specs.InstructionKinds.{OnAccessInstruction, OnContextInstruction, OnSystemInstruction};
 
 use crate::accesses::{is_trapping_access, load, store};
-use crate::operands::machine_address_ahead;
+use crate::operand_addresses::machine_address_ahead;
 use crate::{End, Event, Machine};
 use csa_chain::pcxi_parts;
 use tc_isa::{Arg, Cond, Op, Shape, Target, alu, taken};

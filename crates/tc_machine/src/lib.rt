@@ -2,7 +2,6 @@
 #![tactic(auto)]
 
 mod accesses;
-mod areas_in_use;
 mod contexts;
 mod core_registers;
 mod events;
@@ -10,7 +9,8 @@ mod fetching;
 mod handlers;
 mod instructions;
 mod laws;
-mod operands;
+mod next_load_and_used_areas;
+mod operand_addresses;
 mod registers;
 mod start_memory;
 mod starting;

@@ -4,7 +4,7 @@ ghost use Rattle.tc_isa.specs.InBounds.{IsArg};
 ghost use Rattle.tc_machine.specs.Machine.{reg, with_reg, machine_address_ahead, died};
 ghost use Rattle.tc_machine.specs.Instructions.{arg, advanced};
 
-use crate::operands::machine_address_ahead;
+use crate::operand_addresses::machine_address_ahead;
 use crate::{Cause, End, Machine};
 use tc_isa::Arg;
 
@@ -33,7 +33,7 @@ impl Machine {
         }
     }
 
-    /// Returns the value of an operand: the word in its register, or its own word.
+    /// Returns what an operand stands for: the word read from its register, or its own word.
     pub(crate) fn arg(&self, x: Arg) -> u32
         requires { IsArg x }
         ensures { result ≡ arg self.now x }
@@ -44,14 +44,14 @@ impl Machine {
         }
     }
 
-    /// Moves pc to the next instruction, after one of `n` bytes.
+    /// Moves the register pc to the next instruction, after one of `n` bytes.
     pub(crate) fn advance(&mut self, n: u32)
         ensures { self.new ≡ advanced n self.old }
     {
         self.pc = machine_address_ahead(self.pc, n);
     }
 
-    /// Ends the machine with this cause; its registers and its memory stay.
+    /// Writes only the machine's end, with this cause of death: its registers and its memory stay.
     pub(crate) fn die(&mut self, cause: Cause)
         ensures { self.new ≡ died cause self.old }
     {

@@ -10,9 +10,8 @@ use Rattle.std.proofs.lemmas.List.{set-get_or}
 use Rattle.csa_chain.specs.MemoryBytes.{Memory, is_mapped, byte_at, are_mapped, word_at, with_word, with_words}
 use Rattle.csa_chain.proofs.ChainLaws.{are_mapped_each, are_mapped_from}
 use Rattle.tcd_base.specs.Bytes.{word_in_bytes as word_in, half_in_bytes as half_in}
-use Rattle.tc_mem.specs.Blocks.{are_in_block, mapped_block_word, memory_half_at, mapped_block_half, with_block_word, with_block_half}
+use Rattle.tc_mem.specs.Blocks.{are_in_block, mapped_block_word, memory_half_at, mapped_block_half, with_block_word, with_block_half, with_half}
 use Rattle.tc_mem.specs.Areas.{area_first_word}
-use Rattle.tc_mem.specs.Written.{with_half}
 use Rattle.tc_mem.specs.Pages.{is_page_bit_set, are_page_bits_set, memory_of, page_bytes_with_words, ArePages, number_of}
 use Rattle.tc_mem.specs.declared.page.Page.{Page}
 use Rattle.tc_mem.proofs.Search.{no_page}

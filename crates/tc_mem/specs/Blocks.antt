@@ -1,7 +1,6 @@
 -- Accesses of a word or a halfword inside one block of 64 bytes, whose bits are one word of a page.
-use Rattle.std.specs.Prelude.{ℕ, ◌+◌, ◌*◌, ◌%◌, ◌^◌, Bool, ◌&&◌, nat_le, if◌then◌else◌, Option, Some, None}
-use Rattle.csa_chain.specs.MemoryBytes.{Memory, byte_at, are_mapped, word_at, with_word}
-use Rattle.tc_mem.specs.Written.{with_half}
+use Rattle.std.specs.Prelude.{ℕ, ◌+◌, ◌*◌, ◌%◌, ◌^◌, Bool, ◌&&◌, nat_le, if◌then◌else◌, Option, Some, None, ◌/◌}
+use Rattle.csa_chain.specs.MemoryBytes.{Memory, byte_at, are_mapped, word_at, with_word, with_byte}
 
 -- the n bytes from an address on are mapped and cross no multiple of 64
 abbrev pub are_in_block : Memory → ℕ → ℕ → Bool
@@ -15,13 +14,19 @@ mapped_block_word m x = if are_in_block m x 4 then Some (word_at m x) else None
 abbrev pub with_block_word : Memory → ℕ → ℕ → Memory
 with_block_word m x w = if are_in_block m x 4 then with_word m x w else m
 
--- the halfword of the two bytes of a memory from an address on, the lower byte first
+-- the halfword that an access inside a block of 64 bytes reads: two bytes of the memory from an
+-- address on, the lower byte first
 abbrev pub memory_half_at : Memory → ℕ → ℕ
 memory_half_at m x = byte_at m x + 2 ^ 8 * byte_at m (x + 1)
 
 -- the halfword at an address, if its two bytes are mapped and in one block
 abbrev pub mapped_block_half : Memory → ℕ → Option ℕ
 mapped_block_half m x = if are_in_block m x 2 then Some (memory_half_at m x) else None
+
+-- the memory after an access inside a block of 64 bytes wrote the halfword h: in the two bytes from
+-- an address on, the lower byte first
+abbrev pub with_half : Memory → ℕ → ℕ → Memory
+with_half m x h = with_byte (with_byte m x (h % 2 ^ 8)) (x + 1) (h / 2 ^ 8 % 2 ^ 8)
 
 -- the memory with this halfword at an address, if its two bytes are mapped and in one block
 abbrev pub with_block_half : Memory → ℕ → ℕ → Memory

@@ -197,8 +197,8 @@ pub(crate) fn read_word(pages: &[Page], addr: u32, near: usize) -> Option<u32>
     mapped_word(&pages[i], (addr % 4096) as usize)
 }
 
-/// Does the work of `Mem::half`: returns the halfword at an address if its bytes are mapped and in
-/// one block of 64.
+/// Does the work of `Mem::half` on the memory's list of pages: returns the halfword at an address
+/// if its bytes are mapped and in one block of 64.
 pub(crate) fn read_half(pages: &[Page], addr: u32, near: usize) -> Option<u16>
     requires { IsMem pages.now }
     ensures half { result ≡ mapped_block_half (memory_of pages.now) addr }
@@ -297,7 +297,8 @@ pub(crate) fn read_area_first_word(pages: &[Page], addr: u32, near: &mut usize) 
     first_in(&pages[i], (addr % 4096) as usize)
 }
 
-/// Does the work of `Mem::area`: returns the words of an area that is wholly mapped.
+/// Does the work of `Mem::area` on the memory's list of pages: returns the words of an area that is
+/// wholly mapped.
 pub(crate) fn read_area(pages: &[Page], addr: u32, near: usize) -> Option<[u32; 16]>
     requires pages { IsMem pages.now }
     requires aligned { addr % 64 ≡ 0 }
@@ -327,8 +328,8 @@ pub(crate) fn write_area(pages: &mut [Page], addr: u32, words: &[u32; 16], near:
     put_area(&mut pages[i], (addr % 4096) as usize, words)
 }
 
-/// Returns the pages of a new `Mem` for the ranges. There is room for all of them before the first
-/// one is made, so each is written where it stays.
+/// Returns the list of pages that a new `Mem` for the ranges has, its bytes all zero. Room for all
+/// pages is reserved first, so that each is written where it stays.
 pub(crate) fn pages_of(alloc: Global, ranges: &[Range]) -> Result<Vec<Page>, NoMemory>
     ensures pages { IfOk result (λ v. IsMem v.items) }
     ensures bytes { IfOk result (λ v. HasBytes (memory_of v.items)) }

@@ -12,7 +12,7 @@ use Rattle.tcd_base.proofs.FieldReads.{u8_at-between, u16_at-between, u32_at-bet
 use Rattle.tc_object.specs.declared.relocs.Reloc.{Reloc}
 use Rattle.tc_object.specs.Names.{IsNewObjectName, is_name_length}
 use Rattle.tc_object.specs.Objects.{SectionData, SymbolData, ObjectData, InTurn, IsSection, IsSymbol, IsReloc, IsObject, is_section_name, is_symbol_name, last_reloc, is_behind, section_size_at}
-use Rattle.tc_object.specs.Grammar.{is_not_below, name_length_at, name_bytes_at, new_object_name_at, section_after, section_with, kind_at, symbol_section_at, symbol_offset_at, symbol_after, symbol_with, symbol_named, reloc_section_at, reloc_offset_at, reloc_symbol_at, reloc_after, magic_at, section_count_at, parts_at, object_at, object_of}
+use Rattle.tc_object.specs.Grammar.{is_reloc_section_ordered, name_length_at, name_bytes_at, new_object_name_at, section_after, section_with, kind_at, symbol_section_at, symbol_offset_at, symbol_after, symbol_with, symbol_named, reloc_section_at, reloc_offset_at, reloc_symbol_at, reloc_after, magic_at, section_count_at, parts_at, object_at, object_of}
 use Rattle.tc_object.specs.Spelling.{bytes_of_name, bytes_of_section, bytes_of_symbol, bytes_of_reloc, bytes_of_header, bytes_of}
 
 -- a successful reading, and what follows it
@@ -74,7 +74,7 @@ symbol_back sections before s good front rest =
 
 -- ---- relocations
 -- a place after another isn't in a lower section
-not_below_of_behind : (last : Option Reloc) (section offset : ℕ) → is_behind last section offset ≡ true → is_not_below last section ≡ true
+not_below_of_behind : (last : Option Reloc) (section offset : ℕ) → is_behind last section offset ≡ true → is_reloc_section_ordered last section ≡ true
 not_below_of_behind None section offset h = refl
 not_below_of_behind (Some r) section offset h = le-leb r.section section (grind (arith, nat_tests))
 

@@ -12,7 +12,7 @@ use Rattle.tcd_base.proofs.FieldReads.{bytes_at_ok, bind_ok}
 use Rattle.tc_object.specs.declared.relocs.Reloc.{Reloc}
 use Rattle.tc_object.specs.Names.{IsNewObjectName, is_name_length, is_object_name}
 use Rattle.tc_object.specs.Objects.{SectionData, SymbolData, ObjectData, InTurn, IsSection, IsSymbol, IsReloc, IsObject, is_section_name, is_symbol_name, is_symbol_section, is_symbol_offset, last_reloc, is_behind, section_size_at}
-use Rattle.tc_object.specs.Grammar.{is_not_below, checked_object_field, name_length_at, name_bytes_at, new_object_name_at, section_after, section_with, kind_at, symbol_section_at, symbol_offset_at, symbol_after, symbol_with, symbol_named, reloc_section_at, reloc_offset_at, reloc_symbol_at, reloc_after, magic_at, section_count_at, parts_at, object_at, object_of}
+use Rattle.tc_object.specs.Grammar.{is_reloc_section_ordered, checked_object_field, name_length_at, name_bytes_at, new_object_name_at, section_after, section_with, kind_at, symbol_section_at, symbol_offset_at, symbol_after, symbol_with, symbol_named, reloc_section_at, reloc_offset_at, reloc_symbol_at, reloc_after, magic_at, section_count_at, parts_at, object_at, object_of}
 use Rattle.tc_object.specs.Spelling.{bytes_of_name, bytes_of_section, bytes_of_symbol, bytes_of_reloc, bytes_of_header, bytes_of}
 use Rattle.tcd_base.proofs.PassedLaws.{AreBytes, bytes_from, Passed, passed_bytes, passed_both, ok_pair, passed_test, took_passed, byte_passed, half_passed, word_passed, many_passed}
 
@@ -158,8 +158,8 @@ reloc_section_passed : (sections : List SectionData) (before : List Reloc) (fron
 unfolding reloc_section_at
 reloc_section_passed sections before front rest x q bytes e =
     let b = bind_ok (u16_at (place_between front rest)) _ _ e in
-    let c = bind_ok (checked_object_field 3 (is_not_below (last_reloc before) b.0.0) (place_between front rest) b.0) _ _ b.2 in
-    let t1 = passed_test (is_not_below (last_reloc before) b.0.0) b.0 c.0 _ c.1 in
+    let c = bind_ok (checked_object_field 3 (is_reloc_section_ordered (last_reloc before) b.0.0) (place_between front rest) b.0) _ _ b.2 in
+    let t1 = passed_test (is_reloc_section_ordered (last_reloc before) b.0.0) b.0 c.0 _ c.1 in
     let t2 = passed_test (ltb c.0.0 (length sections)) c.0 (x, q) _ c.2 in
     let h = half_passed front rest x q bytes (b.1 ∙ ap (λ (v : ℕ × Place). Ok v) (t1.1 ∙ t2.1)) in
     (h.0, h.1, ltb-true _ _ (subst (λ (v : ℕ × Place). ltb v.0 (length sections) ≡ true) t2.1 t2.0))

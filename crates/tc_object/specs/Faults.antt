@@ -3,7 +3,7 @@ use Rattle.std.specs.Prelude.{◌+◌, ◌&&◌, nat_lt, nat_le, if◌then◌els
 use Rattle.tcd_base.specs.declared.errors.FormErr.{FormErr}
 use Rattle.tc_object.specs.declared.relocs.Reloc.{Reloc}
 use Rattle.tc_object.specs.Objects.{SectionData, SymbolData, is_symbol_section, is_symbol_offset, last_reloc, is_behind, section_size_at}
-use Rattle.tc_object.specs.Grammar.{is_not_below}
+use Rattle.tc_object.specs.Grammar.{is_reloc_section_ordered}
 use Rattle.tc_object.specs.declared.errors.ObjErr.{ObjErr}
 use Rattle.tc_object.specs.declared.errors.ObjErr.TheVariants.{Bad, NoMemory}
 
@@ -15,7 +15,7 @@ object_field_fault good kind at next = if good then next else Some (record { kin
 -- its start
 unfoldable pub reloc_fault : List SectionData → ℕ → List Reloc → Reloc → ℕ → Option FormErr
 reloc_fault sections symbols before r start =
-    object_field_fault (is_not_below (last_reloc before) r.section) 3 start
+    object_field_fault (is_reloc_section_ordered (last_reloc before) r.section) 3 start
     (object_field_fault (nat_lt r.section (length sections)) 4 start
     (object_field_fault (is_behind (last_reloc before) r.section r.offset) 3 start
     (object_field_fault (nat_le (r.offset + 4) (section_size_at sections r.section)) 4 (start + 2)

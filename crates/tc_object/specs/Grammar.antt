@@ -64,16 +64,17 @@ symbol_with sections is_used p = new_object_name_at is_used p >>= λ name. symbo
 unfoldable pub symbol_after : List SectionData → List SymbolData → Place → Result (SymbolData × Place) FormErr
 symbol_after sections before p = symbol_with sections (is_symbol_name before) p
 
--- a section's number isn't below that of the last relocation, if there is one
-abbrev pub is_not_below : Option Reloc → ℕ → Bool
-is_not_below None section = true
-is_not_below (Some r) section = nat_le r.section section
+-- in the grammar of relocations: the number of the section that is read isn't below that of the
+-- last relocation, if there is one
+abbrev pub is_reloc_section_ordered : Option Reloc → ℕ → Bool
+is_reloc_section_ordered None section = true
+is_reloc_section_ordered (Some r) section = nat_le r.section section
 
 -- ---- relocations
 -- a section below that of the last relocation is out of order, whatever the offset
 unfoldable pub reloc_section_at : List SectionData → List Reloc → Place → Result (ℕ × Place) FormErr
 reloc_section_at sections before p =
-    u16_at p >>= λ s. checked_object_field 3 (is_not_below (last_reloc before) s.0) p s >>= λ s. checked_object_field 4 (nat_lt s.0 (length sections)) p s
+    u16_at p >>= λ s. checked_object_field 3 (is_reloc_section_ordered (last_reloc before) s.0) p s >>= λ s. checked_object_field 4 (nat_lt s.0 (length sections)) p s
 
 -- an offset in a section; the fault of a wrong order is at start, the relocation's section field
 unfoldable pub reloc_offset_at : List SectionData → List Reloc → ℕ → Place → Place → Result (ℕ × Place) FormErr

@@ -35,7 +35,7 @@ pub record ObjectData : Type 0 where
   pub symbols : List SymbolData
   pub relocs : List Reloc
 
--- some section has the name
+-- some section of an object has the name
 abbrev pub is_section_name : List SectionData → List ℕ → Bool
 is_section_name ss name = list_any (λ s. bytes_eq name s.name) ss
 

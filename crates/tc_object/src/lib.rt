@@ -6,6 +6,7 @@ mod errors;
 mod fields;
 mod names;
 mod objects;
+mod parts_writer;
 mod reading;
 mod reloc_reader;
 mod relocs;
@@ -14,7 +15,6 @@ mod sections;
 mod symbol_reader;
 mod symbols;
 mod used_names;
-mod writing;
 
 pub use borrowed::ObjectRef;
 pub use errors::ObjErr;

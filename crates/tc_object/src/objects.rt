@@ -1,6 +1,6 @@
 // Objects that own their names and bytes, with the invariant of each object.
 use crate::fields::MAGIC;
-use crate::writing::{write_relocs, write_sections, write_symbols};
+use crate::parts_writer::{write_relocs, write_sections, write_symbols};
 use crate::{ObjErr, ObjectRef, Reloc, Section, Symbol};
 use std::alloc::Global;
 use std::marker::Model;
@@ -36,7 +36,8 @@ impl Object {
     ghost use Rattle.tc_object.specs.Grammar.{object_of};
     ghost use Rattle.tc_object.specs.Spelling.{bytes_of};
 
-    /// The object that the bytes spell, or their first fault.
+    /// Returns the object that the bytes spell, which owns its names and contents, or their first
+    /// fault.
     pub fn read(alloc: Global, bytes: &[u8]) -> Result<Object, ObjErr>
         requires { length bytes.now ≤ 2 ^ 30 }
         ensures ok { IfOk result (λ o. object_of bytes.now ≡ Ok o) }
@@ -49,8 +50,8 @@ impl Object {
         Ok(object.into_object(alloc)?)
     }
 
-    /// Returns the bytes that spell this object, which owns its names and bytes: `read` reads the
-    /// same object from them.
+    /// Returns this object, which owns its names and contents, as the bytes that spell it: `read`
+    /// reads the same object from them.
     #[tactic(auto, unfolding(crate::specs::Spelling::bytes_of, crate::specs::Spelling::bytes_of_header))]
     pub fn write(&self, alloc: Global) -> Result<Vec<u8>, ObjErr>
         ensures bytes { IfOk result (λ out. out.items ≡ bytes_of self.now) }

@@ -4,7 +4,7 @@ ghost use Rattle.tcd_base.specs.Bytes.{half_in_bytes, word_in_bytes};
 ghost use Rattle.tcd_base.specs.FieldReaders.{ReadsField, many_fields_at};
 ghost use Rattle.tc_object.specs.Faults.{IsFaultOf, reloc_fault};
 ghost use Rattle.tc_object.specs.Objects.{section_size_at, last_reloc, is_behind};
-ghost use Rattle.tc_object.specs.Grammar.{is_not_below, reloc_section_at, reloc_offset_at, reloc_symbol_at, reloc_after};
+ghost use Rattle.tc_object.specs.Grammar.{is_reloc_section_ordered, reloc_section_at, reloc_offset_at, reloc_symbol_at, reloc_after};
 
 use crate::fields::{is_kind, read_kind};
 use crate::section_reader::section_size_at;
@@ -22,8 +22,8 @@ const LAST_KIND: u8 = 7;
 const RELOC_BYTES: usize = 13;
 
 // Whether a section isn't below the section of the last relocation.
-fn is_not_below(before: &[Reloc], section: u16) -> bool
-    ensures { result ≡ is_not_below (last_reloc before.now) section }
+fn is_reloc_section_ordered(before: &[Reloc], section: u16) -> bool
+    ensures { result ≡ is_reloc_section_ordered (last_reloc before.now) section }
 {
     match before.last() {
         None => true,
@@ -54,7 +54,7 @@ fn read_reloc_section(
 {
     let start = c.place();
     let section = read_u16(c)?;
-    if !is_not_below(before, section) {
+    if !is_reloc_section_ordered(before, section) {
         return Err(form_err_at(BAD_ORDER, start));
     }
     if section as usize >= sections.len() {
@@ -169,7 +169,7 @@ fn check_reloc(
         (λ _. reloc_fault sections.now symbols before.now reloc.now start ≡ None)
         (λ e. reloc_fault sections.now symbols before.now reloc.now start ≡ Some e) }
 {
-    if !is_not_below(before, reloc.section) {
+    if !is_reloc_section_ordered(before, reloc.section) {
         return Err(form_err_at(BAD_ORDER, start));
     }
     if reloc.section as usize >= sections.len() {

@@ -7,7 +7,7 @@ use Rattle.std.specs.Str.{bytes_eq}
 use Rattle.tc_object.specs.Objects.{SectionData, ObjectData}
 use Rattle.tc_link.specs.Layouts.{PlaceData, is_placed, place_of}
 use Rattle.tc_link.specs.Placing.{PlacedData, base_of, bases_after, placed_after}
-use Rattle.tc_link.specs.PlaceSizes.{round_up_place_size, taken_bytes}
+use Rattle.tc_link.specs.PlaceSizes.{round_up_place_size, taken_place_size}
 use Rattle.tc_link.specs.Placing as placing
 use Rattle.tc_link.specs.Refusals.{Refusal, no_place, first_refusal_from, has_symbol, no_place_of, no_place_in}
 use Rattle.tc_asm.specs.Objects.{object_of}
@@ -116,5 +116,5 @@ begins_at places sources objects i source s x p are at there is =
       is = ap (λ (l : List SectionData). slice_index (bases_after places (placing.sections_to_link (take i objects)) l) s) (sym same)
           ∙ base_at places (placing.sections_to_link (take i objects)) (sections_in source) s x there
           ∙ ap (λ (b : List SectionData). base_of places (b ++ take s (sections_in source)) x) earlier
-          ∙ ap (λ (o : Option PlaceData). option_map_or (λ q. q.at + round_up_place_size (taken_bytes x.name (program_sections (take i sources) ++ take s (sections_in source)))) o 0) is;
+          ∙ ap (λ (o : Option PlaceData). option_map_or (λ q. q.at + round_up_place_size (taken_place_size x.name (program_sections (take i sources) ++ take s (sections_in source)))) o 0) is;
     }

@@ -12,7 +12,7 @@ use Rattle.tc_asm.specs.Objects.{section_of, object_of}
 use Rattle.tc_asm.specs.Statements.{StatementData, section_bytes, offset_of, statements_in}
 use Rattle.tc_asm.proofs.LaidLaws.{stands}
 use Rattle.tc_link.specs.Placing.{PlacedData}
-use Rattle.tc_link.specs.Names.{GlobalData}
+use Rattle.tc_link.specs.GlobalSymbols.{GlobalData}
 use Rattle.tc_link.specs.Relocated.{with_reloc, relocated_sections}
 use Rattle.tc_asm.proofs.Uses.{GoodItems}
 use Rattle.tc_program.proofs.Fields.{finished_at, relocs_written, filled_from, filled_bytes, filled_at, filled_offset, fields_written}

@@ -13,7 +13,7 @@ use Rattle.tc_asm.specs.Statements.{StatementData, section_bytes, offset_of, is_
 use Rattle.tc_reloc.specs.Fields.{reloc_field_number, with_reloc_field}
 use Rattle.tc_link.specs.Relocated.{reloc_field_at, field_place, reloc_value, with_relocation, with_reloc}
 use Rattle.tc_link.specs.Placing.{PlacedData}
-use Rattle.tc_link.specs.Names.{GlobalData}
+use Rattle.tc_link.specs.GlobalSymbols.{GlobalData}
 use Rattle.tc_stmt.proofs.ListItems.{seam_get, seam_set, take_behind, drop_behind}
 use Rattle.tc_asm.proofs.Uses.{use_at, uses_from, HaveFields}
 

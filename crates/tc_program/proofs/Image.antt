@@ -11,7 +11,7 @@ use Rattle.std.proofs.lemmas.Slice.Eq.{bytes_eq-Decides}
 use Rattle.elf_image.specs.Images.{SegmentData, is_held_by_segment, segments_byte, are_apart, all_apart}
 use Rattle.tc_object.specs.Objects.{SectionData, InTurn}
 use Rattle.tc_link.specs.Layouts.{PlaceData, IsPlaceAfter, is_placed, place_of}
-use Rattle.tc_link.specs.PlaceSizes.{round_up_place_size, taken_bytes}
+use Rattle.tc_link.specs.PlaceSizes.{round_up_place_size, taken_place_size}
 use Rattle.tc_link.specs.Segments.{with_segment_padding, with_section, joined_sections}
 use Rattle.tc_link.specs.Shapes.{SectionShape, section_shape}
 use Rattle.tc_link.proofs.ShapeLaws.{length-joined, taken-shapes, padded_length}
@@ -42,7 +42,7 @@ pub record Stands (name : List ℕ) (before : List SectionData) (s : SectionData
   pub front : List ℕ
   pub rest : List ℕ
   pub is : joined_sections name (before ++ s ∷ after) ≡ front ++ (s.bytes ++ rest)
-  pub place : length front ≡ round_up_place_size (taken_bytes name before)
+  pub place : length front ≡ round_up_place_size (taken_place_size name before)
 
 pub stands : (name : List ℕ) (before : List SectionData) (s : SectionData) (after : List SectionData) → bytes_eq name s.name ≡ true → Stands name before s after
 unfolding joined_sections
@@ -119,19 +119,19 @@ in_joined name (s ∷ ss) before k b e = by_rest (in_joined name ss (with_sectio
     by_rest (inr (inl h)) = inr (inl h)
     by_rest (inr (inr r)) = inr (inr (record { at = suc r.at; section = r.section; is_section = r.is_section; named = r.named; low = r.low; high = r.high }))
 
-starts_same : (name : List ℕ) (ss : List SectionData) (k : ℕ) → InSection name ss (starts_behind name []) k → InSection name ss (λ before. round_up_place_size (taken_bytes name before)) k
+starts_same : (name : List ℕ) (ss : List SectionData) (k : ℕ) → InSection name ss (starts_behind name []) k → InSection name ss (λ before. round_up_place_size (taken_place_size name before)) k
 unfolding joined_sections
 starts_same name ss k h =
-    let same : starts_behind name [] (take h.at ss) ≡ round_up_place_size (taken_bytes name (take h.at ss)) = ap round_up_place_size (length-joined name (take h.at ss)) in
+    let same : starts_behind name [] (take h.at ss) ≡ round_up_place_size (taken_place_size name (take h.at ss)) = ap round_up_place_size (length-joined name (take h.at ss)) in
     let low = h.low in
     let high = h.high in
     record { at = h.at; section = h.section; is_section = h.is_section; named = h.named; low = omega arith; high = omega arith }
 
-pub joined_byte : (name : List ℕ) (ss : List SectionData) (k b : ℕ) → slice_get (joined_sections name ss) k ≡ Some b → (b ≡ 0) ⊎ InSection name ss (λ before. round_up_place_size (taken_bytes name before)) k
+pub joined_byte : (name : List ℕ) (ss : List SectionData) (k b : ℕ) → slice_get (joined_sections name ss) k ≡ Some b → (b ≡ 0) ⊎ InSection name ss (λ before. round_up_place_size (taken_place_size name before)) k
 unfolding joined_sections
 joined_byte name ss k b e = by (in_joined name ss [] k b e)
   where
-    by : (k < length {A = ℕ} []) ⊎ ((b ≡ 0) ⊎ InSection name ss (starts_behind name []) k) → (b ≡ 0) ⊎ InSection name ss (λ before. round_up_place_size (taken_bytes name before)) k
+    by : (k < length {A = ℕ} []) ⊎ ((b ≡ 0) ⊎ InSection name ss (starts_behind name []) k) → (b ≡ 0) ⊎ InSection name ss (λ before. round_up_place_size (taken_place_size name before)) k
     by (inl h) = absurd (omega arith)
     by (inr (inl h)) = inl h
     by (inr (inr r)) = inr (starts_same name ss k r)
@@ -142,10 +142,10 @@ shaped_at ss ts i s e h =
     let f = map_at section_shape ts i (section_shape s) (ap (λ (l : List SectionShape). slice_get l i) (sym e) ∙ map_get section_shape ss i s h) in
     (f.item, f.is_item, f.is)
 
-pub taken_front : (name : List ℕ) (ss ts : List SectionData) (i : ℕ) → map section_shape ss ≡ map section_shape ts → taken_bytes name (take i ss) ≡ taken_bytes name (take i ts)
+pub taken_front : (name : List ℕ) (ss ts : List SectionData) (i : ℕ) → map section_shape ss ≡ map section_shape ts → taken_place_size name (take i ss) ≡ taken_place_size name (take i ts)
 taken_front name ss ts i e = taken-shapes name (take i ss) (take i ts) (map_take section_shape ss i ∙ ap (take i) e ∙ sym (map_take section_shape ts i))
 
-pub in_shaped : (name : List ℕ) (ss ts : List SectionData) (k : ℕ) → map section_shape ss ≡ map section_shape ts → InSection name ss (λ before. round_up_place_size (taken_bytes name before)) k → InSection name ts (λ before. round_up_place_size (taken_bytes name before)) k
+pub in_shaped : (name : List ℕ) (ss ts : List SectionData) (k : ℕ) → map section_shape ss ≡ map section_shape ts → InSection name ss (λ before. round_up_place_size (taken_place_size name before)) k → InSection name ts (λ before. round_up_place_size (taken_place_size name before)) k
 in_shaped name ss ts k e h =
     let t = shaped_at ss ts h.at h.section e h.is_section in
     let front = ap round_up_place_size (taken_front name ss ts h.at e) in

@@ -6,7 +6,7 @@ use Rattle.elf_image.specs.Images.{ImageData}
 use Rattle.tc_object.specs.Objects.{ObjectData, IsObject}
 use Rattle.tc_asm.specs.DraftInvariants.{IsDraft}
 use Rattle.tc_link.specs.Layouts.{LayoutData}
-use Rattle.tc_link.specs.Names.{globals_of, global_address}
+use Rattle.tc_link.specs.GlobalSymbols.{globals_of, global_address}
 use Rattle.tc_link.specs.Relocated.{relocated_sections, contents_of}
 use Rattle.tc_link.specs.Segments.{segments_of}
 use Rattle.tcd_base.specs.Refusing.{unless_refused}

@@ -18,7 +18,7 @@ use Rattle.tc_asm.specs.Objects.{section_of, symbol_at, symbol_of, object_of}
 use Rattle.tc_link.specs.Layouts.{PlaceData}
 use Rattle.tc_link.specs.Refusals.{has_symbol, no_place_in}
 use Rattle.tc_link.specs.Placing.{PlacedData, bases_after, placed_after, address_in_section}
-use Rattle.tc_link.specs.Names.{GlobalData, is_global, global_data, globals_of, global_address}
+use Rattle.tc_link.specs.GlobalSymbols.{GlobalData, is_global, global_data, globals_of, global_address}
 use Rattle.tc_link.specs.Placing as placing
 use Rattle.tc_asm.specs.Statements.{sections_in}
 use Rattle.tc_asm.specs.DraftedSources.{draft_in, symbols_in}

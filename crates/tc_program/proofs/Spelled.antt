@@ -17,7 +17,7 @@ use Rattle.tc_asm.specs.DraftInvariants.{EachInDraft}
 use Rattle.tc_asm.specs.Statements.{StatementData, content_of, standing_statement, statements_from}
 use Rattle.tc_program.specs.PlacementLaws.{SourceFieldFillsRow, SourceFieldsLaw}
 use Rattle.tc_stmt.proofs.ListItems.{InRest, in_front_or_rest}
-use Rattle.tc_asm.specs.AddedItems.{IsAddedCode, IsAddedItem}
+use Rattle.tc_asm.specs.ItemInvariants.{IsAddedCode, IsAddedItem}
 use Rattle.tc_asm.proofs.SourceItems.{source_are}
 use Rattle.tc_asm.proofs.CodeSizes.{fits_true, resolved_fits}
 use Rattle.tc_reloc.proofs.FilledRows.{filled_row, filled_fits}

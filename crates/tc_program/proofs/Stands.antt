@@ -30,8 +30,8 @@ use Rattle.tc_asm.proofs.LaidLaws.{drafted-bytes, stands}
 use Rattle.tc_asm.proofs.ListLaws.{position_first}
 use Rattle.tc_link.specs.Layouts.{PlaceData, LayoutData, IsLayout, place_of}
 use Rattle.tc_link.specs.Placing.{PlacedData, bases_after, placed_of}
-use Rattle.tc_link.specs.Names.{GlobalData, globals_of}
-use Rattle.tc_link.specs.PlaceSizes.{round_up_place_size, taken_bytes}
+use Rattle.tc_link.specs.GlobalSymbols.{GlobalData, globals_of}
+use Rattle.tc_link.specs.PlaceSizes.{round_up_place_size, taken_place_size}
 use Rattle.tc_link.specs.Relocated.{symbol_address, relocated_sections, field_place, reloc_value, contents_of}
 use Rattle.tc_link.specs.Refusals.{reloc_refusal, Refusal, reloc, missing_in, is_used_by_relocs, has_symbol, refusal_at, reloc_in, first_refusal_from, refused_early}
 use Rattle.tc_link.specs.Placing as placing
@@ -243,7 +243,7 @@ module _ (sources : List (List ℕ)) (objects : List ObjectData) (layout : Layou
     base_is : slice_index bases s ≡ placed.0.at + length stood.front
     base_is =
         base_at layout.places (placing.sections_to_link (take number objects)) object.sections s (section_of q) section_there
-        ∙ ap (λ (o : Option PlaceData). option_map_or (λ p. p.at + round_up_place_size (taken_bytes q.name (placing.sections_to_link (take number objects) ++ take s object.sections))) o 0) placed.1
+        ∙ ap (λ (o : Option PlaceData). option_map_or (λ p. p.at + round_up_place_size (taken_place_size q.name (placing.sections_to_link (take number objects) ++ take s object.sections))) o 0) placed.1
         ∙ ap (λ n. placed.0.at + round_up_place_size n) (sym (taken-shapes q.name before (placing.sections_to_link (take number objects) ++ take s object.sections) earlier))
         ∙ ap (λ n. placed.0.at + n) (sym stood.place)
 

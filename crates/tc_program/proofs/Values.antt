@@ -16,7 +16,7 @@ use Rattle.tc_asm.specs.DraftInvariants.{IsDraft}
 use Rattle.tc_asm.specs.Objects.{symbol_at, symbol_of, object_of}
 use Rattle.tc_link.specs.Layouts.{PlaceData}
 use Rattle.tc_link.specs.Refusals.{Refusal, missing, first_refusal_from, is_used_by_relocs, missing_of, missing_in, no_place_in}
-use Rattle.tc_link.specs.Names.{has_global_name, globals_named, symbols_to_link, GlobalData, is_global, global_data, globals_of, global_address}
+use Rattle.tc_link.specs.GlobalSymbols.{has_global_name, globals_named, symbols_to_link, GlobalData, is_global, global_data, globals_of, global_address}
 use Rattle.tc_link.specs.Placing.{placed_after, bases_after, address_in_section}
 use Rattle.tc_link.specs.Relocated.{symbol_address}
 use Rattle.tc_asm.specs.DraftedSources.{draft_in, symbols_in}

@@ -14,8 +14,8 @@ use Rattle.tc_asm.specs.Statements.{StatementData, section_bytes, offset_of, sta
 use Rattle.tc_asm.proofs.LaidLaws.{drafted-bytes}
 use Rattle.tc_link.specs.Layouts.{PlaceData, LayoutData, IsLayout, place_of}
 use Rattle.tc_link.specs.Placing.{placed_of}
-use Rattle.tc_link.specs.Names.{globals_of}
-use Rattle.tc_link.specs.PlaceSizes.{round_up_place_size, taken_bytes}
+use Rattle.tc_link.specs.GlobalSymbols.{globals_of}
+use Rattle.tc_link.specs.PlaceSizes.{round_up_place_size, taken_place_size}
 use Rattle.tc_link.specs.Segments.{segment_of, segments_of}
 use Rattle.tc_link.specs.Relocated.{contents_of}
 use Rattle.tc_link.specs.Shapes.{section_shape}
@@ -75,7 +75,7 @@ section_is source s x e =
 -- ---- the bytes of places
 module _ (sources : List (List ℕ)) (layout : LayoutData) (good : IsLayout layout) where
   -- an address in a section with a place is in a statement
-  in_statement : (place : PlaceData) (i q : ℕ) → slice_get layout.places i ≡ Some place → place.at ≤ q → InSection place.section (program_sections sources) (λ before. round_up_place_size (taken_bytes place.section before)) (q - place.at) → IsInPlacedStatement layout.places sources q
+  in_statement : (place : PlaceData) (i q : ℕ) → slice_get layout.places i ≡ Some place → place.at ≤ q → InSection place.section (program_sections sources) (λ before. round_up_place_size (taken_place_size place.section before)) (q - place.at) → IsInPlacedStatement layout.places sources q
   in_statement place i q is_place above h = by (flat_at sections_in sources h.at h.section h.is_section)
     where
       name : place.section ≡ h.section.name
@@ -84,14 +84,14 @@ module _ (sources : List (List ℕ)) (layout : LayoutData) (good : IsLayout layo
       by : FlatAt (List ℕ) SectionData sections_in sources h.at h.section → IsInPlacedStatement layout.places sources q
       by f =
           let behind : List SectionData = program_sections (take f.outer sources) ++ take f.inner (sections_in f.item) in
-          let start : ℕ = place.at + round_up_place_size (taken_bytes h.section.name (program_sections (take f.outer sources) ++ take f.inner (sections_in f.item))) in
-          let same : round_up_place_size (taken_bytes place.section (take h.at (program_sections sources))) ≡ round_up_place_size (taken_bytes h.section.name (program_sections (take f.outer sources) ++ take f.inner (sections_in f.item)))
-          = ap (λ (l : List SectionData). round_up_place_size (taken_bytes place.section l)) f.front ∙ ap (λ (n : List ℕ). round_up_place_size (taken_bytes n (program_sections (take f.outer sources) ++ take f.inner (sections_in f.item)))) name in
+          let start : ℕ = place.at + round_up_place_size (taken_place_size h.section.name (program_sections (take f.outer sources) ++ take f.inner (sections_in f.item))) in
+          let same : round_up_place_size (taken_place_size place.section (take h.at (program_sections sources))) ≡ round_up_place_size (taken_place_size h.section.name (program_sections (take f.outer sources) ++ take f.inner (sections_in f.item)))
+          = ap (λ (l : List SectionData). round_up_place_size (taken_place_size place.section l)) f.front ∙ ap (λ (n : List ℕ). round_up_place_size (taken_place_size n (program_sections (take f.outer sources) ++ take f.inner (sections_in f.item)))) name in
           inside f start refl same (covering f.inner (statements_in f.item) (q - start) (within f start refl same))
         where
           within : (f : FlatAt (List ℕ) SectionData sections_in sources h.at h.section) (start : ℕ)
-              → start ≡ place.at + round_up_place_size (taken_bytes h.section.name (program_sections (take f.outer sources) ++ take f.inner (sections_in f.item)))
-              → round_up_place_size (taken_bytes place.section (take h.at (program_sections sources))) ≡ round_up_place_size (taken_bytes h.section.name (program_sections (take f.outer sources) ++ take f.inner (sections_in f.item)))
+              → start ≡ place.at + round_up_place_size (taken_place_size h.section.name (program_sections (take f.outer sources) ++ take f.inner (sections_in f.item)))
+              → round_up_place_size (taken_place_size place.section (take h.at (program_sections sources))) ≡ round_up_place_size (taken_place_size h.section.name (program_sections (take f.outer sources) ++ take f.inner (sections_in f.item)))
               → q - start < length (section_bytes f.inner (statements_in f.item))
           within f start is same =
               let low = h.low in
@@ -100,8 +100,8 @@ module _ (sources : List (List ℕ)) (layout : LayoutData) (good : IsLayout layo
               omega arith
 
           inside : (f : FlatAt (List ℕ) SectionData sections_in sources h.at h.section) (start : ℕ)
-              → start ≡ place.at + round_up_place_size (taken_bytes h.section.name (program_sections (take f.outer sources) ++ take f.inner (sections_in f.item)))
-              → round_up_place_size (taken_bytes place.section (take h.at (program_sections sources))) ≡ round_up_place_size (taken_bytes h.section.name (program_sections (take f.outer sources) ++ take f.inner (sections_in f.item)))
+              → start ≡ place.at + round_up_place_size (taken_place_size h.section.name (program_sections (take f.outer sources) ++ take f.inner (sections_in f.item)))
+              → round_up_place_size (taken_place_size place.section (take h.at (program_sections sources))) ≡ round_up_place_size (taken_place_size h.section.name (program_sections (take f.outer sources) ++ take f.inner (sections_in f.item)))
               → Covering f.inner (statements_in f.item) (q - start) → IsInPlacedStatement layout.places sources q
           inside f start is same c =
               let first = h.low in
@@ -152,6 +152,6 @@ module _ (sources : List (List ℕ)) (layout : LayoutData) (good : IsLayout layo
         by m.item f.at m.is_item above
         (joined_byte m.item.section contents (q - m.item.at) b (ap (λ (s : SegmentData). slice_get s.bytes (q - s.at)) m.is ∙ i.byte))
       where
-        by : (place : PlaceData) (k : ℕ) → slice_get layout.places k ≡ Some place → place.at ≤ q → (b ≡ 0) ⊎ InSection place.section contents (λ before. round_up_place_size (taken_bytes place.section before)) (q - place.at) → IsInPlacedStatement layout.places sources q ⊎ (b ≡ 0)
+        by : (place : PlaceData) (k : ℕ) → slice_get layout.places k ≡ Some place → place.at ≤ q → (b ≡ 0) ⊎ InSection place.section contents (λ before. round_up_place_size (taken_place_size place.section before)) (q - place.at) → IsInPlacedStatement layout.places sources q ⊎ (b ≡ 0)
         by place k is above (inl z) = inr z
         by place k is above (inr h) = inl (in_statement place k q is above (in_shaped place.section contents (program_sections sources) (q - place.at) shapes h))

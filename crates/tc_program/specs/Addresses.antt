@@ -8,7 +8,7 @@ use Rattle.tc_asm.specs.Symbols.{entry_of, place_in}
 use Rattle.tc_asm.specs.Statements.{sections_in}
 use Rattle.tc_asm.specs.DraftedSources.{symbols_in}
 use Rattle.tc_link.specs.Layouts.{PlaceData, place_of}
-use Rattle.tc_link.specs.PlaceSizes.{round_up_place_size, taken_bytes}
+use Rattle.tc_link.specs.PlaceSizes.{round_up_place_size, taken_place_size}
 
 -- the sections of all sources, in order
 abbrev pub program_sections : List (List ℕ) → List SectionData
@@ -23,7 +23,7 @@ pub record SectionHasAddress (places : List PlaceData) (sources : List (List ℕ
   pub is_section : slice_get (sections_in source) section ≡ Some data_of
   pub place : PlaceData
   pub is_place : place_of places data_of.name ≡ Some place
-  pub is : base ≡ place.at + round_up_place_size (taken_bytes data_of.name (program_sections (take number sources) ++ take section (sections_in source)))
+  pub is : base ≡ place.at + round_up_place_size (taken_place_size data_of.name (program_sections (take number sources) ++ take section (sections_in source)))
 
 -- a label of a source has an address
 pub record LabelHasAddress (places : List PlaceData) (sources : List (List ℕ)) (number : ℕ) (name : List ℕ) (address : ℕ) : Type 0 where

@@ -9,7 +9,7 @@ use Rattle.tc_object.specs.Objects.{SectionData}
 use Rattle.tc_asm.specs.Objects.{assembled_addend}
 use Rattle.tc_asm.specs.Statements.{StatementData, offset_of, statements_in, is_open_statement}
 use Rattle.tc_link.specs.Layouts.{PlaceData, LayoutData}
-use Rattle.tc_link.specs.PlaceSizes.{taken_bytes}
+use Rattle.tc_link.specs.PlaceSizes.{taken_place_size}
 use Rattle.tc_program.specs.Addresses.{program_sections, SectionHasAddress, GlobalHasAddress, NameHasAddress}
 
 -- ---- bytes
@@ -27,7 +27,8 @@ pub data PlacedStatementBytes (places : List PlaceData) (sources : List (List �
       → reloc_value_refusal r.kind at (placed_symbol_value address r) ≡ None
       → PlacedStatementBytes places sources number t at (with_reloc_field r.kind t.bytes (reloc_field_number r.kind at (placed_symbol_value address r)))
 
--- The statement with this index is after the earlier ones of its section.
+-- the image holds the bytes of the source statement with this index at its address, after the
+-- earlier ones of its section
 pub record StatementIsPlaced (places : List PlaceData) (sources : List (List ℕ)) (image : ImageData) (number index : ℕ) (ts : List StatementData) (t : StatementData) : Type 0 where
   pub base : ℕ
   pub begins : SectionHasAddress places sources number t.section base
@@ -60,7 +61,7 @@ placed_segment_span s = record { at = s.at; size = length s.bytes }
 
 -- the address of a place, and the number of bytes that the sections of its name use
 abbrev pub place_span : List SectionData → PlaceData → PlacedSpanData
-place_span sections p = record { at = p.at; size = taken_bytes p.section sections }
+place_span sections p = record { at = p.at; size = taken_place_size p.section sections }
 
 -- The image holds the sources, laid out by the layout:
 -- - Each place with bytes is one segment at its address, in the layout's order.

@@ -3,7 +3,7 @@ use Rattle.std.specs.Prelude.{◌≡◌, ◌<◌, ◌+◌, ◌⊎◌, nat_lt, �
 use Rattle.elf_image.specs.Images.{ImageData}
 use Rattle.tc_isa.specs.declared.fields.Fields.{Fields}
 use Rattle.tc_isa.specs.Rows.{RowData, listed}
-use Rattle.tc_isa.specs.ValidRows.{Fits}
+use Rattle.tc_isa.specs.ValidRows.{FieldsFitRow}
 use Rattle.tc_isa.specs.Spelling.{spelling}
 use Rattle.tc_isa.specs.Relocations.{is_reloc}
 use Rattle.tc_reloc.specs.Fields.{reloc_field_bound, with_reloc_field}
@@ -42,24 +42,25 @@ abbrev pub PlacedLaw : Type 0
 PlacedLaw = (sources : List (List ℕ)) (objects : List ObjectData) (layout : LayoutData) (image : ImageData) → IsLayout layout → AreProgramObjects sources objects → image_of_objects objects layout ≡ Ok image
     → Placed sources layout image
 
--- the symbols that resolve a source's jumps of 16 bits are those of all its lines
+-- law of placing a source: the symbols that its jumps of 16 bits are resolved by are those of all
+-- its lines
 abbrev pub SourceSymbolsLaw : Type 0
 SourceSymbolsLaw = (source : List ℕ) → symbols_of (lines_in source) ≡ symbols_in source
 
 -- ---- filled fields
--- The bytes spell an instruction of a listed row. With a number in the field of this kind, they
--- spell the instruction with that number as its constant.
+-- by law of statements to place: the bytes spell an instruction of a listed row, and with a number
+-- in the field of this kind, the one with that constant
 pub record SourceFieldFillsRow (kind : ℕ) (bytes : List ℕ) : Type 0 where
   pub place : ℕ
   pub row : RowData
   pub is_row : slice_get listed place ≡ Some row
   pub fields : Fields
-  pub fits : Fits row fields
+  pub fits : FieldsFitRow row fields
   pub spelled : bytes ≡ spelling row fields
-  pub filled : (n : ℕ) → n < reloc_field_bound kind → Fits row (record fields { k = n }) × (with_reloc_field kind bytes n ≡ spelling row (record fields { k = n }))
+  pub filled : (n : ℕ) → n < reloc_field_bound kind → FieldsFitRow row (record fields { k = n }) × (with_reloc_field kind bytes n ≡ spelling row (record fields { k = n }))
 
--- the bytes of a statement that waits for an address are a word of data, or an instruction with the
--- constant to fill
+-- law of placing a source: the bytes of a statement that waits for an address are a word of data,
+-- or an instruction with the constant to fill
 abbrev pub SourceFieldsLaw : Type 0
 SourceFieldsLaw = (source : List ℕ) (index : ℕ) (t : StatementData) (r : ReferenceData) → slice_get (statements_in source) index ≡ Some t → t.reference ≡ Some r → is_reloc r.kind ≡ true → (r.kind ≡ 7) ⊎ SourceFieldFillsRow r.kind t.bytes
 

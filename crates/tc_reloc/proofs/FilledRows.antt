@@ -13,7 +13,7 @@ use Rattle.tc_isa.specs.Forms.{bounds, second_bound}
 use Rattle.tc_isa.specs.Spelling.{word_by_form, spelling_of, spelling, word_of}
 use Rattle.tc_isa.specs.InBounds.{IsBelow}
 use Rattle.tc_isa.specs.declared.fields.Uses.{Uses}
-use Rattle.tc_isa.specs.ValidRows.{uses_of, rest_is_zero, Fits, IsRow}
+use Rattle.tc_isa.specs.ValidRows.{uses_of, are_unused_fields_zero, FieldsFitRow, IsRow}
 use Rattle.tc_isa.proofs.TableFacts.{row_at}
 use Rattle.tc_reloc.specs.Fields.{reloc_field_bound, reloc_field_bits, bits_outside_reloc_field, with_reloc_field}
 use Rattle.tc_isa.specs.Relocations.{can_relocation_fill}
@@ -112,7 +112,7 @@ filled_bytes kind w v n same small =
     ∙ ap bytes_of_word same
     ∙ word_bytes v small
 
-pub filled_row : (row : RowData) (f : Fields) (kind n : ℕ) → IsRow row → Fits row f → is_long row ≡ true → can_relocation_fill row.form kind ≡ true → n < reloc_field_bound kind → with_reloc_field kind (spelling row f) n ≡ spelling row (record f { k = n })
+pub filled_row : (row : RowData) (f : Fields) (kind n : ℕ) → IsRow row → FieldsFitRow row f → is_long row ≡ true → can_relocation_fill row.form kind ≡ true → n < reloc_field_bound kind → with_reloc_field kind (spelling row f) n ≡ spelling row (record f { k = n })
 filled_row row f kind n is fit long suited room =
     let first = is.first in
     let less : row.op1 < 2 ^ 8 = omega arith in
@@ -178,14 +178,14 @@ constant_fits Bol kind n e room = let P : ℕ → Type 0 = λ i. n < reloc_field
 constant_fits _ kind n e room = cc
 
 -- a constant that the row has may be any number
-zero_with : (u : Uses) (f : Fields) (n : ℕ) → u.k ≡ true → rest_is_zero u f ≡ true → rest_is_zero u (record f { k = n }) ≡ true
+zero_with : (u : Uses) (f : Fields) (n : ℕ) → u.k ≡ true → are_unused_fields_zero u f ≡ true → are_unused_fields_zero u (record f { k = n }) ≡ true
 zero_with u f n h z = by u.k (f.k == 0) (n == 0) (u.c || f.c == 0) (u.s1 || f.s1 == 0) (u.s2 || f.s2 == 0) (u.n || f.n == 0) h z
   where
     by : (t a b p q r s : Bool) → t ≡ true → (p && q && r && s && (t || a)) ≡ true → (p && q && r && s && (t || b)) ≡ true
     by true a b p q r s h z = z
     by false a b p q r s h z = cc
 
-pub filled_fits : (place : ℕ) (row : RowData) (f : Fields) (kind n : ℕ) → slice_get listed place ≡ Some row → Fits row f → can_relocation_fill row.form kind ≡ true → n < reloc_field_bound kind → Fits row (record f { k = n })
+pub filled_fits : (place : ℕ) (row : RowData) (f : Fields) (kind n : ℕ) → slice_get listed place ≡ Some row → FieldsFitRow row f → can_relocation_fill row.form kind ≡ true → n < reloc_field_bound kind → FieldsFitRow row (record f { k = n })
 filled_fits place row f kind n at fit suited room = record {
   below = record { c = fit.below.c; s1 = fit.below.s1; s2 = fit.below.s2; n = fit.below.n; k = constant_fits row.form kind n suited room };
   zero = zero_with (uses_of row) f n (constant_used place row kind at suited) fit.zero;

@@ -1,9 +1,13 @@
 -- The number that a relocation writes, and the bits of the little-endian word that hold it.
 -- The fields are those of the TriCore 1 architecture manual, volume 2, instruction formats.
-use Rattle.std.specs.Prelude.{◌+◌, ◌*◌, ◌/◌, ◌%◌, ◌^◌, ◌==◌, ◌||◌, if◌then◌else◌, ℕ, List}
+use Rattle.std.specs.Prelude.{◌+◌, ◌*◌, ◌/◌, ◌%◌, ◌^◌, ◌==◌, ◌||◌, if◌then◌else◌, ℕ, List, ◌-◌}
 use Rattle.tc_isa.specs.Relocations.{rel24, abs24, rel15, hi16, lo16, offset16, word32}
-use Rattle.tc_reloc.specs.Refusals.{reloc_distance}
 use Rattle.tcd_base.specs.Bytes.{word_in_bytes, bytes_of_word}
+
+-- the distance from a relocation's place to its value, modulo 2^32, which the fields of jumps hold
+-- in halfwords
+abbrev pub reloc_distance : ℕ → ℕ → ℕ
+reloc_distance place value = (value + 2 ^ 32 - place) % 2 ^ 32
 
 -- the number in the field
 unfoldable pub reloc_field_number : ℕ → ℕ → ℕ → ℕ

@@ -1,12 +1,9 @@
 -- The reasons why a value can't be written into a field.
-use Rattle.std.specs.Prelude.{◌+◌, ◌-◌, ◌/◌, ◌%◌, ◌^◌, ◌==◌, ◌&&◌, ◌||◌, not, nat_lt, nat_le, if◌then◌else◌, ℕ, Bool, Option, Some, None}
+use Rattle.std.specs.Prelude.{◌-◌, ◌/◌, ◌%◌, ◌^◌, ◌==◌, ◌&&◌, ◌||◌, not, nat_lt, nat_le, if◌then◌else◌, ℕ, Bool, Option, Some, None}
 use Rattle.tc_isa.specs.Relocations.{rel24, rel15, abs24}
 use Rattle.tc_reloc.specs.declared.refusals.RelocErr.{RelocErr}
 use Rattle.tc_reloc.specs.declared.refusals.RelocErr.TheVariants.{Odd, FarOff, Segment}
-
--- the distance from a relocation's place to its value, modulo 2^32
-abbrev pub reloc_distance : ℕ → ℕ → ℕ
-reloc_distance place value = (value + 2 ^ 32 - place) % 2 ^ 32
+use Rattle.tc_reloc.specs.Fields.{reloc_distance}
 
 -- a relocation's distance is in reach: half of it, as a signed word, is a signed number of this
 -- many bits

@@ -1,8 +1,7 @@
 // The fields of relocations: the number to write, and the bits that hold it.
 ghost use Rattle.std.specs.Prelude.{◌≡◌, ◌<◌};
-ghost use Rattle.tc_reloc.specs.Fields.{reloc_field_number, bits_outside_reloc_field, reloc_field_bits, reloc_field_bound};
+ghost use Rattle.tc_reloc.specs.Fields.{reloc_field_number, bits_outside_reloc_field, reloc_field_bits, reloc_field_bound, reloc_distance};
 
-use crate::refusals::reloc_distance;
 use tc_isa::{ABS24, HI16, LO16, OFFSET16, REL15, REL24};
 
 /// The number that goes into the field.
@@ -51,4 +50,12 @@ pub(crate) fn reloc_field_bits(kind: u8, content: u32) -> u32
         }
         _ => content,
     }
+}
+
+/// Returns the distance from a relocation's place to its value, modulo 2^32, which the fields of
+/// jumps hold in halfwords.
+pub(crate) fn reloc_distance(place: u32, value: u32) -> u32
+    ensures { result ≡ reloc_distance place value }
+{
+    value.wrapping_sub(place)
 }

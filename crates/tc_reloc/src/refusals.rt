@@ -1,7 +1,9 @@
 // The reasons why a value can't be written into a field.
 ghost use Rattle.std.specs.Prelude.{◌≡◌, ◌≤◌};
-ghost use Rattle.tc_reloc.specs.Refusals.{reloc_distance, is_reloc_in_reach, reloc_value_refusal};
+ghost use Rattle.tc_reloc.specs.Refusals.{is_reloc_in_reach, reloc_value_refusal};
+ghost use Rattle.tc_reloc.specs.Fields.{reloc_distance};
 
+use crate::fields::reloc_distance;
 use tc_isa::{ABS24, REL15, REL24};
 
 /// Why a value can't be written into its field, in the order of the tests.
@@ -38,11 +40,4 @@ pub(crate) fn reloc_value_refusal(kind: u8, place: u32, value: u32) -> Option<Re
         ABS24 if value / 0x20_0000 % 0x80 != 0 => Some(RelocErr::Segment),
         _ => None,
     }
-}
-
-/// Returns the distance from a relocation's place to its value, modulo 2^32.
-pub(crate) fn reloc_distance(place: u32, value: u32) -> u32
-    ensures { result ≡ reloc_distance place value }
-{
-    value.wrapping_sub(place)
 }

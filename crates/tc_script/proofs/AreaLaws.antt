@@ -24,7 +24,7 @@ use Rattle.tc_machine.specs.declared.events.End.TheVariants.{Running, Dead}
 use Rattle.tc_machine.specs.declared.state.Machine.{Machine}
 use Rattle.tc_machine.specs.Machine.{reg, with_reg, died, then_, goes_on, psw_with_status}
 use Rattle.tc_machine.specs.Instructions.{advanced, does, misaligned, with_base, access_address, is_trapping_access}
-use Rattle.tc_machine.specs.Stepping.{interrupt, is_taken, executed, machine_after_event, step, used_of}
+use Rattle.tc_machine.specs.Stepping.{interrupt, is_taken, executed, machine_after_event, step, used_area_count}
 use Rattle.tc_machine.specs.SavesAndRestores.{context_of, saved, save, has_kind, restored, restore}
 use Rattle.tc_machine.specs.Fetching.{fetched, mapped_bytes, fetched_shape}
 use Rattle.tc_machine.specs.InstructionKinds.{is_area_keeping_shape}
@@ -40,7 +40,7 @@ row_length : (first n : ℕ) → length (links_in_sequence first n) ≡ n
 row_length first zero = refl
 row_length first (suc n) = omega (arith, row_length first n)
 
-pub used_in_row : (m : Machine) (first n : ℕ) → AreAreasInSequence first n m → n ≡ unwrap_or (used_of m) 0
+pub used_in_row : (m : Machine) (first n : ℕ) → AreAreasInSequence first n m → n ≡ unwrap_or (used_area_count m) 0
 used_in_row m first n row = sym (ap (λ (o : Option (List ℕ)). unwrap_or (option_map length o) 0) row ∙ row_length first n)
 
 on_true : {P : Type 0} (b : Bool) → P → OnTrue b P
@@ -63,7 +63,7 @@ the_row u m h is = from_true u.in_row is h.row
 pub none_used : (m : Machine) → link_in m.pcxi ≡ 0 → chain m.mem m.pcxi ≡ Some []
 none_used m e = chain_within-Links m.mem 4096 m.pcxi [] e (omega arith)
 
-pub counted_anew : (m : Machine) (u : AreasUsed) → u.count ≡ unwrap_or (used_of m) 0 → u.first ≡ m.fcx % 2 ^ 20 → (u.in_row ≡ true → link_in m.pcxi ≡ 0) → IsCounted u m
+pub counted_anew : (m : Machine) (u : AreasUsed) → u.count ≡ unwrap_or (used_area_count m) 0 → u.first ≡ m.fcx % 2 ^ 20 → (u.in_row ≡ true → link_in m.pcxi ≡ 0) → IsCounted u m
 counted_anew m u count first none = record {
   count = count;
   first = (let e = first in omega arith);
@@ -435,7 +435,7 @@ told_found effect u m e shape n here free at tells run =
     ] refl
 
 -- if the areas in use aren't known to be consecutive, their number alone stays
-pub told_kept : (u : AreasUsed) (m n : Machine) → IsCounted u m → u.in_row ≡ false → used_of n ≡ used_of m → AreaEffectHolds Stays u n
+pub told_kept : (u : AreasUsed) (m n : Machine) → IsCounted u m → u.in_row ≡ false → used_area_count n ≡ used_area_count m → AreaEffectHolds Stays u n
 told_kept u m n h off same = record {
   count = h.count ∙ ap (λ (o : Option ℕ). unwrap_or o 0) (sym same);
   first = h.first;

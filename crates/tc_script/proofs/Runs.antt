@@ -4,7 +4,7 @@ use Rattle.tcd_plan.specs.PlanData.{PlanData}
 use Rattle.tc_machine.specs.declared.events.Event.{Event}
 use Rattle.tc_machine.specs.declared.events.End.TheVariants.{Running}
 use Rattle.tc_machine.specs.declared.state.Machine.{Machine}
-use Rattle.tc_machine.specs.Stepping.{step, run, used_of}
+use Rattle.tc_machine.specs.Stepping.{step, run, used_area_count}
 use Rattle.tc_machine.specs.Safe.{Fits, AllFit}
 use Rattle.tc_script.specs.declared.driving.Peak.{Peak}
 use Rattle.tc_script.specs.declared.scripts.Turn.{Turn}
@@ -22,11 +22,11 @@ AllFit-push plan m (x ∷ es) e all fits = (all.0, AllFit-push plan (step m x) e
 max_assoc : (a b c : ℕ) → max a (max b c) ≡ max (max a b) c
 max_assoc a b c = omega arith
 
-peak-push : (m : Machine) (es : List Event) (e : Event) → driven_peak m (es ++ e ∷ []) ≡ max (driven_peak m es) (unwrap_or (used_of (step (run m es) e)) 0)
+peak-push : (m : Machine) (es : List Event) (e : Event) → driven_peak m (es ++ e ∷ []) ≡ max (driven_peak m es) (unwrap_or (used_area_count (step (run m es) e)) 0)
 peak-push m [] e = refl
 peak-push m (x ∷ es) e =
-    ap (λ n. max (unwrap_or (used_of m) 0) n) (peak-push (step m x) es e)
-    ∙ max_assoc (unwrap_or (used_of m) 0) (driven_peak (step m x) es) (unwrap_or (used_of (step (run (step m x) es) e)) 0)
+    ap (λ n. max (unwrap_or (used_area_count m) 0) n) (peak-push (step m x) es e)
+    ∙ max_assoc (unwrap_or (used_area_count m) 0) (driven_peak (step m x) es) (unwrap_or (used_area_count (step (run (step m x) es) e)) 0)
 
 -- the events of the first t turns are done
 pub record DrivenSoFar (plan : PlanData) (answers : DeviceAnswers) (turns : List Turn) (old : Machine) (t : ℕ) (now : Machine) (done : Peak) : Type 0 where
@@ -39,7 +39,7 @@ pub record DrivenSoFar (plan : PlanData) (answers : DeviceAnswers) (turns : List
   pub peak : done.peak ≡ driven_peak old events
 
 module _ {plan : PlanData} {answers : DeviceAnswers} {turns : List Turn} {old : Machine} where
-  pub one_more : (t : ℕ) (now : Machine) (done : Peak) (turn : Turn) (e : Event) (new : Machine) (then : Peak) → DrivenSoFar plan answers turns old t now done → now.end ≡ Running → drop t turns ≡ turn ∷ drop (t + 1) turns → IsEventOfTurn plan.devices answers t turn now e → Fits plan now e → new ≡ step now e → then.events ≡ t + 1 → then.peak ≡ max done.peak (unwrap_or (used_of new) 0) → DrivenSoFar plan answers turns old (t + 1) new then
+  pub one_more : (t : ℕ) (now : Machine) (done : Peak) (turn : Turn) (e : Event) (new : Machine) (then : Peak) → DrivenSoFar plan answers turns old t now done → now.end ≡ Running → drop t turns ≡ turn ∷ drop (t + 1) turns → IsEventOfTurn plan.devices answers t turn now e → Fits plan now e → new ≡ step now e → then.events ≡ t + 1 → then.peak ≡ max done.peak (unwrap_or (used_area_count new) 0) → DrivenSoFar plan answers turns old (t + 1) new then
   one_more t now done turn e new then d running rest event fits is count peak = record {
     events = d.events ++ e ∷ [];
     number = omega (arith, length-append d.events (e ∷ []), d.number);
@@ -50,7 +50,7 @@ module _ {plan : PlanData} {answers : DeviceAnswers} {turns : List Turn} {old : 
         let all : AreDrivenEvents plan answers 0 turns old (d.events ++ (e ∷ es)) = d.goes_on (e ∷ es) (subst (λ ts. AreDrivenEvents plan answers t ts now (e ∷ es)) (sym rest) front) in
         subst (λ xs. AreDrivenEvents plan answers 0 turns old xs) (sym (append_assoc d.events (e ∷ []) es)) all;
     fits = AllFit-push plan old d.events e d.fits (subst (λ m. Fits plan m e) d.after fits);
-    peak = peak ∙ ap (λ n. max n (unwrap_or (used_of new) 0)) d.peak ∙ ap (λ m. max (driven_peak old d.events) (unwrap_or (used_of m) 0)) (is ∙ ap (λ m. step m e) d.after) ∙ sym (peak-push old d.events e);
+    peak = peak ∙ ap (λ n. max n (unwrap_or (used_area_count new) 0)) d.peak ∙ ap (λ m. max (driven_peak old d.events) (unwrap_or (used_area_count m) 0)) (is ∙ ap (λ m. step m e) d.after) ∙ sym (peak-push old d.events e);
   }
 
   pub ended : (t : ℕ) (now : Machine) (done : Peak) → DrivenSoFar plan answers turns old t now done → (drop t turns ≡ []) ⊎ IsDead now.end → IsDriven plan answers turns old now done

@@ -9,7 +9,7 @@ use Rattle.tc_machine.specs.declared.events.End.TheVariants.{Running}
 use Rattle.tc_machine.specs.declared.state.Machine.{Machine}
 use Rattle.tc_machine.specs.Instructions.{does}
 use Rattle.tc_machine.specs.SavesAndRestores.{saved, restored}
-use Rattle.tc_machine.specs.Stepping.{used_of}
+use Rattle.tc_machine.specs.Stepping.{used_area_count}
 use Rattle.tc_script.specs.declared.area_counts.AreasUsed.{AreasUsed}
 use Rattle.tc_script.specs.declared.area_counts.Effect.{Effect}
 use Rattle.tc_script.specs.declared.area_counts.Effect.TheVariants.{Stays, Saves, Restores, Unknown}
@@ -25,12 +25,12 @@ AreAreasInSequence first n m = chain m.mem m.pcxi ≡ Some (links_in_sequence fi
 
 -- this number of areas is in use, and they are consecutive if the count says so
 pub record IsCounted (u : AreasUsed) (m : Machine) : Type 0 where
-  pub count : u.count ≡ unwrap_or (used_of m) 0
+  pub count : u.count ≡ unwrap_or (used_area_count m) 0
   pub first : u.first < 2 ^ 20
   pub row : OnTrue u.in_row (AreAreasInSequence u.first u.count m)
 
--- for the effect of an event on the areas in use: the machine after a save of a context, up to
--- changes that keep the memory and PCXI
+-- how an event adds an area to the consecutive ones in use: the machine after a save of a context,
+-- up to changes that keep the memory and PCXI
 pub record HasSaved (m after : Machine) : Type 0 where
   pub upper : Bool
   pub some : link_in m.fcx ≢ 0
@@ -38,35 +38,35 @@ pub record HasSaved (m after : Machine) : Type 0 where
   pub mem : after.mem ≡ (saved m upper).mem
   pub pcxi : after.pcxi ≡ (saved m upper).pcxi
 
--- for the effect of an event on the areas in use: the machine after a restore of a context, up to
--- changes that keep the memory and PCXI
+-- how an event frees the newest of the consecutive areas in use: the machine after a restore of a
+-- context, up to changes that keep the memory and PCXI
 pub record HasRestored (m after : Machine) : Type 0 where
   pub upper : Bool
   pub some : link_in m.pcxi ≢ 0
   pub mem : after.mem ≡ (restored m upper).mem
   pub pcxi : after.pcxi ≡ (restored m upper).pcxi
 
--- for the effect of an event on the areas in use: the machine after a store of size bytes, up to
--- changes that keep the memory and PCXI
+-- an event that acts on the consecutive areas in use as a store does: the machine after a store of
+-- size bytes, up to changes that keep the memory and PCXI
 pub record HasStored (x size : ℕ) (m after : Machine) : Type 0 where
   pub word : ℕ
   pub mem : after.mem ≡ with_bytes m.mem x word size
   pub pcxi : after.pcxi ≡ m.pcxi
 
--- for the effect of an event on the areas in use: a machine with the memory and PCXI of the one
--- before
+-- an event leaves the consecutive areas in use as they are: the machine has the memory and PCXI of
+-- the one before
 pub record HasStayed (m after : Machine) : Type 0 where
   pub mem : after.mem ≡ m.mem
   pub pcxi : after.pcxi ≡ m.pcxi
 
--- What an effect says of the machine after an event, by the areas in use before it.
+-- What an effect says of consecutive areas in use after an event, by the count of those before it.
 abbrev pub AreaEffectHolds : Effect → AreasUsed → Machine → Type 0
 AreaEffectHolds Stays u after = IsCounted u after
 AreaEffectHolds Saves u after = (u.count < 4096) × IsCounted (record u { count = u.count + 1 }) after
 AreaEffectHolds Restores u after = (1 ≤ u.count) × IsCounted (record u { count = u.count - 1 }) after
 AreaEffectHolds Unknown u after = Unit {0}
 
--- what this effect says of the areas in use is true of an instruction that leaves the machine
--- running
+-- what this effect says of consecutive areas in use is true of an instruction that leaves the
+-- machine running
 abbrev pub IsAreaEffectOf : Effect → AreasUsed → Machine → Event → Shape → Type 0
 IsAreaEffectOf effect u m e shape = (n : ℕ) → (does m e shape n).end ≡ Running → AreaEffectHolds effect u (does m e shape n)

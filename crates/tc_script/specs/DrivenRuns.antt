@@ -6,7 +6,7 @@ use Rattle.tc_machine.specs.declared.events.Event.{Event}
 use Rattle.tc_machine.specs.declared.events.End.TheVariants.{Running}
 use Rattle.tc_machine.specs.declared.state.Machine.{Machine}
 use Rattle.tcd_plan.specs.Regions.{IsInDevice}
-use Rattle.tc_machine.specs.Stepping.{step, run, next_load_of, used_of}
+use Rattle.tc_machine.specs.Stepping.{step, run, next_load_of, used_area_count}
 use Rattle.tc_machine.specs.Safe.{AllFit}
 use Rattle.tc_script.specs.declared.driving.Peak.{Peak}
 use Rattle.tc_script.specs.declared.scripts.Turn.{Turn}
@@ -42,8 +42,8 @@ AreDrivenEvents plan answers t (turn ∷ turns) m (e ∷ es) =
 -- The greatest number of areas in use, over the state before the first event and the states after
 -- each event. A state without a chain counts as 0, so the peak is 0 if no state has one.
 abbrev pub driven_peak : Machine → List Event → ℕ
-driven_peak m [] = unwrap_or (used_of m) 0
-driven_peak m (e ∷ es) = max (unwrap_or (used_of m) 0) (driven_peak (step m e) es)
+driven_peak m [] = unwrap_or (used_area_count m) 0
+driven_peak m (e ∷ es) = max (unwrap_or (used_area_count m) 0) (driven_peak (step m e) es)
 
 -- the machine is driven by the turns and by answers; each event fits
 pub record IsDriven (plan : PlanData) (answers : DeviceAnswers) (turns : List Turn) (old new : Machine) (done : Peak) : Type 0 where

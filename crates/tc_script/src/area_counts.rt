@@ -6,7 +6,7 @@ ghost use Rattle.tc_encode.specs.Decoding.{decoded_of};
 ghost use Rattle.tc_machine.specs.declared.state.Machine.{Machine};
 ghost use Rattle.tc_machine.specs.Fetching.{mapped_bytes, fetched_shape};
 ghost use Rattle.tc_machine.specs.Instructions.{is_trapping_access};
-ghost use Rattle.tc_machine.specs.Stepping.{step, used_of, is_taken};
+ghost use Rattle.tc_machine.specs.Stepping.{step, used_area_count, is_taken};
 ghost use Rattle.tc_script.specs.AreasInSequence.{IsCounted, HasSaved, HasRestored, HasStored, HasStayed, AreaEffectHolds, IsAreaEffectOf};
 
 use csa_chain::address_of;
@@ -33,7 +33,7 @@ pub(crate) enum Effect {
 
 /// Returns the number of areas in use, or 0 if it isn't known.
 fn areas_used_or_zero(m: &Machine) -> u32
-    ensures { result ≡ unwrap_or (used_of m.now) 0 }
+    ensures { result ≡ unwrap_or (used_area_count m.now) 0 }
 {
     m.used().unwrap_or(0)
 }
@@ -152,8 +152,8 @@ fn area_effect_of_trapping_store(
     }
 }
 
-/// Returns the effect of an instruction that accesses no memory except that of an area. The machine
-/// runs after it.
+/// Returns how the script's count of areas changes by an instruction that accesses no memory except
+/// that of an area. The machine runs after it.
 fn area_effect_of_other(m: &Machine, event: &Event, shape: Shape, used: AreasUsed) -> Effect
     requires counted { IsCounted used m.now }
     requires row { used.in_row ≡ true }
@@ -171,7 +171,7 @@ fn area_effect_of_other(m: &Machine, event: &Event, shape: Shape, used: AreasUse
     }
 }
 
-/// Returns the effect of an instruction. The machine runs after it.
+/// Returns how the script's count of areas changes by an instruction. The machine runs after it.
 fn area_effect_of_shape(m: &Machine, event: &Event, shape: Shape, used: AreasUsed) -> Effect
     requires counted { IsCounted used m.now }
     requires row { used.in_row ≡ true }
@@ -267,8 +267,8 @@ pub(crate) fn effect_of_event(
     }
 }
 
-/// Updates the areas in use after an event with this effect. If the effect isn't known, they are
-/// counted again.
+/// Updates the script's count of areas after an event with this effect. If the effect isn't known,
+/// the areas are counted again.
 fn used_by_effect(m: &Machine, used: &mut AreasUsed, effect: Effect)
     requires { AreaEffectHolds effect used.old m.now }
     ensures { IsCounted used.new m.now }

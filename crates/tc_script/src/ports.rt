@@ -94,8 +94,8 @@ pub(crate) fn port_input<F: Fn(u32, u32) -> u32>(
     }
 }
 
-/// Returns the answer of a device at an event, numbered from 0: the words from `lo` to `hi`, in
-/// turn and over again.
+/// Returns the answer of a device's port at an event, numbered from 0: the words from `lo` to `hi`,
+/// in turn and over again.
 pub(crate) fn device_answer(bounds: AnswerRange, at: u32) -> u32
     requires { bounds.lo ≤ bounds.hi }
     ensures { result ≡ device_answer bounds at }

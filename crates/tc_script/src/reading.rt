@@ -85,7 +85,7 @@ impl Draft {
         Ok(())
     }
 
-    /// Sets the bounds of a device's answers.
+    /// Sets the bounds of a device's answers in the script that is read.
     fn set_bounds(&mut self, device: usize, lo: u32, hi: u32)
         requires there { device < length self.old.script.bounds }
         requires ordered { lo ≤ hi }

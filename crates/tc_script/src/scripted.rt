@@ -8,7 +8,8 @@ use crate::{Peak, Ports, Script, drive};
 use tc_machine::Machine;
 use tcd_plan::{Device, Plan};
 
-/// Returns what the device at an address answers at an event, or 0 if no device is there.
+/// Returns what a script answers for the device at an address at an event, or 0 if no device is
+/// there.
 fn device_answer_at(devices: &[Device], script: &Script, addr: u32, t: u32) -> u32
     requires { length script.now.bounds ≡ length devices.now }
     ensures { result ≡ device_answer_at devices.now script.now.bounds addr t }

@@ -10,7 +10,7 @@ use Rattle.tc_stmt.specs.declared.source.Line.{Line}
 use Rattle.tc_stmt.specs.declared.item.Item.{Item}
 use Rattle.tc_stmt.specs.Items.{ItemData, item_of}
 use Rattle.tc_stmt.specs.Lines.{LineData, line_data, line_in, lines_in, items_in}
-use Rattle.tc_stmt.specs.LinesRead.{lines_read, AreRead}
+use Rattle.tc_stmt.specs.SourceViews.{lines_read, AreRead}
 use Rattle.tc_stmt.proofs.ListItems.{take_behind, drop_behind}
 use Rattle.tc_stmt.proofs.LoopLaws.{is_feed, lines_more, lines_end}
 

@@ -12,7 +12,7 @@ use Rattle.tc_isa.specs.declared.fields.Uses.{Uses}
 use Rattle.tc_isa.specs.Rows.{RowData, listed, is_long}
 use Rattle.tc_isa.specs.Forms.{bounds, form_index}
 use Rattle.tc_isa.specs.InBounds.{IsBelow}
-use Rattle.tc_isa.specs.ValidRows.{IsRow, uses_of, rest_is_zero, are_registers_apart}
+use Rattle.tc_isa.specs.ValidRows.{IsRow, uses_of, are_unused_fields_zero, are_registers_apart}
 use Rattle.tc_isa.proofs.TableFacts.{row_at}
 use Rattle.tc_lex.specs.declared.operand.Shape.{Shape}
 use Rattle.tc_lex.specs.declared.operand.Shape.TheVariants as shape
@@ -21,18 +21,18 @@ use Rattle.tc_stmt.specs.declared.want.Field.TheVariants.{C, S1, S2, N, K}
 use Rattle.tc_stmt.specs.declared.want.Want.{Want}
 use Rattle.tc_stmt.specs.declared.want.Want.TheVariants.{Reg, A10, Number, Target, Absolute, Memory}
 use Rattle.tc_stmt.specs.declared.tally.Tally.{Tally}
-use Rattle.tc_stmt.specs.Names.{is_source_name}
+use Rattle.tc_stmt.specs.Names.{is_source_name, symbol_rule}
 use Rattle.tc_lex.specs.Operands.{ValueData, OperandData}
 use Rattle.tc_stmt.specs.Wants.{want_of, wants_of}
 use Rattle.tc_stmt.specs.RowFields.{RowFieldsData, no_fields, with_rule, set_field, field_of, with_value}
 use Rattle.tc_stmt.specs.Items.{ReferenceData}
-use Rattle.tc_stmt.specs.Filling.{put_register, put_number, symbol_rule, reference, with_symbol, half_operand_relocation, fill_value, fill_memory, fill_target, put_absolute, fill_absolute, fill_register, fill_a10, fill_plain, fill, fill_all, check_registers_apart, fields_of_row, is_within_field_bound}
+use Rattle.tc_stmt.specs.Filling.{put_register, put_number, reference, with_symbol, half_operand_relocation, fill_value, fill_memory, fill_target, put_absolute, fill_absolute, fill_register, fill_a10, fill_plain, fill, fill_all, check_registers_apart, fields_of_row, is_within_field_bound}
 use Rattle.tc_stmt.specs.Displacements.{is_far_displacement, is_odd_displacement, displacement_rule, with_displacement, target_operand_relocation}
-use Rattle.tc_stmt.specs.OperandForms.{shape_index, register_by_name, wrap_into_field, is_symbol_operand, is_half_operand}
+use Rattle.tc_stmt.specs.OperandForms.{shape_index, register_by_name, operand_number_modulo, is_symbol_operand, is_half_operand}
 use Rattle.tc_stmt.specs.StatementRow.{after_row, statement_outcome, or_next, statement}
 use Rattle.tc_stmt.specs.StatementRow as judging
 use Rattle.tc_isa.specs.Relocations.{is_reloc, can_relocation_fill}
-use Rattle.tc_stmt.specs.StatedRows.{is_short_jump, TakesSymbol, TakesAnySymbol, FitsStatedRow, IsStatedRow, StatedLaw}
+use Rattle.tc_stmt.specs.StatedRows.{can_take_symbol_directly, TakesSymbol, TakesAnySymbol, FitsStatedRow, IsStatedRow, StatedLaw}
 use Rattle.tc_stmt.proofs.Cases.{by_test, one_passes}
 use Rattle.tc_stmt.proofs.ZeroConstants.{zero_judged}
 
@@ -50,7 +50,7 @@ abbrev suits : RowData → Want → Bool
 suits r (Reg bank field) = is_used field (uses_of r) && nat_le 16 (field_of field (bounds r.form))
 suits r A10 = true
 suits r (Number signed field) = is_used field (uses_of r)
-suits r Target = (uses_of r).k && cond (is_long r) (can_relocation_fill r.form (target_operand_relocation r)) (is_short_jump r.form)
+suits r Target = (uses_of r).k && cond (is_long r) (can_relocation_fill r.form (target_operand_relocation r)) (can_take_symbol_directly r.form)
 suits r Absolute = (uses_of r).k && nat_le (cond (form_index r.form == 8) (2 ^ 18) (2 ^ 24)) (bounds r.form).k && (form_index r.form == 8 || (is_long r && can_relocation_fill r.form 2))
 suits r (Memory plus offset) = (uses_of r).s2 && nat_le 16 (bounds r.form).s2 && (not offset || (uses_of r).k)
 
@@ -71,7 +71,7 @@ row_suit k r at = and_parts (list_all (suits r) (wants_of r)) (halves_long r) (o
 -- ---- the fields so far
 pub record Sound (r : RowData) (f : RowFieldsData) : Type 0 where
   pub below : IsBelow f.fields (bounds r.form)
-  pub zero : rest_is_zero (uses_of r) f.fields ≡ true
+  pub zero : are_unused_fields_zero (uses_of r) f.fields ≡ true
   pub symbols : TakesAnySymbol r f.reference
 
 record IfSound (r : RowData) (o : Option RowFieldsData) : Type 0 where
@@ -90,7 +90,7 @@ sound_broken r n f s = record { below = s.below; zero = s.zero; symbols = s.symb
 abbrev all_five : Bool → Bool → Bool → Bool → Bool → Bool
 all_five a b c d e = a && b && c && d && e
 
-pub zero_put : (field : Field) (u : Uses) (f : Fields) (v : ℕ) → is_used field u ≡ true → rest_is_zero u f ≡ true → rest_is_zero u (set_field field v f) ≡ true
+pub zero_put : (field : Field) (u : Uses) (f : Fields) (v : ℕ) → is_used field u ≡ true → are_unused_fields_zero u f ≡ true → are_unused_fields_zero u (set_field field v f) ≡ true
 unfolding set_field
 zero_put C u f v h z = by u.c (f.c == 0) (v % 256 == 0) (u.s1 || f.s1 == 0) (u.s2 || f.s2 == 0) (u.n || f.n == 0) (u.k || f.k == 0) h z
   where
@@ -144,7 +144,7 @@ more_than_none S2 b f s = let h = s.s2 in omega arith
 more_than_none N b f s = let h = s.n in omega arith
 more_than_none K b f s = let h = s.k in omega arith
 
-wrapped_below : (bound : ℕ) (minus : Bool) (size : ℕ) → 0 < bound → (minus ≡ false → size < bound) → wrap_into_field bound minus size < bound
+wrapped_below : (bound : ℕ) (minus : Bool) (size : ℕ) → 0 < bound → (minus ≡ false → size < bound) → operand_number_modulo bound minus size < bound
 wrapped_below bound false size p h = h refl
 wrapped_below bound true zero p h = p
 wrapped_below bound true (suc n) p h = rw (eqb-suc-zero n) (omega arith)
@@ -160,7 +160,7 @@ unfolding put_number
 sound_number r signed field minus size f used s =
     let bound : ℕ = field_of field (bounds r.form) in
     by_test (Sound r) (is_within_field_bound signed (field_of field (bounds r.form)) minus size) _ _
-    (λ b. sound_put r field (wrap_into_field (field_of field (bounds r.form)) minus size) f used
+    (λ b. sound_put r field (operand_number_modulo (field_of field (bounds r.form)) minus size) f used
     (wrapped_below (field_of field (bounds r.form)) minus size (more_than_none field (bounds r.form) f.fields s.below)
     (λ e. fits_plus signed (field_of field (bounds r.form)) size (ap (λ m. is_within_field_bound signed (field_of field (bounds r.form)) m size) (sym e) ∙ b))) s)
     (λ b. sound_broken r 5 f s)
@@ -186,7 +186,7 @@ symbol_named v e = by (v.wide || nat_le (2 ^ 32) v.size) (is_source_name v.name)
     by false true e = refl
     by false false e = cc
 
-sound_symbol : (r : RowData) (kind : ℕ) (v : ValueData) (f : RowFieldsData) → (is_reloc kind ≡ true → (is_long r ≡ true) × (can_relocation_fill r.form kind ≡ true)) → (kind ≡ 0 → ((uses_of r).k ≡ true) × (is_short_jump r.form ≡ true)) → Sound r f → Sound r (with_symbol kind v f)
+sound_symbol : (r : RowData) (kind : ℕ) (v : ValueData) (f : RowFieldsData) → (is_reloc kind ≡ true → (is_long r ≡ true) × (can_relocation_fill r.form kind ≡ true)) → (kind ≡ 0 → ((uses_of r).k ≡ true) × (can_take_symbol_directly r.form ≡ true)) → Sound r f → Sound r (with_symbol kind v f)
 unfolding with_symbol
 sound_symbol r kind v f long target s =
     by_test (Sound r) (symbol_rule v == 15) _ _
@@ -262,7 +262,7 @@ unfolding with_displacement field_of
 sound_displaced r minus size f used s =
     let some : 0 < (bounds r.form).k = more_than_none K (bounds r.form) f.fields s.below in
     by_test (Sound r) (displacement_rule r minus size == 15) _ _
-    (λ b. sound_put r K (wrap_into_field (bounds r.form).k minus (size / 2)) f used (wrapped_below (bounds r.form).k minus (size / 2) some (λ e. near r size (ap (λ m. displacement_rule r m size == 15) (sym e) ∙ b) some)) s)
+    (λ b. sound_put r K (operand_number_modulo (bounds r.form).k minus (size / 2)) f used (wrapped_below (bounds r.form).k minus (size / 2) some (λ e. near r size (ap (λ m. displacement_rule r m size == 15) (sym e) ∙ b) some)) s)
     (λ b. sound_broken r (displacement_rule r minus size) f s)
 
 is_target : (r : RowData) → is_reloc (target_operand_relocation r) ≡ true → is_long r ≡ true
@@ -273,19 +273,19 @@ is_target r e = by_long (is_long r) (cond (form_index r.form == 7) 1 3) e
     by_long true n e = refl
     by_long false n e = cc
 
-target_long : (r : RowData) → cond (is_long r) (can_relocation_fill r.form (target_operand_relocation r)) (is_short_jump r.form) ≡ true → is_reloc (target_operand_relocation r) ≡ true → (is_long r ≡ true) × (can_relocation_fill r.form (target_operand_relocation r) ≡ true)
-target_long r fit e = let long = is_target r e in (long, by (is_long r) (can_relocation_fill r.form (target_operand_relocation r)) (is_short_jump r.form) long fit)
+target_long : (r : RowData) → cond (is_long r) (can_relocation_fill r.form (target_operand_relocation r)) (can_take_symbol_directly r.form) ≡ true → is_reloc (target_operand_relocation r) ≡ true → (is_long r ≡ true) × (can_relocation_fill r.form (target_operand_relocation r) ≡ true)
+target_long r fit e = let long = is_target r e in (long, by (is_long r) (can_relocation_fill r.form (target_operand_relocation r)) (can_take_symbol_directly r.form) long fit)
   where
     by : (a b c : Bool) → a ≡ true → cond a b c ≡ true → b ≡ true
     by true b c e h = h
     by false b c e h = cc
 
 -- a target that takes no relocation is that of a jump of 16 bits
-target_short : (r : RowData) → cond (is_long r) (can_relocation_fill r.form (target_operand_relocation r)) (is_short_jump r.form) ≡ true → target_operand_relocation r ≡ 0 → is_short_jump r.form ≡ true
+target_short : (r : RowData) → cond (is_long r) (can_relocation_fill r.form (target_operand_relocation r)) (can_take_symbol_directly r.form) ≡ true → target_operand_relocation r ≡ 0 → can_take_symbol_directly r.form ≡ true
 unfolding target_operand_relocation
 target_short r fit e = by (is_long r) (form_index r.form == 7) (can_relocation_fill r.form (target_operand_relocation r)) e fit
   where
-    by : (a b c : Bool) → ◌≡◌ {A = ℕ} (cond a (cond b 1 3) 0) 0 → cond a c (is_short_jump r.form) ≡ true → is_short_jump r.form ≡ true
+    by : (a b c : Bool) → ◌≡◌ {A = ℕ} (cond a (cond b 1 3) 0) 0 → cond a c (can_take_symbol_directly r.form) ≡ true → can_take_symbol_directly r.form ≡ true
     by true true c z h = absurd (omega arith)
     by true false c z h = absurd (omega arith)
     by false b c z h = h
@@ -293,8 +293,8 @@ target_short r fit e = by (is_long r) (form_index r.form == 7) (can_relocation_f
 sound_target : (r : RowData) (v : ValueData) (f : RowFieldsData) → suits r Target ≡ true → Sound r f → IfSound r (fill_target r v f)
 unfolding fill_target
 sound_target r v f suit s =
-    let used = (and_parts (uses_of r).k (cond (is_long r) (can_relocation_fill r.form (target_operand_relocation r)) (is_short_jump r.form)) suit).0 in
-    let fit = (and_parts (uses_of r).k (cond (is_long r) (can_relocation_fill r.form (target_operand_relocation r)) (is_short_jump r.form)) suit).1 in
+    let used = (and_parts (uses_of r).k (cond (is_long r) (can_relocation_fill r.form (target_operand_relocation r)) (can_take_symbol_directly r.form)) suit).0 in
+    let fit = (and_parts (uses_of r).k (cond (is_long r) (can_relocation_fill r.form (target_operand_relocation r)) (can_take_symbol_directly r.form)) suit).1 in
     by_test (IfSound r) (shape_index v.shape == 3 && bytes_eq v.name (codes ".")) _ _ (λ e. sound_some r _ (by_test (Sound r) v.wide _ _ (λ e. sound_broken r 5 f s) (λ e. sound_displaced r v.minus v.size f used s)))
     (λ e. by_test (IfSound r) (is_symbol_operand (shape_index v.shape)) _ _ (λ e. sound_some r _ (sound_symbol r (target_operand_relocation r) v f (target_long r fit) (λ z. (used, target_short r fit z)) s))
     (λ e. by_test (IfSound r) (is_half_operand (shape_index v.shape)) _ _ (λ e. sound_some r _ (sound_broken r _ f s)) (λ e. sound_none r)))

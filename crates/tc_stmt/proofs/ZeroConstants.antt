@@ -18,9 +18,10 @@ use Rattle.tc_lex.specs.Operands.{ValueData, OperandData}
 use Rattle.tc_stmt.specs.Wants.{want_of, wants_of}
 use Rattle.tc_stmt.specs.RowFields.{RowFieldsData, no_fields, with_rule, set_field, with_value, field_of}
 use Rattle.tc_stmt.specs.Items.{ReferenceData}
-use Rattle.tc_stmt.specs.Filling.{put_register, put_number, symbol_rule, with_symbol, half_operand_relocation, fill_value, fill_memory, fill_target, put_absolute, fill_absolute, fill_register, fill_a10, fill_plain, fill, fill_all, check_registers_apart, fields_of_row, is_within_field_bound}
+use Rattle.tc_stmt.specs.Filling.{put_register, put_number, with_symbol, half_operand_relocation, fill_value, fill_memory, fill_target, put_absolute, fill_absolute, fill_register, fill_a10, fill_plain, fill, fill_all, check_registers_apart, fields_of_row, is_within_field_bound}
+use Rattle.tc_stmt.specs.Names.{symbol_rule}
 use Rattle.tc_stmt.specs.Displacements.{displacement_rule, with_displacement}
-use Rattle.tc_stmt.specs.OperandForms.{shape_index, register_by_name, wrap_into_field, is_symbol_operand, is_half_operand}
+use Rattle.tc_stmt.specs.OperandForms.{shape_index, register_by_name, operand_number_modulo, is_symbol_operand, is_half_operand}
 use Rattle.tc_stmt.proofs.Cases.{by_test, one_passes}
 
 -- ---- rows
@@ -108,7 +109,7 @@ kept_register bank field name f h = by_test (IsKept f) (register_by_name name / 
 
 kept_number : (form : Form) (signed : Bool) (field : Field) (minus : Bool) (size : ℕ) (f : RowFieldsData) → is_constant field ≡ false → IsKept f (put_number form signed field minus size f)
 unfolding put_number
-kept_number form signed field minus size f h = by_test (IsKept f) (is_within_field_bound signed (field_of field (bounds form)) minus size) _ _ (λ e. kept_put field (wrap_into_field (field_of field (bounds form)) minus size) f h) (λ e. kept_broken 5 f)
+kept_number form signed field minus size f h = by_test (IsKept f) (is_within_field_bound signed (field_of field (bounds form)) minus size) _ _ (λ e. kept_put field (operand_number_modulo (field_of field (bounds form)) minus size) f h) (λ e. kept_broken 5 f)
 
 no_half : (r : RowData) (s : Shape) → (half_operand_relocation r shape.High == 0 && half_operand_relocation r shape.Low == 0) ≡ true → is_half_operand (shape_index s) ≡ true → half_operand_relocation r s == 0 ≡ true
 unfolding shape_index
@@ -178,7 +179,7 @@ zero_register bank field name f h = by_test IsZero (register_by_name name / 16 =
 
 zero_number : (form : Form) (signed : Bool) (field : Field) (minus : Bool) (size : ℕ) (f : RowFieldsData) → IsFree f → IsZero (put_number form signed field minus size f)
 unfolding put_number
-zero_number form signed field minus size f h = by_test IsZero (is_within_field_bound signed (field_of field (bounds form)) minus size) _ _ (λ e. none_put field (wrap_into_field (field_of field (bounds form)) minus size) f h) (λ e. none_broken 5 f h)
+zero_number form signed field minus size f h = by_test IsZero (is_within_field_bound signed (field_of field (bounds form)) minus size) _ _ (λ e. none_put field (operand_number_modulo (field_of field (bounds form)) minus size) f h) (λ e. none_broken 5 f h)
 
 zero_value : (r : RowData) (signed : Bool) (field : Field) (v : ValueData) (f : RowFieldsData) → IsFree f → IfSo IsZero (fill_value r signed field v f)
 unfolding fill_value
@@ -200,7 +201,7 @@ zero_memory r plus offset o f h =
 
 zero_displaced : (r : RowData) (minus : Bool) (size : ℕ) (f : RowFieldsData) → IsFree f → IsZero (with_displacement r minus size f)
 unfolding with_displacement
-zero_displaced r minus size f h = by_test IsZero (displacement_rule r minus size == 15) _ _ (λ e. none_put K (wrap_into_field (bounds r.form).k minus (size / 2)) f h) (λ e. none_broken (displacement_rule r minus size) f h)
+zero_displaced r minus size f h = by_test IsZero (displacement_rule r minus size == 15) _ _ (λ e. none_put K (operand_number_modulo (bounds r.form).k minus (size / 2)) f h) (λ e. none_broken (displacement_rule r minus size) f h)
 
 zero_target : (r : RowData) (v : ValueData) (f : RowFieldsData) → IsFree f → IfSo IsZero (fill_target r v f)
 unfolding fill_target

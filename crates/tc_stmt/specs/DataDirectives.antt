@@ -4,8 +4,9 @@ use Rattle.tc_isa.specs.Relocations.{word32}
 use Rattle.tc_stmt.specs.SourceRules.{wrong_operands, no_rule, wide_number, misplaced_symbol}
 use Rattle.tcd_base.specs.Bytes.{four_bytes}
 use Rattle.tc_lex.specs.Operands.{OperandData}
-use Rattle.tc_stmt.specs.Filling.{symbol_rule, reference}
-use Rattle.tc_stmt.specs.OperandForms.{shape_index, is_symbol_operand, is_half_operand, wrap_into_field, is_number_operand, is_huge_operand}
+use Rattle.tc_stmt.specs.Filling.{reference}
+use Rattle.tc_stmt.specs.Names.{symbol_rule}
+use Rattle.tc_stmt.specs.OperandForms.{shape_index, is_symbol_operand, is_half_operand, operand_number_modulo, is_number_operand, is_huge_operand}
 use Rattle.tc_stmt.specs.Items.{ItemData, bytes, zeros}
 
 -- a number of `.byte`, `.half` or `.word` fits this many bits, signed or unsigned
@@ -25,7 +26,7 @@ value_rule width o =
 unfoldable pub value_item : ℕ → OperandData → ItemData
 value_item width o =
     if not (value_rule width o == no_rule) then zeros width
-    else (if is_number_operand o.value.shape then bytes (take width (four_bytes (wrap_into_field (2 ^ 32) o.value.minus o.value.size))) None
+    else (if is_number_operand o.value.shape then bytes (take width (four_bytes (operand_number_modulo (2 ^ 32) o.value.minus o.value.size))) None
     else bytes (take width (0 ∷ 0 ∷ 0 ∷ 0 ∷ [])) (Some (reference word32 o.value)))
 
 -- the least rule that the operand of `.space` breaks by itself

@@ -6,7 +6,7 @@ use Rattle.tc_isa.specs.Rows.{RowData, is_long}
 use Rattle.tc_isa.specs.declared.table.Form.{Form}
 use Rattle.tc_isa.specs.Forms.{bounds, is_sbr, is_b}
 use Rattle.tc_stmt.specs.declared.want.Field.TheVariants.{K}
-use Rattle.tc_stmt.specs.OperandForms.{wrap_into_field}
+use Rattle.tc_stmt.specs.OperandForms.{operand_number_modulo}
 use Rattle.tc_stmt.specs.RowFields.{RowFieldsData, with_rule, with_value}
 
 -- a displacement of this many bytes doesn't fit; SBR (form 13) only reaches forwards
@@ -28,10 +28,10 @@ displacement_rule r minus size =
 -- the fields with a displacement of this many bytes
 unfoldable pub with_displacement : RowData → Bool → ℕ → RowFieldsData → RowFieldsData
 with_displacement r minus size acc =
-    if displacement_rule r minus size == no_rule then with_value K (wrap_into_field (bounds r.form).k minus (size / 2)) acc else with_rule (displacement_rule r minus size) acc
+    if displacement_rule r minus size == no_rule then with_value K (operand_number_modulo (bounds r.form).k minus (size / 2)) acc else with_rule (displacement_rule r minus size) acc
 
--- the relocation of a jump's target, where no displacement is given: rel24 in a B row, rel15 in
--- other rows of 32 bits, and none in rows of 16 bits
+-- the relocation of an operand that names a jump's target instead of a displacement: rel24 in a B
+-- row, rel15 in other rows of 32 bits, and none in rows of 16 bits
 unfoldable pub target_operand_relocation : RowData → ℕ
 target_operand_relocation r = if is_long r then (if is_b r.form then rel24 else rel15) else 0
 

@@ -3,7 +3,7 @@
 use Rattle.std.specs.Prelude.{ℕ, ◌+◌, ◌*◌, ◌/◌, ◌%◌, ◌^◌, ◌==◌, ◌&&◌, ◌||◌, not, nat_le, min, Bool, true, if◌then◌else◌, List, ◌∷◌, codes, Option, Some, None, option_and_then, ◌≡◌, nat_lt, []}
 use Rattle.std.specs.Str.{bytes_eq}
 use Rattle.tc_isa.specs.Relocations.{hi16, lo16, offset16, abs24}
-use Rattle.tc_stmt.specs.SourceRules.{wrong_register, wide_number, equal_registers, no_rule, bad_name, misplaced_symbol}
+use Rattle.tc_stmt.specs.SourceRules.{wrong_register, wide_number, equal_registers, no_rule, misplaced_symbol}
 use Rattle.tc_isa.specs.Rows.{RowData}
 use Rattle.tc_isa.specs.declared.table.Form.{Form}
 use Rattle.tc_isa.specs.Forms.{bounds, is_bol, is_abs}
@@ -13,14 +13,13 @@ use Rattle.tc_stmt.specs.declared.want.Field.{Field}
 use Rattle.tc_stmt.specs.declared.want.Field.TheVariants.{S2, K}
 use Rattle.tc_stmt.specs.declared.want.Want.{Want}
 use Rattle.tc_stmt.specs.declared.want.Want.TheVariants.{Reg, A10, Number, Target, Absolute, Memory}
-use Rattle.tc_stmt.specs.Names.{is_source_name}
+use Rattle.tc_stmt.specs.Names.{symbol_rule}
 use Rattle.tc_lex.specs.Operands.{ValueData, OperandData}
-use Rattle.tc_stmt.specs.OperandForms.{is_absent_operand, is_half_operand, is_high_operand, is_huge_operand, is_number_operand, is_sum_operand, is_symbol_operand, is_name_operand, register_by_name, shape_index, wrap_into_field}
+use Rattle.tc_stmt.specs.OperandForms.{is_absent_operand, is_half_operand, is_high_operand, is_huge_operand, is_number_operand, is_sum_operand, is_symbol_operand, is_name_operand, register_by_name, shape_index, operand_number_modulo}
 use Rattle.tc_stmt.specs.RowFields.{RowFieldsData, field_of, no_fields, with_rule, with_value, row_fields_of}
 use Rattle.tc_stmt.specs.Items.{ReferenceData}
 use Rattle.tc_stmt.specs.Displacements.{target_operand_relocation, with_displacement}
 use Rattle.tc_stmt.specs.declared.row_fields.RowFields.{RowFields}
-use Rattle.tc_stmt.specs.RowIndex.{is_named_row}
 
 -- a register of the data bank (false) or the address bank (true), else rule 4
 unfoldable pub put_register : Bool → Field → List ℕ → RowFieldsData → RowFieldsData
@@ -37,11 +36,7 @@ is_within_field_bound signed bound minus size =
 -- a number that fits its field in an instruction of this form, else rule 5
 unfoldable pub put_number : Form → Bool → Field → Bool → ℕ → RowFieldsData → RowFieldsData
 put_number form signed field minus size acc =
-    if is_within_field_bound signed (field_of field (bounds form)) minus size then with_value field (wrap_into_field (field_of field (bounds form)) minus size) acc else with_rule wide_number acc
-
--- the least rule that a symbol in an operand breaks in every place
-unfoldable pub symbol_rule : ValueData → ℕ
-symbol_rule v = if v.wide || nat_le (2 ^ 32) v.size then wide_number else (if is_source_name v.name then no_rule else bad_name)
+    if is_within_field_bound signed (field_of field (bounds form)) minus size then with_value field (operand_number_modulo (field_of field (bounds form)) minus size) acc else with_rule wide_number acc
 
 -- the reference of this kind to the symbol in an operand's value, with the number that is added
 abbrev pub reference : ℕ → ValueData → ReferenceData
@@ -55,7 +50,12 @@ with_symbol kind v acc = if symbol_rule v == no_rule then record acc { reference
 abbrev pub with_misplaced : ValueData → RowFieldsData → RowFieldsData
 with_misplaced v acc = with_rule (min misplaced_symbol (symbol_rule v)) acc
 
--- the relocation of a half of an address in this row, or 0 if it has none
+-- the row whose fields operands fill has this name
+abbrev pub is_named_row : RowData → List ℕ → Bool
+is_named_row r name = bytes_eq r.name name
+
+-- the relocation by which an operand `hi:` or `lo:`, a half of an address, fills the constant of
+-- this row, or 0 if the row takes none
 unfoldable pub half_operand_relocation : RowData → Shape → ℕ
 half_operand_relocation r s =
     if is_high_operand s

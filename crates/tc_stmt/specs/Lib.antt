@@ -8,7 +8,7 @@ pub mod RowIndex
 pub mod Items
 pub mod DataDirectives
 pub mod Lines
-pub mod LinesRead
+pub mod SourceViews
 pub mod SourceRules
 pub mod OperandForms
 pub mod Filling

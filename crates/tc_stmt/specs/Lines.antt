@@ -8,7 +8,7 @@ use Rattle.tc_lex.specs.declared.kinds.Token.{Token}
 use Rattle.tc_lex.specs.declared.kinds.TokenKind.TheVariants as kind
 use Rattle.tc_lex.specs.Cut.{tokens_of}
 use Rattle.tc_isa.specs.Rows.{listed, is_long}
-use Rattle.tc_lex.specs.Pieces.{PieceData, is_kind, text_at, text_in as text_between, piece_in as with_text}
+use Rattle.tc_lex.specs.Pieces.{PieceData, is_kind, text_at, piece_in as with_text}
 use Rattle.tc_lex.specs.Operands.{OperandData, operands}
 use Rattle.tc_stmt.specs.RowFields.{RowFieldsData}
 use Rattle.tc_stmt.specs.OperandForms.{is_name_operand}
@@ -31,27 +31,28 @@ abbrev pub behind : List ItemData → LineData → LineData
 behind is l = line_data l.rule (is ++ l.items)
 
 -- ---- statements
--- the only operand of `.section` and `.global` is a word
-unfoldable pub is_word_operand : OperandData → Bool
-is_word_operand o = if o.is_memory then false else is_name_operand o.value.shape
+-- the operand of a line `.section NAME` or `.global NAME` is a word
+unfoldable pub is_named_line_operand : OperandData → Bool
+is_named_line_operand o = if o.is_memory then false else is_name_operand o.value.shape
 
--- the name that is the only operand in a line of `.section` or `.global`, if it is so
+-- the name in a line `.section NAME` or `.global NAME`, if it is the line's only operand
 unfoldable pub only_operand_name : List OperandData → Option (List ℕ)
 only_operand_name [] = None
-only_operand_name (o ∷ []) = if is_word_operand o then Some o.value.name else None
+only_operand_name (o ∷ []) = if is_named_line_operand o then Some o.value.name else None
 only_operand_name (o ∷ p ∷ os) = None
 
 -- `.section NAME` or `.global NAME`; any other operands break rule 3
 unfoldable pub named_line : (List ℕ → ItemData) → List OperandData → LineData
 named_line make os = option_map_or (λ name. line_data no_rule (make name ∷ [])) (only_operand_name os) (line_data wrong_operands [])
 
--- the meaning of a line `.space N`; any other operands break rule 3
+-- the meaning of a whole line `.space N`: its rule and its zeros; any other operands break rule 3
 unfoldable pub space_line : List OperandData → LineData
 space_line [] = line_data wrong_operands (zeros 0 ∷ [])
 space_line (o ∷ []) = line_data (space_rule o) (space_item o ∷ [])
 space_line (o ∷ p ∷ os) = line_data wrong_operands (zeros 0 ∷ [])
 
--- the meaning of a line of `.byte`, `.half` or `.word` with values of this many bytes
+-- the meaning of a whole line of `.byte`, `.half` or `.word`: its rule, and an item for each of its
+-- values of this many bytes
 unfoldable pub values_line : ℕ → List OperandData → LineData
 values_line width os = line_data (values_rule width os) (map (value_item width) os)
 
@@ -87,7 +88,8 @@ line_from ps at =
 abbrev pub has_label : List PieceData → Bool
 has_label ps = is_kind ps 0 kind.Word && is_kind ps 1 kind.Colon
 
--- a line after this label
+-- the meaning of a line that begins with this label: its item comes before those of the rest of the
+-- line
 abbrev pub line_with_label : List ℕ → LineData → LineData
 line_with_label name l = line_data l.rule (label name ∷ l.items)
 
@@ -95,11 +97,7 @@ line_with_label name l = line_data l.rule (label name ∷ l.items)
 unfoldable pub pieces_line : List PieceData → LineData
 pieces_line ps = if has_label ps then line_with_label (text_at ps 0) (line_from ps 2) else line_from ps 0
 
--- the text of a source's line from one place to another
-abbrev pub line_text_between : List ℕ → ℕ → ℕ → List ℕ
-line_text_between line from to = text_between line from to
-
--- a token of a source's line with its text
+-- a token of a source's line with its text, from which the meaning of the line is read
 abbrev pub line_token_with_text : List ℕ → Token → PieceData
 line_token_with_text line t = with_text line t
 
@@ -126,6 +124,6 @@ line_in line = cut_line line (tokens_of line)
 abbrev pub lines_in : List ℕ → List LineData
 lines_in source = map line_in (slice_split (λ c. c == 10) source)
 
--- the items of all lines, in order
+-- the items that the meanings of these lines add to a source, in order, one line after another
 abbrev pub items_in : List LineData → List ItemData
 items_in lines = flat_map (λ (l : LineData). l.items) lines

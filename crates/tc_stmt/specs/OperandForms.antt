@@ -16,7 +16,7 @@ shape_index shape.Low = 5
 shape_index shape.Bad = 6
 shape_index shape.Huge = 7
 
--- there is no value
+-- the form of an operand's value is that of no value, as after the brackets of `[a4]`
 abbrev pub is_absent_operand : Shape → Bool
 is_absent_operand s = shape_index s == 0
 
@@ -40,8 +40,8 @@ is_high_operand s = shape_index s == 4
 abbrev pub is_huge_operand : Shape → Bool
 is_huge_operand s = shape_index s == 7
 
--- the register that an operand names: d0 to d15 are 0 to 15, a0 to a15 are 16 to 31, all else is 64
--- or more
+-- the number of the register that an operand's value names: d0 to d15 are 0 to 15, a0 to a15 are 16
+-- to 31, all else is 64 or more
 unfoldable pub register_by_name : List ℕ → ℕ
 register_by_name name =
     (if slice_index name 0 == 100 then 0 else (if slice_index name 0 == 97 then 16 else 64))
@@ -49,9 +49,9 @@ register_by_name name =
     else (if length name == 3 && slice_index name 1 == 49 && nat_le 48 (slice_index name 2) && nat_le (slice_index name 2) 53 then slice_index name 2 - 38
     else 64))
 
--- the number in an operand's value, modulo the bound of a field
-abbrev pub wrap_into_field : ℕ → Bool → ℕ → ℕ
-wrap_into_field bound minus size = if minus && not (size == 0) then bound - size else size
+-- the number in an operand's value, with its sign, modulo this bound
+abbrev pub operand_number_modulo : ℕ → Bool → ℕ → ℕ
+operand_number_modulo bound minus size = if minus && not (size == 0) then bound - size else size
 
 -- the form of this number is a name, or a name with a number added
 abbrev pub is_symbol_operand : ℕ → Bool

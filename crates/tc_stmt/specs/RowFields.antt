@@ -27,7 +27,7 @@ abbrev pub with_rule : ℕ → RowFieldsData → RowFieldsData
 with_rule rule acc = record acc { rule = min acc.rule rule }
 
 -- ---- fields
--- the fields of a row after an operand puts this value into one of them; all but k are bytes
+-- the fields of a row with this value in one of them; all but k are bytes
 unfoldable pub set_field : Field → ℕ → Fields → Fields
 set_field C v f = record f { c = v % 256 }
 set_field S1 v f = record f { s1 = v % 256 }
@@ -43,6 +43,6 @@ field_of S2 f = f.s2
 field_of N f = f.n
 field_of K f = f.k
 
--- the state after a field got its value
+-- the row's fields so far, with this value in one of them
 abbrev pub with_value : Field → ℕ → RowFieldsData → RowFieldsData
 with_value field v acc = record acc { fields = set_field field v acc.fields }

@@ -1,14 +1,14 @@
 -- Rows that a search skips, since their names have another key.
 use Rattle.std.specs.Prelude.{ℕ, zero, suc, ◌+◌, ◌-◌, ◌*◌, ◌%◌, ◌==◌, ◌&&◌, not, nat_lt, Bool, true, false, List, ◌∷◌, length, slice_index, []}
 use Rattle.tc_isa.specs.Rows.{RowData}
-use Rattle.std.specs.Str.{bytes_eq}
 
 -- A number below 256 that few names of rows share. It depends on the length and the first four
 -- bytes, with 0 for missing bytes.
 unfoldable pub name_key : List ℕ → ℕ
 name_key name = (slice_index name 0 + 2 * slice_index name 1 + 9 * slice_index name 2 + 7 * slice_index name 3 + length name) % 256
 
--- none of the first n rows has this key
+-- none of the first n rows has a name with this key, so that a search for a statement's name can
+-- skip them
 abbrev pub are_rows_without_key : ℕ → ℕ → List RowData → Bool
 are_rows_without_key zero k rs = true
 are_rows_without_key (suc n) k [] = true
@@ -25,7 +25,3 @@ are_next_rows i (r ∷ rs) (n ∷ ns) = nat_lt i n && are_rows_without_key (n - 
 abbrev pub are_first_rows : ℕ → List RowData → List ℕ → Bool
 are_first_rows k rs [] = true
 are_first_rows k rs (n ∷ ns) = are_rows_without_key n k rs && are_first_rows (k + 1) rs ns
-
--- the row has this name
-abbrev pub is_named_row : RowData → List ℕ → Bool
-is_named_row r name = bytes_eq r.name name

@@ -3,7 +3,7 @@ use Rattle.std.specs.Prelude.{◌≡◌, ◌||◌, ℕ, Bool, true, List, slice_
 use Rattle.tc_isa.specs.Rows.{RowData, listed, is_long}
 use Rattle.tc_isa.specs.declared.table.Form.{Form}
 use Rattle.tc_isa.specs.Forms.{is_sb, is_sbr}
-use Rattle.tc_isa.specs.ValidRows.{Fits, uses_of}
+use Rattle.tc_isa.specs.ValidRows.{FieldsFitRow, uses_of}
 use Rattle.tc_isa.specs.Relocations.{is_reloc, can_relocation_fill}
 use Rattle.tc_stmt.specs.Names.{is_source_name}
 use Rattle.tc_lex.specs.Operands.{OperandData}
@@ -11,17 +11,17 @@ use Rattle.tc_stmt.specs.RowFields.{RowFieldsData}
 use Rattle.tc_stmt.specs.Items.{ReferenceData}
 use Rattle.tc_stmt.specs.StatementRow.{statement}
 
--- the forms of rows that may take a statement's symbol without a relocation: jumps and calls of 16
+-- a row of this form may take a statement's symbol without a relocation: jumps and calls of 16
 -- bits, SB (12) and SBR (13)
-abbrev pub is_short_jump : Form → Bool
-is_short_jump form = is_sb form || is_sbr form
+abbrev pub can_take_symbol_directly : Form → Bool
+can_take_symbol_directly form = is_sb form || is_sbr form
 
 -- the symbol has a name, and the row has a field for it: in 32 bits the symbol's relocation fills
 -- the constant; a jump of 16 bits has no relocation, and its form has a constant
 pub record TakesSymbol (r : RowData) (s : ReferenceData) : Type 0 where
   pub named : is_source_name s.name ≡ true
   pub long : is_reloc s.kind ≡ true → (is_long r ≡ true) × (can_relocation_fill r.form s.kind ≡ true)
-  pub target : s.kind ≡ 0 → ((uses_of r).k ≡ true) × (is_short_jump r.form ≡ true)
+  pub target : s.kind ≡ 0 → ((uses_of r).k ≡ true) × (can_take_symbol_directly r.form ≡ true)
 
 -- if a statement that breaks no rule has a symbol, its row has a field for it
 pub record TakesAnySymbol (r : RowData) (o : Option ReferenceData) : Type 0 where
@@ -29,7 +29,7 @@ pub record TakesAnySymbol (r : RowData) (o : Option ReferenceData) : Type 0 wher
 
 -- the fields fit the row, and the row takes the symbol
 pub record FitsStatedRow (r : RowData) (f : RowFieldsData) : Type 0 where
-  pub fits : Fits r f.fields
+  pub fits : FieldsFitRow r f.fields
   pub symbols : TakesAnySymbol r f.reference
 
 -- the row of this number is listed, the fields fit it, and it takes the symbol; with a symbol, the

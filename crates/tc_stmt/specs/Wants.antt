@@ -7,8 +7,6 @@ use Rattle.tc_isa.specs.Rows.{RowData}
 use Rattle.tc_stmt.specs.declared.want.Field.TheVariants.{C, S1, S2, N, K}
 use Rattle.tc_stmt.specs.declared.want.Want.{Want}
 use Rattle.tc_stmt.specs.declared.want.Want.TheVariants.{Reg, A10, Number, Target, Absolute, Memory}
-use Rattle.tc_isa.specs.declared.fields.Fields.{Fields}
-use Rattle.tc_stmt.specs.RowFields.{set_field, field_of}
 
 -- the words of the operand texts
 unfoldable pub want_of : List ℕ → Want
@@ -43,13 +41,3 @@ wants_of r = if bytes_eq r.operands [] then [] else map (λ t. want_of (trimmed_
 -- the wants of a row, as values
 abbrev pub row_wants_now : Bor (List Want) → List Want
 row_wants_now w = w.now
-
--- the fields g with those of f that this want of a row names
-unfoldable pub with_wanted_fields : Fields → Fields → Want → Fields
-with_wanted_fields f g (Reg p x) = set_field x (field_of x f) g
-with_wanted_fields f g A10 = g
-with_wanted_fields f g (Number s x) = set_field x (field_of x f) g
-with_wanted_fields f g Target = set_field K f.k g
-with_wanted_fields f g Absolute = set_field K f.k g
-with_wanted_fields f g (Memory p true) = set_field K f.k (set_field S2 f.s2 g)
-with_wanted_fields f g (Memory p false) = set_field S2 f.s2 g

@@ -3,10 +3,10 @@ ghost use Rattle.std.specs.Prelude.{◌≡◌, ◌≤◌, ◌<◌, ◌+◌, ◌^
 ghost use Rattle.tcd_base.specs.Bytes.{four_bytes};
 ghost use Rattle.tc_lex.specs.Operands.{operand_of};
 ghost use Rattle.tc_stmt.specs.Items.{reference_of, item_of};
-ghost use Rattle.tc_stmt.specs.OperandForms.{shape_index, wrap_into_field};
+ghost use Rattle.tc_stmt.specs.OperandForms.{shape_index, operand_number_modulo};
 ghost use Rattle.tc_stmt.specs.DataDirectives.{is_value_within_width, value_rule, value_item, space_rule, space_item, values_rule};
 ghost use Rattle.tc_stmt.specs.SourceRules.{no_rule};
-ghost use Rattle.tc_stmt.specs.LinesRead.{Adds};
+ghost use Rattle.tc_stmt.specs.SourceViews.{Adds};
 
 use crate::item::Item;
 use crate::shape_numbers::{HIGH, HUGE, LOW, NUMBER, SUM, WORD};
@@ -17,7 +17,7 @@ use tc_lex::Operand;
 
 // A number of at most 32 bits, modulo 2^32, as little-endian bytes.
 fn data_word_bytes(minus: bool, size: u32) -> [u8; 4]
-    ensures { result ≡ four_bytes (wrap_into_field (2 ^ 32) minus size) }
+    ensures { result ≡ four_bytes (operand_number_modulo (2 ^ 32) minus size) }
 {
     let word = if minus { size.wrapping_neg() } else { size };
     word.to_le_bytes()
@@ -93,7 +93,8 @@ pub(crate) fn value_item<'a>(rule: u8, width: u8, o: &Operand<'a>) -> Item<'a>
     Item::Word(width, o.value.minus, size, o.value.name)
 }
 
-/// The least rule that the value of `.space`, a data directive, breaks by itself, or no rule.
+/// Returns the least rule that the number N of the data `.space N` breaks by itself, or no rule: N
+/// may be negative, too large or no number.
 #[tactic(auto, unfolding(crate::specs::DataDirectives::space_rule))]
 pub(crate) fn space_rule(o: &Operand<'_>) -> u8
     ensures value { result ≡ space_rule (operand_of o.now) }

@@ -5,10 +5,9 @@ ghost use Rattle.tc_isa.specs.Forms.{bounds};
 ghost use Rattle.tc_lex.specs.Operands.{value_of, operand_of};
 ghost use Rattle.tc_stmt.specs.SourceRules.{no_rule};
 ghost use Rattle.tc_stmt.specs.RowFields.{row_fields_of, field_of};
-ghost use Rattle.tc_stmt.specs.Filling.{Fills, put_register, put_number, half_operand_relocation, fill_value, fill_memory, fill_target, put_absolute, fill_absolute, fill_register, fill_a10, fill_plain, fill, fill_all, is_within_field_bound};
-ghost use Rattle.tc_stmt.specs.RowIndex.{is_named_row as named};
+ghost use Rattle.tc_stmt.specs.Filling.{Fills, put_register, put_number, half_operand_relocation, fill_value, fill_memory, fill_target, put_absolute, fill_absolute, fill_register, fill_a10, fill_plain, fill, fill_all, is_within_field_bound, is_named_row as named};
 ghost use Rattle.tc_stmt.specs.Displacements.{displacement_rule, with_displacement, target_operand_relocation, is_far_displacement};
-ghost use Rattle.tc_stmt.specs.OperandForms.{register_by_name, wrap_into_field};
+ghost use Rattle.tc_stmt.specs.OperandForms.{register_by_name, operand_number_modulo};
 
 use crate::form_index::{ABS, B, BOL, SBR, form_index};
 use crate::row_fields::{
@@ -24,7 +23,8 @@ use tc_lex::{Operand, Shape, Value, is_same_text};
 // The number of a name that is no register: above the numbers of all registers.
 const NO_REGISTER: u8 = 64;
 
-/// The number of register 0 of a bank, by its letter, or `NO_REGISTER`.
+/// Returns the number of register 0 in the bank that an operand's first letter names, d or a, or
+/// `NO_REGISTER`.
 fn bank_first_register(c: u8) -> u8
     ensures { result ≡ (if c == 100 then 0 else (if c == 97 then 16 else 64)) }
 {
@@ -37,8 +37,8 @@ fn bank_first_register(c: u8) -> u8
     }
 }
 
-/// The number of the register that an operand names: 0 to 15 for d0 to d15, 16 to 31 for a0 to a15,
-/// and `NO_REGISTER` or more for any other name.
+/// Returns the number of the register with which an operand fills a field: 0 to 15 for d0 to d15,
+/// 16 to 31 for a0 to a15, and `NO_REGISTER` or more for any other name.
 #[tactic(auto, unfolding(crate::specs::OperandForms::register_by_name, tc_lex::specs::Bytes::is_digit))]
 fn register_by_name(name: &[u8]) -> u8
     ensures value { result ≡ register_by_name name.now }
@@ -88,9 +88,9 @@ fn is_within_field_bound(signed: bool, bound: u32, minus: bool, size: u128) -> b
 }
 
 /// An operand's number modulo the bound of its field.
-fn wrap_into_field(bound: u32, minus: bool, size: u32) -> u32
+fn operand_number_modulo(bound: u32, minus: bool, size: u32) -> u32
     requires { size ≤ bound }
-    ensures { result ≡ wrap_into_field bound minus size }
+    ensures { result ≡ operand_number_modulo bound minus size }
 {
     if minus && size != 0 {
         bound - size
@@ -114,20 +114,21 @@ fn put_number(
 {
     let bound = field_of(field, &bounds_of(form));
     if is_within_field_bound(signed, bound, minus, size) {
-        put_field_value(field, wrap_into_field(bound, minus, size as u32), acc);
+        put_field_value(field, operand_number_modulo(bound, minus, size as u32), acc);
     } else {
         break_rule(WIDE_NUMBER, acc);
     }
 }
 
-/// Whether the row whose fields are filled has this name.
+/// Returns true if this row, whose fields an operand is to fill, has this name.
 fn is_named_row(row: &Row, name: &str) -> bool
     ensures { result ≡ named (row_of row.now) name.now }
 {
     is_same_text(row.name.as_bytes(), name)
 }
 
-/// The relocation of a half of an address in this row, or `NO_RELOC`.
+/// Returns the relocation by which an operand `hi:` or `lo:`, a half of an address, fills the
+/// constant of this row, or `NO_RELOC` if the row takes none.
 #[tactic(auto, unfolding(crate::specs::Filling::half_operand_relocation))]
 fn half_operand_relocation(row: &Row, shape: Shape) -> u8
     ensures { result ≡ half_operand_relocation (row_of row.now) shape }
@@ -215,9 +216,10 @@ fn fill_memory<'a>(
     }
 }
 
-/// The number of constants that can fill the field of a target in rows of this form.
+/// Returns the number of constants with which a target's operand can fill its field, in rows of
+/// this form.
 #[tactic(auto, unfolding(tc_isa::specs::Forms::bounds))]
-fn target_constant_bound(form: Form) -> u32
+fn target_operand_bound(form: Form) -> u32
     ensures value { result ≡ (bounds form).k }
     ensures small { result < 2 ^ 31 }
     ensures some { 1 ≤ result }
@@ -261,12 +263,7 @@ fn displacement_rule(row: &Row, minus: bool, size: u128) -> u8
     } else {
         FAR_TARGET
     };
-    let by_far: u8 = if is_far_displacement(
-        row.form,
-        target_constant_bound(row.form),
-        minus,
-        size,
-    ) {
+    let by_far: u8 = if is_far_displacement(row.form, target_operand_bound(row.form), minus, size) {
         too_far
     } else {
         NO_RULE
@@ -284,7 +281,7 @@ fn fill_displacement(row: &Row, minus: bool, size: u128, acc: &mut RowFields<'_>
     if rule == NO_RULE {
         put_field_value(
             Field::K,
-            wrap_into_field(target_constant_bound(row.form), minus, (size / 2) as u32),
+            operand_number_modulo(target_operand_bound(row.form), minus, (size / 2) as u32),
             acc,
         );
     } else {
@@ -308,7 +305,8 @@ pub fn with_displacement<'a>(
     made
 }
 
-/// The relocation of a jump's or call's target, or `NO_RELOC` in rows of 16 bits.
+/// Returns the relocation of a symbol that an operand gives as the target of a jump or call,
+/// instead of filling the field, or `NO_RELOC` in rows of 16 bits.
 #[tactic(auto, unfolding(crate::specs::Displacements::target_operand_relocation))]
 fn target_operand_relocation(row: &Row) -> u8
     ensures { result ≡ target_operand_relocation (row_of row.now) }

@@ -7,6 +7,7 @@ mod form_index;
 mod item;
 mod laws;
 mod line_reader;
+mod names;
 mod row_fields;
 mod row_index;
 mod row_wants;
@@ -14,13 +15,13 @@ mod shape_numbers;
 mod source;
 mod source_rules;
 mod statement_row;
-mod symbols;
 mod tally;
 mod want;
 
 pub use fill_fields::with_displacement;
 pub use item::Item;
 pub use laws::statement_laws;
+pub use names::{is_source_name, symbol_rule};
 pub use row_fields::{NO_RELOC, Reference, RowFields, field_of, reference_to};
 pub use row_wants::wants;
 pub use shape_numbers::shape_index;
@@ -29,5 +30,4 @@ pub use source_rules::{
     BAD_NAME, LABEL_TWICE, MISPLACED_SYMBOL, NO_RULE, NO_SECTION, PAST_LIMITS, UNDEFINED_GLOBAL,
 };
 pub use statement_row::statement;
-pub use symbols::{is_source_name, symbol_rule};
 pub use want::{Field, Want};

@@ -7,8 +7,8 @@ ghost use Rattle.tc_lex.specs.Pieces.{piece_of, text_at as text_in_pieces};
 ghost use Rattle.tc_lex.specs.Operands.{operand_of, operands as operands_in};
 ghost use Rattle.tc_stmt.specs.Items.{item_of, label, section, global, code, reference_of};
 ghost use Rattle.tc_stmt.specs.DataDirectives.{space_rule as space_rule_of, space_item as space_item_of};
-ghost use Rattle.tc_stmt.specs.Lines.{line_data, named_line, is_word_operand, only_operand_name, space_line, values_line, size_of_name, stated_line, line_from, line_with_label, pieces_line, has_label, label_of, label_before, line_in, code_line};
-ghost use Rattle.tc_stmt.specs.LinesRead.{Adds};
+ghost use Rattle.tc_stmt.specs.Lines.{line_data, named_line, is_named_line_operand, only_operand_name, space_line, values_line, size_of_name, stated_line, line_from, line_with_label, pieces_line, has_label, label_of, label_before, line_in, code_line};
+ghost use Rattle.tc_stmt.specs.SourceViews.{Adds};
 
 use crate::data::{add_values, space_item, space_rule};
 use crate::item::Item;
@@ -39,9 +39,9 @@ fn add_item<'a>(rule: u8, item: Item<'a>, items: &mut Vec<Item<'a>>) -> Result<u
 }
 
 /// Whether the operand is a word, as `.section` and `.global` want.
-#[tactic(auto, unfolding(crate::specs::Lines::is_word_operand))]
-fn is_word_operand(o: &Operand<'_>) -> bool
-    ensures { result ≡ is_word_operand (operand_of o.now) }
+#[tactic(auto, unfolding(crate::specs::Lines::is_named_line_operand))]
+fn is_named_line_operand(o: &Operand<'_>) -> bool
+    ensures { result ≡ is_named_line_operand (operand_of o.now) }
 {
     !o.is_memory && shape_index(o.value.shape) == WORD
 }
@@ -54,7 +54,7 @@ fn only_operand_name<'a>(os: &[Operand<'a>]) -> Option<&'a [u8]>
         return None;
     }
     let operand = &os[0];
-    if is_word_operand(operand) {
+    if is_named_line_operand(operand) {
         Some(operand.value.name)
     } else {
         None
@@ -85,7 +85,8 @@ fn global_line<'a>(os: &[Operand<'a>], items: &mut Vec<Item<'a>>) -> Result<u8, 
     }
 }
 
-/// Reads a line of a source, `.space` with one operand: adds its zeros, and returns its rule.
+/// Reads a whole line `.space N` with its one operand: adds its zeros to the items of the source,
+/// and returns the rule that the line breaks.
 fn space_operand_line<'a>(o: &Operand<'a>, items: &mut Vec<Item<'a>>) -> Result<u8, AllocError>
     ensures { Adds (line_data (space_rule_of (operand_of o.now))
         (space_item_of (operand_of o.now) ∷ []))
@@ -94,7 +95,8 @@ fn space_operand_line<'a>(o: &Operand<'a>, items: &mut Vec<Item<'a>>) -> Result<
     add_item(space_rule(o), space_item(o), items)
 }
 
-/// Reads a line of a source, `.space N`: adds its zeros, and returns its rule.
+/// Reads a whole line `.space N`: adds its zeros to the items of the source, and returns the rule
+/// that the line breaks.
 fn space_line<'a>(os: &[Operand<'a>], items: &mut Vec<Item<'a>>) -> Result<u8, AllocError>
     ensures { Adds (space_line (map operand_of os.now)) result items.old.items items.new.items }
 {
@@ -104,7 +106,8 @@ fn space_line<'a>(os: &[Operand<'a>], items: &mut Vec<Item<'a>>) -> Result<u8, A
     space_operand_line(&os[0], items)
 }
 
-/// Reads a line of a source, `.byte`, `.half` or `.word` with values of `width` bytes.
+/// Reads a whole line of `.byte`, `.half` or `.word`: adds its values of `width` bytes to the items
+/// of the source, and returns the rule that the line breaks.
 #[tactic(auto, unfolding(crate::specs::Lines::values_line))]
 fn values_line<'a>(
     width: u8,

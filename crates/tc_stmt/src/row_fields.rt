@@ -3,12 +3,14 @@ ghost use Rattle.std.specs.Prelude.{◌≡◌, ◌<◌};
 ghost use Rattle.tc_stmt.specs.Items.{reference_of, reference_to};
 ghost use Rattle.tc_stmt.specs.RowFields.{row_fields_of, no_fields, with_rule, set_field, field_of, with_value as put_in};
 ghost use Rattle.tc_lex.specs.Operands.{value_of};
-ghost use Rattle.tc_stmt.specs.Filling.{symbol_rule, with_symbol, with_misplaced};
+ghost use Rattle.tc_stmt.specs.Filling.{with_symbol, with_misplaced, check_registers_apart};
+ghost use Rattle.tc_stmt.specs.Names.{symbol_rule};
+ghost use Rattle.tc_isa.specs.Rows.{row_of};
 
-use crate::source_rules::{MISPLACED_SYMBOL, NO_RULE};
-use crate::symbols::symbol_rule;
+use crate::names::symbol_rule;
+use crate::source_rules::{EQUAL_REGISTERS, MISPLACED_SYMBOL, NO_RULE};
 use crate::want::Field;
-use tc_isa::{Fields, Form};
+use tc_isa::{Fields, Form, Row, are_registers_apart};
 use tc_lex::Value;
 
 /// The kind of a reference whose address is used at once, without a relocation.
@@ -28,8 +30,8 @@ pub struct Reference<'a> {
     pub minus: bool,
 }
 
-/// The reference of this kind to the symbol of an operand, with the number that is added to its
-/// address.
+/// Returns the reference that is kept with a row's fields: of this kind, to the symbol of an
+/// operand, with the number that is added to its address.
 pub fn reference_to(kind: u8, name: &[u8], minus: bool, size: u32) -> Reference<'_>
     ensures { reference_of result ≡ reference_to kind name.now minus size }
 {
@@ -91,7 +93,7 @@ pub(crate) fn set_field(field: Field, v: u32, f: &mut Fields)
     }
 }
 
-/// The value in one of a row's fields that operands fill.
+/// Returns the value in this one of a row's fields, as far as operands filled them.
 #[tactic(auto, unfolding(crate::specs::RowFields::field_of))]
 pub fn field_of(field: Field, f: &Fields) -> u32
     ensures { result ≡ field_of field f.now }
@@ -112,8 +114,8 @@ pub(crate) fn put_field_value(field: Field, v: u32, acc: &mut RowFields<'_>)
     set_field(field, v, &mut acc.fields);
 }
 
-/// Notes beside a row's fields the symbol of an operand, in a place that takes one, or the rule
-/// that the symbol breaks.
+/// Notes among a row's fields the symbol of an operand, in a place that takes one, or the rule that
+/// the symbol breaks.
 #[tactic(auto, unfolding(crate::specs::Filling::with_symbol))]
 pub(crate) fn with_symbol<'a>(kind: u8, v: &Value<'a>, acc: &mut RowFields<'a>)
     ensures { row_fields_of acc.new
@@ -137,4 +139,13 @@ pub(crate) fn note_misplaced_symbol(v: &Value<'_>, acc: &mut RowFields<'_>)
     ensures { row_fields_of acc.new ≡ with_misplaced (value_of v.now) (row_fields_of acc.old) }
 {
     break_rule(MISPLACED_SYMBOL.min(symbol_rule(v)), acc);
+}
+
+/// Notes among a row's fields that rule 12 is broken, if its registers must differ and are equal.
+pub(crate) fn check_registers_apart(row: &Row, f: &mut RowFields<'_>)
+    ensures { row_fields_of f.new ≡ check_registers_apart (row_of row.now) (row_fields_of f.old) }
+{
+    if !are_registers_apart(row, &f.fields) {
+        break_rule(EQUAL_REGISTERS, f);
+    }
 }

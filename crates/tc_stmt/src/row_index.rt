@@ -171,7 +171,8 @@ static NEXT: [u8; ROW_COUNT] = [
     142, // st16.a [As2], As1
 ];
 
-/// For each key, the number of the first row that has it.
+/// Returns the index in which a statement's name is looked up: for each key, the number of the
+/// first row whose name has it.
 #[tactic(auto, unfolding(crate::specs::RowIndex::name_key))]
 pub(crate) fn first_rows() -> &'static [u8]
     ensures { are_first_rows 0 listed result.now ≡ true }
@@ -179,7 +180,8 @@ pub(crate) fn first_rows() -> &'static [u8]
     &FIRST
 }
 
-/// For each row, the number of the next row with the same key.
+/// Returns for each row the number of the next row whose name has the same key, so that the search
+/// for a statement's row skips those between.
 #[tactic(auto, unfolding(crate::specs::RowIndex::name_key))]
 pub(crate) fn next_rows() -> &'static [u8]
     ensures { are_next_rows 0 listed result.now ≡ true }

@@ -2,7 +2,7 @@
 ghost use Rattle.std.specs.Prelude.{◌≡◌, ◌≤◌, ◌<◌, ◌+◌, ◌++◌, List, [], ◌∷◌, map, length, position, take, drop, IfOk, OnOk, IfSome, ◌==◌};
 ghost use Rattle.tc_stmt.specs.Items.{item_of};
 ghost use Rattle.tc_stmt.specs.Lines.{LineData, line_in, lines_in, items_in};
-ghost use Rattle.tc_stmt.specs.LinesRead.{lines_of, AreRead};
+ghost use Rattle.tc_stmt.specs.SourceViews.{lines_of, AreRead};
 
 use crate::item::Item;
 use crate::line_reader::read_line;

@@ -4,29 +4,20 @@ ghost use Rattle.std.specs.Str.{bytes_eq};
 ghost use Rattle.tc_isa.specs.Rows.{row_of};
 ghost use Rattle.tc_stmt.specs.Wants.{wants_of, row_wants_now};
 ghost use Rattle.tc_lex.specs.Operands.{operand_of};
-ghost use Rattle.tc_stmt.specs.RowFields.{row_fields_of, no_fields};
+ghost use Rattle.tc_stmt.specs.RowFields.{no_fields};
 ghost use Rattle.tc_stmt.specs.Filling.{Fills, fill_all, check_registers_apart, fields_of_row};
 ghost use Rattle.tc_stmt.specs.StatementRow.{start_tally, after_row, statement_outcome, JudgesRow, JudgesStatement, statement, tally_rule};
 ghost use Rattle.tc_stmt.specs.RowIndex.{are_first_rows, are_next_rows};
 
 use crate::fill_fields::fill_all;
-use crate::row_fields::{RowFields, break_rule, no_fields};
+use crate::row_fields::{RowFields, check_registers_apart, no_fields};
 use crate::row_index::{first_row, first_rows, next_row, next_rows};
 use crate::row_wants::wants;
-use crate::source_rules::{EQUAL_REGISTERS, NO_RULE};
+use crate::source_rules::NO_RULE;
 use crate::tally::{Tally, tally_rule};
 use crate::want::Want;
-use tc_isa::{Row, are_registers_apart, rows};
+use tc_isa::{Row, rows};
 use tc_lex::{Operand, are_same_bytes};
-
-/// Notes that rule 12 is broken if the row's registers must differ and are equal.
-fn check_registers_apart(row: &Row, f: &mut RowFields<'_>)
-    ensures { row_fields_of f.new ≡ check_registers_apart (row_of row.now) (row_fields_of f.old) }
-{
-    if !are_registers_apart(row, &f.fields) {
-        break_rule(EQUAL_REGISTERS, f);
-    }
-}
 
 // Fills the fields of a row. Returns false if the operands have other forms than the row wants.
 #[tactic(auto, unfolding(crate::specs::Filling::fields_of_row))]

@@ -5,7 +5,7 @@ use Rattle.std.specs.Prelude.{◌+◌, ◌*◌, ◌/◌, ◌%◌, ℕ, List, ◌
 abbrev pub half_in_bytes : List ℕ → ℕ → ℕ
 half_in_bytes bytes place = slice_index bytes place + slice_index bytes (place + 1) * 256
 
--- the four bytes of a list from a place on, as a little-endian number
+-- a little-endian word in a list of bytes, as a number: the four bytes from a place on
 abbrev pub word_in_bytes : List ℕ → ℕ → ℕ
 word_in_bytes bytes place = slice_index bytes place + slice_index bytes (place + 1) * 256 + slice_index bytes (place + 2) * 65536 + slice_index bytes (place + 3) * 16777216
 

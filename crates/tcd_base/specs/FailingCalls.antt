@@ -10,7 +10,7 @@ next_saturating_count n = min (n + 1) (2 ^ 64 - 1)
 abbrev pub is_failing_call : List ℕ → ℕ → Bool
 is_failing_call failing call = list_any (λ n. n == call) failing
 
--- the count of failures shows that a call failed between two counts: the later one is greater, or
--- it is the last value of 64 bits
+-- two counts of failures show that a call failed between them: the later count is greater, or it is
+-- the last value of 64 bits
 abbrev pub FaultCounted : ℕ → ℕ → Type 0
 FaultCounted before now = (before < now) ⊎ (now ≡ 2 ^ 64 - 1)

@@ -17,7 +17,7 @@ pub fn bits(x: u32, hi: u8, lo: u8) -> u32
     (above % (1u64 << (hi - lo + 1))) as u32
 }
 
-/// Extends a bit field of `n` bits in two's complement by its sign to 32 bits.
+/// Returns a bit field of `n` bits in two's complement, extended by its sign to a word of 32 bits.
 pub fn sext(x: u32, n: u8) -> u32
     requires some { 1 ≤ n }
     requires most { n ≤ 32 }

@@ -6,8 +6,7 @@ use Rattle.std.proofs.lemmas.List.{drop_more, drop-map, length-drop, take_all}
 use Rattle.std.proofs.lemmas.Bool.{or_cases}
 use Rattle.std.proofs.lemmas.Grind.{get_or-set_at}
 use Rattle.std.proofs.lemmas.Slice.Eq.{bytes_eq-Decides}
-use Rattle.tcd_driver.specs.Commands.{are_distinct_names}
-use Rattle.tcd_driver.specs.NameMarks.{name_mark}
+use Rattle.tcd_driver.specs.DistinctNames.{are_distinct_names, name_mark}
 
 and_false : (b c : Bool) → c ≡ false → (b && c) ≡ false
 and_false true c e = e

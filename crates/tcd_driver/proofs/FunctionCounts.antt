@@ -7,7 +7,7 @@ use Rattle.std.specs.Str.Parse.{ParsesUnsigned, digits_value}
 use Rattle.std.proofs.lemmas.Bool.{and_parts, and_from, or_parts, or_from, or_right, not_from_false, eqb-false, or_cases}
 use Rattle.std.proofs.lemmas.Str.Parse.{IsDigitsTest, IsNumeralModel, numerals_by_value, parse_plain}
 use Rattle.tc_script.specs.Numbers.{is_decimal, script_number}
-use Rattle.tcd_driver.specs.Commands.{gen_function_count}
+use Rattle.tcd_driver.specs.Gen.{gen_function_count}
 
 -- the number of functions, if it is in the range of `gen`
 abbrev counted : ℕ → Option ℕ

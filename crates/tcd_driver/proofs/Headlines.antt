@@ -22,8 +22,8 @@ use Rattle.tc_script.specs.ScriptData.{ScriptData}
 use Rattle.tc_script.specs.DrivenRuns.{driven_peak}
 use Rattle.tc_script.specs.ScriptRuns.{script_events}
 use Rattle.depth_cert.specs.declared.keys.Key.{Key}
-use Rattle.depth_cert.specs.Nodes.{NodeData, need_of}
-use Rattle.depth_cert.specs.Certs.{CertData, IsCert, find_node}
+use Rattle.depth_cert.specs.Nodes.{NodeData, need_of, find_node}
+use Rattle.depth_cert.specs.Certs.{CertData, IsCert}
 use Rattle.depth_cert.specs.Spelling.{bytes_of_cert}
 use Rattle.depth_cert.proofs.BackLaws.{written_is_read}
 use Rattle.cfg_recover.specs.Entries.{start_key, start_state}
@@ -51,8 +51,8 @@ use Rattle.tcd_driver.specs.Ship as shipping
 use Rattle.tcd_driver.specs.Ship.{ShipNames, IsShipping, IsShipped, IsImageOfSources, ship_reading}
 use Rattle.tcd_driver.specs.Run as runs
 use Rattle.tcd_driver.specs.Run.{RunNames, IsRunReport, run_reading}
-use Rattle.tcd_driver.specs.Headlines.{HoldsFile, IsBadFile, too_long, faulty, HoldsImage, HoldsPlan, HoldsCert, HoldsLayout, HoldEachFile, AreFirmwareFiles, AreCheckFiles, IsOnlyFileWritten, IsAcceptedWithNeed, IsBestWithNeed, frame_words, refused_words, HeadlineOfCheck, RefusalByCheck, HeadlineOfCert, RefusalByCert, HeadlineOfRun}
-use Rattle.tcd_driver.specs.Headlines.Builds.{IsSourceText, IsImageOfFiles, HeadlineOfShip, RefusalByShip}
+use Rattle.tcd_driver.specs.Headlines.{HoldsFile, IsBadFile, too_long, faulty, HoldsImage, HoldsPlan, HoldsCert, HoldEachFile, AreFirmwareFiles, AreCheckFiles, IsOnlyFileWritten, IsAcceptedWithNeed, IsBestWithNeed, frame_words, refused_words, HeadlineOfCheck, RefusalByCheck, HeadlineOfCert, RefusalByCert, HeadlineOfRun}
+use Rattle.tcd_driver.specs.Headlines.Builds.{HoldsLayout, IsSourceText, IsImageOfFiles, HeadlineOfShip, RefusalByShip}
 
 -- ---- the files after a report
 -- after the files of a report were written, this holds for the files and the report's text

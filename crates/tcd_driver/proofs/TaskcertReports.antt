@@ -12,8 +12,8 @@ use Rattle.tcd_base.specs.declared.errors.FormErr.{FormErr}
 use Rattle.tc_machine.specs.Safe.{Safe}
 use Rattle.depth_cert.specs.declared.keys.Key.{Key}
 use Rattle.depth_cert.specs.Keys.{number_of_key}
-use Rattle.depth_cert.specs.Nodes.{NodeData, IsNode, need_of}
-use Rattle.depth_cert.specs.Certs.{CertData, IsCert, find_node}
+use Rattle.depth_cert.specs.Nodes.{NodeData, IsNode, need_of, find_node}
+use Rattle.depth_cert.specs.Certs.{CertData, IsCert}
 use Rattle.depth_cert.specs.Spelling.{bytes_of_cert}
 use Rattle.depth_cert.specs.Grammar.{certificate_of}
 use Rattle.depth_cert.proofs.BackLaws.{written_is_read}

@@ -18,7 +18,8 @@ use Rattle.tcd_reading.specs.declared.status.Status.{Status}
 use Rattle.tcd_reading.specs.declared.status.Status.TheVariants.{Done, Refused, BadInput, Fault, NoMemory, BadWords}
 use Rattle.tcd_driver.specs.BadInputLines.{bad_words_line}
 use Rattle.tcd_driver.specs.Commands as asked
-use Rattle.tcd_driver.specs.Commands.{Command, command, reading_of, is_link, is_ship, is_tasks, is_taskcert, are_distinct_names}
+use Rattle.tcd_driver.specs.Commands.{Command, command, reading_of, is_link, is_ship, is_tasks, is_taskcert}
+use Rattle.tcd_driver.specs.DistinctNames.{are_distinct_names}
 use Rattle.tcd_driver.specs.Tool.{ToolCall, ToolCallMeans, EndsWithBadWords, ToolSays}
 use Rattle.tcd_driver.proofs.Headlines.{Reports, check_is_done, check_refuses, cert_is_done, cert_refuses, ship_is_done, ship_refuses, run_is_done}
 use Rattle.tcd_driver.proofs.Headlines.Boots.{boot_is_done, boot_refuses, bootgen_is_done}

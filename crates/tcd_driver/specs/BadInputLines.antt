@@ -1,9 +1,6 @@
 -- The printed lines for words that are no command, and on faults of boot sequences and of input
 -- files.
 use Rattle.std.specs.Prelude.{ℕ, List, ◌∷◌, ◌++◌, codes, ◌≡◌, Err, []}
-use Rattle.tc_boot.specs.declared.judging.BootErr.{BootErr}
-use Rattle.tc_boot.specs.declared.judging.BootErr.TheVariants as boot
-use Rattle.tcd_text.specs.Digits.{hex_word}
 use Rattle.std.specs.Fmt.{decimal}
 use Rattle.tc_object.specs.Grammar.{object_of}
 use Rattle.tc_link.specs.LayoutFaults.{layout_of}
@@ -21,20 +18,12 @@ use Rattle.tc_asm.specs.DraftedSources.{IsLeastBrokenLine}
 unfoldable pub bad_words_line : List ℕ
 bad_words_line = codes "bad words" ++ 10 ∷ []
 
--- the driver's line on why a boot sequence is refused: the number of the reason, and for a
--- difference the address of the first byte that differs
-unfoldable pub refused_boot_line : BootErr → List ℕ
-refused_boot_line boot.Enabled = codes "refused boot 1" ++ 10 ∷ []
-refused_boot_line boot.Odd = codes "refused boot 2" ++ 10 ∷ []
-refused_boot_line boot.Outside = codes "refused boot 3" ++ 10 ∷ []
-refused_boot_line (boot.Differs p) = codes "refused boot 4 at " ++ (hex_word p ++ 10 ∷ [])
-
 -- the bytes are no layout, and this is the line of their first fault
 abbrev pub IsNoLayout : List ℕ → List ℕ → Type 0
 IsNoLayout bytes line = (e : LayoutErr) × (layout_of bytes ≡ Err e) × (line ≡ bad_layout_line e)
 
--- the bytes are no object; the line has the number of the first fault, the place of the object
--- among the words, and the offset of the fault
+-- the bad-input line on bytes that are no object: it has the number of the first fault, the place
+-- of the object among the words, and the offset of the fault
 abbrev pub IsNoObject : ℕ → List ℕ → List ℕ → Type 0
 IsNoObject place bytes line =
     (e : FormErr) × (object_of bytes ≡ Err e)
@@ -63,7 +52,7 @@ bad_tasks_line tasks.Count = codes "bad tasks 7" ++ 10 ∷ []
 abbrev pub bad_source_words : ℕ → ℕ → ℕ → List ℕ
 bad_source_words rule place line = codes "bad source " ++ (decimal rule ++ (codes " at " ++ (decimal place ++ (codes " " ++ (decimal line ++ 10 ∷ [])))))
 
--- the bytes are a source with a line that breaks a rule; the first such line is printed, with the
--- least rule that it breaks
+-- the bad-input line on bytes that are a source with a line that breaks a rule: it has the first
+-- such line, and the least rule that it breaks
 abbrev pub SourceBreaksRule : List ℕ → List ℕ → Type 0
 SourceBreaksRule bytes printed = (line : ℕ) × (rule : ℕ) × IsLeastBrokenLine (lines_in bytes) line rule × (printed ≡ bad_source_words rule 0 line)

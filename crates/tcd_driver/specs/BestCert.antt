@@ -20,7 +20,8 @@ pub data IsBestCert (image : ImageData) (plan : PlanData) (cert : CertData) : Ty
   first : IsMade image plan 1 cert → IsBestCert image plan cert
   second : NoneAccepted image plan 1 → IsMade image plan 2 cert → IsBestCert image plan cert
 
--- the best certificate, which is accepted, so that every run is safe with its need
+-- the best certificate for an image and a plan, of version 1 or 2: it is accepted, so that every
+-- run is safe with its need
 pub record IsAcceptedBestCert (image : ImageData) (plan : PlanData) (cert : CertData) : Type 0 where
   pub is_cert : IsCert cert
   pub best : IsBestCert image plan cert
@@ -65,7 +66,8 @@ pub record IsLeastOfItsVersion (image : ImageData) (plan : PlanData) (cert : Cer
   pub needs : (other : CertData) (frame : Key) → IsCert other → other.version ≡ cert.version → Accepts image plan other → needs_in cert frame ≤ needs_in other frame
   pub states : (other : CertData) → IsCert other → other.version ≡ cert.version → Accepts image plan other → IsBelowAt (known_in cert) (known_in other)
 
--- no certificate of either version is accepted, and this is why none of version 2 is
+-- why an image and a plan have no best certificate: none of either version is accepted, and this is
+-- why none of version 2 is
 pub record NoneIsAccepted (image : ImageData) (plan : PlanData) (rule : ℕ) (frame : Key) (address : ℕ) : Type 0 where
   pub each : (cert : CertData) → IsCert cert → Accepts image plan cert → ⊥
   pub why : IsRefusal image plan 2 rule frame address

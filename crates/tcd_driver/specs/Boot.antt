@@ -1,5 +1,5 @@
 -- What `boot` and `bootgen` read and report.
-use Rattle.std.specs.Prelude.{◌≡◌, ◌-◌, ℕ, List, Err}
+use Rattle.std.specs.Prelude.{◌≡◌, ◌-◌, ℕ, List, Err, ◌∷◌, ◌++◌, codes, []}
 use Rattle.elf_image.specs.Images.{ImageData}
 use Rattle.tcd_plan.specs.PlanData.{PlanData}
 use Rattle.depth_cert.specs.Certs.{CertData}
@@ -14,8 +14,9 @@ use Rattle.tcd_reading.specs.Reports.{Report, says, writes_file}
 use Rattle.tcd_reading.specs.Inputs.{Reading, input, answer}
 use Rattle.tcd_forms.specs.Forms.{elf_form, plan_form, cert_form}
 use Rattle.tcd_forms.specs.Lines.{boots_line, generated_boot_line, refused_line}
-use Rattle.tcd_driver.specs.BadInputLines.{refused_boot_line}
 use Rattle.tcd_reading.specs.declared.status.Status.TheVariants.{Done, Refused}
+use Rattle.tcd_text.specs.Digits.{hex_word}
+use Rattle.tc_boot.specs.declared.judging.BootErr.TheVariants as boot
 
 -- ---- boot
 -- the names of the files that `boot` reads, and the address of the boot sequence
@@ -24,6 +25,14 @@ pub record BootNames : Type 0 where
   pub plan : List ℕ
   pub cert : List ℕ
   pub at : ℕ
+
+-- the line that `boot` reports if it refuses a boot sequence: the number of the reason, and for a
+-- difference the address of the first byte that differs
+unfoldable pub refused_boot_line : BootErr → List ℕ
+refused_boot_line boot.Enabled = codes "refused boot 1" ++ 10 ∷ []
+refused_boot_line boot.Odd = codes "refused boot 2" ++ 10 ∷ []
+refused_boot_line boot.Outside = codes "refused boot 3" ++ 10 ∷ []
+refused_boot_line (boot.Differs p) = codes "refused boot 4 at " ++ (hex_word p ++ 10 ∷ [])
 
 -- The verdict on an image, a plan, a certificate and a boot sequence. The certificate isn't
 -- accepted, and the line has its first fault. Or it is accepted, and the sequence is refused. Or

@@ -1,8 +1,7 @@
 -- The commands: what words ask for, and what each command reads and reports.
-use Rattle.std.specs.Prelude.{◌≤◌, ◌+◌, ◌^◌, ◌&&◌, not, nat_le, ℕ, Bool, true, List, ◌∷◌, length, map, string_bytes, codes, Option, Some, None, if◌then◌else◌, []}
+use Rattle.std.specs.Prelude.{◌≤◌, ◌+◌, ◌^◌, ◌&&◌, not, nat_le, ℕ, Bool, List, ◌∷◌, length, map, string_bytes, codes, Option, Some, None, if◌then◌else◌, []}
 use Rattle.std.specs.Bool.{then_some}
 use Rattle.std.specs.Option.{option_or, option_map, option_and_then}
-use Rattle.std.specs.List.{list_any}
 use Rattle.std.specs.Str.{bytes_eq}
 use Rattle.tcd_text.specs.HexNumbers.{hex_number_of}
 use Rattle.tcd_reading.specs.Inputs.{Reading}
@@ -19,11 +18,11 @@ use Rattle.tcd_driver.specs.Boot.{BootNames, BootgenNames, boot_reading, bootgen
 use Rattle.tcd_driver.specs.Cells.{CellsNames, cells_reading}
 use Rattle.tcd_driver.specs.Cellcert.{CellcertNames, cellcert_reading}
 use Rattle.tcd_driver.specs.Tasks.{TasksNames, tasks_reading}
-use Rattle.tcd_driver.specs.Gen.{gen_reading}
+use Rattle.tcd_driver.specs.Gen.{gen_reading, gen_function_count}
 use Rattle.tcd_driver.specs.Taskcert.{TaskcertNames, taskcert_reading}
 use Rattle.tcd_driver.specs.declared.command.Command.{Command as Words}
 use Rattle.tcd_driver.specs.declared.command.Command.TheVariants as words
-use Rattle.tc_script.specs.Numbers.{script_number}
+use Rattle.tcd_driver.specs.DistinctNames.{are_distinct_names}
 
 -- a command with the names of its files; for `dis` the executable, for `gen` the number of
 -- functions
@@ -69,11 +68,6 @@ ship_command_of words = None
 abbrev pub is_tasks : List ℕ → List (List ℕ) → Bool
 is_tasks verb certs = bytes_eq verb (codes "tasks") && nat_le 1 (length certs) && nat_le (length certs) 65531
 
--- no name is there twice
-abbrev pub are_distinct_names : List (List ℕ) → Bool
-are_distinct_names [] = true
-are_distinct_names (name ∷ names) = not (list_any (bytes_eq name) names) && are_distinct_names names
-
 -- `taskcert` has at least one certificate, and writes each under a name of its own
 abbrev pub is_taskcert : List ℕ → List (List ℕ) → Bool
 is_taskcert verb certs = bytes_eq verb (codes "taskcert") && nat_le 1 (length certs) && nat_le (length certs) 65531 && are_distinct_names certs
@@ -95,11 +89,6 @@ bootgen_command_of plan entry at source =
 -- the command `boot`: an image, a plan, a certificate, and the address of a boot sequence
 abbrev pub boot_command_of : List ℕ → List ℕ → List ℕ → List ℕ → Option Command
 boot_command_of elf plan cert at = option_map (λ x. boot (record { elf = elf; plan = plan; cert = cert; at = x })) (hex_number_of at)
-
--- the number of functions that the word of the command `gen` asks for: 1 to 500, in decimal without
--- leading zeros
-abbrev pub gen_function_count : List ℕ → Option ℕ
-gen_function_count word = option_and_then (λ n. then_some (nat_le 1 n && nat_le n 500) n) (script_number word)
 
 -- the commands with one word after their verb
 abbrev pub one_word_command : List ℕ → List ℕ → Option Command
@@ -145,7 +134,8 @@ fixed_command_of words = None
 abbrev pub command : List (List ℕ) → Option Command
 command words = option_or (link_command_of words) (option_or (ship_command_of words) (option_or (tasks_command_of words) (fixed_command_of words)))
 
--- what each of the commands reads and reports: its files, in the order of its words, and its report
+-- what each of the commands that words ask for reads and reports: its files, in the order of its
+-- words, and its report
 abbrev pub reading_of : Command → Reading
 reading_of (check names) = check_reading names
 reading_of (certify names) = cert_reading names

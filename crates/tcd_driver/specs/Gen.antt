@@ -1,5 +1,5 @@
 -- What `gen` reports.
-use Rattle.std.specs.Prelude.{◌≡◌, ◌-◌, ℕ, List, length, ◌≤◌, Some}
+use Rattle.std.specs.Prelude.{◌≡◌, ◌-◌, ℕ, List, length, ◌≤◌, Some, ◌&&◌, nat_le, Option}
 use Rattle.elf_image.specs.Images.{ImageData}
 use Rattle.tcd_plan.specs.PlanData.{PlanData}
 use Rattle.tc_machine.specs.Safe.{Safe}
@@ -17,6 +17,8 @@ use Rattle.tcd_reading.specs.Reports.{Report, says}
 use Rattle.tcd_reading.specs.Inputs.{Reading, answer}
 use Rattle.tcd_forms.specs.Lines.{refused_line, generated_line}
 use Rattle.tcd_reading.specs.declared.status.Status.TheVariants.{Done, Refused}
+use Rattle.std.specs.Bool.{then_some}
+use Rattle.std.specs.Option.{option_and_then}
 
 -- The report on an image of this number of functions and its plan. Either no certificate of version
 -- 1 is accepted, and the line says why. Or the least one is made, every run is safe with its need,
@@ -37,8 +39,13 @@ pub data IsGenReport (functions : ℕ) (image : ImageData) (plan : PlanData) (re
 abbrev pub gen_reading : ℕ → Reading
 gen_reading functions = answer (IsGenReport functions (generated_image functions) generated_plan)
 
--- the word is this number of functions, 1 to 500
+-- the word that `gen` has stands for this number of functions, 1 to 500
 pub record IsGenFunctionCount (word : List ℕ) (functions : ℕ) : Type 0 where
   pub is : script_number word ≡ Some functions
   pub some : 1 ≤ functions
   pub few : functions ≤ 500
+
+-- the number of functions that the word of the command `gen` asks for: 1 to 500, in decimal without
+-- leading zeros
+abbrev pub gen_function_count : List ℕ → Option ℕ
+gen_function_count word = option_and_then (λ n. then_some (nat_le 1 n && nat_le n 500) n) (script_number word)

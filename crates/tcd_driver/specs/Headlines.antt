@@ -16,22 +16,20 @@ use Rattle.tcd_plan.specs.Plans.{GivesPlan}
 use Rattle.tc_machine.specs.declared.events.Event.{Event}
 use Rattle.tc_machine.specs.declared.state.Machine.{Machine}
 use Rattle.tc_machine.specs.Stepping.{run}
-use Rattle.tc_machine.specs.Safe.{Starts, Safe}
-use Rattle.tc_machine.specs.Starting.{StartsInZeros}
+use Rattle.tc_machine.specs.Safe.{Safe}
+use Rattle.tc_machine.specs.Starting.{Starts, StartsInZeros}
 use Rattle.tc_script.specs.ScriptData.{ScriptData}
 use Rattle.tc_script.specs.ScriptText.{script_of}
 use Rattle.tc_script.specs.DrivenRuns.{driven_peak}
 use Rattle.tc_script.specs.ScriptRuns.{script_events}
 use Rattle.tcd_text.specs.Digits.{hex_word}
 use Rattle.depth_cert.specs.declared.keys.Key.{Key}
-use Rattle.depth_cert.specs.Nodes.{NodeData}
-use Rattle.depth_cert.specs.Certs.{CertData, find_node}
+use Rattle.depth_cert.specs.Nodes.{NodeData, find_node}
+use Rattle.depth_cert.specs.Certs.{CertData}
 use Rattle.depth_cert.specs.Grammar.{certificate_of}
 use Rattle.depth_cert.specs.Spelling.{bytes_of_cert}
 use Rattle.cfg_recover.specs.Entries.{start_key}
 use Rattle.cfg_recover.specs.RulesHoldOrFail.{Accepts, IsFirstFault}
-use Rattle.tc_link.specs.Layouts.{LayoutData}
-use Rattle.tc_link.specs.LayoutFaults.{layout_of}
 use Rattle.tcd_base.specs.Files.{FileMap}
 use Rattle.tcd_forms.specs.Lines.{run_end_text, certified_words}
 use Rattle.tcd_report.specs.Texts.{key_kind_words}
@@ -57,10 +55,6 @@ HoldsPlan m name plan = HoldsFile m name (2 ^ 24) (λ bytes. GivesPlan bytes (Ok
 abbrev pub HoldsCert : FileMap → List ℕ → CertData → Type 0
 HoldsCert m name cert = HoldsFile m name (2 ^ 30) (λ bytes. certificate_of bytes ≡ Ok cert)
 
--- the name holds this layout
-abbrev pub HoldsLayout : FileMap → List ℕ → LayoutData → Type 0
-HoldsLayout m name layout = HoldsFile m name (2 ^ 24) (λ bytes. layout_of bytes ≡ Ok layout)
-
 -- each name holds the value at its place in the list
 abbrev pub HoldEachFile : {A : Type 0} → FileMap → ℕ → (List ℕ → A → Type 0) → List (List ℕ) → List A → Type 0
 HoldEachFile m most Is [] [] = Unit {0}
@@ -79,7 +73,8 @@ pub record AreFirmwareFiles (before : FileMap) (elf_name plan_name : List ℕ) (
   pub elf_file : HoldsImage before elf_name image
   pub plan_file : HoldsPlan before plan_name plan
 
--- an executable, its plan, and a certificate
+-- what the headlines of `check` say of its files: the names hold an executable, its plan, and a
+-- certificate
 pub record AreCheckFiles (before : FileMap) (elf_name plan_name cert_name : List ℕ) (image : ImageData) (plan : PlanData) (cert : CertData) : Type 0 where
   pub elf_file : HoldsImage before elf_name image
   pub plan_file : HoldsPlan before plan_name plan
@@ -150,7 +145,8 @@ pub record RefusalByCheck (elf_name plan_name cert_name : List ℕ) (before afte
   pub stays : after ≡ before
 
 -- ---- cert
--- `cert` is done: CERT now holds the best certificate for the executable and the plan.
+-- The second main headline, after that of `check`: `cert` is done, and CERT now holds the best
+-- certificate for the executable and the plan.
 pub record HeadlineOfCert (elf_name plan_name cert_name : List ℕ) (before after : FileMap) (printed : List ℕ) : Type 0 where
   pub image : ImageData
   pub plan : PlanData
@@ -174,8 +170,8 @@ pub record RefusalByCert (elf_name plan_name : List ℕ) (before after : FileMap
   pub stays : after ≡ before
 
 -- ---- run
--- `run` is done: the script's events were run from a start in which all that the plan leaves open
--- is 0. The line has the number of events, the most areas in use, and how the machine ended.
+-- The third main headline, after `check` and `cert`: `run` ran the script's events from a start
+-- with 0 for all that the plan leaves open. The line: events, most areas in use, and the end.
 pub record HeadlineOfRun (elf_name plan_name script_name : List ℕ) (before after : FileMap) (printed : List ℕ) : Type 0 where
   pub image : ImageData
   pub plan : PlanData

@@ -56,7 +56,8 @@ pub record IsTaskCertMade (image : ImageData) (plan : PlanData) (tasks : TasksDa
   pub judged : IsJudged image plan tasks cert u
 
 -- ---- all tasks
--- these are the certificates of the first tasks
+-- the certificates that `taskcert` has made, those of the first tasks: each is the least of version
+-- 2 for its task's view, and judged well
 abbrev pub AreTasksMade : ImageData → PlanData → TasksData → List CertData → Type 0
 AreTasksMade image plan tasks certs = (u : ℕ) → u < length certs → IsTaskCertMade image plan tasks u (cert_of_task certs u)
 

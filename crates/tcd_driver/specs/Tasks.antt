@@ -46,14 +46,16 @@ pub data IsTaskRefused (image : ImageData) (plan : PlanData) (tasks : TasksData)
       (key : Key) (addr : ℕ) → Accepts (view_image_of image tasks u) (view_plan_of plan tasks u) cert
       → IsTaskFault (view_image_of image tasks u) (view_plan_of plan tasks u) tasks cert key addr → IsTaskRefused image plan tasks cert u 17 key addr
 
--- the answer for a task: its certificate is judged well, with this need; or it is refused
+-- what the command `tasks` answers for one task: its certificate is judged well, with this need; or
+-- it is refused
 abbrev pub JudgesTask : ImageData → PlanData → TasksData → CertData → ℕ → Verdict → Type 0
 JudgesTask image plan tasks cert u (Yes n) =
     IsJudged image plan tasks cert u × (n ≡ certified_need (view_image_of image tasks u) (view_plan_of plan tasks u) cert)
 JudgesTask image plan tasks cert u (No rule key addr) = IsTaskRefused image plan tasks cert u rule key addr
 
 -- ---- all tasks
--- the needs that `tasks` counts for the tasks: at least two for each task except the first
+-- the needs that the command `tasks` adds up for its certificates: at least two areas for each task
+-- except the first
 abbrev pub needs_of : ImageData → PlanData → TasksData → List CertData → ℕ → ℕ
 needs_of image plan tasks certs = need_of_task image plan tasks (cert_of_task certs)
 

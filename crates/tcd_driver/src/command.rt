@@ -2,7 +2,8 @@
 ghost use Rattle.std.specs.Prelude.{◌≡◌, ◌≤◌, ◌==◌, ◌&&◌, ◌||◌, nat_le, map, slice_index, string_bytes, IfSome};
 ghost use Rattle.std.specs.Bool.{then_some};
 ghost use Rattle.std.specs.Option.{option_map};
-ghost use Rattle.tcd_driver.specs.Commands.{command, link_command_of, is_link, ship_command_of, is_ship, tasks_command_of, is_tasks, is_taskcert, fixed_command_of, one_word_command, two_word_command, three_word_command, four_word_command, boot_command_of, bootgen_command_of, command_of_value, generate, reading_of, CommandKeepsLimits, gen_function_count};
+ghost use Rattle.tcd_driver.specs.Commands.{command, link_command_of, is_link, ship_command_of, is_ship, tasks_command_of, is_tasks, is_taskcert, fixed_command_of, one_word_command, two_word_command, three_word_command, four_word_command, boot_command_of, bootgen_command_of, command_of_value, generate, reading_of, CommandKeepsLimits};
+ghost use Rattle.tcd_driver.specs.Gen.{gen_function_count};
 ghost use Rattle.tcd_reading.specs.Outcomes.{IsCommandOutcome};
 
 use crate::commands::asm::assemble_file;
@@ -456,8 +457,8 @@ fn bootgen_command<'a>(plan: &'a str, entry: &str, at: &str, source: &'a str) ->
 }
 
 impl<'a> Command<'a> {
-    /// Reads the inputs of the command, and returns its outcome.
-    // No command is inlined here, so that the stack has the locals of one command only.
+    /// Runs this `Command`: reads its inputs, and returns its outcome. No command is inlined here,
+    /// so that the stack has the locals of one command only.
     pub(crate) fn outcome<F: Files>(self, alloc: Global, files: &mut F) -> Outcome
         requires { CommandKeepsLimits self }
         ensures { IsCommandOutcome (reading_of (command_of_value self.entry)) (F.seen files.old)

@@ -2,8 +2,7 @@
 ghost use Rattle.std.specs.Prelude.{◌≡◌, ◌<◌, map, string_bytes};
 ghost use Rattle.std.specs.List.{list_any};
 ghost use Rattle.std.specs.Str.{bytes_eq};
-ghost use Rattle.tcd_driver.specs.Commands.{are_distinct_names};
-ghost use Rattle.tcd_driver.specs.NameMarks.{name_mark};
+ghost use Rattle.tcd_driver.specs.DistinctNames.{are_distinct_names, name_mark};
 
 // The most names that are compared in pairs. More names are told apart by their marks first.
 const FEW_NAMES: usize = 64;

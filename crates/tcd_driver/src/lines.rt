@@ -1,7 +1,8 @@
 // The printed lines for words that are no command, and on faults of boot sequences, of files of
 // cells, and of files of tasks.
 ghost use Rattle.std.specs.Prelude.{◌≡◌, IfOk, ◌<◌, ◌++◌, ◌∷◌, [], codes};
-ghost use Rattle.tcd_driver.specs.BadInputLines.{bad_words_line, refused_boot_line, bad_cells_line, bad_tasks_line};
+ghost use Rattle.tcd_driver.specs.BadInputLines.{bad_words_line, bad_cells_line, bad_tasks_line};
+ghost use Rattle.tcd_driver.specs.Boot.{refused_boot_line};
 ghost use Rattle.tcd_text.specs.Digits.{hex_word};
 
 use std::alloc::Global;
@@ -21,7 +22,7 @@ pub(crate) fn bad_words_line() -> &'static [u8]
 }
 
 // The line on a boot sequence that is refused.
-#[tactic(auto, unfolding(crate::specs::BadInputLines::refused_boot_line))]
+#[tactic(auto, unfolding(crate::specs::Boot::refused_boot_line))]
 pub(crate) fn refused_boot_line(alloc: Global, e: BootErr) -> Result<Vec<u8>, NoMemory>
     ensures { IfOk result (λ line. line.items ≡ refused_boot_line e) }
 {

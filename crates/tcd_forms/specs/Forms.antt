@@ -60,7 +60,7 @@ script_form p = record {
   IsBad = λ bytes text. (e : ScriptErr) × (script_of p bytes ≡ Err e) × (text ≡ bad_script_line e);
 }
 
--- the bytes are a source that breaks no rule, and this is its object
+-- the form of a source file: the bytes are a source that breaks no rule, and this is its object
 pub record IsSource (bytes : List ℕ) (object : ObjectData) : Type 0 where
   pub keeps : KeepsRules (lines_in bytes) (length (lines_in bytes))
   pub is : object ≡ object_of (draft_from_lines (symbols_of (lines_in bytes)) (lines_in bytes))

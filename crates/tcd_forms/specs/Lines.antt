@@ -110,7 +110,8 @@ printed_death_cause NotListed = codes "notlisted"
 printed_death_cause NoCode = codes "nocode"
 printed_death_cause NoArea = codes "noarea"
 
--- whether the machine runs, or the cause and the address of its death
+-- the end of the printed line on a run: whether the machine runs, or the cause and the address of
+-- its death
 unfoldable pub run_end_text : End → ℕ → List ℕ
 run_end_text Running pc = codes "running" ++ 10 ∷ []
 run_end_text (Dead cause) pc = codes "dead " ++ (printed_death_cause cause ++ (codes " at " ++ (hex_word pc ++ 10 ∷ [])))
@@ -123,7 +124,8 @@ run_line events peak m = codes "events " ++ (decimal events ++ (codes " peak " +
 unfoldable pub long_source_line : ℕ → List ℕ
 long_source_line place = codes "bad source 0" ++ line_end_at_one place
 
--- a source that breaks a rule: the rule, the place of the source, and the line
+-- the printed line on a file in the form of sources that breaks a rule: the rule, the place of the
+-- source, and the line
 unfoldable pub bad_source_line : ℕ → ℕ → ℕ → List ℕ
 bad_source_line place rule line = codes "bad source " ++ (decimal rule ++ line_end_at_two place line)
 
@@ -175,11 +177,11 @@ bad_link_line no_entry = codes "bad link 6" ++ 10 ∷ []
 unfoldable pub linked_line : ℕ → List ℕ
 linked_line bytes = codes "image " ++ (decimal bytes ++ (codes " bytes" ++ 10 ∷ []))
 
--- the printed line for a file of cells above its limit
+-- one of the printed lines for files of every form: for a file of cells above its limit
 unfoldable pub long_cells_line : List ℕ
 long_cells_line = codes "bad cells 0" ++ 10 ∷ []
 
--- the printed line for a file of tasks above its limit
+-- one of the printed lines for files of every form: for a file of tasks above its limit
 unfoldable pub long_tasks_line : List ℕ
 long_tasks_line = codes "bad tasks 0" ++ 10 ∷ []
 
@@ -199,7 +201,7 @@ unfoldable pub certified_cells_line : ℕ → ℕ → ℕ → List ℕ
 certified_cells_line need areas count =
     codes "certified " ++ (decimal need ++ (codes " of " ++ (decimal areas ++ (codes " areas with " ++ (decimal count ++ (codes " cells" ++ 10 ∷ []))))))
 
--- the first address at which the image lacks the switch routine
+-- the printed line on an image without the switch routine: the first address at which it lacks it
 unfoldable pub refused_switch_line : ℕ → List ℕ
 refused_switch_line addr = codes "refused switch at " ++ (hex_word addr ++ 10 ∷ [])
 
@@ -211,7 +213,7 @@ line_with_task line u = take (length line - 1) line ++ (codes " of task " ++ (de
 abbrev pub refused_task_line : ℕ → Key → ℕ → ℕ → List ℕ
 refused_task_line rule key addr u = line_with_task (refused_line rule key addr) u
 
--- tasks whose needs together exceed the CSAs of the plan
+-- the printed line on tasks whose needs together exceed the CSAs of the plan
 unfoldable pub refused_sum_line : ℕ → ℕ → List ℕ
 refused_sum_line sum areas = codes "refused sum " ++ (decimal sum ++ (codes " of " ++ (decimal areas ++ (codes " areas" ++ 10 ∷ []))))
 
@@ -231,16 +233,6 @@ generated_line functions nodes points need areas =
     ++ (decimal nodes
     ++ (codes " points "
     ++ (decimal points ++ (codes " certified " ++ (decimal need ++ (codes " of " ++ (decimal areas ++ (codes " areas" ++ 10 ∷ []))))))))))
-
--- the printed line of `tasks`, spelled out: the needs together, the areas without the reserve, and
--- the number of tasks
-abbrev pub certified_tasks_words : ℕ → ℕ → ℕ → List ℕ
-certified_tasks_words sum areas n =
-    codes "certified " ++ (decimal sum ++ (codes " of " ++ (decimal areas ++ (codes " areas in " ++ (decimal n ++ (codes " tasks" ++ 10 ∷ []))))))
-
--- the line of needs that are together above the areas
-abbrev pub refused_sum_words : ℕ → ℕ → List ℕ
-refused_sum_words sum areas = codes "refused sum " ++ (decimal sum ++ (codes " of " ++ (decimal areas ++ (codes " areas" ++ 10 ∷ []))))
 
 -- the line of `check`: the need, and the areas without the reserve
 abbrev pub certified_words : ℕ → ℕ → List ℕ

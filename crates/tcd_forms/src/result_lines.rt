@@ -89,7 +89,7 @@ pub fn certified_line(alloc: Global, need: u32, areas: u32) -> Result<Vec<u8>, N
     Ok(format!(in alloc; "certified {need} of {areas} areas\n")?.into_bytes())
 }
 
-/// The word that the line of a run prints for a cause of death.
+/// Returns the word for a cause of death in the printed line on the result of a run.
 #[tactic(auto, unfolding(crate::specs::Lines::printed_death_cause))]
 fn printed_death_cause(cause: Cause) -> &'static [u8]
     ensures { result.now ≡ printed_death_cause cause }
@@ -248,7 +248,7 @@ pub(crate) fn key_priority_text(alloc: Global, prio: u8) -> Result<Vec<u8>, NoMe
     Ok(format!(in alloc; " prio {prio} is ")?.into_bytes())
 }
 
-/// Returns the end of a refusal's line that names a task: its number, and the line feed.
+/// Returns the end of the printed line on a refused task: its number, and the line feed.
 pub(crate) fn task_line_end(alloc: Global, u: usize) -> Result<Vec<u8>, NoMemory>
     ensures { IfOk result
         (λ line. line.items ≡ codes " of task " ++ (decimal u ++ 10 ∷ [])) }

@@ -18,7 +18,8 @@ use Rattle.tcd_reading.specs.Reports.{Report, says}
 use Rattle.tcd_reading.specs.declared.status.Status.TheVariants.{Done}
 use Rattle.tcd_reading.specs.Inputs.{FormSeen, HoldsInput}
 use Rattle.tcd_forms.specs.Forms.{source_form, object_form, layout_form, elf_form}
-use Rattle.tcd_driver.specs.Commands.{Command, link, dis, are_distinct_names}
+use Rattle.tcd_driver.specs.Commands.{Command, link, dis}
+use Rattle.tcd_driver.specs.DistinctNames.{are_distinct_names}
 use Rattle.tcd_laws.specs.LimitsKept.{IsObjectOfBytes}
 use Rattle.tcd_laws.specs.Sequences.{AreSureInSequence}
 use Rattle.tcd_laws.specs.HandedFiles.{HoldEachHanded}

@@ -12,7 +12,7 @@ use Rattle.tc_object.specs.declared.relocs.Reloc.{Reloc}
 use Rattle.tc_object.specs.Objects.{SectionData, SymbolData, ObjectData}
 use Rattle.tc_link.specs.Layouts.{PlaceData}
 use Rattle.tc_link.specs.Placing.{PlacedData, bases_after, placed_after, placed_of}
-use Rattle.tc_link.specs.Names.{GlobalData, is_global, global_data, globals_of, global_address}
+use Rattle.tc_link.specs.GlobalSymbols.{GlobalData, is_global, global_data, globals_of, global_address}
 use Rattle.tc_link.specs.PlaceSizes.{round_up_place_size}
 use Rattle.tc_reloc.specs.Fields.{reloc_field_number, reloc_field_bits, bits_outside_reloc_field, with_reloc_field}
 use Rattle.tc_link.specs.Relocated.{reloc_field_at, field_place, reloc_value, with_relocation, with_reloc, relocated_sections, contents_of}

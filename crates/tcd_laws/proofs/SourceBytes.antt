@@ -21,8 +21,9 @@ use Rattle.tc_lex.specs.Pieces.{PieceData, text_at}
 use Rattle.tc_lex.specs.Operands.{OperandData, operands}
 use Rattle.tc_stmt.specs.RowFields.{RowFieldsData}
 use Rattle.tc_stmt.specs.Items.{ReferenceData, ItemData, label, section, global, code, bytes, zeros}
-use Rattle.tc_stmt.specs.Filling.{symbol_rule, reference}
-use Rattle.tc_stmt.specs.OperandForms.{shape_index, is_symbol_operand, is_half_operand, wrap_into_field}
+use Rattle.tc_stmt.specs.Filling.{reference}
+use Rattle.tc_stmt.specs.Names.{symbol_rule}
+use Rattle.tc_stmt.specs.OperandForms.{shape_index, is_symbol_operand, is_half_operand, operand_number_modulo}
 use Rattle.tc_stmt.specs.DataDirectives.{is_value_within_width, value_rule, value_item, space_item}
 use Rattle.tc_stmt.specs.StatementRow.{statement}
 use Rattle.tc_stmt.specs.Lines.{LineData, line_data, only_operand_name as name_operand, named_line, space_line, values_line, code_line, stated_line, line_from, has_label, line_with_label, pieces_line, line_token_with_text, label_of, label_before, cut_line, line_in, lines_in, items_in}
@@ -98,7 +99,7 @@ choose true x y h k = h
 choose false x y h k = k
 
 -- a number that fits a width is a word
-wrapped_small : (bound : ℕ) (minus : Bool) (size : ℕ) → bound ≤ 2 ^ 32 → cond minus (leb size (bound / 2)) (ltb size bound) ≡ true → wrap_into_field (2 ^ 32) minus size < 2 ^ 32
+wrapped_small : (bound : ℕ) (minus : Bool) (size : ℕ) → bound ≤ 2 ^ 32 → cond minus (leb size (bound / 2)) (ltb size bound) ≡ true → operand_number_modulo (2 ^ 32) minus size < 2 ^ 32
 wrapped_small bound true size most e = by_zero (size == 0) refl
   where
     by_zero : (b : Bool) → (size == 0) ≡ b → cond (not b) (2 ^ 32 - size) size < 2 ^ 32
@@ -111,11 +112,11 @@ unfolding GoodItem
 rest_good width r true = All-take IsByte width (0 ∷ 0 ∷ 0 ∷ 0 ∷ []) no_word
 rest_good width r false = tt
 
-value_good : (width : ℕ) (minus : Bool) (size rest : ℕ) (r : ReferenceData) (memory one fits : Bool) → (fits ≡ true → wrap_into_field (2 ^ 32) minus size < 2 ^ 32)
-    → GoodItem (cond (not (cond memory 3 (cond one (cond fits 15 5) rest) == 15)) (zeros width) (cond one (bytes (take width (four_bytes (wrap_into_field (2 ^ 32) minus size))) None) (bytes (take width (0 ∷ 0 ∷ 0 ∷ 0 ∷ [])) (Some r))))
+value_good : (width : ℕ) (minus : Bool) (size rest : ℕ) (r : ReferenceData) (memory one fits : Bool) → (fits ≡ true → operand_number_modulo (2 ^ 32) minus size < 2 ^ 32)
+    → GoodItem (cond (not (cond memory 3 (cond one (cond fits 15 5) rest) == 15)) (zeros width) (cond one (bytes (take width (four_bytes (operand_number_modulo (2 ^ 32) minus size))) None) (bytes (take width (0 ∷ 0 ∷ 0 ∷ 0 ∷ [])) (Some r))))
 unfolding GoodItem
 value_good width minus size rest r true one fits small = tt
-value_good width minus size rest r false true true small = All-take IsByte width (four_bytes (wrap_into_field (2 ^ 32) minus size)) (four_small (wrap_into_field (2 ^ 32) minus size) (small refl))
+value_good width minus size rest r false true true small = All-take IsByte width (four_bytes (operand_number_modulo (2 ^ 32) minus size)) (four_small (operand_number_modulo (2 ^ 32) minus size) (small refl))
 value_good width minus size rest r false true false small = tt
 value_good width minus size rest r false false fits small = rest_good width r (rest == 15)
 

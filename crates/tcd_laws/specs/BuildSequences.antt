@@ -17,7 +17,8 @@ use Rattle.tcd_reading.specs.declared.status.Status.TheVariants.{Done}
 use Rattle.tcd_forms.specs.Forms.{source_form, layout_form}
 use Rattle.tcd_forms.specs.Lines.{assembled_line, linked_line}
 use Rattle.tcd_driver.specs.Asm.{AsmNames}
-use Rattle.tcd_driver.specs.Commands.{Command, asm, link, dis, are_distinct_names}
+use Rattle.tcd_driver.specs.Commands.{Command, asm, link, dis}
+use Rattle.tcd_driver.specs.DistinctNames.{are_distinct_names}
 
 -- a part of a build: the names of a source and its object, and what it is assembled to
 pub record BuildPartData : Type 0 where

@@ -12,9 +12,8 @@ use Rattle.tcd_report.specs.Graphs.EdgeLaws.{EdgesStand}
 abbrev pub printed_graph_lines : List ℕ → List (List ℕ)
 printed_graph_lines text = map (λ l. l ++ 10 ∷ []) (text_lines text)
 
--- The graph of a certificate that is accepted: the edge of each step of each run that starts as the
--- plan says, after any events that fit, stands on a line of its text, with the key of its frame and
--- its address.
+-- The edges of runs are on lines of text: for an accepted certificate's graph, that of each step
+-- after a planned start and fitting events, with its frame's key and its address.
 abbrev pub AcceptedEdgesStand : Type 0
 AcceptedEdgesStand =
     (image : ImageData) (plan : PlanData) (cert : CertData) (text : List ℕ) → image.entry < 2 ^ 32 → IsPlan plan → IsCert cert

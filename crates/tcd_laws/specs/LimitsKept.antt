@@ -11,7 +11,7 @@ use Rattle.tc_link.specs.Layouts.{LayoutData, IsLayout}
 use Rattle.tc_link.specs.LayoutFaults.{layout_of}
 use Rattle.tc_link.specs.Linked.{image_of_objects}
 
--- a byte: a number of at most eight bits
+-- one of the limits that sources, layouts and links keep: a byte is a number of at most eight bits
 abbrev pub IsByte : ℕ → Type 0
 IsByte b = b < 2 ^ 8
 

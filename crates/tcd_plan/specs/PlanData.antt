@@ -31,7 +31,7 @@ pub record PlanData : Type 0 where
   pub globals : List ℕ
   pub core : Core
 
--- a plan of the code as plain data
+-- the plain data of a plan, by the fields that the plan has in the code
 abbrev pub plan_data : Inside → PlanData
 plan_data p = record {
   rom = p.rom.items;
@@ -54,25 +54,26 @@ plan_data p = record {
   core = p.core;
 }
 
--- what holds of every plan's ranges: whole words, at least one, and an end at 2^32 or below
+-- what holds of each rom, ram or device range in every plan's data: whole words, at least one, and
+-- an end at 2^32 or below
 abbrev pub is_range : Range → Bool
 is_range r = (r.at % 4 == 0) && (r.len % 4 == 0) && nat_lt 0 r.len && nat_le (r.at + r.len) (2 ^ 32)
 
--- what holds of every plan's devices: a range, and bounds in order for the words that the device
--- answers
+-- what holds of each device in every plan's data: its range is one, and the bounds of the words
+-- that it answers are in order
 abbrev pub is_device : Device → Bool
 is_device d = is_range d.range && nat_le d.lo d.hi && nat_lt d.hi (2 ^ 32)
 
--- the range of the save areas in a plan's data, of 64 bytes each
+-- the save areas of a plan's data, of 64 bytes each, as one range beside rom and ram
 abbrev pub areas_range : PlanData → Range
 areas_range p = record { at = p.csa_at; len = 64 * p.areas }
 
--- all ranges of a plan's data, in the order in which overlaps number them: rom, ram, devices, save
--- areas
+-- a plan's data as one list of ranges, in the order in which overlaps number them: rom, ram,
+-- devices, save areas
 abbrev pub all_ranges : PlanData → List Range
 all_ranges p = p.rom ++ p.ram ++ map (λ d. d.range) p.devices ++ areas_range p ∷ []
 
--- two ranges of a plan share no byte
+-- what holds of every two ranges of a plan: they share no byte
 abbrev pub are_ranges_apart : Range → Range → Bool
 are_ranges_apart r s = nat_le (r.at + r.len) s.at || nat_le (s.at + s.len) r.at
 
@@ -81,7 +82,8 @@ abbrev pub are_all_ranges_apart : List Range → Bool
 are_all_ranges_apart [] = true
 are_all_ranges_apart (r ∷ rs) = list_all (are_ranges_apart r) rs && are_all_ranges_apart rs
 
--- rom, ram and devices
+-- what holds of every plan's rom, ram and devices: how many they are, how large, and that each is a
+-- range
 pub record AreRanges (p : PlanData) : Type 0 where
   pub some : 1 ≤ length p.rom
   pub few_rom : length p.rom ≤ 16
@@ -93,7 +95,8 @@ pub record AreRanges (p : PlanData) : Type 0 where
   pub small_rom : sum_by (λ r. r.len) p.rom ≤ 2 ^ 22
   pub small_ram : sum_by (λ r. r.len) p.ram ≤ 2 ^ 22
 
--- the save areas: whole areas in one segment of 2^22 bytes, whose first link isn't 0
+-- what holds of every plan's save areas: they are whole areas in one segment of 2^22 bytes, whose
+-- first link isn't 0
 pub record AreAreas (p : PlanData) : Type 0 where
   pub some : 1 ≤ p.areas
   pub few : p.areas ≤ 4096
@@ -105,7 +108,7 @@ pub record AreAreas (p : PlanData) : Type 0 where
   pub in_segment : p.csa_at / 2 ^ 22 % 2 ^ 6 ≡ 0
   pub fit : p.csa_at % 2 ^ 22 + 64 * p.areas ≤ 2 ^ 22
 
--- the words of the start state
+-- what holds of every plan's words of the start state: SP, ISP, BIV, BTV, CCPN and the four globals
 pub record ArePlanWords (p : PlanData) : Type 0 where
   pub sp : p.sp < 2 ^ 32
   pub isp : p.isp < 2 ^ 32
@@ -144,13 +147,13 @@ global_of p r = slice_index p.globals (if r == 16 then 0 else if r == 17 then 1 
 abbrev pub are_ranges_few : List Range → Bool
 are_ranges_few rs = nat_le (length rs) 16 && nat_le (sum_by (λ r. r.len) rs) (2 ^ 22)
 
--- the key of the first array of a plan's data with too many elements, or with too many bytes in its
--- ranges
+-- what doesn't hold of a plan's data, if it has too much: the key of the first array with too many
+-- elements, or with too many bytes in its ranges
 unfoldable pub too_many_of : PlanData → Option PlanKey
 too_many_of p = if not (are_ranges_few p.rom) then Some (refused_key 1) else if not (are_ranges_few p.ram) then Some (refused_key 4) else if not (nat_le (length p.devices) 16) then Some (refused_key 7) else if not (nat_le (length p.irqs) 32) then Some (refused_key 20) else None
 
--- 1 to 4096 save areas of 64 bytes from `at` on in one segment of 2^22 bytes, first link not 0, at
--- least 1 in reserve (TriCore 1 architecture manual, volume 1, context management)
+-- what holds of every plan's save areas: 1 to 4096 from `at` on in a segment of 2^22 bytes, first
+-- link not 0, 1 or more in reserve (TriCore 1 architecture manual, volume 1, contexts)
 abbrev pub are_areas : ℕ → ℕ → ℕ → Bool
 are_areas at areas reserve = nat_le 1 areas && nat_le areas 4096 && nat_le 1 reserve && nat_le reserve areas && (at % 64 == 0) && (at / 2 ^ 22 % 2 ^ 6 == 0) && nat_lt 0 at && nat_le (at % 2 ^ 22 + 64 * areas) (2 ^ 22)
 
@@ -158,6 +161,7 @@ are_areas at areas reserve = nat_le 1 areas && nat_le areas 4096 && nat_le 1 res
 unfoldable pub has_areas : PlanData → Bool
 has_areas p = are_areas p.csa_at p.areas p.reserve
 
--- BIV and BTV are even (TriCore 1 architecture manual, volume 1, interrupts and traps)
+-- what holds of every plan's data: BIV and BTV are even (TriCore 1 architecture manual, volume 1,
+-- interrupts and traps)
 unfoldable pub has_vectors : PlanData → Bool
 has_vectors p = (p.biv % 2 == 0) && (p.btv % 2 == 0)

@@ -63,11 +63,12 @@ plan_in d = record {
   core = core_of d;
 }
 
--- this refusal, if it applies
+-- this refusal of the plan in a document, if it applies; it names no key
 abbrev pub refusal_if : Bool → PlanErr → Option PlanErr
 refusal_if b e = if b then Some e else None
 
--- the first refusal of a plan's document that applies: the first of the options that is there
+-- the answer for a document that gives no plan: the first refusal that applies, which is the first
+-- of the options that is there
 abbrev pub first_given_refusal : {T : Type 0} → List (Option T) → Option T
 first_given_refusal [] = None
 first_given_refusal (o ∷ os) = option_or o (first_given_refusal os)
@@ -111,7 +112,7 @@ AnswersPlan bytes (Err BadVector) = GivesPlan bytes (Err BadVector)
 AnswersPlan bytes (Err (Overlap i j)) = GivesPlan bytes (Err (Overlap i j))
 AnswersPlan bytes (Ok p) = GivesPlan bytes (Ok p)
 
--- a refusal of a plan: if it names a key, that key has a text
+-- what holds of each refusal of a plan: if it names a key, that key has a text
 abbrev pub HasText : PlanErr → Type 0
 HasText (Missing key) = key.0 < length key_texts
 HasText (Unknown key) = key.0 < length key_texts

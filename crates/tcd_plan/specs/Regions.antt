@@ -8,7 +8,7 @@ use Rattle.tcd_base.specs.declared.range.Range.{Range}
 use Rattle.tcd_plan.specs.declared.plans.PlanErr.{PlanErr}
 use Rattle.tcd_plan.specs.declared.plans.PlanErr.TheVariants.{Overlap}
 
--- the n addresses from x on are in the range of one device
+-- the n addresses from x on are in one of a plan's device regions: the range of one device
 abbrev pub IsInDevice : ℕ → ℕ → List Device → Type 0
 IsInDevice x n [] = ⊥
 IsInDevice x n (d ∷ ds) = IsWithinRange x n d.range ⊎ IsInDevice x n ds
@@ -21,13 +21,13 @@ IsInAreas plan x = (plan.csa_at ≤ x) × (x < plan.csa_at + 64 * plan.areas)
 abbrev pub IsMappedBy : PlanData → ℕ → Type 0
 IsMappedBy plan x = IsInOneRange x 1 plan.rom ⊎ IsInOneRange x 1 plan.ram ⊎ IsInAreas plan x
 
--- what a plan's devices can answer: the input is within the bounds of each device that has the four
--- bytes at x
+-- the input is one that the device regions of a plan can answer: it is within the bounds of each
+-- device that has the four bytes at x
 abbrev pub AnswersAt : ℕ → ℕ → List Device → Type 0
 AnswersAt x input ds = All (λ d. IsWithinRange x 4 d.range → (d.lo ≤ input) × (input ≤ d.hi)) ds
 
--- what a plan's devices can answer: a word that is loaded from a device is within the device's
--- bounds
+-- the input is one that the device regions of a plan can answer to this load: a word that is loaded
+-- from a device is within the device's bounds
 abbrev pub AnswersLoad : PlanData → ℕ → Option (ℕ × ℕ) → Type 0
 AnswersLoad plan input load = IfSome load (λ l. l.1 ≡ 4 → AnswersAt l.0 input plan.devices)
 

@@ -8,7 +8,7 @@ use Rattle.tcd_plan.specs.JsonValues.{is_object, is_json_text, json_number_at, j
 use Rattle.tcd_plan.specs.declared.key_table.Form.{Form}
 use Rattle.tcd_plan.specs.declared.key_table.Form.TheVariants.{Ranges, Objects, Object, At, Len, Hi, Word, Byte, Truth, Irqs, Traps, CoreText}
 
--- a value that is present and passes a test
+-- the value of a plan's key is present, and passes the test of its form
 abbrev pub is_present_and_passing : {T : Type 0} → (T → Bool) → Option T → Bool
 is_present_and_passing test o = option_map_or test o false
 
@@ -25,7 +25,7 @@ is_trap d = is_json_text (codes "sys") d || is_json_text (codes "aln") d
 abbrev pub are_traps : List Data → Bool
 are_traps ds = list_all is_trap ds && nat_le (count_by (is_json_text (codes "sys")) ds) 1 && nat_le (count_by (is_json_text (codes "aln")) ds) 1
 
--- a multiple of 4, not 0, and with `at` at most 2^32
+-- the form of the value of a plan's key `len`: a multiple of 4, not 0, and with `at` at most 2^32
 abbrev pub is_range_len : ℕ → ℕ → Bool
 is_range_len at len = nat_lt 0 len && (len % 4 == 0) && nat_le (at + len) (2 ^ 32)
 

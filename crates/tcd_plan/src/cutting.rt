@@ -22,7 +22,8 @@ fn push_cut_part(ranges: &mut ArrayVec<Range, 32>, from: u64, upto: u64)
     }
 }
 
-// Appends the parts of a range below and above the `n` bytes from `x` on.
+/// Cuts the `n` bytes from `x` on out of a plan's range: appends the parts of the range below and
+/// above them.
 fn push_cut_range(ranges: &mut ArrayVec<Range, 32>, r: &Range, x: u32, n: u32)
     requires room { length ranges.old.items ≤ 30 }
     requires fits { r.now.at + r.now.len ≤ 2 ^ 32 }

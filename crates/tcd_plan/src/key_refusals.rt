@@ -17,7 +17,7 @@ use serde_json::{Map, Value};
 pub fn first_missing_key(value: &Value) -> Option<PlanKey>
     ensures { result ≡ first_missing_key (view value.now) }
 {
-    key_of(
+    key_of_refused_row(
         key_table_rows()
             .iter()
             .find(|row| is_key_missing(row, value)),
@@ -38,7 +38,7 @@ fn is_key_missing(row: &Row, value: &Value) -> bool
 pub fn first_bad_key(value: &Value) -> Option<PlanKey>
     ensures { result ≡ first_bad_key (view value.now) }
 {
-    key_of(
+    key_of_refused_row(
         key_table_rows()
             .iter()
             .find(|row| has_bad_key_value(row, value)),
@@ -55,8 +55,9 @@ fn has_bad_key_value(row: &Row, value: &Value) -> bool
         .any(|object| !has_value_form(row.form, row.name, object))
 }
 
-/// Returns the key of a row of the table, if there is a row.
-fn key_of(row: Option<&Row>) -> Option<PlanKey>
+/// Returns the key that a refusal names: that of the first row of the table that has the fault, if
+/// there is such a row.
+fn key_of_refused_row(row: Option<&Row>) -> Option<PlanKey>
     ensures { result ≡ option_map (λ r. refused_key r.now.key) row.entry }
 {
     row.map(|row| PlanKey(row.key))
@@ -125,7 +126,8 @@ pub fn lacks_key(row: &Row, object: &Value) -> bool
     !may_key_be_absent(row.form) && object.get(row.name).is_none()
 }
 
-/// Returns true if a key whose value has this form may be absent from its object: `core` alone.
+/// Returns true if a document without a key of this form isn't refused: `core` alone may be absent
+/// from its object.
 pub(crate) fn may_key_be_absent(form: Form) -> bool
     ensures { result ≡ may_key_be_absent form }
 {

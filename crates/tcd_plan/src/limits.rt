@@ -34,7 +34,8 @@ pub fn too_many(value: &Value) -> Option<PlanKey>
     None
 }
 
-/// Returns true if there are at most 16 ranges, with at most 2^22 bytes together.
+/// Returns true if a plan's rom or ram is within its limits: there are at most 16 ranges, with at
+/// most 2^22 bytes together.
 fn are_ranges_few(objects: &[Value]) -> bool
     ensures { result ≡ are_ranges_few (map plan_range_of (map view objects.now)) }
 {
@@ -65,8 +66,8 @@ pub fn has_areas(value: &Value) -> bool
     )
 }
 
-/// Returns true if the save areas from `at` on are whole, in one segment of 2^22 bytes, and the
-/// first link isn't 0.
+/// Returns true if a plan's save areas are within their limits: from `at` on whole, in one segment
+/// of 2^22 bytes, and the first link isn't 0.
 fn are_areas(at: u32, areas: u32, reserve: u32) -> bool
     ensures { result ≡ are_areas at areas reserve }
 {

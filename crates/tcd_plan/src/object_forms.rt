@@ -39,7 +39,8 @@ fn plan_objects_at<'a>(value: &'a Value, name: &str) -> &'a [Value]
     }
 }
 
-/// Returns the object at a key as a list of one, or an empty list if there is no object.
+/// Returns the objects of a plan's document at one key: the object there as a list of one, or an
+/// empty list if there is no object.
 fn plan_object_at<'a>(value: &'a Value, name: &str) -> &'a [Value]
     ensures { map view result.now ≡ plan_object_at name.now (view value.now) }
 {

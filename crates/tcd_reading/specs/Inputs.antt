@@ -25,8 +25,8 @@ pub record IsHeldAs {A : Type 0} (form : FormSeen A) (m : FileMap) (name : List 
   pub short : length bytes ≤ form.limit
   pub is : form.Is bytes x
 
--- The input of this name is bad: its bytes are above its form's limit, with this line; or within
--- the limit but without a value, with one of the lines for that.
+-- An input of a command is bad: the name's bytes are above its form's limit, with this line; or
+-- within the limit but without a value, with one of the lines for that.
 pub data IsHeldBad {A : Type 0} (form : FormSeen A) (m : FileMap) (name line : List ℕ) : Type 0 where
   above_limit : (bytes : List ℕ) → get m name ≡ Some bytes → form.limit < length bytes → line ≡ form.long_line → IsHeldBad form m name line
   without_value : (bytes : List ℕ) → get m name ≡ Some bytes → length bytes ≤ form.limit → form.IsBad bytes line → IsHeldBad form m name line
@@ -67,8 +67,8 @@ pub record AreSureOf (reading : Reading) (files : FilesSeen) : Type 0 where
   pub steady : IsTrue files.steady
   pub hold : HoldsAsked reading files.held
 
--- some input of the command couldn't be read: a fault was counted, and the files weren't sure of
--- its inputs
+-- reading the inputs of a command failed at one of them: a fault was counted, and the files weren't
+-- sure of its inputs
 pub record HasNotRead (reading : Reading) (old new : FilesSeen) : Type 0 where
   pub counted : FaultCounted old.faults new.faults
   pub unsure : AreSureOf reading old → ⊥

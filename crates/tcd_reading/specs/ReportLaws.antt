@@ -7,8 +7,8 @@ use Rattle.tcd_reading.specs.Inputs.{FormSeen, answer, input, ReadingSays, Holds
 
 -- statements of guard laws.
 
--- the report of a command that reads two files in turn: the first is bad; or it has a value, and
--- the second is bad; or both have values, and this is reported of them
+-- a guard law says this of the report on two files read in turn: the first is bad; or it has a
+-- value, and the second is bad; or both have values, and this is reported of them
 pub data IsSaidOfTwo {A B : Type 0} (first : FormSeen A) (second : FormSeen B) (a b : List ℕ) (IsReport : A → B → Report → Type 0) (m : FileMap) (report : Report) : Type 0 where
   first_bad : ReportsBadInput (IsHeldBad first m a) report → IsSaidOfTwo first second a b IsReport m report
   second_bad : (x : A) → IsHeldAs first m a x → ReportsBadInput (IsHeldBad second m b) report → IsSaidOfTwo first second a b IsReport m report
@@ -20,7 +20,7 @@ ReportsOfTwoSay {A} {B} first second IsReport =
     (a b : List ℕ) (m : FileMap) (report : Report)
     → ReadingSays (input A first a (λ x. input B second b (λ y. answer (IsReport x y)))) (Some m) report → IsSaidOfTwo first second a b IsReport m report
 
--- The inputs that a command needs which reads two files: the first, and the second if the first has
+-- Guard law of a command that reads two files: it needs the first, and the second if the first has
 -- a value. If both are there, so are all needed inputs.
 pub record InputsOfTwoSay {A B : Type 0} (first : FormSeen A) (second : FormSeen B) (IsReport : A → B → Report → Type 0) : Type 0 where
   pub asks :

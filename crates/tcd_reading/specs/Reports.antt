@@ -15,8 +15,8 @@ pub record Report : Type 0 where
   pub text : List ℕ
   pub writes : List ReportFile
 
--- the status of a report: done, refused or bad input, as neither files nor memory nor the words are
--- at fault
+-- what holds of the status in every report: done, refused or bad input, as neither files nor memory
+-- nor the words are at fault
 abbrev pub IsReportStatus : Status → Type 0
 IsReportStatus s = (s ≡ Done) ⊎ ((s ≡ Refused) ⊎ (s ≡ BadInput))
 
@@ -32,12 +32,14 @@ writes_file name bytes text = record { status = Done; text = text; writes = reco
 abbrev pub writes_two : ReportFile → ReportFile → List ℕ → Report
 writes_two first second text = record { status = Done; text = text; writes = first ∷ second ∷ [] }
 
--- what the files hold after the files of a report were written in order
+-- the files after a report's own files were written into them, in the order in which the report has
+-- them
 abbrev pub with_report_files : Option FileMap → List ReportFile → Option FileMap
 with_report_files held [] = held
 with_report_files held (w ∷ ws) = with_report_files (files_after_write held w.name w.bytes) ws
 
--- a report with one of these lines on a bad input, and nothing to write
+-- the report is one on a bad input: its status says so, its text is one of these lines, and it has
+-- no files to write
 pub record ReportsBadInput (IsLine : List ℕ → Type 0) (report : Report) : Type 0 where
   pub status : report.status ≡ BadInput
   pub line : IsLine report.text

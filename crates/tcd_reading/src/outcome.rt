@@ -77,7 +77,7 @@ fn one_file_to_write(alloc: Global, name: &str, bytes: Vec<u8>) -> Result<Vec<Wr
     Ok(writes)
 }
 
-/// The list of a report's files to write: these two, in this order.
+/// Returns the list of files that the report in an outcome has to write: these two, in this order.
 fn two_files_to_write(alloc: Global, first: Write, second: Write) -> Result<Vec<Write>, NoMemory>
     ensures { IfOk result (λ w. w.items ≡ first ∷ second ∷ []) }
 {

@@ -12,8 +12,8 @@ use Rattle.tc_isa.specs.declared.shapes.Shape.TheVariants as shape
 use Rattle.value_domain.specs.Sets.{sorted_set_of}
 use Rattle.depth_cert.specs.declared.keys.Key.{Key}
 use Rattle.depth_cert.specs.declared.points.Point.{Point}
-use Rattle.depth_cert.specs.Nodes.{NodeData}
-use Rattle.depth_cert.specs.Certs.{CertData, find_node}
+use Rattle.depth_cert.specs.Nodes.{NodeData, find_node}
+use Rattle.depth_cert.specs.Certs.{CertData}
 use Rattle.cfg_recover.specs.Code.{IsCode}
 use Rattle.cfg_recover.specs.Duties.{Duty, jump, enter, resume, Owed, duties_of, entries_of, successors_of}
 use Rattle.cfg_recover.specs.RulesHoldOrFail.{limits_in}
@@ -47,8 +47,8 @@ line_front key p = key_front key ++ (hex_word p ++ 32 ∷ [])
 abbrev pub line_end_to : List ℕ → ℕ → List ℕ
 line_end_to word q = word ++ (hex_word q ++ 10 ∷ [])
 
--- the end of a line of the graph, by the way of a step: its word and an address; a return has no
--- address
+-- the end of a line in the text of the graph: the word for the way of a step, and an address; a
+-- return has no address
 abbrev pub way_end : EdgeWay → List ℕ
 way_end (to q) = line_end_to (codes "to ") q
 way_end (call q) = line_end_to (codes "call ") q
@@ -82,13 +82,13 @@ entry_by _ = []
 abbrev pub call_rule : ℕ
 call_rule = 5
 
--- for the graph's lines: the number of the rule that asks for the entry of the handler of
--- misaligned accesses
+-- the rule behind the `aln` lines of a graph: the number of the one that asks for the entry of the
+-- handler of misaligned accesses
 abbrev pub misaligned_rule : ℕ
 misaligned_rule = 10
 
--- for the graph's lines: the number of the rule that asks for the entries of the handlers of
--- interrupts
+-- the rule behind the `irq` lines of a graph: the number of the one that asks for the entries of
+-- the handlers of interrupts
 abbrev pub interrupt_rule : ℕ
 interrupt_rule = 11
 
@@ -125,7 +125,8 @@ calls_in ds = sorted_set_of (entries_in call_rule ds)
 abbrev pub backs_in : CertData → List Owed → List ℕ
 backs_in cert ds = each_address_once (flat_map (λ d. back_by cert d.duty) ds)
 
--- the rule of the duty to enter the handler of system calls
+-- the rule behind the `sys` lines of a graph: the number of the one that asks for the entry of the
+-- handler of system calls
 abbrev pub system_call_rule : ℕ
 system_call_rule = 12
 
@@ -188,11 +189,13 @@ pub record IsGraph (image : ImageData) (plan : PlanData) (cert : CertData) (text
   pub are : AreGraphLines image plan cert lines
   pub text_is : text ≡ flat_map (λ l. l) lines
 
--- a list with one number more at its end, unless the number is in the list
+-- the addresses for the lines of the graph with one more at their end, unless it is there already,
+-- as no line is there twice
 abbrev pub with_address_once : List ℕ → ℕ → List ℕ
 with_address_once xs x = if list_any (λ y. y == x) xs then xs else xs ++ x ∷ []
 
--- the addresses in the frame that duties lead to, in their order
+-- the addresses for the `to` lines of a point in the graph, in the order of the duties that lead to
+-- them in the frame
 abbrev pub jumped_in : List Owed → List ℕ
 jumped_in ds = flat_map (λ d. jump_by d.duty) ds
 

@@ -24,7 +24,8 @@ reported_count n = number (unsigned n)
 abbrev pub reported_node : NodeData → Data
 reported_node n = object (member (codes "key") (string (key_text n.key)) (member (codes "need") (reported_count n.need) (member (codes "points") (reported_count (length n.points)) no_members)))
 
--- a priority, and the length of its longest call chain
+-- the object in the report's JSON for a priority: the priority, and the length of its longest call
+-- chain
 abbrev pub row_data : LongestCalls → Data
 row_data r = object (member (codes "longest") (reported_count r.longest) (member (codes "prio") (reported_count r.prio) no_members))
 
@@ -37,7 +38,7 @@ whole_data areas calls certified nodes reserve =
     (member (codes "calls") calls
     (member (codes "certified") (reported_count certified) (member (codes "nodes") nodes (member (codes "reserve") (reported_count reserve) no_members)))))
 
--- in the report: the array of the longest call chains, one object for each priority
+-- the array in the report's JSON of the longest call chains, one object for each priority
 abbrev pub rows_data : List LongestCalls → Data
 rows_data rows = array (items_of (map row_data rows))
 

@@ -36,7 +36,7 @@ fn append_decimal(text: &mut String, n: u8) -> Result<(), NoMemory>
     Ok(())
 }
 
-// The digit for the interrupt stack (1: in use).
+/// Returns the digit for the interrupt stack in the text of a key (1: in use).
 fn stack_text(is: bool) -> &'static str
     ensures { result.now ≡ (if is then 49 else 48) ∷ [] }
 {

@@ -9,6 +9,6 @@ hex_digit n = if nat_lt n 10 then 48 + n else 55 + n
 unfoldable pub hex_byte : ℕ → List ℕ
 hex_byte b = hex_digit (b / 16) ∷ hex_digit (b % 16) ∷ []
 
--- the eight digits of a word, in upper-case hex, two for each byte, the highest byte first
+-- a word as digits: eight in upper-case hex, two for each byte, the highest byte first
 unfoldable pub hex_word : ℕ → List ℕ
 hex_word x = hex_byte (x / 2 ^ 24) ++ (hex_byte (x / 2 ^ 16 % 256) ++ (hex_byte (x / 2 ^ 8 % 256) ++ hex_byte (x % 256)))

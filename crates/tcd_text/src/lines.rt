@@ -13,7 +13,8 @@ fn find_line_feed(text: &[u8]) -> Option<usize>
     text.iter().position(|c| *c == b'\n')
 }
 
-// Returns the place of the first line feed, or the length of the text.
+/// Returns the place where the first line of a text ends: its first line feed, or the length of the
+/// text.
 pub(crate) fn line_end(text: &[u8]) -> usize
     ensures end { result ≡ position_or_len (λ c. c == 10) text.now }
     ensures within { result ≤ length text.now }

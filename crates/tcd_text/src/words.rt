@@ -14,8 +14,8 @@ pub enum Words<'a> {
     More,
 }
 
-/// Returns the place of the first blank of a line, which ends its first word, or `None` if the line
-/// is one word.
+/// Returns the place where the first word of a line ends: its first blank, or `None` if the line is
+/// one word.
 pub(crate) fn find_blank(text: &[u8]) -> Option<usize>
     ensures value { result ≡ position is_word_separator text.now }
     ensures within { IfSome result (λ i. i < length text.now) }
@@ -42,8 +42,8 @@ pub fn words_in(line: &[u8]) -> Words<'_>
     }
 }
 
-/// Returns the first word of a line, and the line after the blank that ends it. If the line is one
-/// word, the answer is `None`.
+/// Cuts the first word off a line: returns the word, and the line after the blank that ends it. If
+/// the line is one word, the answer is `None`.
 pub fn cut_word(text: &[u8]) -> Option<(&[u8], &[u8])>
     ensures { MatchOption result (line_words text.now ≡ text.now ∷ [])
         (λ p. line_words text.now ≡ p.0.now ∷ line_words p.1.now) }

@@ -7,13 +7,14 @@ use Rattle.tc_machine.specs.declared.events.Event.{Event}
 use Rattle.tc_machine.specs.declared.state.Machine.{Machine}
 use Rattle.tc_machine.specs.Stepping.{run}
 use Rattle.tcd_base.specs.Ranges.{IsInOneRange}
-use Rattle.tc_machine.specs.Safe.{Starts, Fits, AllFit, IsSafeAt, Safe}
+use Rattle.tc_machine.specs.Safe.{Fits, AllFit, IsSafeAt, Safe}
+use Rattle.tc_machine.specs.Starting.{Starts}
 use Rattle.value_cells.specs.declared.cells.Cell.{Cell}
 use Rattle.value_cells.specs.Cells.{with_cells, is_in_cell, AreCells}
 use Rattle.value_cells.specs.Safe.{SafeWithCells}
 use Rattle.depth_cert.specs.Certs.{CertData, IsCert}
 use Rattle.cfg_recover.specs.RulesHoldOrFail.{Accepts}
-use Rattle.cfg_recover.specs.FrameLaws.{FramesHeld}
+use Rattle.cfg_recover.specs.EdgeAndFrameLaws.{FramesHeld}
 use Rattle.value_cells.specs.Keeping.{KeepsCells, BreaksCells}
 use Rattle.depth_cert.specs.declared.keys.Key.{Key}
 

@@ -9,7 +9,8 @@ use Rattle.value_domain.specs.Values.{IsWell, IsValue, IsBelow, any_val, join_of
 abbrev pub AreWell : List Val → Type 0
 AreWell vs = (r : ℕ) → r < length vs → IsWell (slice_index_or vs r any_val)
 
--- each value of a list is one of the plan's lattice at the limits of the version
+-- each value of a list, as of the registers of a state, is one of the plan's lattice at the limits
+-- of the version
 abbrev pub AreValues : Limits → List Val → Type 0
 AreValues b vs = (r : ℕ) → r < length vs → IsValue b (slice_index_or vs r any_val)
 
@@ -67,7 +68,3 @@ is_lower_slot i = nat_lt i 8 || (nat_le 16 i && nat_lt i 22)
 -- a state that knows nothing
 abbrev pub no_state : State
 no_state = record { regs = []; ie = false; ccpn = 0; lower = false; locals = record { items = [] } }
-
--- the value of A10 in a state, which is at place 22
-abbrev pub a10_of : State → Val
-a10_of s = slice_index_or s.regs 22 any_val

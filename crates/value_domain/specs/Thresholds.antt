@@ -22,8 +22,8 @@ threshold_ends (r ∷ rs) = r.at ∷ (r.at + r.len) ∷ threshold_ends rs
 abbrev pub thresholds_of : PlanData → List ℕ
 thresholds_of p = (0 ∷ powers_of_two 33) ++ threshold_ends (all_ranges p)
 
--- the limits with the thresholds of a plan, and with the greatest numbers of words and locals of a
--- version
+-- the thresholds of a plan, with a version's greatest numbers of words and locals: the limits for
+-- both
 abbrev pub limits_for : PlanData → ℕ → Limits
 limits_for p version = record { thresholds = thresholds_of p; most_words = most_words_of version; most_locals = most_locals_of version }
 

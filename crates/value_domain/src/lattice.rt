@@ -1,5 +1,5 @@
 // Operations of the lattice of values: order, join, and the least value that holds a set.
-ghost use Rattle.std.specs.Prelude.{◌≡◌, ◌==◌, ◌≤◌, ◌<◌, ◌+◌, ◌-◌, ◌*◌, ◌/◌, ◌^◌, IsTrue, length, min, max, ◌∷◌, ◌++◌, List, ℕ, ◌↔◌, IsSome, IsNone};
+ghost use Rattle.std.specs.Prelude.{◌≡◌, ◌==◌, ◌≤◌, ◌<◌, ◌+◌, ◌-◌, ◌*◌, ◌/◌, ◌^◌, IsTrue, length, min, max, ◌∷◌, ◌++◌, List, ℕ, ◌↔◌, IsSome, IsNone, slice_index};
 ghost use Rattle.value_domain.specs.Values as values;
 ghost use Rattle.value_domain.specs.Sets.{AreWords, Within, Rising, least, greatest, step_of_set, IsExtent};
 ghost use Rattle.value_domain.specs.Sets as sets;
@@ -11,7 +11,6 @@ ghost use Rattle.value_domain.specs.declared.values.Val.TheVariants.{Set, Span};
 use crate::merging::merge;
 use crate::values::{
     alignment_log2, count_of, has_set_word, is_all, is_set, member, set_span, set_word, set_words,
-    word_place_from,
 };
 use crate::{Bounds, Val, Words};
 use arrayvec::ArrayVec;
@@ -45,7 +44,8 @@ fn extent_step(words: &[u32]) -> u8
     alignment_log2(extent_bits(words))
 }
 
-/// Returns the bits that are set in at least one of the words.
+/// Returns the bits that are set in at least one word of a Set. The lattice takes the step of the
+/// Set's extent from them.
 fn extent_bits(words: &[u32]) -> u32
     ensures { sets.alignment_log2 result ≡ step_of_set words.now }
 {
@@ -401,8 +401,8 @@ pub fn write_cover(b: &Bounds, first: u32, last: u32, step: u8, out: &mut Val)
     }
 }
 
-/// Overwrites a value with the cover, the lattice's least value, of more multiples than a Set can
-/// have. It is a Span.
+/// Overwrites a value with the cover of a range of more words than a Set can have: the lattice's
+/// least value that holds them, which is a Span.
 fn write_cover_as_span(b: &Bounds, first: u32, last: u32, step: u8, out: &mut Val)
     requires step { step ≤ 2 }
     requires many { b.now.most_words < count_in first last step }
@@ -413,8 +413,8 @@ fn write_cover_as_span(b: &Bounds, first: u32, last: u32, step: u8, out: &mut Va
     write_span(b, e.least, e.greatest, e.step, out);
 }
 
-/// Overwrites a value with the cover, the lattice's least value, of at most 128 multiples, whose
-/// words are listed first.
+/// Overwrites a value with the cover of a range of at most 128 words: the lattice's least value
+/// that holds them. The words are listed first.
 #[inline(never)]
 fn write_cover_as_set(b: &Bounds, first: u32, last: u32, step: u8, out: &mut Val)
     requires step { step ≤ 2 }
@@ -441,4 +441,20 @@ pub fn extent_of(v: &Val) -> Extent
         Val::Set(words) => set_extent(words.as_slice()),
         Val::Span { lo, last, step } => span_extent(*lo, *last, *step),
     }
+}
+
+/// Returns the first place from `k` on in a Set's ascending words whose word is at least `x`, or
+/// their number if there is none. The lattice's order of two Sets is tested by it.
+pub(crate) fn word_place_from(words: &[u32], k: usize, x: u32) -> usize
+    requires start { k ≤ length words.now }
+    ensures start { k ≤ result }
+    ensures end { result ≤ length words.now }
+    ensures below { (j : ℕ) → k ≤ j → j < result → slice_index words.now j < x }
+    ensures reached { result < length words.now → x ≤ slice_index words.now result }
+{
+    let mut at = k;
+    while at < words.len() && words[at] < x {
+        at += 1;
+    }
+    at
 }

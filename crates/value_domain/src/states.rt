@@ -98,8 +98,8 @@ fn are_regs_below(low: &[Val; 27], high: &[Val; 27]) -> bool
     true
 }
 
-/// Returns true if there are equally many flags, and each of `flags` implies the other at its
-/// place.
+/// Returns true if two states have equally many flags of locals, and each of `flags` implies the
+/// other at its place.
 pub fn are_flags_implied(flags: &[bool], others: &[bool]) -> bool
     ensures { IsTrue result ↔ FlagsImpliedBy flags.now others.now }
 {

@@ -3,7 +3,7 @@
 ghost use Rattle.std.specs.Prelude.{◌≡◌, ◌≤◌, ◌<◌, ◌+◌, ◌-◌, ◌^◌, IsTrue, length, IfSome, [], ◌∷◌, List, ℕ, option_map, ◌↔◌, slice_index, IsSome, ◌==◌, ◌*◌, ◌/◌};
 ghost use Rattle.std.specs.List.{list_any};
 ghost use Rattle.std.specs.List.Sorted.{IsStrictlyIncreasing};
-ghost use Rattle.value_domain.specs.Sets.{AreWords, Among, sorted_insert, Rising, least};
+ghost use Rattle.value_domain.specs.Sets.{AreWords, Among, sorted_insert, Rising};
 ghost use Rattle.value_domain.specs.declared.values.Val.TheVariants.{Set, Span};
 ghost use Rattle.value_domain.specs.Sets as sets;
 ghost use Rattle.value_domain.specs.Values.{IsMember, IsWell, range, count_in, any_val, words_of, in_span, is_member};
@@ -70,7 +70,7 @@ impl Words {
         self.words.as_slice()
     }
 
-    /// Returns a copy of the list.
+    /// Returns a copy of this `Words`, the list of words of a Set.
     pub fn copy(&self) -> Words
         ensures { result ≡ self.now }
     {
@@ -125,7 +125,8 @@ fn are_ascending(words: &[u32]) -> bool
     true
 }
 
-/// Returns true if there are words, and all of these ascending words of a value are below `x`.
+/// Returns true if a value has words, and all of them, which ascend, are below `x`: then `x` is no
+/// member.
 fn are_words_below(words: &[u32], x: u32) -> bool
     requires { Rising words.now }
     ensures { IsTrue result → (k : ℕ) → k < length words.now → slice_index words.now k < x }
@@ -136,7 +137,8 @@ fn are_words_below(words: &[u32], x: u32) -> bool
     words[words.len() - 1] < x
 }
 
-/// Returns the number of ascending words that are below `x`.
+/// Returns the number of a value's ascending words that are below `x`: the place of `x` if it is a
+/// member.
 fn word_place(words: &[u32], x: u32) -> usize
     requires { Rising words.now }
     ensures within { result ≤ length words.now }
@@ -305,7 +307,8 @@ fn set_span_from_set(out: &mut Val, lo: u32, last: u32, step: u8)
     *out = Val::Span { lo, last, step };
 }
 
-/// Returns how many times two divides a word of a value, counted up to 2.
+/// Returns how many times two divides a word, counted up to 2. A word in a Span's range is a member
+/// of it if this is at least the Span's step.
 #[tactic(auto, unfolding(crate::specs::Sets::alignment_log2))]
 pub fn alignment_log2(x: u32) -> u8
     ensures { result ≡ sets.alignment_log2 x }
@@ -411,20 +414,4 @@ pub fn is_the_span(v: &Val, lo: u32, last: u32, step: u8) -> bool
             step: own_step,
         } => *own_lo == lo && *own_last == last && *own_step == step,
     }
-}
-
-/// Returns the first place from `k` on in a value's ascending words whose word is at least `x`, or
-/// the number of words if there is none.
-pub(crate) fn word_place_from(words: &[u32], k: usize, x: u32) -> usize
-    requires start { k ≤ length words.now }
-    ensures start { k ≤ result }
-    ensures end { result ≤ length words.now }
-    ensures below { (j : ℕ) → k ≤ j → j < result → slice_index words.now j < x }
-    ensures reached { result < length words.now → x ≤ slice_index words.now result }
-{
-    let mut at = k;
-    while at < words.len() && words[at] < x {
-        at += 1;
-    }
-    at
 }

@@ -25,7 +25,7 @@ use Rattle.tc_isa.specs.declared.shapes.Op.{Op}
 use Rattle.tc_isa.specs.declared.shapes.Op.TheVariants.{Second, Add, Sub, And, Nand, Or, Nor, Xor, Xnor, Andn, Orn, Eq, Ne, Lt, LtU, Ge, GeU, Sh, Sha}
 use Rattle.tc_isa.specs.Arithmetic.{alu_of, shift_by, shifted_signed, complement, one_if, signed_order_place}
 use Rattle.vd_transfer.specs.Operations.{results, operation_row, pairs, gives_truth, value_of, HasMetResults}
-use Rattle.vd_transfer.specs.Intervals.{whole, whole_interval_words, runs, interval_bounds, by_count, Shifts, differences, sums, shifts, signed_shifts, range_of}
+use Rattle.vd_transfer.specs.Intervals.{whole, whole_interval_words, runs, interval_bounds, by_count, IntervalShift, differences, sums, shifts, signed_shifts, range_of}
 use Rattle.vd_transfer.specs.OperationLaws.{OperationsAreMonotone, OperationsAreSound}
 use Rattle.vd_transfer.proofs.Rows.{Lies, sums_have, sums_grow, differences_have, differences_grow, ands_have, ands_grow, shifts_have, shifts_grow, shifts_below}
 
@@ -68,7 +68,7 @@ all_have x h = among_range x 0 (2 ^ 32 - 1) 0 (omega arith) (omega arith, omega 
 
 -- what is known of a kind of shifts: they hold the shifted words, grow with the bounds, and give
 -- words below 2 ^ 32
-pub record AreShifts (shift : Shifts) (by : ℕ → ℕ → ℕ) : Type 0 where
+pub record AreShifts (shift : IntervalShift) (by : ℕ → ℕ → ℕ) : Type 0 where
   pub have : (x a b p n : ℕ) → p ≤ 2 → Lies x a b p → b < 2 ^ 32 → Among (by x n) (range_of (shift a b p n))
   pub grow : (a b p n a2 b2 p2 : ℕ) → p ≤ 2 → b < 2 ^ 32 → a2 ≤ a → b ≤ b2 → p2 ≤ p → Within (range_of (shift a b p n)) (range_of (shift a2 b2 p2 n))
   pub below : (a b p n z : ℕ) → p ≤ 2 → b < 2 ^ 32 → Among z (range_of (shift a b p n)) → z < 2 ^ 32
@@ -169,7 +169,7 @@ arithmetic = record {
           ]
         ]
 
-by_value : {shift : Shifts} {by : ℕ → ℕ → ℕ} (are : AreShifts shift by) (v w : Val) → IsWell v → IsWell w → (x y : ℕ) → Among x (members v) → Among y (members w)
+by_value : {shift : IntervalShift} {by : ℕ → ℕ → ℕ} (are : AreShifts shift by) (v w : Val) → IsWell v → IsWell w → (x y : ℕ) → Among x (members v) → Among y (members w)
     → Among (by x (y % 64)) (range_of (by_count shift (low v) (high v) (step v) w))
 by_value are v (Set []) wv ww x y i j = absurd j
 by_value {shift} {by} are v (Set (w ∷ [])) wv ww x y i j =
@@ -291,11 +291,11 @@ into_all xs below z i = all_have z (below z i)
 all_below : (z s : ℕ) → s ≤ 2 → Among z (whole_interval_words s) → z < 2 ^ 32
 all_below z s small i = let m = range_among z 0 (2 ^ 32 - 1) s small i in omega (arith, m.1)
 
-pub by_below : {shift : Shifts} {by : ℕ → ℕ → ℕ} (are : AreShifts shift by) (v w : Val) → IsWell v → (z : ℕ) → Among z (range_of (by_count shift (low v) (high v) (step v) w)) → z < 2 ^ 32
+pub by_below : {shift : IntervalShift} {by : ℕ → ℕ → ℕ} (are : AreShifts shift by) (v w : Val) → IsWell v → (z : ℕ) → Among z (range_of (by_count shift (low v) (high v) (step v) w)) → z < 2 ^ 32
 by_below are v (Set (y ∷ [])) wv z i = are.below (low v) (high v) (step v) (y % 64) z (bounds_of v wv).small (high_below v wv) i
 by_below are v _ wv z i = all_below z 0 (omega arith) i
 
-by_one : {shift : Shifts} {by : ℕ → ℕ → ℕ} (are : AreShifts shift by) (b : Limits) (v w v2 : Val) (y : ℕ) → IsValue b v → IsValue b w → IsValue b v2 → IsValue b (Set (y ∷ []))
+by_one : {shift : IntervalShift} {by : ℕ → ℕ → ℕ} (are : AreShifts shift by) (b : Limits) (v w v2 : Val) (y : ℕ) → IsValue b v → IsValue b w → IsValue b v2 → IsValue b (Set (y ∷ []))
     → Within (members v) (members v2) → Within (members w) (y ∷ [])
     → Within (range_of (by_count shift (low v) (high v) (step v) w)) (range_of (by_count shift (low v2) (high v2) (step v2) (Set (y ∷ []))))
 by_one are b v (Set []) v2 y vv vw vv2 vy there here = absurd (omega (arith, vw.well.some))
@@ -311,7 +311,7 @@ by_one are b v (Set (u ∷ t ∷ us)) v2 y vv vw vv2 vy there here =
 by_one are b v (Span lo last s) v2 y vv vw vv2 vy there here =
     absurd (span_not_below b lo last s (y ∷ []) vw vy (λ z m. here z (among_member (Span lo last s) z vw.well.0 m)))
 
-by_grows : {shift : Shifts} {by : ℕ → ℕ → ℕ} (are : AreShifts shift by) (b : Limits) (v w v2 w2 : Val) → IsValue b v → IsValue b w → IsValue b v2 → IsValue b w2
+by_grows : {shift : IntervalShift} {by : ℕ → ℕ → ℕ} (are : AreShifts shift by) (b : Limits) (v w v2 w2 : Val) → IsValue b v → IsValue b w → IsValue b v2 → IsValue b w2
     → Within (members v) (members v2) → Within (members w) (members w2)
     → Within (range_of (by_count shift (low v) (high v) (step v) w)) (range_of (by_count shift (low v2) (high v2) (step v2) w2))
 by_grows are b v w v2 (Set []) vv vw vv2 vw2 there here = absurd (omega (arith, vw2.well.some))
@@ -418,7 +418,7 @@ differences_step a b c d m =
       | inr f ↦ rw f (elim (cases_Bool (ltb b c)) [ inl t ↦ rw t refl | inr g ↦ rw g refl ])
     ]
 
-by_count_step : {shift : Shifts} {by : ℕ → ℕ → ℕ} (are : AreShifts shift by) (a b p : ℕ) (w : Val) → (by_count shift a b p w).step ≤ 2
+by_count_step : {shift : IntervalShift} {by : ℕ → ℕ → ℕ} (are : AreShifts shift by) (a b p : ℕ) (w : Val) → (by_count shift a b p w).step ≤ 2
 by_count_step are a b p (Set (y ∷ [])) = are.small a b p (y % 64)
 by_count_step are a b p _ = omega arith
 

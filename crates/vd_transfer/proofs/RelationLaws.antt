@@ -12,7 +12,7 @@ use Rattle.value_domain.proofs.RangeLaws.{some_members}
 use Rattle.vd_transfer.specs.declared.refinement.Relation.{Relation}
 use Rattle.vd_transfer.specs.declared.refinement.Relation.TheVariants.{Same, Other}
 use Rattle.vd_transfer.specs.Relations.{is_related, related_words, relation_of, converse}
-use Rattle.vd_transfer.specs.Signs.{is_signed, kept_signed}
+use Rattle.vd_transfer.specs.Signs.{is_signed, signed_related_words}
 use Rattle.vd_transfer.specs.Branches.{self_holds}
 use Rattle.vd_transfer.specs.Refinement.{refining_condition_holds, kept_left, kept_right, kept_both}
 use Rattle.value_domain.specs.Meets.{cover_of_meet}
@@ -97,16 +97,16 @@ pub left_plain : (c : Cond) (side : Bool) (vs ws : List ℕ) → is_signed c ≡
 unfolding related_words kept_left
 left_plain c side vs ws e = filter_same _ _ vs (λ x. any_same _ _ ws (λ y. related_holds c side x y e))
 
-pub left_signed : (c : Cond) (side : Bool) (vs ws : List ℕ) → is_signed c ≡ true → kept_signed (relation_of c side) vs ws ≡ kept_left c side vs ws
-unfolding kept_signed kept_left
+pub left_signed : (c : Cond) (side : Bool) (vs ws : List ℕ) → is_signed c ≡ true → signed_related_words (relation_of c side) vs ws ≡ kept_left c side vs ws
+unfolding signed_related_words kept_left
 left_signed c side vs ws e = filter_same _ _ vs (λ x. any_same _ _ ws (λ y. related_signed c side x y e))
 
 pub right_plain : (c : Cond) (side : Bool) (vs ws : List ℕ) → is_signed c ≡ false → related_words (converse (relation_of c side)) ws vs ≡ kept_right c side vs ws
 unfolding related_words kept_right
 right_plain c side vs ws e = filter_same _ _ ws (λ y. any_same _ _ vs (λ x. converse_related (relation_of c side) x y ∙ related_holds c side x y e))
 
-pub right_signed : (c : Cond) (side : Bool) (vs ws : List ℕ) → is_signed c ≡ true → kept_signed (converse (relation_of c side)) ws vs ≡ kept_right c side vs ws
-unfolding kept_signed kept_right
+pub right_signed : (c : Cond) (side : Bool) (vs ws : List ℕ) → is_signed c ≡ true → signed_related_words (converse (relation_of c side)) ws vs ≡ kept_right c side vs ws
+unfolding signed_related_words kept_right
 right_signed c side vs ws e = filter_same _ _ ws (λ y. any_same _ _ vs (λ x. converse_related (relation_of c side) (signed_order_place x) (signed_order_place y) ∙ related_signed c side x y e))
 
 -- ---- one register twice

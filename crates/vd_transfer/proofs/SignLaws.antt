@@ -13,7 +13,7 @@ use Rattle.value_domain.specs.Meets.{cover_of_meet}
 use Rattle.tc_isa.specs.Arithmetic.{signed_order_place}
 use Rattle.vd_transfer.specs.Relations.{is_related, Reaches}
 use Rattle.vd_transfer.specs.Refinement.{IsInInterval}
-use Rattle.vd_transfer.specs.Signs.{IsSignedRange, kept_signed}
+use Rattle.vd_transfer.specs.Signs.{IsSignedRange, signed_related_words}
 use Rattle.vd_transfer.specs.declared.refinement.Relation.{Relation}
 use Rattle.vd_transfer.specs.declared.refinement.Relation.TheVariants.{Same, Other, Less, AtLeast, More, AtMost}
 use Rattle.vd_transfer.specs.declared.refinement.Interval.{Interval}
@@ -163,8 +163,8 @@ pub kept_parts : (b : Limits) (rel : Relation) (vs ws : List ℕ) (i j i1 i2 j1 
     → ((x : ℕ) → x < 2 ^ 32 → (IsInInterval i x ⊎ IsInInterval j x → Reaches rel (signed_order_place low) (signed_order_place high) x) × (Reaches rel (signed_order_place low) (signed_order_place high) x → IsInInterval i x ⊎ IsInInterval j x))
     → ((x : ℕ) → x < 2 ^ 32 → (IsInInterval i1 x ⊎ IsInInterval i2 x → IsInInterval i (signed_order_place x)) × (IsInInterval i (signed_order_place x) → IsInInterval i1 x ⊎ IsInInterval i2 x))
     → ((x : ℕ) → x < 2 ^ 32 → (IsInInterval j1 x ⊎ IsInInterval j2 x → IsInInterval j (signed_order_place x)) × (IsInInterval j (signed_order_place x) → IsInInterval j1 x ⊎ IsInInterval j2 x))
-    → cover_of_meet b ((part i1 vs ++ part i2 vs) ++ (part j1 vs ++ part j2 vs)) ≡ cover_of_meet b (kept_signed rel vs ws)
-unfolding kept_signed
+    → cover_of_meet b ((part i1 vs ++ part i2 vs) ++ (part j1 vs ++ part j2 vs)) ≡ cover_of_meet b (signed_related_words rel vs ws)
+unfolding signed_related_words
 kept_parts b rel vs ws i j i1 i2 j1 j2 low high order e small are first second =
     cover_some-same b ((part i1 vs ++ part i2 vs) ++ (part j1 vs ++ part j2 vs)) (filter (λ x. list_any (λ y. is_related rel (signed_order_place x) (signed_order_place y)) ws) vs)
     (λ z k. elim (among_append z (part i1 vs ++ part i2 vs) (part j1 vs ++ part j2 vs) k) [

@@ -65,7 +65,7 @@ transfer_of b p (Mfcr dst number) s loaded = write_reg s dst any_val
 transfer_of b p (Mtcr src number) s loaded = s
 transfer_of b p Nothing s loaded = s
 
--- the addresses of a load or a store
+-- the addresses that an instruction, a load or a store, computes from the registers of a state
 unfoldable pub address_of : Limits → PlanData → Shape → State → Val
 address_of b p (Load dst base offset size signed after) s = access_of b p s base offset after
 address_of b p (Store src base offset size after) s = access_of b p s base offset after

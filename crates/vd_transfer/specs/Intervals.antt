@@ -52,13 +52,13 @@ shifts a b p n =
 unfoldable pub signed_shifts : ℕ → ℕ → ℕ → ℕ → StridedInterval
 signed_shifts a b p n = if nat_lt n 32 || nat_lt b (2 ^ 31) then shifts a b p n else whole 0
 
--- a shift of a strided interval: the run of the results, by the words' ends and step and by the six
--- bits of the count
-abbrev pub Shifts : Type 0
-Shifts = ℕ → ℕ → ℕ → ℕ → StridedInterval
+-- a shift of strided intervals: it gives the interval of the results by the ends and the step of
+-- the words and by the six bits of the count
+abbrev pub IntervalShift : Type 0
+IntervalShift = ℕ → ℕ → ℕ → ℕ → StridedInterval
 
 -- the run of shifts by the count, if the count's value is one word; else all words
-abbrev pub by_count : Shifts → ℕ → ℕ → ℕ → Val → StridedInterval
+abbrev pub by_count : IntervalShift → ℕ → ℕ → ℕ → Val → StridedInterval
 by_count shift a b p (Set (y ∷ [])) = shift a b p (y % 64)
 by_count shift a b p (Set []) = whole 0
 by_count shift a b p (Set (x ∷ y ∷ ys)) = whole 0

@@ -6,7 +6,7 @@ use Rattle.tc_isa.specs.Arithmetic.{taken_of, signed_order_place}
 use Rattle.value_domain.specs.Sets.{Among, Within}
 use Rattle.vd_transfer.specs.declared.refinement.Relation.{Relation}
 use Rattle.vd_transfer.specs.Relations.{is_related, related_words}
-use Rattle.vd_transfer.specs.Signs.{kept_signed}
+use Rattle.vd_transfer.specs.Signs.{signed_related_words}
 use Rattle.vd_transfer.specs.declared.refinement.Interval.{Interval}
 
 -- the condition of a refinement goes to a side for two words
@@ -33,8 +33,8 @@ pub record RefinesWell (rel : Relation) : Type 0 where
   pub monotone : (vs ws vs2 ws2 : List ℕ) → Within vs vs2 → Within ws ws2 → Within (related_words rel vs ws) (related_words rel vs2 ws2)
   pub signed_sound :
       (vs ws : List ℕ) (x y : ℕ) → Among x vs → Among y ws → is_related rel (signed_order_place x) (signed_order_place y) ≡ true
-      → Among x (kept_signed rel vs ws)
-  pub signed_monotone : (vs ws vs2 ws2 : List ℕ) → Within vs vs2 → Within ws ws2 → Within (kept_signed rel vs ws) (kept_signed rel vs2 ws2)
+      → Among x (signed_related_words rel vs ws)
+  pub signed_monotone : (vs ws vs2 ws2 : List ℕ) → Within vs vs2 → Within ws ws2 → Within (signed_related_words rel vs ws) (signed_related_words rel vs2 ws2)
 
 -- refinement by each relation keeps this law
 abbrev pub AreRefined : Type 0

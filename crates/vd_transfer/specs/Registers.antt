@@ -47,7 +47,7 @@ set_at s v None = s
 abbrev pub set_reg : State → ℕ → Val → State
 set_reg s r v = set_at s v (slot r)
 
--- the register of this number is a lower one, which a lower context holds: D0..D7 or A2..A7
+-- the register of this number, 0 to 15 for D and 16 to 31 for A, is a lower one: D0..D7 or A2..A7
 abbrev pub is_lower_register : ℕ → Bool
 is_lower_register r = nat_lt r 8 || (nat_le 18 r && nat_le r 23)
 
@@ -59,7 +59,7 @@ write_reg s r v = record (set_reg s r v) { lower = s.lower && not (is_lower_regi
 abbrev pub RegisterHasValue : ℕ → Type 0
 RegisterHasValue r = IsSome (slot r)
 
--- the state with an operand's value, if the operand is a register
+-- the state with the register that an operand names set to a value; a constant sets none
 abbrev pub set_arg : State → Arg → Val → State
 set_arg s (Reg r) v = set_reg s r v
 set_arg s (Word w) v = s
@@ -89,3 +89,7 @@ WritesNoFixedRegister _ = Unit {0}
 abbrev pub is_operand_register : ℕ → Arg → Bool
 is_operand_register x (Reg y) = x == y
 is_operand_register x (Word w) = false
+
+-- the value of the register A10, the stack pointer, in a state: it is at place 22
+abbrev pub a10_of : State → Val
+a10_of s = slice_index_or s.regs 22 any_val

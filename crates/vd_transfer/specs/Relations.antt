@@ -6,7 +6,7 @@ use Rattle.vd_transfer.specs.declared.refinement.Relation.{Relation}
 use Rattle.vd_transfer.specs.declared.refinement.Relation.TheVariants.{Same, Other, Less, AtLeast, More, AtMost}
 use Rattle.std.specs.List.{list_any}
 
--- the relation that the operands are in on a side of a condition
+-- a condition as a relation: the one that its operands are in on this side
 unfoldable pub relation_of : Cond → Bool → Relation
 relation_of cond.Eq side = if side then Same else Other
 relation_of cond.Ne side = if side then Other else Same

@@ -8,9 +8,9 @@ use Rattle.vd_transfer.specs.Relations.{is_related}
 use Rattle.tc_isa.specs.declared.shapes.Cond.{Cond}
 use Rattle.tc_isa.specs.declared.shapes.Cond.TheVariants as cond
 
--- the words of vs that are in a relation to some word of ws in the signed order
-unfoldable pub kept_signed : Relation → List ℕ → List ℕ → List ℕ
-kept_signed rel vs ws = filter (λ x. list_any (λ y. is_related rel (signed_order_place x) (signed_order_place y)) ws) vs
+-- by the signed order of words, those of vs that are in a relation to some word of ws
+unfoldable pub signed_related_words : Relation → List ℕ → List ℕ → List ℕ
+signed_related_words rel vs ws = filter (λ x. list_any (λ y. is_related rel (signed_order_place x) (signed_order_place y)) ws) vs
 
 -- low and high are the least and the greatest of a set in the signed order
 pub record IsSignedRange (ws : List ℕ) (low high : ℕ) : Type 0 where

@@ -21,7 +21,8 @@ pub(crate) struct Addressing {
 }
 
 impl Addressing {
-    /// Returns the addressing with this base and offset.
+    /// Returns the `Addressing` of a load or a store: how its address is computed from this base
+    /// and offset.
     pub(crate) fn by(base: Arg, offset: u32, after: bool) -> Addressing
         ensures { result ≡ record { base = base; offset = offset; after = after } }
     {

@@ -93,7 +93,8 @@ fn is_side_taken(cond: Cond, side: bool, x: u32, y: u32) -> bool
 
 // The functions below write the change of a side into the caller's `Change`, whatever it held.
 
-/// Narrows the register to the members that are possible. Returns false if there are none.
+/// Writes the change on a side of a branch: the register keeps the members that are possible.
+/// Returns false if there are none.
 pub(crate) fn narrow_side_register(
     b: &Bounds,
     test: Comparison,

@@ -28,7 +28,8 @@ pub(crate) struct ScaledAddress {
 
 // Each function below writes into the caller's `Change`, which isn't moved.
 
-/// Writes the change by an operation whose result goes to a register.
+/// Writes the change of a state by an instruction that puts the result of an operation into a
+/// register.
 pub(crate) fn effect_of_operation(
     b: &Bounds,
     plan: &Plan,
@@ -86,8 +87,8 @@ pub(crate) fn effect_of_scaled_address(
     );
 }
 
-/// Writes the change by a store, or by a load before its result: the base register is increased by
-/// the offset, if the access does that.
+/// Writes the change of a state by a store instruction, or by a load before its result: the base
+/// register is increased by the offset, if the access does that.
 pub(crate) fn effect_on_base(b: &Bounds, plan: &Plan, s: &State, at: Addressing, c: &mut Change)
     requires base { IsArg at.base }
     requires values { AreValues b.now s.now.regs }

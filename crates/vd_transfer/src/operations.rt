@@ -309,7 +309,8 @@ fn operate_on_own_values(b: &Bounds, plan: &Plan, s: &State, of: Operation, out:
     }
 }
 
-/// Writes the value of an operation, as `operate` does, if the left operand has to be built.
+/// Writes the value of an operation on two operands, as `operate` does. The left one has no value
+/// in the state, so it is built first.
 #[inline(never)]
 fn operate_on_built_left(b: &Bounds, plan: &Plan, s: &State, of: Operation, out: &mut Val)
     requires operands { IsArg of.x × IsArg of.y }

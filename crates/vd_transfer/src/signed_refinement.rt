@@ -5,7 +5,7 @@ ghost use Rattle.value_domain.specs.declared.values.Val.TheVariants.{Set, Span};
 ghost use Rattle.value_domain.specs.Meets.{cover_of_meet, meet_if};
 ghost use Rattle.tc_isa.specs.Arithmetic.{signed_order_place};
 ghost use Rattle.vd_transfer.specs.Refinement.{IsInInterval};
-ghost use Rattle.vd_transfer.specs.Signs.{IsSignedRange, kept_signed, is_signed};
+ghost use Rattle.vd_transfer.specs.Signs.{IsSignedRange, signed_related_words, is_signed};
 ghost use Rattle.vd_transfer.specs.declared.refinement.Relation.TheVariants.{Same};
 
 use crate::refinement::{Interval, NONE, Relation, add_refined_members, words_reached};
@@ -84,7 +84,7 @@ pub fn narrow_signed(b: &Bounds, rel: Relation, v: &Val, w: &Val, out: &mut Val)
     requires right { IsValue b.now w.now }
     requires order { rel ≢ Same }
     ensures kept { meet_if result out.new
-        ≡ cover_of_meet b.now (kept_signed rel (members v.now) (members w.now)) }
+        ≡ cover_of_meet b.now (signed_related_words rel (members v.now) (members w.now)) }
     ensures value { IfSome (meet_if result out.new) (IsValue b.now) }
 {
     let (low, high) = signed_range(w);

@@ -1,6 +1,6 @@
 // The graph of entries, by the numbers of its nodes: which nodes are reached from which.
 ghost use Rattle.std.specs.Prelude.{◌≡◌, ◌<◌, ◌↔◌, ℕ, IsTrue, IfOk, OnOk, length, slice_index_or, false, Contains, [], ◌∷◌, ◌+◌};
-ghost use Rattle.frame_places.specs.NodeGraph.{AddsEdges, AddsEdgeSource, AreEdgeSourcesBelow, AreEdgesBetween, AreEdges, AreReaching, AreReachingBy, AreEdgeSources, HasMarkedNext, IsFirstRecurringBefore, IsFirstRecurring, IsRecurring, MarksNodes, SettlesMarks, IsMarked};
+ghost use Rattle.frame_places.specs.NodeGraph.{AddsEdges, AddsEdgeSource, AreEdgeSourcesBelow, AreEdgesBetween, AreEdges, AreReaching, AreReachingBy, AreEdgeSources, HasMarkedNext, IsFirstRecurringBefore, IsFirstRecurring, IsRecurring, MarksNodes, SettlesMarks, IsNodeMarked};
 
 use crate::needs::row::NeedRow;
 use indexmap::{IndexMap, IndexSet};
@@ -13,7 +13,8 @@ pub struct FrameEdge {
     pub into: usize,
 }
 
-/// Adds the edges of a node to those of the graph of entries, along which nodes reach others.
+/// Adds the edges of a node to the graph of entries, one to each node that it enters. Along edges,
+/// nodes are reached from others.
 fn add_edges(
     edges: &mut IndexSet<FrameEdge>,
     node: usize,
@@ -75,7 +76,11 @@ fn edge_sources(
 }
 
 /// Marks a node, and queues it if it had no mark.
-fn mark_node(marks: &mut [bool], work: &mut Vec<usize>, node: usize) -> Result<(), AllocError>
+fn mark_reaching_node(
+    marks: &mut [bool],
+    work: &mut Vec<usize>,
+    node: usize,
+) -> Result<(), AllocError>
     requires { node < length marks.old }
     ensures { OnOk result
         (MarksNodes (node ∷ []) marks.old marks.new work.old.items work.new.items) }
@@ -87,19 +92,24 @@ fn mark_node(marks: &mut [bool], work: &mut Vec<usize>, node: usize) -> Result<(
     Ok(())
 }
 
-/// Marks these nodes, and queues those that had no mark.
-fn mark_nodes(marks: &mut [bool], work: &mut Vec<usize>, nodes: &[usize]) -> Result<(), AllocError>
+/// Marks these nodes of the graph, from which a given node is reached, and queues those that had no
+/// mark.
+fn mark_reaching_nodes(
+    marks: &mut [bool],
+    work: &mut Vec<usize>,
+    nodes: &[usize],
+) -> Result<(), AllocError>
     requires { (k : ℕ) → Contains nodes.now k → k < length marks.old }
     ensures { OnOk result (MarksNodes nodes.now marks.old marks.new work.old.items work.new.items) }
 {
     for node in nodes {
-        mark_node(marks, work, *node)?;
+        mark_reaching_node(marks, work, *node)?;
     }
     Ok(())
 }
 
-/// Marks all nodes from which a queued one is reached.
-fn settle_marks(
+/// Marks all nodes of the graph from which a queued node is reached along edges.
+fn settle_reaching_marks(
     marks: &mut [bool],
     work: &mut Vec<usize>,
     sources: &IndexMap<usize, Vec<usize>>,
@@ -109,7 +119,7 @@ fn settle_marks(
 {
     while let Some(node) = work.pop() {
         if let Some(list) = sources.get(&node) {
-            mark_nodes(marks, work, list.as_slice())?;
+            mark_reaching_nodes(marks, work, list.as_slice())?;
         }
     }
     Ok(())
@@ -130,7 +140,7 @@ fn nodes_reaching_by(
     marks[node] = true;
     let mut work = Vec::new(alloc);
     work.push(node)?;
-    settle_marks(&mut marks, &mut work, sources)?;
+    settle_reaching_marks(&mut marks, &mut work, sources)?;
     Ok(marks)
 }
 
@@ -161,7 +171,7 @@ fn is_reaching_node(marks: &[bool], node: usize) -> bool
 
 /// Returns whether one of these nodes is marked.
 pub fn has_reaching_node(marks: &[bool], nodes: &[usize]) -> bool
-    ensures { IsTrue result ↔ ((t : ℕ) × Contains nodes.now t × IsMarked marks.now t) }
+    ensures { IsTrue result ↔ ((t : ℕ) × Contains nodes.now t × IsNodeMarked marks.now t) }
 {
     for node in nodes {
         if is_reaching_node(marks, *node) {
@@ -202,8 +212,8 @@ fn is_recurring(
     Ok(has_marked_next(marks.as_slice(), edges, node))
 }
 
-/// Returns the recursive node that is first in order, up to this node by number. `first` is that of
-/// the nodes before it. A node is recursive if it is reached from one that it enters.
+/// Returns the first in order of the nodes that are reached from themselves along edges of the
+/// graph, up to this node by number. `first` is that of the nodes before it.
 fn first_recurring_up_to(
     alloc: Global,
     orders: &[u64],

@@ -27,14 +27,14 @@ use Rattle.tcd_reading.specs.Inputs.{HoldsInput, Reading, answer, each, ReadingS
 use Rattle.tcd_reading.specs.declared.status.Status.TheVariants.{Done, Refused, BadInput}
 use Rattle.tcd_reading.proofs.Decided.{status_is, writes_are}
 use Rattle.tcd_forms.specs.Forms.{elf_form, plan_form, cert_form}
-use Rattle.tcd_forms.specs.Lines.{refused_line, key_line, key_kind_text, certified_tasks_line, refused_switch_line, refused_task_line, line_with_task, refused_sum_line, certified_tasks_words, refused_sum_words}
+use Rattle.tcd_forms.specs.Lines.{refused_line, key_line, key_kind_text, certified_tasks_line, refused_switch_line, refused_task_line, line_with_task, refused_sum_line}
+use Rattle.tcd_driver.specs.Headlines.Tasks.{certified_tasks_words, refused_sum_words, AreTaskFiles, IsAcceptedForTask, AreSafeTogether, sum_of_task_needs, switch_words, refused_task_words, HeadlineOfTasks, IsFirstRefusedTask, IsTasksFault, no_switch, refused_task, above, RefusalByTasks, HoldTaskCerts, IsLeastForTask, HeadlineOfTaskcert, NoCertForTask, unaccepted, not_apart, IsFirstWithoutCert, IsTaskcertFault, switch_missing, without, sum_above, RefusalByTaskcert}
 use Rattle.tcd_driver.specs.CellAndTaskForms.{tasks_form}
-use Rattle.tcd_driver.specs.Commands.{are_distinct_names}
+use Rattle.tcd_driver.specs.DistinctNames.{are_distinct_names}
 use Rattle.tcd_driver.specs.Tasks as judging
 use Rattle.tcd_driver.specs.Tasks.{TasksNames, cert_of_task, IsTaskRefused, IsFirstRefused, IsTasksVerdict, tasks_reading_if, tasks_reading}
 use Rattle.tcd_driver.specs.Taskcert as making
 use Rattle.tcd_driver.specs.Taskcert.{TaskcertNames, AreTasksMade, IsTaskUncertified, IsFirstUncertified, cert_files, IsTaskcerting, taskcert_reading, IsTaskCertMade}
-use Rattle.tcd_driver.specs.Headlines.Tasks.{AreTaskFiles, IsAcceptedForTask, AreSafeTogether, sum_of_task_needs, switch_words, refused_task_words, HeadlineOfTasks, IsFirstRefusedTask, IsTasksFault, no_switch, refused_task, above, RefusalByTasks, HoldTaskCerts, IsLeastForTask, HeadlineOfTaskcert, NoCertForTask, unaccepted, not_apart, IsFirstWithoutCert, IsTaskcertFault, switch_missing, without, sum_above, RefusalByTaskcert}
 use Rattle.tcd_driver.specs.Headlines.{HoldEachFile}
 use Rattle.tcd_driver.proofs.Headlines.{Leaves, Reports, Tells, bad_undone, bad_unrefused, refused_undone, held_nothing, read, get_same, get_other, cert_held, firmware_files, each_said, least_of, text_of, held_of}
 

@@ -12,7 +12,7 @@ use Rattle.tc_boot.specs.Judging.{JudgesBoot, HasBoot}
 use Rattle.tc_boot.specs.Reset.{BootsSafely}
 use Rattle.tc_boot.specs.Sequence.{boot_image_of}
 use Rattle.tcd_base.specs.Files.{FileMap}
-use Rattle.tcd_driver.specs.BadInputLines.{refused_boot_line}
+use Rattle.tcd_driver.specs.Boot.{refused_boot_line}
 use Rattle.tcd_driver.specs.Headlines.{HoldsPlan, AreCheckFiles, IsOnlyFileWritten, IsAcceptedWithNeed, RefusalByCheck}
 
 -- `boot` is done: the certificate is accepted, and the boot sequence is at the address and may run.

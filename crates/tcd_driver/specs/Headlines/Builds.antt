@@ -12,7 +12,7 @@ use Rattle.tc_link.specs.Refusals.{Refusal}
 use Rattle.tcd_base.specs.Files.{FileMap}
 use Rattle.tcd_forms.specs.Forms.{IsSource, SourceData}
 use Rattle.tcd_forms.specs.Lines.{bad_link_line, certified_words}
-use Rattle.tcd_driver.specs.Headlines.{HoldsFile, IsBadFile, HoldsLayout, HoldEachFile, IsOnlyFileWritten, HoldsPlan, IsBestWithNeed, refused_words}
+use Rattle.tcd_driver.specs.Headlines.{HoldsFile, IsBadFile, HoldEachFile, IsOnlyFileWritten, HoldsPlan, IsBestWithNeed, refused_words}
 use Rattle.std.specs.FinMap.{get}
 use Rattle.elf_image.specs.ReadElf.{image_of_file}
 use Rattle.tcd_plan.specs.PlanData.{PlanData}
@@ -22,6 +22,7 @@ use Rattle.depth_cert.specs.Spelling as certs
 use Rattle.tc_program.specs.Placed.{Placed}
 use Rattle.tcd_driver.specs.BestCert.{NoneIsAccepted}
 use Rattle.tcd_driver.specs.BadInputLines.{IsNoLayout, IsNoObject, SourceBreaksRule}
+use Rattle.tc_link.specs.LayoutFaults.{layout_of}
 
 -- ---- asm
 -- `asm` is done: the source breaks no rule, and OBJ now holds the bytes of its object.
@@ -41,6 +42,10 @@ pub record RefusalByAsm (source_name : List ℕ) (before after : FileMap) (print
 abbrev pub IsObjectText : List ℕ → ObjectData → Type 0
 IsObjectText bytes object = object_of bytes ≡ Ok object
 
+-- the name holds this layout, by which `link` or `ship` builds an image
+abbrev pub HoldsLayout : FileMap → List ℕ → LayoutData → Type 0
+HoldsLayout m name layout = HoldsFile m name (2 ^ 24) (λ bytes. layout_of bytes ≡ Ok layout)
+
 -- a layout, and objects
 pub record AreLinkFiles (before : FileMap) (layout_name : List ℕ) (object_names : List (List ℕ)) (layout : LayoutData) (objects : List ObjectData) : Type 0 where
   pub layout_file : HoldsLayout before layout_name layout
@@ -57,7 +62,8 @@ pub record HeadlineOfLink (layout_name elf_name : List ℕ) (object_names : List
   pub writes : IsOnlyFileWritten before after elf_name (file_of image)
   pub prints : printed ≡ codes "image " ++ (decimal (length (file_of image)) ++ (codes " bytes" ++ 10 ∷ []))
 
--- the first file among the objects that is bad
+-- why `link` refuses, if its layout is good: the first of the object files that is bad, and the
+-- line on it
 pub record IsFirstBadObject (before : FileMap) (object_names : List (List ℕ)) (line : List ℕ) : Type 0 where
   pub good_names : List (List ℕ)
   pub name : List ℕ

@@ -63,7 +63,8 @@ pub record HeadlineOfDis (elf_name : List ℕ) (before after : FileMap) (printed
   pub prints : printed ≡ listing_of image
   pub stays : after ≡ before
 
--- `dis` has no listing to report, as its file is bad: it is too long, or it is no executable.
+-- `dis`, which only reports, refuses: it has no listing, as its file is bad: it is too long, or it
+-- is no executable.
 pub record RefusalByDis (elf_name : List ℕ) (before after : FileMap) (printed : List ℕ) : Type 0 where
   pub bad :
       IsBadFile before elf_name (2 ^ 24) (codes "bad elf 0" ++ 10 ∷ []) (λ bytes line. (e : ImageErr) × (image_of_file bytes ≡ Err e) × (line ≡ bad_elf_line e)) printed
@@ -96,8 +97,8 @@ pub record HeadlineOfGen (word : List ℕ) (before after : FileMap) (printed : L
   pub prints : printed ≡ gen_words functions (length cert.nodes) (count_points cert.nodes) need (generated_plan.areas - generated_plan.reserve)
   pub stays : after ≡ before
 
--- `gen` reports a refusal: no certificate of version 1 is accepted for the generated image, and
--- this is why.
+-- `gen`, which only reports, refuses: no certificate of version 1 is accepted for the generated
+-- image, and this is why.
 pub record RefusalByGen (word : List ℕ) (before after : FileMap) (printed : List ℕ) : Type 0 where
   pub functions : ℕ
   pub rule : ℕ

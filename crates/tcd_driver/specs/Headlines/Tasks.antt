@@ -23,7 +23,6 @@ use Rattle.tcd_base.specs.Files.{FileMap}
 use Rattle.tcd_driver.specs.Tasks.{cert_of_task}
 use Rattle.tcd_driver.specs.Headlines.{HoldsFile, AreFirmwareFiles, HoldEachFile, refused_words}
 use Rattle.tcd_driver.specs.BestCert.{EachIsRefused, IsLeastOfItsVersion}
-use Rattle.tcd_forms.specs.Lines.{refused_sum_words, certified_tasks_words}
 
 -- an executable, a plan, and its tasks
 pub record AreTaskFiles (before : FileMap) (elf_name plan_name tasks_name : List ℕ) (image : ImageData) (plan : PlanData) (list : TasksData) : Type 0 where
@@ -60,6 +59,16 @@ switch_words address = codes "refused switch at " ++ (hex_word address ++ 10 ∷
 abbrev pub refused_task_words : ℕ → Key → ℕ → ℕ → List ℕ
 refused_task_words rule frame address u =
     take (length (refused_words rule frame address) - 1) (refused_words rule frame address) ++ (codes " of task " ++ (decimal u ++ 10 ∷ []))
+
+-- the line in the headlines of `tasks` and `taskcert`: the needs together, the areas without the
+-- reserve, and the number of tasks
+abbrev pub certified_tasks_words : ℕ → ℕ → ℕ → List ℕ
+certified_tasks_words sum areas n =
+    codes "certified " ++ (decimal sum ++ (codes " of " ++ (decimal areas ++ (codes " areas in " ++ (decimal n ++ (codes " tasks" ++ 10 ∷ []))))))
+
+-- the line in the refusals by `tasks` and `taskcert` if the needs are together above the areas
+abbrev pub refused_sum_words : ℕ → ℕ → List ℕ
+refused_sum_words sum areas = codes "refused sum " ++ (decimal sum ++ (codes " of " ++ (decimal areas ++ (codes " areas" ++ 10 ∷ []))))
 
 -- `tasks` is done: by the certificates, one for each task, all tasks are safe together.
 pub record HeadlineOfTasks (elf_name plan_name tasks_name : List ℕ) (cert_names : List (List ℕ)) (before after : FileMap) (printed : List ℕ) : Type 0 where
@@ -118,7 +127,8 @@ HoldTaskCerts m [] (cert ∷ certs) = ⊥
 HoldTaskCerts m (name ∷ names) [] = ⊥
 HoldTaskCerts m (name ∷ names) (cert ∷ certs) = (get m name ≡ Some (bytes_of_cert cert)) × HoldTaskCerts m names certs
 
--- the certificate is the least of version 2 for task u's view, and its bytes read back as it
+-- what the headline of `taskcert` says of a certificate: it is the least of version 2 for task u's
+-- view, and its bytes read back as it
 pub record IsLeastForTask (image : ImageData) (plan : PlanData) (list : TasksData) (u : ℕ) (cert : CertData) : Type 0 where
   pub version : cert.version ≡ 2
   pub least : IsLeastOfItsVersion (view_image_of image list u) (view_plan_of plan list u) cert
@@ -153,9 +163,8 @@ pub record IsFirstWithoutCert (image : ImageData) (plan : PlanData) (list : Task
   pub before : (w : ℕ) → w < u → (cert : CertData) × IsAcceptedForTask image plan list w cert × IsLeastForTask image plan list w cert
   pub none : NoCertForTask (view_image_of image list u) (view_plan_of plan list u) list rule frame address
 
--- What is against the tasks, with its line: the image doesn't have the switch routine; or it does,
--- and a task has no certificate; or each has one, and the needs of the least ones are together
--- above the areas without the reserve.
+-- What `RefusalByTaskcert` says, with its line: the image lacks the switch routine; or a task has
+-- no certificate; or the least ones' needs are together above the areas without the reserve.
 pub data IsTaskcertFault (image : ImageData) (plan : PlanData) (list : TasksData) (line : List ℕ) : Type 0 where
   switch_missing : (address : ℕ) → IsRoutineFault image plan list address → line ≡ switch_words address → IsTaskcertFault image plan list line
   without :

@@ -10,7 +10,8 @@ use Rattle.value_domain.specs.Sets.{Among, sorted_set_of}
 use Rattle.value_domain.proofs.SetLaws.{distinct_has}
 use Rattle.depth_cert.specs.declared.keys.Key.{Key}
 use Rattle.depth_cert.specs.Certs.{CertData}
-use Rattle.cfg_recover.specs.Duties.{Owed, owed, jump, enter, OwesJump, OwesEntry}
+use Rattle.cfg_recover.specs.Duties.{Owed, owed, jump, enter}
+use Rattle.cfg_recover.specs.EdgesAreOwed.{OwesJump, OwesEntry}
 use Rattle.cfg_recover.specs.StepEdges.{to, call, irq, sys, aln}
 use Rattle.cfg_recover.proofs.Members.{contains_first, contains_among, contains_map, contains_flat, contains_filter}
 use Rattle.tcd_report.specs.Graphs.{Arrow, goes, back, jump_by, entry_by, entries_in, each_address_once, leaves_by, jumps_in, calls_in, backs_in, systems_in, misaligned_in, interrupts_in, arrows_of}

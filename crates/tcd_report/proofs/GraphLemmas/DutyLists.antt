@@ -19,12 +19,11 @@ use Rattle.depth_cert.specs.declared.keys.Key.{Key}
 use Rattle.depth_cert.specs.declared.points.Exit.{Exit}
 use Rattle.depth_cert.specs.Certs.{CertData}
 use Rattle.depth_cert.specs.Exits.{exit_of}
-use Rattle.cfg_recover.specs.Entries.{aln_entry, aln_key, call_entry, call_key, irq_entry, irq_key, sys_key, irqs_of}
+use Rattle.cfg_recover.specs.Entries.{aln_entry, aln_key, call_entry, call_key, irq_entry, irq_key, sys_key, irqs_of, entered_key}
 use Rattle.tcd_report.specs.Graphs.Handlers.{irq_entry_vectors}
-use Rattle.cfg_recover.specs.FlowDuties.{entered_key}
 use Rattle.cfg_recover.specs.LocalRules.{targets_of}
 use Rattle.store_ranges.specs.Accesses.{are_aligned}
-use Rattle.cfg_recover.specs.Duties.{Owed, owed, jump, enter, resume, leave, jump_on, jumps_to, loaded_for_duties, next_of, successors_of, entered_and_back, entries_of, misaligned_at, misaligned_entry, misaligned_of, interrupts_of, leavings_of, duties_of, key_by}
+use Rattle.cfg_recover.specs.Duties.{Owed, owed, jump, enter, resume, leave, jump_on, jumps_to, loaded_for_duties, next_of, successors_of, entered_and_back, entries_of, misaligned_at, misaligned_entry, misaligned_of, interrupts_of, leavings_of, duties_of, keys_entered_by_duty}
 use Rattle.tcd_report.specs.Graphs.{jump_by, entry_by, entries_in, back_by, each_address_once, jumped_in, returned_in, called_of, systems_of}
 use Rattle.tcd_report.specs.Reports.Calls.{called_by}
 
@@ -160,7 +159,7 @@ entry_in : ℕ → Owed → List ℕ
 entry_in rule d = if d.rule == rule then entry_by d.duty else []
 
 key_in : Owed → List Key
-key_in d = if d.rule == 5 then key_by d.duty else []
+key_in d = if d.rule == 5 then keys_entered_by_duty d.duty else []
 
 -- other instructions don't call
 pub called_none : (plan : PlanData) (s : State) (p : ℕ) (shape : Shape) → ((to : Target) → shape ≡ Call to → ⊥) → called_of plan s p shape ≡ []

@@ -31,7 +31,7 @@ use Rattle.cfg_recover.specs.Code.{IsCode}
 use Rattle.cfg_recover.specs.Entries.{start_key, call_key, handler_key}
 use Rattle.cfg_recover.specs.Duties.{Owed, duties_of}
 use Rattle.cfg_recover.specs.RulesHoldOrFail.{limits_in}
-use Rattle.tc_machine.specs.Instructions.{traps}
+use Rattle.tc_machine.specs.Instructions.{is_trapping_instruction}
 use Rattle.cfg_recover.specs.Frames.{Standing, frames_by, frames_after, frames_from, frames}
 use Rattle.cfg_recover.specs.EdgesAreOwed.{IsEdgeWayOwed, EdgeOwed}
 use Rattle.cfg_recover.specs.StepEdges.{EdgeWay, to, call, irq, sys, aln, ret, rfe, edge_way_of_shape, edge_way_by_trap, edge_way_in_fetch, edge_way_of_step}
@@ -64,7 +64,7 @@ way_ret m e s n f w =
       | inl taken ↦ absurd (let g : irq (step m e).pc ≡ ret = sym (ap (λ b. if b then irq (step m e).pc else edge_way_in_fetch m e (fetched m) (step m e).pc) taken) ∙ w in cc)
       | inr not_taken ↦
           let by : edge_way_by_trap m e s (step m e).pc ≡ ret = sym (ap (λ b. if b then irq (step m e).pc else edge_way_in_fetch m e (fetched m) (step m e).pc) not_taken ∙ ap (λ r. edge_way_in_fetch m e r (step m e).pc) f) ∙ w in
-          elim (cases_Bool (traps m e s)) [
+          elim (cases_Bool (is_trapping_instruction m e s)) [
             | inl trapped ↦ absurd (let g : aln (step m e).pc ≡ ret = sym (ap (λ b. if b then aln (step m e).pc else edge_way_of_shape s (step m e).pc) trapped) ∙ by in cc)
             | inr goes_on ↦ shape_ret s (step m e).pc (sym (ap (λ b. if b then aln (step m e).pc else edge_way_of_shape s (step m e).pc) goes_on) ∙ by)
           ]
@@ -76,7 +76,7 @@ way_rfe m e s n f w =
       | inl taken ↦ absurd (let g : irq (step m e).pc ≡ rfe = sym (ap (λ b. if b then irq (step m e).pc else edge_way_in_fetch m e (fetched m) (step m e).pc) taken) ∙ w in cc)
       | inr not_taken ↦
           let by : edge_way_by_trap m e s (step m e).pc ≡ rfe = sym (ap (λ b. if b then irq (step m e).pc else edge_way_in_fetch m e (fetched m) (step m e).pc) not_taken ∙ ap (λ r. edge_way_in_fetch m e r (step m e).pc) f) ∙ w in
-          elim (cases_Bool (traps m e s)) [
+          elim (cases_Bool (is_trapping_instruction m e s)) [
             | inl trapped ↦ absurd (let g : aln (step m e).pc ≡ rfe = sym (ap (λ b. if b then aln (step m e).pc else edge_way_of_shape s (step m e).pc) trapped) ∙ by in cc)
             | inr goes_on ↦ shape_rfe s (step m e).pc (sym (ap (λ b. if b then aln (step m e).pc else edge_way_of_shape s (step m e).pc) goes_on) ∙ by)
           ]
@@ -102,7 +102,7 @@ shape_below _ q h = tt
 
 in_below : (m : Machine) (e : Event) (r : Result (Shape × ℕ) Cause) (q : ℕ) → q < 2 ^ 32 → IsBelow (edge_way_in_fetch m e r q)
 unfolding IsBelow
-in_below m e (Ok found) q h = elim (traps m e found.0) as (λ b. IsBelow (if b then aln q else edge_way_of_shape found.0 q)) [ true ↦ h | false ↦ shape_below found.0 q h ]
+in_below m e (Ok found) q h = elim (is_trapping_instruction m e found.0) as (λ b. IsBelow (if b then aln q else edge_way_of_shape found.0 q)) [ true ↦ h | false ↦ shape_below found.0 q h ]
 in_below m e (Err cause) q h = tt
 
 step_below : (m : Machine) (e : Event) → (step m e).pc < 2 ^ 32 → IsBelow (edge_way_of_step m e)

@@ -13,10 +13,10 @@ use Rattle.value_domain.specs.State.{AreValues}
 use Rattle.depth_cert.specs.declared.keys.Key.{Key}
 use Rattle.depth_cert.specs.declared.points.Point.{Point}
 use Rattle.depth_cert.specs.Keys.{number_of_key}
-use Rattle.depth_cert.specs.Nodes.{NodeData}
-use Rattle.depth_cert.specs.Certs.{CertData, IsCert, find_node, key_numbers}
+use Rattle.depth_cert.specs.Nodes.{NodeData, find_node, key_numbers}
+use Rattle.depth_cert.specs.Certs.{CertData, IsCert}
 use Rattle.cfg_recover.specs.LocalFaults.{IsFaultless}
-use Rattle.cfg_recover.specs.Duties.{Duty, enter, Owed, owed, duties_of, key_by}
+use Rattle.cfg_recover.specs.Duties.{Duty, enter, Owed, owed, duties_of, keys_entered_by_duty}
 use Rattle.cfg_recover.specs.RulesHoldOrFail.{limits_in, RuleHolds, NeedRuleHolds, EntryNeedRuleHolds, Accepts}
 use Rattle.cfg_recover.proofs.Members.{contains_first}
 use Rattle.tcd_report.specs.Reports.Calls.{called_by, NodeCalls}
@@ -51,20 +51,20 @@ contains_nothing : {X : Type 0} (y : X) → Contains [] y → ⊥
 contains_nothing y c = let lt = c.1 in omega (arith, lt)
 
 -- ---- the duty of a call
-duty_calls : (r : ℕ) (d : Duty) (k : Key) → r ≡ 5 → Contains (key_by d) k → (t : State) × (owed r d ≡ owed 5 (enter k t))
+duty_calls : (r : ℕ) (d : Duty) (k : Key) → r ≡ 5 → Contains (keys_entered_by_duty d) k → (t : State) × (owed r d ≡ owed 5 (enter k t))
 duty_calls r (enter j t) k e c = (t, ap (λ x. owed x (enter j t)) e ∙ ap (λ x. owed 5 (enter x t)) (contains_one j k c))
 duty_calls r _ k e c = absurd (contains_nothing k c)
 
 called_duty : (ds : List Owed) (k : Key) → Contains (called_by ds) k → (t : State) × Contains ds (owed 5 (enter k t))
 called_duty ds k c =
-    let r = flat_contains (λ (d : Owed). if d.rule == 5 then key_by d.duty else []) ds k c in
+    let r = flat_contains (λ (d : Owed). if d.rule == 5 then keys_entered_by_duty d.duty else []) ds k c in
     let d : Owed = r.0 in
     elim (cases_Bool (d.rule == 5)) [
       | inl five ↦
-          let there : Contains (key_by d.duty) k = subst (λ b. Contains (if b then key_by d.duty else []) k) five (r.1).1 in
+          let there : Contains (keys_entered_by_duty d.duty) k = subst (λ b. Contains (if b then keys_entered_by_duty d.duty else []) k) five (r.1).1 in
           let it = duty_calls d.rule d.duty k (eqb-true d.rule 5 five) there in
           (it.0, subst (λ o. Contains ds o) it.1 (r.1).0)
-      | inr other ↦ absurd (contains_nothing k (subst (λ b. Contains (if b then key_by d.duty else []) k) other (r.1).1))
+      | inr other ↦ absurd (contains_nothing k (subst (λ b. Contains (if b then keys_entered_by_duty d.duty else []) k) other (r.1).1))
     ]
 
 -- ---- nodes by their keys

@@ -10,7 +10,7 @@ use Rattle.depth_cert.specs.Certs.{CertData}
 use Rattle.cfg_recover.specs.Duties.{Owed, duties_of}
 use Rattle.cfg_recover.specs.Code.{IsCode}
 use Rattle.depth_cert.specs.Keys.{call_kind}
-use Rattle.cfg_recover.specs.FlowDuties.{entered_key}
+use Rattle.cfg_recover.specs.Entries.{entered_key}
 use Rattle.cfg_recover.specs.RulesHoldOrFail.{limits_in}
 use Rattle.cfg_recover.proofs.CodeLaws.{IsCode-one}
 use Rattle.cfg_recover.proofs.Members.{contains_map}

@@ -5,7 +5,8 @@ use Rattle.tcd_plan.specs.PlanData.{PlanData, IsPlan}
 use Rattle.tc_machine.specs.declared.events.Event.{Event}
 use Rattle.tc_machine.specs.declared.state.Machine.{Machine}
 use Rattle.tc_machine.specs.Stepping.{run}
-use Rattle.tc_machine.specs.Safe.{Starts, Fits, AllFit, Safe}
+use Rattle.tc_machine.specs.Safe.{Fits, AllFit, Safe}
+use Rattle.tc_machine.specs.Starting.{Starts}
 use Rattle.depth_cert.specs.Certs.{CertData, IsCert}
 use Rattle.cfg_recover.specs.RulesHoldOrFail.{certified_need}
 use Rattle.cfg_recover.specs.Frames.{Standing, frames}
@@ -13,7 +14,8 @@ use Rattle.cfg_recover.specs.EdgesAreOwed.{EdgesOwed}
 use Rattle.cfg_recover.specs.StepEdges.{edge_of_step}
 use Rattle.tcd_report.specs.Graphs.{AreGraphLines, goes, line_text}
 
--- one of the lines has the key of the newest frame, the address of a step and the word of its edge
+-- one of the graph's lines has the edge of a step of a run: the key of the newest frame, the
+-- address of the step and the word of its edge
 abbrev pub IsOnLine : List (List ℕ) → Machine → Event → List Standing → Type 0
 IsOnLine lines m e [] = ⊥
 IsOnLine lines m e (f ∷ fs) = Contains lines (line_text f.key (edge_of_step m e).at (goes (edge_of_step m e).way))

@@ -12,7 +12,8 @@ pub record HasHandlerLines (size : ℕ) (entries lines : List ℕ) : Type 0 wher
   pub sized : length front ≡ size
   pub are : lines ≡ lines_to front (codes "irq ") entries
 
--- the addresses at which the handlers of these interrupts are entered: the entries of their keys
+-- the addresses on the graph's `irq` lines for these interrupts, at which their handlers are
+-- entered: the entries of their keys
 abbrev pub irq_entry_vectors : PlanData → List ℕ → List ℕ
 irq_entry_vectors plan irqs = map (λ p. (irq_key plan p).entry) irqs
 

@@ -9,13 +9,13 @@ use Rattle.depth_cert.specs.declared.points.Point.{Point}
 use Rattle.depth_cert.specs.Nodes.{NodeData}
 use Rattle.depth_cert.specs.Certs.{CertData}
 use Rattle.cfg_recover.specs.Code.{IsCode}
-use Rattle.cfg_recover.specs.Duties.{Owed, duties_of, key_by}
+use Rattle.cfg_recover.specs.Duties.{Owed, duties_of, keys_entered_by_duty}
 use Rattle.cfg_recover.specs.RulesHoldOrFail.{limits_in}
 use Rattle.tcd_report.specs.Graphs.{call_rule}
 
 -- the keys of the functions that an instruction calls: rule 5 asks for their entries
 abbrev pub called_by : List Owed → List Key
-called_by ds = flat_map (λ d. if d.rule == call_rule then key_by d.duty else []) ds
+called_by ds = flat_map (λ d. if d.rule == call_rule then keys_entered_by_duty d.duty else []) ds
 
 -- the instruction at a point calls the function with this key
 pub record CallsAt (image : ImageData) (plan : PlanData) (cert : CertData) (caller : Key) (point : Point) (key : Key) : Type 0 where

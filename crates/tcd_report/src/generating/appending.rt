@@ -3,9 +3,8 @@ ghost use Rattle.std.specs.Prelude.{◌≡◌, ◌≤◌, ◌<◌, ◌+◌, ◌-
 ghost use Rattle.tc_isa.specs.declared.table.Form.TheVariants.{B};
 ghost use Rattle.tc_isa.specs.Forms.{fields};
 ghost use Rattle.tc_isa.specs.Spelling.{word_by_form};
-ghost use Rattle.tcd_report.specs.Generated.{call_from, generated_handler, zero_padded_bytes};
+ghost use Rattle.tcd_report.specs.Generated.{call_from};
 
-use crate::generating::functions::append_handler;
 use tcd_base::{NoMemory, put_u32};
 
 /// Appends bytes of instructions to those of a segment of a generated image.
@@ -43,16 +42,4 @@ fn call_word(k: u32) -> u32
     ensures { result ≡ word_by_form B 0x6d 0 (fields 0 0 0 0 k) }
 {
     k % 65536 * 65536 + k / 65536 * 256 + 0x6d
-}
-
-// Appends the handler of interrupt p, and zeros up to the next handler.
-#[tactic(auto, using(crate::proofs::ImageLemmas::Lengths::handler_filled))]
-pub(crate) fn append_filled_handler(out: &mut Vec<u8>, n: u32, p: u8) -> Result<(), NoMemory>
-    requires some { 1 ≤ n }
-    requires few { n ≤ 500 }
-    ensures { OnOk result (out.new.items ≡ out.old.items
-        ++ zero_padded_bytes 320 (generated_handler n p)) }
-{
-    append_handler(out, n, p)?;
-    append_zeros(out, 308)
 }

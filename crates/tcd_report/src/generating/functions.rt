@@ -1,5 +1,5 @@
 // The functions of a generated image, its main program, and the handler of an interrupt.
-ghost use Rattle.std.specs.Prelude.{◌≡◌, ◌≤◌, ◌<◌, ◌+◌, ◌*◌, ◌++◌, OnOk, IfOk};
+ghost use Rattle.std.specs.Prelude.{◌≡◌, ◌≤◌, ◌<◌, ◌+◌, ◌*◌, ◌++◌, OnOk, IfOk, ◌-◌, ◌/◌};
 ghost use Rattle.tcd_report.specs.Generated.{generated_function_at, call_if_below, function_code, generated_functions, main_code, generated_handler, zero_padded_bytes};
 
 use crate::generating::appending::{append_call, append_segment_bytes, append_zeros};
@@ -103,4 +103,17 @@ pub(crate) fn append_handler(out: &mut Vec<u8>, n: u32, p: u8) -> Result<(), NoM
         generated_function_at(n - 1),
     )?;
     append_segment_bytes(out, &[0x0d, 0x00, 0x40, 0x02, 0x00, 0x80])
+}
+
+/// Appends the handler of interrupt p to those of the generated image, and zeros up to the next
+/// handler.
+#[tactic(auto, using(crate::proofs::ImageLemmas::Lengths::handler_filled))]
+pub(crate) fn append_filled_handler(out: &mut Vec<u8>, n: u32, p: u8) -> Result<(), NoMemory>
+    requires some { 1 ≤ n }
+    requires few { n ≤ 500 }
+    ensures { OnOk result (out.new.items ≡ out.old.items
+        ++ zero_padded_bytes 320 (generated_handler n p)) }
+{
+    append_handler(out, n, p)?;
+    append_zeros(out, 308)
 }

@@ -46,7 +46,8 @@ pub fn generate(alloc: Global, n: u32) -> Result<Generated, NoMemory>
     Ok(Generated { elf, plan })
 }
 
-// The image of n functions.
+/// Returns the image of n functions that is generated with its plan: all segments, from the main
+/// program to the functions.
 fn image_of_functions(alloc: Global, n: u32) -> Result<Image, NoMemory>
     requires some { 1 ≤ n }
     requires few { n ≤ 500 }

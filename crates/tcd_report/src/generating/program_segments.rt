@@ -2,8 +2,7 @@
 ghost use Rattle.std.specs.Prelude.{◌≡◌, ◌≤◌, ◌<◌, ◌+◌, ◌*◌, IfOk};
 ghost use Rattle.tcd_report.specs.Generated.{generated_handler, generated_vectors, system_code, generated_function_at, generated_table};
 
-use crate::generating::appending::append_filled_handler;
-use crate::generating::functions::{append_handler, generated_function_at};
+use crate::generating::functions::{append_filled_handler, append_handler, generated_function_at};
 use std::alloc::Global;
 use tcd_base::{NoMemory, put_u32};
 
@@ -16,7 +15,8 @@ pub(crate) fn system_code() -> [u8; 2]
     [0x00, 0x80]
 }
 
-/// The handlers of the interrupts 10, 20 .. 160.
+/// Returns the segment of the generated program that has the handlers of the interrupts 10, 20 ..
+/// 160.
 pub(crate) fn generated_vectors(alloc: Global, n: u32) -> Result<Vec<u8>, NoMemory>
     requires some { 1 ≤ n }
     requires few { n ≤ 500 }

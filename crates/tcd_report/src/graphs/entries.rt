@@ -37,8 +37,8 @@ pub(crate) fn push_called(
     }
 }
 
-/// Fills the list, instead of what it held, with the entry of the frame that the instruction enters
-/// if it is a system call, else with nothing.
+/// Sets the entries of a point's `sys` line: the one of the frame that its instruction enters if it
+/// is a system call, else nothing. What the list held is gone.
 pub(crate) fn set_system_call(
     all: &mut Vec<u32>,
     plan: &Plan,

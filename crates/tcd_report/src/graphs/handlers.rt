@@ -158,8 +158,8 @@ pub(crate) fn append_handlers(
     append_ascii(text, &known.lines)
 }
 
-/// Gives a fact about the entries of handlers: each is below 2^32, as its type says. It does
-/// nothing else.
+/// Gives a fact about the entries of handlers on the graph's `irq` lines: each is below 2^32, as
+/// its type says. It does nothing else.
 pub(crate) fn read_handler_entries(addresses: &[u32])
     ensures { (k : ℕ) → slice_index addresses.now k < 2 ^ 32 }
 {}

@@ -5,14 +5,13 @@ ghost use Rattle.value_domain.specs.State.{AreValues};
 ghost use Rattle.vd_transfer.specs.Branches.{refine_of};
 ghost use Rattle.cfg_recover.specs.LocalRules.{targets_of};
 ghost use Rattle.cfg_recover.specs.Duties.{jump_on, resume};
-ghost use Rattle.tcd_report.specs.Graphs.{successors_at, jumped_in, back_by};
-ghost use Rattle.tcd_report.specs.Graphs.{called_of, entries_at, returned_in};
+ghost use Rattle.tcd_report.specs.Graphs.{successors_at, jumped_in, back_by, called_of, entries_at, returned_in};
 ghost use Rattle.depth_cert.specs.Points.{point_of};
 ghost use Rattle.std.specs.List.{flat_map};
 ghost use Rattle.std.specs.Option.{option_map_or};
-ghost use Rattle.depth_cert.specs.Certs.{find_node};
+ghost use Rattle.depth_cert.specs.Nodes.{find_node};
 ghost use Rattle.depth_cert.specs.Keys.{call_kind};
-ghost use Rattle.cfg_recover.specs.FlowDuties as flows;
+ghost use Rattle.cfg_recover.specs.Entries as entries;
 
 use crate::judged::Judged;
 use cfg_recover::{Located, entered_key, sys_key, targets};
@@ -105,8 +104,8 @@ fn is_successor_possible(judged: &Judged, shape: Shape, s: &State, taken: bool) 
     change_on(judged.bounds, judged.plan, shape, s, taken, &mut c)
 }
 
-/// Appends the addresses where a point goes on by a jump, or those that its call enters. A function
-/// of its own, as it has room for a list of them.
+/// Appends a point's successors by a jump, or the addresses that its call enters. A function of its
+/// own, as it has room for a list of them.
 #[inline(never)]
 pub(crate) fn push_targets(
     all: &mut Vec<u32>,
@@ -147,7 +146,8 @@ pub(crate) fn add_returns(
     }
 }
 
-// Appends an address, once for each of the called functions whose node has an exit.
+/// Appends the successor of a call in its frame, the address after it, once for each of the called
+/// functions whose node has an exit.
 fn push_returns(
     all: &mut Vec<u32>,
     cert: &PackedCert,
@@ -156,7 +156,7 @@ fn push_returns(
     back: u32,
 ) -> Result<(), NoMemory>
     ensures { OnOk result (all.new.items ≡ all.old.items
-        ++ flat_map (λ t. back_by cert.now (resume (flows.entered_key key.now call_kind t) back))
+        ++ flat_map (λ t. back_by cert.now (resume (entries.entered_key key.now call_kind t) back))
         targets.now) }
 {
     for target in targets {
@@ -176,7 +176,8 @@ fn push_return(all: &mut Vec<u32>, cert: &PackedCert, key: &Key, back: u32) -> R
     Ok(())
 }
 
-// Whether the node of this key has an exit.
+/// Returns whether the graph has a return from a called function as a successor of its call: the
+/// node of this key has an exit.
 fn can_node_return(cert: &PackedCert, key: &Key) -> bool
     ensures { result
         ≡ option_map_or (λ n. is_some n.exit) (find_node key.now cert.now.nodes) false }

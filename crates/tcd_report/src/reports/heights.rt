@@ -6,7 +6,7 @@ ghost use Rattle.tcd_report.specs.Reports.Heights.{TellsHeights, IsGreatestHeigh
 ghost use Rattle.tcd_report.specs.Reports.{rank_of};
 ghost use Rattle.depth_cert.specs.Keys.{key_eq, call_kind};
 ghost use Rattle.tcd_report.specs.Judging.{IsJudged};
-ghost use Rattle.cfg_recover.specs.FlowDuties as flows;
+ghost use Rattle.cfg_recover.specs.Entries as entries;
 ghost use Rattle.tc_isa.specs.InBounds.{IsTarget};
 ghost use Rattle.cfg_recover.specs.LocalRules.{targets_of};
 ghost use Rattle.cfg_recover.specs.LocalFaults.{IsFaultless};
@@ -106,7 +106,7 @@ fn height_of_call(
     requires low { AreHeightsLow heights.now }
     requires target { IsTarget to }
     ensures { IsGreatestHeightOf
-        (λ t. HasCalleeHeight heights.now (flows.entered_key key.now call_kind t))
+        (λ t. HasCalleeHeight heights.now (entries.entered_key key.now call_kind t))
         (unwrap_or (targets_of plan.now s.now addr to) []) result }
 {
     let functions = targets(plan, s, addr, to);
@@ -118,7 +118,7 @@ fn height_of_call(
 fn height_of_calls(heights: &HashMap<Key, u32>, key: &Key, targets: &[u32]) -> u32
     requires { AreHeightsLow heights.now }
     ensures { IsGreatestHeightOf
-        (λ t. HasCalleeHeight heights.now (flows.entered_key key.now call_kind t))
+        (λ t. HasCalleeHeight heights.now (entries.entered_key key.now call_kind t))
         targets.now result }
 {
     let mut most = 0;
@@ -132,7 +132,7 @@ fn height_of_calls(heights: &HashMap<Key, u32>, key: &Key, targets: &[u32]) -> u
 fn height_of_callee(heights: &HashMap<Key, u32>, key: &Key, target: u32) -> u32
     requires { AreHeightsLow heights.now }
     ensures { IsGreatestHeight
-        (HasCalleeHeight heights.now (flows.entered_key key.now call_kind target)) result }
+        (HasCalleeHeight heights.now (entries.entered_key key.now call_kind target)) result }
 {
     match heights.get(&entered_key(key, CALL, target)) {
         Some(height) => *height + 1,

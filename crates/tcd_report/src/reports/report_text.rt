@@ -73,7 +73,7 @@ fn put_report_value(
     Ok(())
 }
 
-// The nodes, in the order of their keys.
+/// Returns the array of the nodes in the report's JSON, in the order of their keys.
 pub(crate) fn nodes_value(alloc: Global, cert: &PackedCert) -> Result<Value, NoMemory>
     ensures { IfOk result (λ v. view v ≡ nodes_data cert.now.nodes) }
 {

@@ -3,8 +3,8 @@ use Rattle.std.specs.Prelude.{All}
 use Rattle.std.proofs.lemmas.Option.{slice_get_within, get_or_from_slice_get, slice_get-get_or, none-some}
 use Rattle.elf_image.specs.Images.{ImageData}
 use Rattle.depth_cert.specs.declared.keys.Key.{Key}
-use Rattle.depth_cert.specs.Nodes.{NodeData, need_of}
-use Rattle.depth_cert.specs.Certs.{IsCert, find_node}
+use Rattle.depth_cert.specs.Nodes.{NodeData, need_of, find_node}
+use Rattle.depth_cert.specs.Certs.{IsCert}
 use Rattle.cfg_recover.specs.Entries.{start_key}
 use Rattle.cfg_recover.specs.RulesHoldOrFail.{HoldsAtNode, IsFirstFault, Accepts}
 use Rattle.depth_check.proofs.Deciding.{all_more, all_done}

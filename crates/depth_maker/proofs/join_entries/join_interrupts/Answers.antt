@@ -22,14 +22,14 @@ returns-then-is_empty-clause-ok c =
     subst (λ (l : List Owed). JoinedBy v c.args.table.now c.args.table.now l) (interrupts_none v.ground.now.plan.now v.key v.state.now c.interrupts-irqs.result.items c.interrupts-irqs.ensures (eqb-true _ _ (sym c.is_empty.ensures ∙ c.if-is_empty.true)))
     (duties_none _ _ _ v.key v.addr v.state.now c.args.table.now c.requires.visited.fine)
 
-pub join_handlers-requires-clause-irqs : goal.join_handlers-requires-clause-irqs
-join_handlers-requires-clause-irqs c = c.as_slice.ensures.value ∙ c.interrupts-irqs.ensures
+pub join_interrupt_entries-requires-clause-irqs : goal.join_interrupt_entries-requires-clause-irqs
+join_interrupt_entries-requires-clause-irqs c = c.as_slice.ensures.value ∙ c.interrupts-irqs.ensures
 
 pub note_interrupts-requires-clause-on : goal.note_interrupts-requires-clause-on
 note_interrupts-requires-clause-on c = taken_on c.args.v.now.state.now.ie _ c.interrupts-irqs.result.items c.interrupts-irqs.ensures (sym c.is_empty.ensures ∙ c.if-is_empty.false)
 
 pub note_interrupts-requires-clause-fine : goal.note_interrupts-requires-clause-fine
-note_interrupts-requires-clause-fine c = c.in_ok-join_handlers.ensures.ok.fine
+note_interrupts-requires-clause-fine c = c.in_ok-join_interrupt_entries.ensures.ok.fine
 
 pub returns-clause-ok : goal.returns-clause-ok
-returns-clause-ok c = c.note_interrupts.ensures c.args.table.now c.in_ok-join_handlers.ensures.ok
+returns-clause-ok c = c.note_interrupts.ensures c.args.table.now c.in_ok-join_interrupt_entries.ensures.ok

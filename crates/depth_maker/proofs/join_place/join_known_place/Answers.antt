@@ -7,11 +7,11 @@ use Rattle.depth_cert.specs.Known.{CoversKnown, Known, state}
 use Rattle.value_domain.specs.declared.states.State.{State}
 use Rattle.frame_places.specs.declared.places.Spot.TheVariants.{Point}
 use Rattle.frame_places.specs.declared.places.Marked.{Marked}
-use Rattle.frame_places.specs.Counting.{frames_after, points_after}
+use Rattle.frame_places.specs.Counting.{counted_frames_after, counted_points_after}
 use Rattle.frame_places.specs.Marks.{value_for}
 use Rattle.frame_places.proofs.NearbyLemmas.{had_at, nowhere}
 use Rattle.small_states.specs.Incoming.{incoming_known}
-use Rattle.depth_maker.specs.Spots.{place_of_spot}
+use Rattle.depth_maker.specs.SpotsAsPlaces.{place_of_spot}
 use Rattle.depth_maker.specs.TableView.{seen}
 use Rattle.depth_maker.proofs.Below.{asks_proper}
 use Rattle.depth_maker.proofs.Lawful.{lawful}
@@ -90,8 +90,8 @@ returns c =
       near = refl;
       readers = refl;
       covered = refl;
-      points = ap (λ (k : Bool). points_after k s.points.items c.args.y.now) (sym (ap is_some at));
-      frames = ap (λ (k : Bool). frames_after k s.frames.items c.args.y.now) (sym (ap is_some at));
+      points = ap (λ (k : Bool). counted_points_after k s.points.items c.args.y.now) (sym (ap is_some at));
+      frames = ap (λ (k : Bool). counted_frames_after k s.frames.items c.args.y.now) (sym (ap is_some at));
       few = (c.requires.fine.counted).few;
     }
 

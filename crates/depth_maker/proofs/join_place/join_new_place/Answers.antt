@@ -23,54 +23,54 @@ apply-requires c =
     same_Some c.in-Some.own.now.value (state c.args.v.now.state.now) (sym (ap (option_map (λ (m : Marked Known). m.value)) had) ∙ c.requires.at)
     ∙ sym (ap (λ (s : State). state s) c.requires.own)
 
-pub add_place-requires-clause-listed : goal.add_place-requires-clause-listed
-add_place-requires-clause-listed c = c.requires.fine.listed
+pub add_joined_place-requires-clause-listed : goal.add_joined_place-requires-clause-listed
+add_joined_place-requires-clause-listed c = c.requires.fine.listed
 
-pub add_place-requires-clause-few : goal.add_place-requires-clause-few
-add_place-requires-clause-few c = (c.requires.fine.counted).few
+pub add_joined_place-requires-clause-few : goal.add_joined_place-requires-clause-few
+add_joined_place-requires-clause-few c = (c.requires.fine.counted).few
 
-pub returns-in_err-add_place : goal.returns-in_err-add_place
-returns-in_err-add_place c =
-    let p = err_from_is_err_and c.from_residual-in_err-add_place.result c.from_residual-in_err-add_place.ensures.1 in
-    rw (p.1, p.2) (c.in_err-add_place.ensures c.args.v.now.ground.now c.requires.fine (subst (AsksOn c.args.v.now.ground.now c.args.table.now c.args.y.now) (sym c.in_ok-value.ensures) c.requires.incoming))
+pub returns-in_err-add_joined_place : goal.returns-in_err-add_joined_place
+returns-in_err-add_joined_place c =
+    let p = err_from_is_err_and c.from_residual-in_err-add_joined_place.result c.from_residual-in_err-add_joined_place.ensures.1 in
+    rw (p.1, p.2) (c.in_err-add_joined_place.ensures c.args.v.now.ground.now c.requires.fine (subst (AsksOn c.args.v.now.ground.now c.args.table.now c.args.y.now) (sym c.in_ok-value.ensures) c.requires.incoming))
 
 pub returns-in-None : goal.returns-in-None
 returns-in-None c =
     let asks = subst (AsksOn c.args.v.now.ground.now c.args.table.now c.args.y.now) (sym c.in_ok-value.ensures) c.requires.incoming in
-    subst (JoinedAloneOn c.args.v.now.ground.now c.args.table.now c.add_place.new.table c.args.y.now) c.in_ok-value.ensures (rw c.in-None.is at c.in_ok-add_place.ensures c.args.v.now.ground.now c.requires.fine asks)
+    subst (JoinedAloneOn c.args.v.now.ground.now c.args.table.now c.add_joined_place.new.table c.args.y.now) c.in_ok-value.ensures (rw c.in-None.is at c.in_ok-add_joined_place.ensures c.args.v.now.ground.now c.requires.fine asks)
 
 pub join_known_place-requires-clause-fine : goal.join_known_place-requires-clause-fine
 join_known_place-requires-clause-fine c = (let asks = subst (AsksOn c.args.v.now.ground.now c.args.table.now c.args.y.now) (sym c.in_ok-value.ensures) c.requires.incoming in
-    let h = rw c.in-Some-2.is at c.in_ok-add_place.ensures c.args.v.now.ground.now c.requires.fine asks in h.1.fine)
+    let h = rw c.in-Some-2.is at c.in_ok-add_joined_place.ensures c.args.v.now.ground.now c.requires.fine asks in h.1.fine)
 
 pub join_known_place-requires-clause-there : goal.join_known_place-requires-clause-there
 join_known_place-requires-clause-there c = (let asks = subst (AsksOn c.args.v.now.ground.now c.args.table.now c.args.y.now) (sym c.in_ok-value.ensures) c.requires.incoming in
-    let h = rw c.in-Some-2.is at c.in_ok-add_place.ensures c.args.v.now.ground.now c.requires.fine asks in h.0)
+    let h = rw c.in-Some-2.is at c.in_ok-add_joined_place.ensures c.args.v.now.ground.now c.requires.fine asks in h.0)
 
 pub join_known_place-requires-clause-near : goal.join_known_place-requires-clause-near
 join_known_place-requires-clause-near c =
     let asks = subst (AsksOn c.args.v.now.ground.now c.args.table.now c.args.y.now) (sym c.in_ok-value.ensures) c.requires.incoming in
-    let h = rw c.in-Some-2.is at c.in_ok-add_place.ensures c.args.v.now.ground.now c.requires.fine asks in
-    near_left c.args.v.now.ground.now c.args.table.now c.add_place.new.table (Point c.args.v.now.key c.args.v.now.addr) h.1 c.requires.near
+    let h = rw c.in-Some-2.is at c.in_ok-add_joined_place.ensures c.args.v.now.ground.now c.requires.fine asks in
+    near_left c.args.v.now.ground.now c.args.table.now c.add_joined_place.new.table (Point c.args.v.now.key c.args.v.now.addr) h.1 c.requires.near
 
 pub join_known_place-requires-clause-at : goal.join_known_place-requires-clause-at
 unfolding seen
 join_known_place-requires-clause-at c =
     let asks = subst (AsksOn c.args.v.now.ground.now c.args.table.now c.args.y.now) (sym c.in_ok-value.ensures) c.requires.incoming in
-    let h = rw c.in-Some-2.is at c.in_ok-add_place.ensures c.args.v.now.ground.now c.requires.fine asks in
-    same_value c.args.table.now.places c.add_place.new.table.places h.1.entries (Point c.args.v.now.key c.args.v.now.addr) ∙ c.requires.at
+    let h = rw c.in-Some-2.is at c.in_ok-add_joined_place.ensures c.args.v.now.ground.now c.requires.fine asks in
+    same_value c.args.table.now.places c.add_joined_place.new.table.places h.1.entries (Point c.args.v.now.key c.args.v.now.addr) ∙ c.requires.at
 
 pub join_known_place-requires-clause-incoming : goal.join_known_place-requires-clause-incoming
 join_known_place-requires-clause-incoming c =
     let asks = subst (AsksOn c.args.v.now.ground.now c.args.table.now c.args.y.now) (sym c.in_ok-value.ensures) c.requires.incoming in
-    let h = rw c.in-Some-2.is at c.in_ok-add_place.ensures c.args.v.now.ground.now c.requires.fine asks in
-    asks_again _ _ _ c.args.table.now c.add_place.new.table c.args.y.now (incoming_known c.args.incoming.now) h.1.entries c.requires.incoming
+    let h = rw c.in-Some-2.is at c.in_ok-add_joined_place.ensures c.args.v.now.ground.now c.requires.fine asks in
+    asks_again _ _ _ c.args.table.now c.add_joined_place.new.table c.args.y.now (incoming_known c.args.incoming.now) h.1.entries c.requires.incoming
 
 pub returns-in-Some-2 : goal.returns-in-Some-2
 returns-in-Some-2 c =
     let asks = subst (AsksOn c.args.v.now.ground.now c.args.table.now c.args.y.now) (sym c.in_ok-value.ensures) c.requires.incoming in
-    let h = rw c.in-Some-2.is at c.in_ok-add_place.ensures c.args.v.now.ground.now c.requires.fine asks in
-    raises_again c.args.v.now.ground.now c.args.table.now c.add_place.new.table c.join_known_place.new.table c.args.y.now (incoming_known c.args.incoming.now) c.join_known_place.result h.1 c.join_known_place.ensures
+    let h = rw c.in-Some-2.is at c.in_ok-add_joined_place.ensures c.args.v.now.ground.now c.requires.fine asks in
+    raises_again c.args.v.now.ground.now c.args.table.now c.add_joined_place.new.table c.join_known_place.new.table c.args.y.now (incoming_known c.args.incoming.now) c.join_known_place.result h.1 c.join_known_place.ensures
 
 pub unreachable-requires : goal.unreachable-requires
 unreachable-requires c =

@@ -1,14 +1,14 @@
 use Rattle.std.proofs.Common.{◌≡◌, ℕ, Bool, true, false, List, Contains, ap, sym, subst}
 use Rattle.std.specs.Prelude.{IsTrue}
 use Rattle.std.specs.Option.{option_map}
-use Rattle.frame_places.specs.NodeGraph.{IsMarked}
+use Rattle.frame_places.specs.NodeGraph.{IsNodeMarked}
 use Rattle.depth_maker.specs.TableView.{seen}
 use Rattle.depth_maker.proofs.RecursSteps.{none_marked, row_marked}
 use Rattle.depth_maker.proofs.RowSteps.{number_there}
 use Rattle.depth_maker.proofs.recursion.is_recursive_by_marks.Goals as goal
 
 abbrev SaysMarked : List Bool → Bool → List ℕ → Type 0
-SaysMarked marks r l = (IsTrue r → (t : ℕ) × Contains l t × IsMarked marks t) × (((t : ℕ) × Contains l t × IsMarked marks t) → IsTrue r)
+SaysMarked marks r l = (IsTrue r → (t : ℕ) × Contains l t × IsNodeMarked marks t) × (((t : ℕ) × Contains l t × IsNodeMarked marks t) → IsTrue r)
 
 pub returns-in_default : goal.returns-in_default
 unfolding seen

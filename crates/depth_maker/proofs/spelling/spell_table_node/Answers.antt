@@ -3,7 +3,7 @@ use Rattle.std.proofs.lemmas.List.{length-map}
 use Rattle.frame_places.specs.PointEntries.{place_at}
 use Rattle.frame_places.specs.declared.ordering.PointEntry.{PointEntry}
 use Rattle.depth_maker.specs.SpelledCert.{AreSpelledPointsOf}
-use Rattle.depth_maker.specs.Spots.{spots_on}
+use Rattle.depth_maker.specs.SpotsAsPlaces.{spots_on}
 use Rattle.depth_maker.proofs.OutLemmas.{points_are, spots_are, few_of, writes_node}
 use Rattle.depth_maker.proofs.spelling.spell_table_node.Goals as goal
 

@@ -2,11 +2,10 @@ use Rattle.std.proofs.Common.{sym, subst, List, ℕ, ◌<◌, ◌≤◌}
 use Rattle.std.proofs.lemmas.List.{get_or-map, length-map, take_all}
 use Rattle.std.proofs.lemmas.List.Elements.{Contains-get_or}
 use Rattle.frame_places.specs.PointEntries.{place_at}
-use Rattle.frame_places.specs.Numbers.{nowhere}
-use Rattle.frame_places.specs.Spots.{spot_address}
+use Rattle.frame_places.specs.Spots.{nowhere, spot_address}
 use Rattle.frame_places.specs.declared.places.Spot.{Spot}
 use Rattle.depth_maker.specs.SpelledCert.{SpellsTablePoint, SpellsTablePoints}
-use Rattle.depth_maker.specs.Spots.{spots_on}
+use Rattle.depth_maker.specs.SpotsAsPlaces.{spots_on}
 use Rattle.depth_maker.proofs.OutLemmas.{points_none, points_more}
 use Rattle.depth_maker.proofs.spelling.spell_table_points.Goals as goal
 

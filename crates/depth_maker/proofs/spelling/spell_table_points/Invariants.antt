@@ -1,6 +1,6 @@
 use Rattle.std.proofs.Common.{take}
 use Rattle.depth_maker.specs.SpelledCert.{SpellsTablePoints}
-use Rattle.depth_maker.specs.Spots.{spots_on}
+use Rattle.depth_maker.specs.SpotsAsPlaces.{spots_on}
 use Rattle.depth_maker.proofs.spelling.spell_table_points.Given as goal
 
 abbrev pub invariant-loop-p : goal.invariant-loop-p

@@ -9,7 +9,7 @@ use Rattle.packed_cert.specs.ValuesInBytes.{place_after_value, value_in}
 use Rattle.packed_cert.specs.PointsInBytes.{state_in}
 use Rattle.packed_cert.proofs.ValueShapes.{left_first, stands_at}
 use Rattle.packed_cert.proofs.next_covers.is_row_below.Goals as goal
-use Rattle.packed_cert.proofs.next_covers.is_row_below.Goals.{else-tag-ne0-via-then-tag-ne0+else-not-is_below_at, else-tag-ne0-via-else-tag-ne0}
+use Rattle.packed_cert.proofs.next_covers.is_row_below.Goals.{else-tag-ne0-via-then-tag-ne0+else-not-is_below_value_at, else-tag-ne0-via-else-tag-ne0}
 
 pub loop-i-init : goal.loop-i-init
 loop-i-init c = record {
@@ -18,13 +18,13 @@ loop-i-init c = record {
   below = λ k from low. absurd (omega arith);
 }
 
-pub is_below_at-requires-clause-well : goal.is_below_at-requires-clause-well
-is_below_at-requires-clause-well c =
+pub is_below_value_at-requires-clause-well : goal.is_below_value_at-requires-clause-well
+is_below_value_at-requires-clause-well c =
     let len : length (state_after c.args.s.now c.args.c.now).regs ≡ 27 = length-changed c.args.s.now c.args.c.now (omega arith) in
     rw c.changed_value.ensures (c.requires.well c.loop-i.i (omega (arith, c.requires.moved.few)))
 
-pub is_below_at-requires-clause-stands : goal.is_below_at-requires-clause-stands
-is_below_at-requires-clause-stands c =
+pub is_below_value_at-requires-clause-stands : goal.is_below_value_at-requires-clause-stands
+is_below_value_at-requires-clause-stands c =
     let vs = (state_in c.args.version c.args.bytes.now c.args.point.place).regs in
     let len : length vs ≡ 27 = omega (arith, c.requires.moved.row.count) in
     (left_first c.args.version c.args.bytes.now c.loop-i.at 27 c.loop-i.i vs (omega (arith, c.requires.moved.few)) len (c.loop-i.invariant.have (omega arith)) (c.loop-i.invariant.left (omega arith))).0
@@ -60,8 +60,8 @@ loop-i-preserved c =
     let s = stands_at c.args.version c.args.bytes.now c.loop-i.at (λ k. (c.type_inv.bytes k).fits) l.0 in
     let here : IsBelow (get_or low i any_val) (value_in c.args.version c.args.bytes.now c.loop-i.at) =
     elim c.else-tag-ne0.branch [
-      | else-tag-ne0-via-then-tag-ne0+else-not-is_below_at w ↦
-          subst (λ (v : Val). IsBelow v (value_in c.args.version c.args.bytes.now c.loop-i.at)) w.changed_value.ensures (w.is_below_at.ensures.0 w.if-not-is_below_at.false)
+      | else-tag-ne0-via-then-tag-ne0+else-not-is_below_value_at w ↦
+          subst (λ (v : Val). IsBelow v (value_in c.args.version c.args.bytes.now c.loop-i.at)) w.changed_value.ensures (w.is_below_value_at.ensures.0 w.if-not-is_below_value_at.false)
       | else-tag-ne0-via-else-tag-ne0 w ↦
           subst (λ (v : Val). IsBelow (get_or low i any_val) v) (sym (s.shape.any (omega (arith, w.if-tag-ne0.false)))) (below_any (get_or low i any_val) (c.requires.well i (omega (arith, c.requires.moved.few))))
     ]

@@ -1,5 +1,5 @@
 use Rattle.std.proofs.Common.{◌≡◌, ◌≤◌, ◌+◌, ◌-◌, ℕ, subst, arith}
-use Rattle.packed_cert.specs.ValuesAtPlaces.{SameBytesAtPlaces}
+use Rattle.packed_cert.specs.RepeatedBytes.{SameBytesAtPlaces}
 use Rattle.packed_cert.proofs.SameBytes.{alike_fewer}
 use Rattle.packed_cert.proofs.SameWords.{eight_more}
 use Rattle.packed_cert.proofs.repeated_bytes.are_last_eight_repeated.Goals as goal

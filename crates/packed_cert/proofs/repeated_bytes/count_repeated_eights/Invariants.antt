@@ -1,5 +1,5 @@
 use Rattle.std.proofs.Common.{◌≤◌, ◌-◌}
-use Rattle.packed_cert.specs.ValuesAtPlaces.{SameBytesAtPlaces}
+use Rattle.packed_cert.specs.RepeatedBytes.{SameBytesAtPlaces}
 use Rattle.packed_cert.proofs.repeated_bytes.count_repeated_eights.Given as goal
 
 abbrev pub invariant-loop-i : goal.invariant-loop-i

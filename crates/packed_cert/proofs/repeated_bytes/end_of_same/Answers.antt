@@ -1,5 +1,5 @@
 use Rattle.std.proofs.Common.{◌≡◌, ◌+◌, ◌-◌, ◌≤◌, arith, subst, ℕ}
-use Rattle.packed_cert.specs.ValuesAtPlaces.{SameBytesAtPlaces}
+use Rattle.packed_cert.specs.RepeatedBytes.{SameBytesAtPlaces}
 use Rattle.packed_cert.proofs.SameBytes.{alike_behind}
 use Rattle.packed_cert.proofs.repeated_bytes.end_of_same.Goals as goal
 

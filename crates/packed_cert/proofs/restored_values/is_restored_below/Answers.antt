@@ -23,13 +23,13 @@ is_read_value_covered-requires-clause-low c = c.requires.low (sym c.is_lower_slo
 pub returns-then-is_lower_slot : goal.returns-then-is_lower_slot
 returns-then-is_lower_slot c = rw (sym c.is_lower_slot.ensures ∙ c.if-is_lower_slot.true) c.is_read_value_covered.ensures
 
-pub is_below_at-requires-clause-well : goal.is_below_at-requires-clause-well
-is_below_at-requires-clause-well c =
+pub is_below_value_at-requires-clause-well : goal.is_below_value_at-requires-clause-well
+is_below_value_at-requires-clause-well c =
     let e = get_or_default c.args.regs.now c.args.i c.index-regs-i.result any_val (omega arith) in
     subst (λ (v : Val). IsWell v) (sym e) (c.requires.well c.args.i (omega arith))
 
 pub returns : goal.returns
 returns c =
     let e = get_or_default c.args.regs.now c.args.i c.index-regs-i.result any_val (omega arith) in
-    let here = subst (λ (v : Val). IsTrue c.is_below_at.result ↔ IsBelow v (value_in c.args.high.version c.args.high.bytes.now c.args.high.place)) e c.is_below_at.ensures in
+    let here = subst (λ (v : Val). IsTrue c.is_below_value_at.result ↔ IsBelow v (value_in c.args.high.version c.args.high.bytes.now c.args.high.place)) e c.is_below_value_at.ensures in
     rw (sym c.is_lower_slot.ensures ∙ c.if-is_lower_slot.false) here

@@ -5,7 +5,7 @@ use Rattle.tcd_base.specs.Place.{Place}
 use Rattle.value_domain.specs.Values.{any_val}
 use Rattle.depth_cert.specs.Grammar.{value_at, values_at}
 use Rattle.tcd_base.proofs.ManyLaws.{many_more, many_fail, many_end}
-use Rattle.packed_cert.specs.ValuesAtPlaces.{SameBytesAtPlaces}
+use Rattle.packed_cert.specs.RepeatedBytes.{SameBytesAtPlaces}
 use Rattle.packed_cert.specs.ValuesInBytes.{place_after_value, place_in_bytes}
 use Rattle.packed_cert.proofs.SameBytes.{stand_next, value_stands, alike_read, alike_behind, all_read}
 use Rattle.packed_cert.proofs.ReadRows.{row_and_more}

@@ -1,8 +1,8 @@
 use Rattle.std.proofs.Common.{◌≡◌, ◌≤◌, ◌+◌, ◌-◌, length, [], take, drop}
 use Rattle.tcd_base.specs.FieldReaders.{many_fields_at}
 use Rattle.depth_cert.specs.Grammar.{value_at}
-use Rattle.packed_cert.specs.ValuesAtPlaces.{ValuesStandBetween, SameBytesAtPlaces}
-use Rattle.packed_cert.specs.ValuesInBytes.{place_in_bytes, place_after_values}
+use Rattle.packed_cert.specs.RepeatedBytes.{SameBytesAtPlaces}
+use Rattle.packed_cert.specs.ValuesInBytes.{ValuesStandBetween, place_in_bytes, place_after_values}
 use Rattle.packed_cert.specs.ChangedRows.{ChangesRow, RowBeginsAtPlace}
 use Rattle.packed_cert.proofs.value_reader.read_values_after.Given as goal
 

@@ -1,5 +1,5 @@
 use Rattle.std.proofs.Common.{◌≡◌, ◌++◌, map, take}
-use Rattle.task_chains.specs.Views.{any_view_device}
+use Rattle.task_chains.specs.Devices.{any_view_device}
 use Rattle.task_chains.proofs.devices.devices_beside_block.Given as goal
 
 -- the plan's devices, and those of the ranges so far

@@ -4,7 +4,7 @@ use Rattle.tcd_plan.specs.PlanData.{PlanData, IsPlan, plan_data}
 use Rattle.task_chains.specs.declared.task_lists.Task.{Task}
 use Rattle.task_chains.specs.Tasks.{TasksData, AreTasks}
 use Rattle.tcd_plan.specs.Cutting.{cut_plan_ranges}
-use Rattle.task_chains.specs.Views.{any_view_device}
+use Rattle.task_chains.specs.Devices.{any_view_device}
 use Rattle.task_chains.proofs.ViewPlan.{view_is_plan}
 use Rattle.task_chains.proofs.ViewParts.{plan_parts}
 use Rattle.task_chains.proofs.views.view_plan.Goals as goal

@@ -3,7 +3,7 @@ use Rattle.std.proofs.lemmas.List.{take_all}
 use Rattle.tc_stmt.specs.declared.item.Item.{Item}
 use Rattle.tc_stmt.specs.declared.source.Line.{Line}
 use Rattle.tc_stmt.specs.Items.{item_of}
-use Rattle.tc_stmt.specs.LinesRead.{lines_read, lines_of}
+use Rattle.tc_stmt.specs.SourceViews.{lines_read, lines_of}
 use Rattle.tc_asm.specs.KnownSymbols.{kept}
 use Rattle.tc_stmt.specs.Lines.{LineData}
 use Rattle.tc_asm.specs.DraftedSources.{draft_from_lines}

@@ -4,7 +4,7 @@ use Rattle.tc_stmt.specs.Lines.{items_in}
 use Rattle.tc_asm.specs.DraftedSources.{KeepsRules, draft_from_lines}
 use Rattle.tc_asm.specs.DraftInvariants.{IsDraft}
 use Rattle.tc_asm.specs.KnownSymbols.{kept, are_new}
-use Rattle.tc_stmt.specs.LinesRead.{lines_read, lines_of}
+use Rattle.tc_stmt.specs.SourceViews.{lines_read, lines_of}
 use Rattle.tc_asm.proofs.assemble_source.draft_of_lines.Given as goal
 
 abbrev pub invariant-loop-i : goal.invariant-loop-i

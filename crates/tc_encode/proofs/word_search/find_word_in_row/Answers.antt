@@ -4,7 +4,7 @@ use Rattle.std.proofs.lemmas.Bool.{both_ways}
 use Rattle.tc_isa.specs.Rows.{row_of}
 use Rattle.tc_isa.specs.Forms.{bounds}
 use Rattle.tc_isa.specs.InBounds.{IsBelow}
-use Rattle.tc_isa.specs.ValidRows.{rest_is_zero, are_registers_apart, uses_of}
+use Rattle.tc_isa.specs.ValidRows.{are_unused_fields_zero, are_registers_apart, uses_of}
 use Rattle.tc_encode.proofs.Gaps.{fields_below}
 use Rattle.tc_encode.proofs.Finds.{stands, makes_of}
 use Rattle.tc_encode.proofs.word_search.find_word_in_row.Goals as goal
@@ -18,7 +18,7 @@ has_zero_other_fields-requires-clause-below c = subst (λ (f : Fields). IsBelow 
 pub returns-then-not-has_zero_other_fields-clause-none : goal.returns-then-not-has_zero_other_fields-clause-none
 returns-then-not-has_zero_other_fields-clause-none c = λ i m same.
     let s = stands c.args.place c.args.w (row_of c.args.row.now) c.requires.place i m same in
-    both_ways _ (sym c.has_zero_other_fields.ensures ∙ c.if-not-has_zero_other_fields.true) (ap (rest_is_zero (uses_of (row_of c.args.row.now))) c.fields_of_word-f.ensures ∙ s.fits.zero)
+    both_ways _ (sym c.has_zero_other_fields.ensures ∙ c.if-not-has_zero_other_fields.true) (ap (are_unused_fields_zero (uses_of (row_of c.args.row.now))) c.fields_of_word-f.ensures ∙ s.fits.zero)
 
 pub returns-then-not-are_registers_apart-clause-none : goal.returns-then-not-are_registers_apart-clause-none
 returns-then-not-are_registers_apart-clause-none c = λ i m same.

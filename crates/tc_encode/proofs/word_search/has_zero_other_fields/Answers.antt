@@ -3,7 +3,7 @@ use Rattle.std.specs.Prelude.{slice_get}
 use Rattle.tc_isa.specs.declared.fields.Uses.{Uses}
 use Rattle.tc_isa.specs.Rows.{row_of, listed}
 use Rattle.tc_isa.specs.Forms.{bounds}
-use Rattle.tc_isa.specs.ValidRows.{uses_of, rest_is_zero}
+use Rattle.tc_isa.specs.ValidRows.{uses_of, are_unused_fields_zero}
 use Rattle.tc_encode.proofs.Finds.{plain_zero, plain_at, uses_at}
 use Rattle.tc_encode.proofs.word_search.has_zero_other_fields.Goals as goal
 
@@ -15,4 +15,4 @@ returns-then-plain_rows-at c =
 
 pub returns-else-plain_rows-at : goal.returns-else-plain_rows-at
 returns-else-plain_rows-at c =
-    c.is_zero_elsewhere.ensures ∙ ap (λ (u : Uses). rest_is_zero u c.args.f.now) (uses_at c.uses.result.now c.from-at.result _ (row_of c.args.row.now) c.uses.ensures (ap (slice_get listed) c.from-at.ensures ∙ c.requires.place))
+    c.is_zero_elsewhere.ensures ∙ ap (λ (u : Uses). are_unused_fields_zero u c.args.f.now) (uses_at c.uses.result.now c.from-at.result _ (row_of c.args.row.now) c.uses.ensures (ap (slice_get listed) c.from-at.ensures ∙ c.requires.place))

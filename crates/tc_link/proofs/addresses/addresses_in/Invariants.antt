@@ -1,5 +1,5 @@
 use Rattle.std.proofs.Common.{◌≡◌, List, take, map}
-use Rattle.tc_link.specs.Names.{GlobalData, AreGlobals}
+use Rattle.tc_link.specs.GlobalSymbols.{GlobalData, AreGlobals}
 use Rattle.tc_link.specs.Relocated.{symbol_address}
 use Rattle.tc_link.proofs.addresses.addresses_in.Given as goal
 

@@ -4,7 +4,7 @@ use Rattle.std.specs.Option.{option_map, option_or}
 use Rattle.std.specs.Str.{bytes_eq}
 use Rattle.std.proofs.lemmas.Map.Text.{hash_map_updates_str}
 use Rattle.tc_link.specs.declared.definitions.Definition.{Definition}
-use Rattle.tc_link.specs.Names.{GlobalData, global_at_name, twice_at, address_named}
+use Rattle.tc_link.specs.GlobalSymbols.{GlobalData, global_at_name, twice_at, address_named}
 use Rattle.tc_link.specs.Placing.{address_of}
 use Rattle.tc_link.proofs.CountLaws.{add_one}
 use Rattle.tc_link.proofs.GlobalLaws.{global_push, keep_global, put_global, map_cond, put_twice, same_global}

@@ -2,7 +2,7 @@ use Rattle.std.proofs.Common.{◌≡◌, ◌∙◌, ◌++◌, ◌∷◌, [], tru
 use Rattle.std.specs.Prelude.{filter}
 use Rattle.std.proofs.lemmas.Grind.{common_steps}
 use Rattle.tc_object.specs.Objects.{SymbolData}
-use Rattle.tc_link.specs.Names.{is_global, global_data, global_address}
+use Rattle.tc_link.specs.GlobalSymbols.{is_global, global_data, global_address}
 use Rattle.tc_link.proofs.ItemLaws.{on_ok}
 use Rattle.tc_link.proofs.PlacedLaws.{symbol_globals}
 use Rattle.tc_link.proofs.global_symbols.add_symbol.Goals as goal

@@ -1,7 +1,7 @@
 use Rattle.std.proofs.Common.{◌+◌, ◌++◌, ◌∙◌, ℕ, List, ap, take, map}
 use Rattle.std.specs.Prelude.{filter}
 use Rattle.std.specs.List.{count_by}
-use Rattle.tc_link.specs.Names.{GlobalData, is_global, global_data, global_address, has_global_name, twice_of_count}
+use Rattle.tc_link.specs.GlobalSymbols.{GlobalData, is_global, global_data, global_address, has_global_name, twice_of_count}
 use Rattle.tc_link.proofs.CountLaws.{symbols_more}
 use Rattle.tc_link.proofs.GlobalLaws.{symbols_next}
 use Rattle.tc_link.proofs.global_symbols.add_symbols.Goals as goal

@@ -1,7 +1,7 @@
 use Rattle.std.proofs.Common.{◌≡◌, ◌+◌, ◌++◌, ℕ, List, take, map, Some}
 use Rattle.std.specs.Prelude.{count_by, filter, slice_get}
 use Rattle.tc_link.specs.Placing.{PlacedData}
-use Rattle.tc_link.specs.Names.{GlobalData, is_global, global_data, has_global_name, twice_at, twice_of_count, AreGlobals}
+use Rattle.tc_link.specs.GlobalSymbols.{GlobalData, is_global, global_data, has_global_name, twice_at, twice_of_count, AreGlobals}
 use Rattle.tc_link.proofs.global_symbols.add_symbols.Given as goal
 
 abbrev pub invariant-loop-symbol : goal.invariant-loop-symbol

@@ -6,7 +6,7 @@ use Rattle.std.proofs.lemmas.Iterator.{cases_from_all}
 use Rattle.std.proofs.lemmas.Bool.{MatchBool-at_true}
 use Rattle.std.proofs.lemmas.List.Elements.{All-from_all_within}
 use Rattle.tc_link.specs.declared.definitions.Definition.{Definition}
-use Rattle.tc_link.specs.Names.{global_at_name, globals_named}
+use Rattle.tc_link.specs.GlobalSymbols.{global_at_name, globals_named}
 use Rattle.tc_link.proofs.CountLaws.{single_at}
 use Rattle.tc_link.proofs.global_symbols.are_globals_single.Goals as goal
 

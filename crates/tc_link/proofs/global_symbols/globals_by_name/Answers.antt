@@ -5,7 +5,7 @@ use Rattle.std.specs.List.{count_by}
 use Rattle.std.specs.Option.{option_map}
 use Rattle.tc_object.specs.Objects.{SymbolData, ObjectData}
 use Rattle.tc_link.specs.Placing.{PlacedData, address_of}
-use Rattle.tc_link.specs.Names.{GlobalData, is_global, global_data, globals_of, global_address, has_global_name, globals_named, twice_of_count}
+use Rattle.tc_link.specs.GlobalSymbols.{GlobalData, is_global, global_data, globals_of, global_address, has_global_name, globals_named, twice_of_count}
 use Rattle.tc_link.specs.declared.definitions.Definition.{Definition}
 use Rattle.tc_link.proofs.CountLaws.{globals_more}
 use Rattle.tc_link.proofs.GlobalLaws.{globals_next}

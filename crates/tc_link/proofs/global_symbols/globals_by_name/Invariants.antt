@@ -1,6 +1,6 @@
 use Rattle.std.proofs.Common.{◌≡◌, List, take, map}
 use Rattle.tc_link.specs.Placing.{PlacedData}
-use Rattle.tc_link.specs.Names.{globals_of, CountsGlobals, AreGlobals}
+use Rattle.tc_link.specs.GlobalSymbols.{globals_of, CountsGlobals, AreGlobals}
 use Rattle.tc_link.proofs.global_symbols.globals_by_name.Given as goal
 
 abbrev pub invariant-loop-number : goal.invariant-loop-number

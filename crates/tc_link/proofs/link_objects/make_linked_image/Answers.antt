@@ -2,7 +2,7 @@ use Rattle.std.proofs.Common.{◌≡◌, ◌∙◌, List, Ok, map, sym, ap, subs
 use Rattle.std.proofs.lemmas.Result.{err_from_is_err_and}
 use Rattle.elf_image.specs.Images.{SegmentData, AreSegmentBytes, IsImage, segment_data}
 use Rattle.tc_link.specs.Layouts.{PlaceData, LayoutData, IsLayout}
-use Rattle.tc_link.specs.Names.{globals_of, global_address}
+use Rattle.tc_link.specs.GlobalSymbols.{globals_of, global_address}
 use Rattle.tc_link.specs.Segments.{segments_of}
 use Rattle.tc_link.specs.Relocated.{contents_of}
 use Rattle.tc_link.specs.Errors.{refusal_of}

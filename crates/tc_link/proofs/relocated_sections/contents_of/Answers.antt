@@ -1,7 +1,7 @@
 use Rattle.std.proofs.Common.{◌∙◌, ℕ, List, refl}
 use Rattle.std.proofs.lemmas.Result.{err_from_is_err_and}
 use Rattle.tc_link.specs.Placing.{PlacedData}
-use Rattle.tc_link.specs.Names.{GlobalData, globals_of}
+use Rattle.tc_link.specs.GlobalSymbols.{GlobalData, globals_of}
 use Rattle.tc_link.specs.Refusals.{first_refusal_from, refusal_at, reloc_in}
 use Rattle.tc_link.specs.Errors.{refusal_of}
 use Rattle.tc_link.proofs.FirstLaws.{more_item, told_item}

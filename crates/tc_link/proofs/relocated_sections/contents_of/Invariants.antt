@@ -1,6 +1,6 @@
 use Rattle.std.proofs.Common.{◌≡◌, None, take}
 use Rattle.std.specs.List.{flat_map}
-use Rattle.tc_link.specs.Names.{globals_of}
+use Rattle.tc_link.specs.GlobalSymbols.{globals_of}
 use Rattle.tc_link.specs.Relocated.{relocated_sections}
 use Rattle.tc_link.specs.Refusals.{first_refusal_from, refusal_at}
 use Rattle.tc_link.proofs.relocated_sections.contents_of.Given as goal

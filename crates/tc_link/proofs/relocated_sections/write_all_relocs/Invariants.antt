@@ -1,6 +1,6 @@
 use Rattle.std.proofs.Common.{◌≡◌, List, None, take, map}
 use Rattle.std.specs.List.{fold}
-use Rattle.tc_link.specs.Names.{GlobalData}
+use Rattle.tc_link.specs.GlobalSymbols.{GlobalData}
 use Rattle.tc_link.specs.Relocated.{symbol_addresses, with_reloc}
 use Rattle.tc_link.specs.Refusals.{first_refusal_from, refusal_at}
 use Rattle.tc_link.specs.Shapes.{section_shape}

@@ -1,7 +1,7 @@
 use Rattle.std.proofs.Common.{◌&&◌, ◌∙◌, Bool, Some, refl, sym, ap, ℕ, List, eqb}
 use Rattle.tc_object.specs.Objects.{SymbolData}
 use Rattle.tc_link.specs.Refusals.{first_refusal_from, missing, missing_of, is_used_by_relocs}
-use Rattle.tc_link.specs.Names.{globals_named}
+use Rattle.tc_link.specs.GlobalSymbols.{globals_named}
 use Rattle.tc_link.proofs.FirstLaws.{more_item, found_item, then_yes, then_no}
 use Rattle.tc_link.proofs.symbol_checks.first_missing.Goals as goal
 

@@ -2,7 +2,7 @@ use Rattle.std.proofs.Common.{◌≡◌, ◌<◌, ℕ, Bool, List, None, take, g
 use Rattle.tc_object.specs.declared.relocs.Reloc.{Reloc}
 use Rattle.tc_object.specs.Objects.{ObjectData}
 use Rattle.tc_link.specs.Refusals.{first_refusal_from, missing_of, is_used_by_relocs}
-use Rattle.tc_link.specs.Names.{CountsGlobals}
+use Rattle.tc_link.specs.GlobalSymbols.{CountsGlobals}
 use Rattle.tc_link.proofs.symbol_checks.first_missing.Given as goal
 
 abbrev pub invariant-loop-number : goal.invariant-loop-number

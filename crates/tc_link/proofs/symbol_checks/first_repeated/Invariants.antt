@@ -1,7 +1,7 @@
 use Rattle.std.proofs.Common.{◌≡◌, List, None, take}
 use Rattle.tc_object.specs.Objects.{ObjectData}
 use Rattle.tc_link.specs.Refusals.{first_refusal_from, twice_of}
-use Rattle.tc_link.specs.Names.{CountsGlobals}
+use Rattle.tc_link.specs.GlobalSymbols.{CountsGlobals}
 use Rattle.tc_link.proofs.symbol_checks.first_repeated.Given as goal
 
 abbrev pub invariant-loop-symbol : goal.invariant-loop-symbol

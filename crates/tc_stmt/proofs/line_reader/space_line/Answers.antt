@@ -1,6 +1,6 @@
 use Rattle.std.proofs.Common.{sym, subst, arith}
 use Rattle.tc_stmt.specs.Lines.{LineData}
-use Rattle.tc_stmt.specs.LinesRead.{Adds}
+use Rattle.tc_stmt.specs.SourceViews.{Adds}
 use Rattle.tc_stmt.proofs.LoopLaws.{space_line-one, space_line-other}
 use Rattle.tc_stmt.proofs.line_reader.space_line.Goals as goal
 

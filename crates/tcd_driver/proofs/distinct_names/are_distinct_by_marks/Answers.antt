@@ -3,7 +3,7 @@ use Rattle.std.specs.Prelude.{string_bytes}
 use Rattle.std.specs.List.{list_any}
 use Rattle.std.specs.Str.{bytes_eq}
 use Rattle.std.proofs.lemmas.List.{length-map, length-set}
-use Rattle.tcd_driver.specs.NameMarks.{name_mark}
+use Rattle.tcd_driver.specs.DistinctNames.{name_mark}
 use Rattle.tcd_driver.proofs.DifferentNames.{name_at, found_again, still_different, marked, unlisted, strings_from}
 use Rattle.tcd_driver.proofs.distinct_names.are_distinct_by_marks.Goals as goal
 use Rattle.tcd_driver.proofs.distinct_names.are_distinct_by_marks.Goals.{else-seen-mark-via-then-seen-mark+else-is_one_of_names, else-seen-mark-via-else-seen-mark}

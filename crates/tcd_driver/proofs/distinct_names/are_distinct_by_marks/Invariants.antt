@@ -2,8 +2,7 @@ use Rattle.std.proofs.Common.{◌≡◌, ◌≤◌, ℕ, List, true, false, leng
 use Rattle.std.specs.Prelude.{string_bytes}
 use Rattle.std.specs.List.{list_any}
 use Rattle.std.specs.Str.{bytes_eq}
-use Rattle.tcd_driver.specs.Commands.{are_distinct_names}
-use Rattle.tcd_driver.specs.NameMarks.{name_mark}
+use Rattle.tcd_driver.specs.DistinctNames.{are_distinct_names, name_mark}
 use Rattle.tcd_driver.proofs.distinct_names.are_distinct_by_marks.Given as goal
 
 abbrev pub invariant-loop-i : goal.invariant-loop-i

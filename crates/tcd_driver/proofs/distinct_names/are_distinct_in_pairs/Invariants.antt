@@ -1,5 +1,5 @@
 use Rattle.std.specs.Prelude.{◌≡◌, map, string_bytes, length}
-use Rattle.tcd_driver.specs.Commands.{are_distinct_names}
+use Rattle.tcd_driver.specs.DistinctNames.{are_distinct_names}
 use Rattle.tcd_driver.proofs.distinct_names.are_distinct_in_pairs.Given as goal
 
 abbrev pub invariant-loop-rest : goal.invariant-loop-rest

@@ -1,5 +1,5 @@
 use Rattle.std.specs.Prelude.{◌≡◌, ◌<◌, length}
-use Rattle.tcd_driver.specs.NameMarks.{name_mark}
+use Rattle.tcd_driver.specs.DistinctNames.{name_mark}
 use Rattle.tcd_driver.proofs.distinct_names.name_mark.Given as goal
 
 abbrev pub invariant-loop-rest : goal.invariant-loop-rest

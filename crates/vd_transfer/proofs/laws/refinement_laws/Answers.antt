@@ -4,7 +4,7 @@ use Rattle.tc_isa.specs.Arithmetic.{signed_order_place}
 use Rattle.value_domain.specs.Sets.{Among, Within}
 use Rattle.value_domain.proofs.MeetLaws.{among_filter, filter_has, any_among, among_any}
 use Rattle.vd_transfer.specs.Relations.{is_related, related_words}
-use Rattle.vd_transfer.specs.Signs.{kept_signed}
+use Rattle.vd_transfer.specs.Signs.{signed_related_words}
 use Rattle.vd_transfer.proofs.laws.refinement_laws.Goals as goal
 
 -- the words of vs for which the test holds with some word of ws
@@ -19,7 +19,7 @@ module _ (test : ℕ → ℕ → Bool) where
       filter_has (λ x. list_any (test x) ws2) z vs2 (there z f.0) (among_any (test z) r.0 ws2 (here r.0 r.1) r.2)
 
 pub returns : goal.returns
-unfolding related_words kept_signed
+unfolding related_words signed_related_words
 returns c = λ rel. record {
   sound = kept_sound (is_related rel);
   monotone = kept_monotone (is_related rel);

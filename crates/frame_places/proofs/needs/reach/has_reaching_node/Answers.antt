@@ -1,7 +1,7 @@
 use Rattle.std.proofs.Common.{◌≡◌, ◌∙◌, ℕ, List, true, false, Contains, take, get_or, subst, sym, inl, inr}
 use Rattle.std.proofs.lemmas.List.{take_all, take_more}
 use Rattle.std.proofs.lemmas.List.Elements.{Contains-get_or, Contains-push_cases}
-use Rattle.frame_places.specs.NodeGraph.{IsMarked}
+use Rattle.frame_places.specs.NodeGraph.{IsNodeMarked}
 use Rattle.frame_places.proofs.needs.reach.has_reaching_node.Goals as goal
 
 pub returns-then-is_reaching_node : goal.returns-then-is_reaching_node
@@ -16,7 +16,7 @@ loop-node-preserved c t i m =
     (subst (λ (l : List ℕ). Contains l t) (take_more c.args.nodes.now c.loop-node.node-index 0 c.loop-node-test.true) i)) [
       | inl old ↦ c.loop-node.invariant t old m
       | inr e ↦
-          (let no : true ≡ false = sym (subst (IsMarked c.args.marks.now) (sym e) m) ∙ sym c.is_reaching_node.ensures ∙ c.if-is_reaching_node.false in cc)
+          (let no : true ≡ false = sym (subst (IsNodeMarked c.args.marks.now) (sym e) m) ∙ sym c.is_reaching_node.ensures ∙ c.if-is_reaching_node.false in cc)
     ]
 
 pub returns : goal.returns

@@ -2,7 +2,7 @@ use Rattle.std.proofs.Common.{◌≤◌, ◌++◌, length, map, ap, sym, ◌∙�
 use Rattle.std.proofs.lemmas.Bool.{leb-true, le-leb}
 use Rattle.task_chains.specs.Tasks.{TasksData}
 use Rattle.tcd_plan.specs.Cutting.{cut_plan_ranges}
-use Rattle.task_chains.specs.Views.{any_view_device}
+use Rattle.task_chains.specs.Devices.{any_view_device}
 use Rattle.task_chains.proofs.task_lists.Tasks.have_views_room.Goals as goal
 
 pub returns : goal.returns

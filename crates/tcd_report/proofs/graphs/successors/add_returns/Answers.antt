@@ -4,7 +4,7 @@ use Rattle.std.specs.List.{flat_map}
 use Rattle.tc_machine.specs.Machine.{machine_address_ahead}
 use Rattle.cfg_recover.specs.Duties.{resume}
 use Rattle.depth_cert.specs.Keys.{call_kind}
-use Rattle.cfg_recover.specs.FlowDuties.{entered_key}
+use Rattle.cfg_recover.specs.Entries.{entered_key}
 use Rattle.tcd_report.specs.Graphs.{back_by}
 use Rattle.tcd_report.proofs.GraphLemmas.DutyLists.{calls_return, none_returns, system_returns}
 use Rattle.tcd_report.proofs.graphs.successors.add_returns.Goals as goal

@@ -2,7 +2,7 @@ use Rattle.std.proofs.Common.{◌≡◌, ◌++◌, take}
 use Rattle.std.specs.List.{flat_map}
 use Rattle.cfg_recover.specs.Duties.{resume}
 use Rattle.depth_cert.specs.Keys.{call_kind}
-use Rattle.cfg_recover.specs.FlowDuties.{entered_key}
+use Rattle.cfg_recover.specs.Entries.{entered_key}
 use Rattle.tcd_report.specs.Graphs.{back_by}
 use Rattle.tcd_report.proofs.graphs.successors.push_returns.Given as goal
 

@@ -1,6 +1,6 @@
 use Rattle.std.proofs.Common.{◌∙◌, List, ℕ, subst}
 use Rattle.depth_cert.specs.Keys.{call_kind}
-use Rattle.cfg_recover.specs.FlowDuties.{entered_key}
+use Rattle.cfg_recover.specs.Entries.{entered_key}
 use Rattle.tcd_report.specs.Reports.Heights.{IsGreatestHeightOf, HasCalleeHeight}
 use Rattle.tcd_report.proofs.reports.heights.height_of_call.Goals as goal
 

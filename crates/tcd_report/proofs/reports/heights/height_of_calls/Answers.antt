@@ -1,7 +1,7 @@
 use Rattle.std.proofs.Common.{ℕ, List, get_or}
 use Rattle.std.proofs.lemmas.List.{get_or_default}
 use Rattle.depth_cert.specs.Keys.{call_kind}
-use Rattle.cfg_recover.specs.FlowDuties.{entered_key}
+use Rattle.cfg_recover.specs.Entries.{entered_key}
 use Rattle.tcd_report.specs.Reports.Heights.{HasCalleeHeight}
 use Rattle.tcd_report.proofs.ReportLemmas.MostLaws.{most_more, most_all}
 use Rattle.tcd_report.proofs.reports.heights.height_of_calls.Goals as goal

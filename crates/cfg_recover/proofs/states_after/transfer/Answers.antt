@@ -1,5 +1,0 @@
-use Rattle.cfg_recover.proofs.StepChanges.{loaded_is}
-use Rattle.cfg_recover.proofs.states_after.transfer.Goals as goal
-
-pub change_of-requires-clause-loaded : goal.change_of-requires-clause-loaded
-change_of-requires-clause-loaded c = loaded_is c.args.b.now _ _ (rw c.copy-c.ensures c.requires.loaded)

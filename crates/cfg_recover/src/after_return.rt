@@ -1,0 +1,103 @@
+// The state of a frame after a frame that it entered has returned.
+ghost use Rattle.std.specs.Prelude.{◌≡◌, ◌==◌, ◌-◌, ◌<◌, ◌↔◌, nat_lt, if◌then◌else◌, slice_index_or, IsTrue};
+ghost use Rattle.value_domain.specs.Values.{any_val};
+ghost use Rattle.value_domain.specs.State.{AreWell, AreBelow, Covers};
+ghost use Rattle.value_domain.specs.State as states;
+ghost use Rattle.depth_cert.specs.Exits.{state_after_exit, with_lower_from};
+
+use depth_cert::{CALL, Exit};
+use value_domain::{State, Val, are_flags_implied, copy_locals, covers_context, leq};
+
+/// Returns the state of a frame after a return to it by `exit`, from a call (`kind` is CALL) or a
+/// system call (SYS): the exit's lower registers, all others stay; `kind` settles IE and CCPN.
+pub fn after(s: &State, exit: &Exit, kind: u8) -> State
+    ensures { result ≡ state_after_exit s.now exit.now kind }
+{
+    State {
+        regs: regs_after_return(&s.regs, &exit.lower),
+        ie: ie_after_return(s, exit, kind),
+        ccpn: ccpn_after_return(s, exit, kind),
+        lower: false,
+        locals: copy_locals(&s.locals),
+    }
+}
+
+/// Returns true if a state covers that of a frame after a return to it, from a call or a system
+/// call, by `exit`. The state after the return isn't built.
+pub fn covers_after(upper: &State, s: &State, exit: &Exit, kind: u8) -> bool
+    requires upper { AreWell upper.now.regs }
+    requires state { AreWell (state_after_exit s.now exit.now kind).regs }
+    ensures { IsTrue result ↔ Covers upper.now (state_after_exit s.now exit.now kind) }
+{
+    if !covers_context(
+        upper,
+        ie_after_return(s, exit, kind),
+        ccpn_after_return(s, exit, kind),
+        false,
+    ) {
+        return false;
+    }
+    if !are_flags_implied(upper.locals.as_slice(), s.locals.as_slice()) {
+        return false;
+    }
+    are_below_after_return(&s.regs, &exit.lower, &upper.regs)
+}
+
+/// Returns the IE that a frame has after a return to it: the exit's after a call, the caller's
+/// after a system call.
+fn ie_after_return(s: &State, exit: &Exit, kind: u8) -> bool
+    ensures { result ≡ (if kind == 1 then exit.now.ie else s.now.ie) }
+{
+    if kind == CALL { exit.ie } else { s.ie }
+}
+
+/// Returns the CCPN that a frame has after a return to it: the exit's after a call, the caller's
+/// after a system call.
+fn ccpn_after_return(s: &State, exit: &Exit, kind: u8) -> u8
+    ensures { result ≡ (if kind == 1 then exit.now.ccpn else s.now.ccpn) }
+{
+    if kind == CALL { exit.ccpn } else { s.ccpn }
+}
+
+/// Returns the register values after a frame's return: those of the lower registers are the exit's,
+/// all others stay.
+fn regs_after_return(regs: &[Val; 27], lower: &[Val; 14]) -> [Val; 27]
+    ensures { result ≡ with_lower_from 0 lower.now regs.now }
+{
+    let mut out = std::array::from_fn(|_| Val::any());
+    for (i, v) in regs.iter().enumerate() {
+        out[i] = value_after_return(i, lower, v).copy();
+    }
+    out
+}
+
+/// Returns the value of one register that a frame has after a return to it: the exit's for a lower
+/// register, else the old one.
+fn value_after_return<'a>(i: usize, lower: &'a [Val; 14], v: &'a Val) -> &'a Val
+    ensures { result.now
+        ≡ (if states.is_lower_slot i
+        then slice_index_or lower.now (if nat_lt i 8 then i else i - 8) any_val else v.now) }
+{
+    if i < 8 {
+        &lower[i]
+    } else if 16 <= i && i < 22 {
+        &lower[i - 8]
+    } else {
+        v
+    }
+}
+
+/// Returns true if each register value of a frame's state after a return to it by an exit is below
+/// the one at its place in `high`, as `covers_after` asks.
+fn are_below_after_return(regs: &[Val; 27], lower: &[Val; 14], high: &[Val; 27]) -> bool
+    requires low { AreWell (with_lower_from 0 lower.now regs.now) }
+    requires high { AreWell high.now }
+    ensures { IsTrue result ↔ AreBelow (with_lower_from 0 lower.now regs.now) high.now }
+{
+    for i in 0..27 {
+        if !leq(value_after_return(i, lower, &regs[i]), &high[i]) {
+            return false;
+        }
+    }
+    true
+}

@@ -1,0 +1,79 @@
+// States that a change makes of another, and the addresses of accesses.
+ghost use Rattle.std.specs.Prelude.{◌≡◌, IfSome};
+ghost use Rattle.value_domain.specs.Values.{IsValue};
+ghost use Rattle.value_domain.specs.State.{AreValues};
+ghost use Rattle.tc_isa.specs.Meanings.{shape_of};
+ghost use Rattle.vd_transfer.specs.EffectsOnStates.{EffectHasRoom, address_of, transfer_of};
+ghost use Rattle.vd_transfer.specs.Branches.{refine_of};
+ghost use Rattle.vd_transfer.specs.Changes.{state_after};
+
+use tc_isa::{Inst, shape};
+use tcd_plan::Plan;
+use value_domain::{Bounds, State, Val, copy_locals};
+use vd_transfer::{Change, address_by, change_of, change_on, changed_value, unchanged};
+
+/// Returns the addresses that a load or a store may access in a point's state, as one value that is
+/// built here from its instruction.
+pub fn address(b: &Bounds, plan: &Plan, inst: &Inst, s: &State) -> Val
+    requires { AreValues b.now s.now.regs }
+    ensures address { result ≡ address_of b.now plan.now (shape_of inst.now) s.now }
+    ensures value { IsValue b.now result }
+{
+    address_by(b, plan, shape(inst), s)
+}
+
+/// Builds the whole state of the point after a branch, on one of the branch's sides, or gives
+/// `None` if that side isn't possible.
+pub fn refine(b: &Bounds, plan: &Plan, inst: &Inst, s: &State, side: bool) -> Option<State>
+    requires { AreValues b.now s.now.regs }
+    ensures refine { result ≡ refine_of b.now plan.now (shape_of inst.now) s.now side }
+    ensures values { IfSome result (λ t. AreValues b.now t.regs) }
+{
+    let mut c = unchanged(s);
+    if change_on(b, plan, shape(inst), s, side, &mut c) {
+        Some(state_after_change(s, &c))
+    } else {
+        None
+    }
+}
+
+/// Builds the whole state after an instruction that stays in its frame and isn't a branch or a
+/// jump. What it saves has room, what it restores is there. Only a load uses `loaded`.
+pub fn transfer(b: &Bounds, plan: &Plan, inst: &Inst, s: &State, loaded: &Val) -> State
+    requires values { AreValues b.now s.now.regs }
+    requires loaded { IsValue b.now loaded.now }
+    requires room { EffectHasRoom b.now (shape_of inst.now) s.now }
+    ensures transfer { result ≡ transfer_of b.now plan.now (shape_of inst.now) s.now loaded.now }
+    ensures values { AreValues b.now result.regs }
+{
+    let mut c = unchanged(s);
+    c.third.value = loaded.copy();
+    change_of(b, plan, shape(inst), s, &mut c);
+    state_after_change(s, &c)
+}
+
+/// Builds the whole state that a change makes of another.
+pub fn state_after_change(s: &State, c: &Change) -> State
+    ensures { result ≡ state_after s.now c.now }
+{
+    State {
+        regs: regs_after_change(s, c),
+        ie: c.ie,
+        ccpn: c.ccpn,
+        lower: c.lower,
+        locals: copy_locals(&c.locals),
+    }
+}
+
+/// Builds the 27 register values of a whole state, which a change makes of another state.
+fn regs_after_change(s: &State, c: &Change) -> [Val; 27]
+    ensures { result ≡ (state_after s.now c.now).regs }
+{
+    let _regs = &s.regs[..];
+    let any = Val::any();
+    let mut out = std::array::from_fn(|_| Val::any());
+    for i in 0..27 {
+        out[i] = changed_value(s, c, &any, i).copy();
+    }
+    out
+}

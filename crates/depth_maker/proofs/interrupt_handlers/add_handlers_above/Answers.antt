@@ -1,0 +1,22 @@
+use Rattle.std.proofs.Common.{sym, ap, refl, ◌∙◌, ◌++◌, List, arith}
+use Rattle.std.proofs.lemmas.List.{append-nil, take_all}
+use Rattle.depth_maker.specs.InterruptHandlers.{nodes_above}
+use Rattle.depth_maker.specs.declared.interrupt_handlers.Handler.{Handler}
+use Rattle.depth_maker.proofs.HandlerLaws.{above_more}
+use Rattle.depth_maker.proofs.interrupt_handlers.add_handlers_above.Goals as goal
+
+pub loop-h-init : goal.loop-h-init
+loop-h-init c = (sym (append-nil c.args.into.now.items), omega arith, refl)
+
+pub add_handler_above-requires : goal.add_handler_above-requires
+add_handler_above-requires c = omega (arith, c.requires, c.loop-h.invariant.1, c.loop-h.invariant.2, c.loop-h-test.true)
+
+pub loop-h-preserved : goal.loop-h-preserved
+loop-h-preserved c = (
+  above_more c.args.ccpn c.args.into.now.items c.loop-h.into.items _ c.args.handlers.now c.loop-h.h-index _ c.loop-h-test.true c.loop-h.invariant.0 c.add_handler_above.ensures.items,
+  omega (arith, c.loop-h.invariant.1, c.add_handler_above.ensures.few),
+  c.add_handler_above.ensures.capacity ∙ c.loop-h.invariant.2,
+)
+
+pub returns : goal.returns
+returns c = c.loop-h.invariant.0 ∙ ap (λ (l : List Handler). c.args.into.now.items ++ nodes_above c.args.ccpn l) (take_all c.loop-h.h-index c.args.handlers.now c.loop-h-test.false)

@@ -1,0 +1,28 @@
+-- Places, by the types of the code.
+use Rattle.cfg_recover.specs.Assignments.{Place, point, exit}
+use Rattle.frame_places.specs.declared.places.Spot.{Spot}
+use Rattle.frame_places.specs.declared.places.Spot.TheVariants.{Point, Exit}
+use Rattle.std.specs.Prelude.{List}
+use Rattle.frame_places.specs.PointEntries.{places_at}
+use Rattle.frame_places.specs.declared.ordering.PointEntry.{PointEntry}
+use Rattle.depth_maker.specs.declared.rows.Source.{Source}
+use Rattle.depth_maker.specs.declared.spelling.Ordered.{Ordered}
+use Rattle.depth_cert.specs.declared.points.Point as points
+
+-- a place as the code's type
+abbrev pub spot_of : Place → Spot
+spot_of (point k p) = Point k p
+spot_of (exit k) = Exit k
+
+-- a spot, which is a place of the code's type, as the place of an assignment
+abbrev pub place_of_spot : Spot → Place
+place_of_spot (Point k p) = point k p
+place_of_spot (Exit k) = exit k
+
+-- the places of these entries of the table
+abbrev pub spots_on : Source → List PointEntry → List Spot
+spots_on s xs = places_at (s.table.now).places xs
+
+-- the places of all points, in order
+abbrev pub spots_of : Ordered → List Spot
+spots_of o = spots_on o.source.now o.points.now

@@ -1,0 +1,95 @@
+// The frames of the handlers of interrupts, by their numbers.
+ghost use Rattle.std.specs.Prelude.{◌≡◌, ◌≤◌, ◌<◌, ◌+◌, ◌++◌, ◌∷◌, [], List, IfOk, OnOk, length, vec_len, vec_capacity};
+ghost use Rattle.depth_cert.specs.declared.keys.Key as keys;
+ghost use Rattle.frame_places.specs.Numbers.{AreFrameNumbers};
+ghost use Rattle.depth_maker.specs.InterruptHandlers.{AreHandlers, nodes_above, nodes_taken};
+
+use cfg_recover::irq_key;
+use depth_cert::Key;
+use frame_places::frame_number;
+use indexmap::IndexMap;
+use std::alloc::{AllocError, Global};
+use tcd_plan::Plan;
+
+/// A handler: the priority of its interrupt, and the number of its frame.
+#[derive(Drop)]
+pub(crate) struct Handler {
+    prio: u8,
+    node: usize,
+}
+
+/// Returns the maker's list of the handlers of these interrupts, each with its priority and the
+/// number of its frame.
+fn handler_frames_of(
+    alloc: Global,
+    plan: &Plan,
+    numbers: &IndexMap<Key, usize>,
+    irqs: &[u8],
+) -> Result<Vec<Handler>, AllocError>
+    ensures { IfOk result (λ handlers. (frames : List keys.Key)
+        → AreFrameNumbers numbers.now frames frames
+        → AreHandlers plan.now frames irqs.now handlers.items) }
+{
+    let mut handlers = Vec::new(alloc);
+    for p in irqs {
+        let node = frame_number(numbers, irq_key(plan, *p));
+        handlers.push(Handler { prio: *p, node })?;
+    }
+    Ok(handlers)
+}
+
+/// Returns the handlers of all stated interrupts.
+pub(crate) fn all_handler_frames(
+    alloc: Global,
+    plan: &Plan,
+    numbers: &IndexMap<Key, usize>,
+) -> Result<Vec<Handler>, AllocError>
+    ensures { IfOk result (λ handlers. (frames : List keys.Key)
+        → AreFrameNumbers numbers.now frames frames
+        → AreHandlers plan.now frames plan.now.irqs handlers.items) }
+{
+    handler_frames_of(alloc, plan, numbers, plan.irqs.as_slice())
+}
+
+/// Appends the frame of a handler if its interrupt is above this priority. There is room for it.
+#[inline(always)]
+fn add_handler_above(into: &mut Vec<usize>, ccpn: u8, handler: &Handler)
+    requires { vec_len into.old < vec_capacity into.old }
+    ensures items { into.new.items ≡ into.old.items ++ nodes_above ccpn (handler.now ∷ []) }
+    ensures few { vec_len into.new ≤ vec_len into.old + 1 }
+    ensures capacity { vec_capacity into.new ≡ vec_capacity into.old }
+{
+    if handler.prio <= ccpn {
+        return;
+    }
+    into.push_reserved(handler.node);
+}
+
+/// Appends the numbers of the frames of all interrupt handlers above this priority. There is room
+/// for them.
+#[inline(always)]
+fn add_handlers_above(into: &mut Vec<usize>, ccpn: u8, handlers: &[Handler])
+    requires { vec_len into.old + length handlers.now ≤ vec_capacity into.old }
+    ensures { into.new.items ≡ into.old.items ++ nodes_above ccpn handlers.now }
+{
+    for h in handlers {
+        add_handler_above(into, ccpn, h);
+    }
+}
+
+/// Appends the frames of the interrupts that may be taken: those above this priority if IE is on.
+pub(crate) fn add_taken_handlers(
+    into: &mut Vec<usize>,
+    ie: bool,
+    ccpn: u8,
+    handlers: &[Handler],
+) -> Result<(), AllocError>
+    ensures { OnOk result (into.new.items ≡ into.old.items ++ nodes_taken ie ccpn handlers.now) }
+{
+    if !ie {
+        return Ok(());
+    }
+    into.reserve(handlers.len())?;
+    add_handlers_above(into, ccpn, handlers);
+    Ok(())
+}

@@ -1,0 +1,19 @@
+-- Values at their places in the bytes.
+use Rattle.std.specs.Prelude.{◌≡◌, ℕ, List, take, drop, ◌+◌, ◌≤◌, length}
+use Rattle.packed_cert.specs.declared.places.RepeatedState.{RepeatedState}
+use Rattle.tcd_base.specs.Place.{Place}
+
+-- bytes of a packed certificate come again: the same n bytes are at two places
+abbrev pub SameBytesAtPlaces : List ℕ → ℕ → ℕ → ℕ → Type 0
+SameBytesAtPlaces bytes x y n = take n (drop x bytes) ≡ take n (drop y bytes)
+
+-- so many bytes of a point's state come again at a place
+pub record IsRepeated (bytes : List ℕ) (place : ℕ) (p : RepeatedState) : Type 0 where
+  pub first : (p.at).start + p.same ≤ length bytes
+  pub second : place + p.same ≤ length bytes
+  pub alike : SameBytesAtPlaces bytes (p.at).start place p.same
+
+-- a cursor moved over n bytes that come again: the same are from x on
+abbrev pub MovesOverRepeated : List ℕ → ℕ → ℕ → Place → Place → Type 0
+MovesOverRepeated bytes x n before after =
+    (after ≡ record before { place = before.place + n }) × (before.place + n ≤ length bytes) × (take n (drop x bytes) ≡ take n (drop before.place bytes))

@@ -1,0 +1,65 @@
+// Builds instructions from the number of a row and the row's fields.
+ghost use Rattle.std.specs.Prelude.{◌≡◌, ◌↔◌, IsTrue, IsSome, IfSome};
+ghost use Rattle.tc_isa.specs.Rows.{row_of};
+ghost use Rattle.tc_isa.specs.ValidRows.{FieldsFitRow, uses_of, are_registers_apart};
+ghost use Rattle.tc_isa.specs.Insts.{IsInst};
+
+use crate::bounds::{are_below_bounds, bounds_of};
+use crate::row_uses::{is_zero_elsewhere, uses};
+use crate::{Fields, Inst, Row, Uses, rows};
+
+/// The first code of loads with a base and an offset of 10 bits, post-increment among them.
+const LOAD_AFTER: u8 = 0x09;
+
+/// The first code of stores with a base and an offset of 10 bits, post-increment among them.
+const STORE_AFTER: u8 = 0x89;
+
+/// The second code of both with post-increment for an address register (`ld.a`, `st.a`).
+const OF_ADDRESS: u8 = 0x06;
+
+/// Returns the instruction of the row with this number and these raw fields. The answer is `None`
+/// exactly if there is no such row, or the fields don't fit it. A field that the row doesn't have
+/// has to be 0.
+pub fn inst(row: u8, c: u8, s1: u8, s2: u8, n: u8, k: u32) -> Option<Inst>
+    ensures listed { IsSome result
+        ↔ IsInst (record { row = row; c = c; s1 = s1; s2 = s2; n = n; k = k }) }
+    ensures fields { IfSome result (λ i.
+        i ≡ record { row = row; c = c; s1 = s1; s2 = s2; n = n; k = k }) }
+{
+    let place = usize::from(row);
+    let rows = rows();
+    if place >= rows.len() {
+        return None;
+    }
+    let fields = Fields { c, s1, s2, n, k };
+    if !are_fitting_fields(&rows[place], &uses()[place], &fields) {
+        return None;
+    }
+    Some(Inst {
+        row,
+        c,
+        s1,
+        s2,
+        n,
+        k,
+    })
+}
+
+/// Returns true if the fields fit the row, so that an instruction can be built from them.
+fn are_fitting_fields(row: &Row, uses: &Uses, fields: &Fields) -> bool
+    requires { uses.now ≡ uses_of (row_of row.now) }
+    ensures { IsTrue result ↔ FieldsFitRow (row_of row.now) fields.now }
+{
+    are_below_bounds(fields, &bounds_of(row.form))
+        && is_zero_elsewhere(uses, fields)
+        && are_registers_apart(row, fields)
+}
+
+/// Returns true if the row allows these registers: an address register that is loaded or stored
+/// with post-increment can't be the base too.
+#[inline(always)]
+pub fn are_registers_apart(row: &Row, f: &Fields) -> bool
+    ensures { result ≡ are_registers_apart (row_of row.now) f.now }
+{
+    !((row.op1 == LOAD_AFTER || row.op1 == STORE_AFTER) && row.op2 == OF_ADDRESS) || f.s1 != f.s2
+}

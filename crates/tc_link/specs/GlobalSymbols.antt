@@ -1,0 +1,76 @@
+-- Global symbols by their names: how many have one, and the map that knows it.
+use Rattle.std.specs.Prelude.{◌≡◌, ◌==◌, nat_lt, if◌then◌else◌, ℕ, Bool, List, map, Option, Some, None, ◌&&◌, count_by, filter, find}
+use Rattle.std.specs.Borrow.{Bor}
+use Rattle.std.specs.HashMap.{HashMap, get_by}
+use Rattle.std.specs.Option.{option_map}
+use Rattle.std.specs.Str.{bytes_eq}
+use Rattle.tc_object.specs.Objects.{ObjectData, SymbolData, global_symbol}
+use Rattle.tc_link.specs.declared.definitions.Definition.{Definition}
+use Rattle.tc_link.specs.Placing.{PlacedData, address_in_section, address_of}
+use Rattle.std.specs.List.{flat_map}
+
+-- the value of the map at a name
+abbrev pub global_at_name : {X S : Type 0} → HashMap (Bor (List ℕ)) X S → List ℕ → Option X
+global_at_name names q = get_by (λ k. bytes_eq q k.now) names
+
+-- ---- the number of symbols with a name
+-- for a name in the map, whether several symbols have it
+abbrev pub twice_at : {S : Type 0} → HashMap (Bor (List ℕ)) Definition S → List ℕ → Option Bool
+twice_at names q = option_map (λ d. d.is_twice) (global_at_name names q)
+
+-- for a name that n symbols have: None if there are none, else whether there are several
+abbrev pub twice_of_count : ℕ → Option Bool
+twice_of_count n = if n == 0 then None else Some (nat_lt 1 n)
+
+-- the symbol is defined, and other objects may use it
+abbrev pub is_global : SymbolData → Bool
+is_global s = s.kind == global_symbol
+
+-- a name and its address
+pub record GlobalData : Type 0 where
+  pub name : List ℕ
+  pub address : ℕ
+
+-- the name of a global symbol with its address, if the sections of its object begin at these
+-- addresses
+abbrev pub global_data : List ℕ → SymbolData → GlobalData
+global_data bases s = record { name = s.name; address = address_in_section bases s.section s.offset }
+
+-- the global symbols of placed objects: the name and the address of each
+unfoldable pub globals_of : List PlacedData → List GlobalData
+globals_of placed = flat_map (λ p. map (global_data p.bases) (filter is_global p.object.symbols)) placed
+
+-- the address of the global symbol with this name, if one is among those of the linked objects
+abbrev pub global_address : List GlobalData → List ℕ → Option ℕ
+global_address globals name = option_map (λ g. g.address) (find (λ g. bytes_eq name g.name) globals)
+
+-- the symbol is global and has the name
+abbrev pub has_global_name : List ℕ → SymbolData → Bool
+has_global_name name s = is_global s && bytes_eq name s.name
+
+-- the symbols of all objects, in order
+abbrev pub symbols_to_link : List ObjectData → List SymbolData
+symbols_to_link objects = flat_map (λ o. o.symbols) objects
+
+-- the number of global symbols of these objects with this name; those of one object have distinct
+-- names
+unfoldable pub globals_named : List ObjectData → List ℕ → ℕ
+globals_named objects name = count_by (has_global_name name) (symbols_to_link objects)
+
+-- for each name, the map knows whether several objects define it as a global symbol
+abbrev pub CountsGlobals : {S : Type 0} → HashMap (Bor (List ℕ)) Definition S → List ObjectData → Type 0
+CountsGlobals names objects = (q : List ℕ) → twice_at names q ≡ twice_of_count (globals_named objects q)
+
+-- ---- addresses
+
+-- the address of a name in the map, for objects with these addresses
+abbrev pub address_named : {S : Type 0} → HashMap (Bor (List ℕ)) Definition S → List PlacedData → List ℕ → Option ℕ
+address_named names placed q = option_map (address_of placed) (global_at_name names q)
+
+-- the map holds exactly these global symbols with their addresses
+abbrev pub AreGlobals : {S : Type 0} → HashMap (Bor (List ℕ)) Definition S → List PlacedData → List GlobalData → Type 0
+AreGlobals names placed all = (q : List ℕ) → address_named names placed q ≡ global_address all q
+
+-- for all addresses of the objects, the map holds exactly their global symbols
+abbrev pub DefinesGlobals : {S : Type 0} → HashMap (Bor (List ℕ)) Definition S → List ObjectData → Type 0
+DefinesGlobals names objects = (placed : List PlacedData) → map (λ p. p.object) placed ≡ objects → AreGlobals names placed (globals_of placed)

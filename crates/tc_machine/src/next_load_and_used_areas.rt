@@ -1,0 +1,121 @@
+// Questions about a machine: its next load, and the number of areas in use.
+ghost use Rattle.std.specs.Prelude.{◌≡◌, Ok, Some, None, IfOk, if◌then◌else◌};
+ghost use Rattle.std.specs.Bool.{OnTrue};
+ghost use Rattle.csa_chain.specs.Chain.{link_in, is_area, area_word};
+ghost use Rattle.tc_isa.specs.InBounds.{IsShape};
+ghost use Rattle.tc_encode.specs.Decoding.{decoded_of};
+ghost use Rattle.tc_machine.specs.Fetching.{mapped_bytes, fetched_shape};
+ghost use Rattle.tc_machine.specs.Stepping.{load_in, next_load_of, used_area_count, step};
+ghost use Rattle.tc_machine.specs.InstructionKinds.{is_area_keeping_shape, is_area_keeping_event};
+
+use crate::contexts::context_link;
+use crate::{Cause, End, Event, Machine};
+use csa_chain::address_of;
+use tc_isa::Shape;
+
+/// Returns true if the machine's areas in use stay under an instruction of this shape: it never
+/// changes the memory or PCXI.
+fn is_area_keeping_shape(event: &Event, shape: Shape) -> bool
+    ensures { result ≡ is_area_keeping_shape event.now shape }
+{
+    match shape {
+        Shape::Load { .. } => !event.aln,
+        Shape::Compute { .. } | Shape::Scaled { .. } | Shape::Branch { .. } => true,
+        Shape::Jump { .. } | Shape::Mfcr { .. } => true,
+        Shape::Enable | Shape::Disable | Shape::Nothing => true,
+        _ => false,
+    }
+}
+
+impl Machine {
+    /// Returns the next load, address and size in bytes, if an instruction of this shape is at pc,
+    /// or `None` if it is no load.
+    fn load_of(&self, shape: Shape) -> Option<(u32, u8)>
+        requires { IsShape shape }
+        ensures { result ≡ load_in self.now (Ok (shape, 0)) }
+    {
+        match shape {
+            Shape::Load {
+                base,
+                offset,
+                size,
+                after,
+                ..
+            } => Some((self.access(base, offset, after), size)),
+            _ => None,
+        }
+    }
+
+    /// Returns the machine's next load as `next_load` does, for a caller that has decoded the bytes
+    /// at pc already: `found` is what they do.
+    pub fn load_by(&self, found: &Result<(Shape, u32), Cause>) -> Option<(u32, u8)>
+        requires found { found.now
+            ≡ fetched_shape (decoded_of (mapped_bytes 4 self.now.mem self.now.pc)) }
+        requires bounded { IfOk found.now (λ it. IsShape it.0) }
+        ensures { result ≡ next_load_of self.now }
+    {
+        match self.end {
+            End::Running => match found {
+                Ok((shape, _)) => self.load_of(*shape),
+                Err(_) => None,
+            },
+            End::Dead(_) => None,
+        }
+    }
+
+    /// Returns the machine's next load, the address and size at which the instruction at pc would
+    /// read: `None` if the machine is dead, the bytes don't decode, or it is no load.
+    pub fn next_load(&self) -> Option<(u32, u8)>
+        ensures { result ≡ next_load_of self.now }
+    {
+        self.load_by(&self.shape_at_pc())
+    }
+
+    /// Returns word 0 of the area that a word of a chain names. The search in memory begins near
+    /// the last area's place.
+    #[tactic(auto, using(crate::proofs::WholeAccesses::first_of_area))]
+    fn word_after(&self, word: u32, near: &mut usize) -> Option<u32>
+        ensures { result ≡
+            (if is_area self.now.mem (link_in word)
+            then Some (area_word self.now.mem (link_in word) 0) else None) }
+    {
+        self.mem.first_word(address_of(context_link(word)), near)
+    }
+
+    /// Returns true if an event never changes the memory or PCXI, so that the areas in use stay. No
+    /// interrupt is taken, and `found`, which is what the bytes at pc do, is an instruction that
+    /// can't trap. It stores nothing, saves and restores no context and writes no core register.
+    pub fn keeps_areas(&self, event: &Event, found: &Result<(Shape, u32), Cause>) -> bool
+        requires { found.now ≡ fetched_shape
+            (decoded_of (mapped_bytes 4 self.now.mem self.now.pc)) }
+        ensures is { result ≡ is_area_keeping_event self.now event.now found.now }
+        ensures kept { OnTrue result
+            (used_area_count (step self.now event.now) ≡ used_area_count self.now) }
+    {
+        if self.ie && self.ccpn < event.irq {
+            return false;
+        }
+        match found {
+            Ok((shape, _)) => is_area_keeping_shape(event, *shape),
+            Err(_) => false,
+        }
+    }
+
+    /// Returns the number of areas in use: the length of the chain from PCXI. The answer is `None`
+    /// exactly if the chain has more than 4,096 links, or reaches an area that isn't wholly mapped.
+    pub fn used(&self) -> Option<u32>
+        ensures { result ≡ used_area_count self.now }
+    {
+        let mut word = self.pcxi;
+        let mut count = 0;
+        let mut near = 0;
+        while context_link(word) != 0 {
+            if count == 4096 {
+                return None;
+            }
+            word = self.word_after(word, &mut near)?;
+            count += 1;
+        }
+        Some(count)
+    }
+}

@@ -1,0 +1,70 @@
+// Addresses and operands of instructions.
+ghost use Rattle.std.specs.Prelude.{◌≡◌, ◌<◌};
+ghost use Rattle.tc_isa.specs.InBounds.{IsArg, IsTarget};
+ghost use Rattle.tc_machine.specs.Machine.{reg, machine_address_ahead};
+ghost use Rattle.tc_machine.specs.Instructions.{arg, access_address, with_base, target_of, lowered, does};
+
+use crate::Machine;
+use tc_isa::{Arg, Target};
+
+impl Machine {
+    /// Returns the address that an access has by its operands: the base plus the offset, or the
+    /// base alone with post-increment.
+    pub fn access(&self, base: Arg, offset: u32, after: bool) -> u32
+        requires { IsArg base }
+        ensures { result ≡ access_address self.now base offset after }
+    {
+        if after {
+            self.arg(base)
+        } else {
+            machine_address_ahead(self.arg(base), offset)
+        }
+    }
+
+    /// Increases the address in the register of a base operand by the offset, after an access with
+    /// post-increment.
+    pub(crate) fn move_base(&mut self, base: Arg, offset: u32, after: bool)
+        requires { IsArg base }
+        ensures { self.new ≡ with_base self.old base offset after }
+    {
+        match base {
+            Arg::Reg(r) => {
+                if after {
+                    let sum = machine_address_ahead(self.reg(r), offset);
+                    self.set_reg(r, sum);
+                }
+            }
+            Arg::Word(_) => {}
+        }
+    }
+
+    /// Returns the address that a jump or a call goes to.
+    pub(crate) fn target(&self, to: Target) -> u32
+        requires { IsTarget to }
+        ensures { result ≡ target_of self.now to }
+    {
+        match to {
+            Target::Rel(by) => machine_address_ahead(self.pc, by),
+            Target::Abs(x) => x,
+            Target::Reg(r) => self.reg(r) / 2 * 2,
+        }
+    }
+
+    /// Decrements the register operand `x` of a branch by 1, if the branch does that.
+    pub(crate) fn lower(&mut self, x: u8, lowers: bool)
+        requires { x < 32 }
+        ensures { self.new ≡ lowered self.old x lowers }
+    {
+        if lowers {
+            let less = machine_address_ahead(self.reg(x), u32::MAX);
+            self.set_reg(x, less);
+        }
+    }
+}
+
+/// Returns the address `by` bytes after `at`, modulo 2^32.
+pub(crate) fn machine_address_ahead(at: u32, by: u32) -> u32
+    ensures { result ≡ machine_address_ahead at by }
+{
+    at.wrapping_add(by)
+}
