@@ -10,7 +10,7 @@ ghost use Rattle.vd_transfer.specs.Changes.{state_after};
 use tc_isa::{Inst, shape};
 use tcd_plan::Plan;
 use value_domain::{Bounds, State, Val, copy_locals};
-use vd_transfer::{Change, address_by, change_of, change_on, changed_value, unchanged};
+use vd_transfer::{Change, address_by, change_of, change_on, changed_value, identity_change};
 
 /// Returns the addresses that a load or a store may access in a point's state, as one value that is
 /// built here from its instruction.
@@ -29,7 +29,7 @@ pub fn refine(b: &Bounds, plan: &Plan, inst: &Inst, s: &State, side: bool) -> Op
     ensures refine { result ≡ refine_of b.now plan.now (shape_of inst.now) s.now side }
     ensures values { IfSome result (λ t. AreValues b.now t.regs) }
 {
-    let mut c = unchanged(s);
+    let mut c = identity_change(s);
     if change_on(b, plan, shape(inst), s, side, &mut c) {
         Some(state_after_change(s, &c))
     } else {
@@ -46,7 +46,7 @@ pub fn transfer(b: &Bounds, plan: &Plan, inst: &Inst, s: &State, loaded: &Val) -
     ensures transfer { result ≡ transfer_of b.now plan.now (shape_of inst.now) s.now loaded.now }
     ensures values { AreValues b.now result.regs }
 {
-    let mut c = unchanged(s);
+    let mut c = identity_change(s);
     c.third.value = loaded.copy();
     change_of(b, plan, shape(inst), s, &mut c);
     state_after_change(s, &c)

@@ -45,7 +45,7 @@ impl KnownCodes {
     /// The instruction at an address. If its word is known, nothing is decoded; else it is decoded,
     /// and known from then on.
     #[inline(always)]
-    pub fn located(&mut self, image: &Image, plan: &Plan, addr: u32) -> Option<Located>
+    pub fn locate(&mut self, image: &Image, plan: &Plan, addr: u32) -> Option<Located>
         ensures code { LocatesCode image.now plan.now addr result }
         ensures shape { IfSome result (λ found. IsShape found.shape) }
     {

@@ -11,7 +11,7 @@ use arrayvec::ArrayVec;
 use depth_cert::Key;
 use tcd_plan::Plan;
 use value_domain::{Bounds, State, Val};
-use vd_transfer::{A10, Base, Change, put_register, reg, unchanged};
+use vd_transfer::{A10, Base, Change, identity_change, put_register, reg};
 
 /// The number of D15, which has a trap's identification number at the entry of its handler.
 const D15: u8 = 15;
@@ -26,7 +26,7 @@ pub fn call_change(b: &Bounds, s: &State) -> Change
     ensures entry { state_after s.now result ≡ entries.call_entry s.now }
     ensures values { AreValues b.now (state_after s.now result).regs }
 {
-    let mut c = unchanged(s);
+    let mut c = identity_change(s);
     c.lower = false;
     c.locals = ArrayVec::new();
     c
@@ -72,7 +72,7 @@ pub fn misaligned_change(b: &Bounds, plan: &Plan, key: &Key, s: &State) -> Chang
 fn handler_with(s: &State, sp: Val, ccpn: u8) -> Change
     ensures { result ≡ changes.handler_change sp ccpn }
 {
-    let mut c = unchanged(s);
+    let mut c = identity_change(s);
     c.base = Base::Any;
     c.first = put_register(A10, sp);
     c.ie = false;

@@ -22,7 +22,7 @@ use store_ranges::{LoadKind, write_load};
 use tc_isa::{Inst, Shape, shape};
 use tcd_plan::Plan;
 use value_domain::{Bounds, State, Val, write_any};
-use vd_transfer::{Base, Change, change_of, unchanged, write_address};
+use vd_transfer::{Base, Change, change_of, identity_change, write_address};
 
 /// The successors of the instruction in its frame, without the one after a call or a system call.
 pub(crate) fn successors(
@@ -88,7 +88,7 @@ fn successor_by_step(b: &Bounds, image: &Image, plan: &Plan, s: &State, at: Inst
         ≡ next_of b.now image.now plan.now at.entry.addr s.now
         (shape_of at.entry.inst.now) at.entry.size }
 {
-    let mut c = unchanged(s);
+    let mut c = identity_change(s);
     successor_change(b, image, plan, shape(at.inst), s, &mut c);
     Jump {
         targets: one_target(at.addr.wrapping_add(at.size)),

@@ -1,9 +1,10 @@
 -- What the entries of interrupts depend on, and in which states they hold.
-use Rattle.std.specs.Prelude.{◌≡◌, ◌≤◌, ◌+◌, ◌-◌, ℕ, true, false, IsTrue, IfSome, List, map, length, slice_index_or}
+use Rattle.std.specs.Prelude.{◌≡◌, ◌≤◌, ◌+◌, ◌-◌, ℕ, true, false, IsTrue, IfSome, List, map, length}
 use Rattle.tcd_plan.specs.PlanData.{PlanData}
 use Rattle.value_domain.specs.declared.values.Val.{Val}
 use Rattle.value_domain.specs.declared.states.State.{State}
-use Rattle.value_domain.specs.Values.{IsWell, IsValue, IsBelow, any_val}
+use Rattle.value_domain.specs.Values.{IsWell, IsValue, IsBelow}
+use Rattle.vd_transfer.specs.Registers.{a10_of}
 use Rattle.depth_cert.specs.declared.keys.Key.{Key}
 use Rattle.depth_cert.specs.Nodes.{NodeData}
 use Rattle.depth_cert.specs.Certs.{CertData}
@@ -29,10 +30,10 @@ pub record FitsContext (context : InterruptContext) (node : NodeData) (s : State
   pub ccpn : context.ccpn ≡ s.ccpn
   pub spare : context.spare + length s.locals.items ≤ node.need
 
--- a state has this context and, on the interrupt stack, its A10 (slot 22) is below the context's
+-- a state has this context and, on the interrupt stack, its A10 is below the context's
 pub record IsBelowContext (context : InterruptContext) (node : NodeData) (s : State) : Type 0 where
   pub like : FitsContext context node s
-  pub sp : IsTrue context.is → IsBelow (slice_index_or s.regs 22 any_val) context.sp
+  pub sp : IsTrue context.is → IsBelow (a10_of s) context.sp
 
 -- all rules hold of the entries of interrupts in a state of a node's point
 abbrev pub InterruptsHold : PlanData → CertData → NodeData → State → Type 0

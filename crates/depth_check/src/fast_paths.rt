@@ -52,7 +52,7 @@ pub(crate) fn fast_path_next(at: &PointCheck<'_, '_>, codes: &mut KnownCodes) ->
     if first != Some(0x0D) && first != Some(0x1D) && first != Some(0x3C) && first != Some(0x9D) {
         return None;
     }
-    let Some(found) = codes.located(image, at.plan, addr) else {
+    let Some(found) = codes.locate(image, at.plan, addr) else {
         return None;
     };
     match found.shape {

@@ -1,9 +1,10 @@
 // A fast path: entries of interrupts that hold in one state hold in other states too.
-ghost use Rattle.std.specs.Prelude.{◌≡◌, IfSome, IsTrue, IsSomeAnd, slice_index_or, ◌<◌};
+ghost use Rattle.std.specs.Prelude.{◌≡◌, IfSome, IsTrue, IsSomeAnd, ◌<◌};
 ghost use Rattle.depth_cert.specs.Certs.{CertData};
 ghost use Rattle.cfg_recover.specs.RulesHoldOrFail.{limits_in};
 ghost use Rattle.value_domain.specs.State.{AreValues};
-ghost use Rattle.value_domain.specs.Values.{IsWell, IsValue, any_val};
+ghost use Rattle.value_domain.specs.Values.{IsWell, IsValue};
+ghost use Rattle.vd_transfer.specs.Registers.{a10_of};
 ghost use Rattle.tcd_plan.specs.PlanData.{PlanData};
 ghost use Rattle.depth_check.specs.Interrupts.{IsContext, FitsContext, IsBelowContext, InterruptsHold, AreWellStacks, LastInterruptsHold, InterruptsHoldWith};
 ghost use Rattle.depth_check.specs.PointChecks.{IsPointCheck};
@@ -14,7 +15,7 @@ use crate::points::PointCheck;
 use cfg_recover::interrupts;
 use packed_cert::PackedNode;
 use value_domain::{A10_SLOT, Bounds, State, Val, join, leq};
-use vd_transfer::{A10, Base, put_register, unchanged};
+use vd_transfer::{A10, Base, identity_change, put_register};
 
 /// The last two contexts in which entries of interrupts were found to hold. They are checked again
 /// only at points that need more. In bench/, 16 interrupts at each of 4,000 points cost 32
@@ -40,7 +41,7 @@ impl LastInterrupts {
     /// interrupts are off.
     pub(crate) fn covers(&self, node: &PackedNode<'_>, s: &State) -> bool
         requires stacks { AreWellStacks self.now }
-        requires stack { IsWell (slice_index_or s.now.regs 22 any_val) }
+        requires stack { IsWell (a10_of s.now) }
         ensures { IsTrue result → (plan : PlanData) (cert : CertData)
             → LastInterruptsHold plan cert self.now → InterruptsHold plan cert node.now s.now }
     {
@@ -145,7 +146,7 @@ impl InterruptContext {
 /// Whether the entries of interrupts that hold in this context hold in the state too.
 fn context_covers(context: &Option<InterruptContext>, node: &PackedNode<'_>, s: &State) -> bool
     requires own { IfSome context.now (λ a. IsWell a.sp) }
-    requires stack { IsWell (slice_index_or s.now.regs 22 any_val) }
+    requires stack { IsWell (a10_of s.now) }
     ensures { IsTrue result → IsSomeAnd context.now (λ a. IsBelowContext a node.now s.now) }
 {
     match context {
@@ -176,7 +177,7 @@ fn common_stack(at: &PointCheck<'_, '_>, kept: &LastInterrupts) -> Val
         return own;
     };
     let _most_words = at.bounds.most_words();
-    let mut entry = unchanged(s);
+    let mut entry = identity_change(s);
     entry.base = Base::Any;
     entry.first = put_register(A10, sp.copy());
     entry.ie = false;

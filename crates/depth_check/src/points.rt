@@ -195,7 +195,7 @@ fn broken_by_decoded_point(at: &PointCheck<'_, '_>, scratch: &mut PointScratch) 
 {
     let node = at.node;
     let s = at.point.state;
-    let located = scratch.codes.located(at.image, at.plan, at.point.addr);
+    let located = scratch.codes.locate(at.image, at.plan, at.point.addr);
     match check_located(at.bounds, at.plan, &node.key, s, &located) {
         Err(rule) => Some(rule),
         Ok(found) => {

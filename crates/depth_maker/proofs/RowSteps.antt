@@ -35,7 +35,7 @@ use Rattle.depth_maker.specs.declared.inputs_and_limits.Visit.{Visit}
 use Rattle.frame_places.specs.declared.places.Spot.{Spot}
 use Rattle.frame_places.specs.declared.places.Spot.TheVariants.{Point, Exit}
 use Rattle.frame_places.specs.declared.needs.row.NeedRow.{NeedRow}
-use Rattle.depth_maker.specs.declared.rows.Draft.{Draft}
+use Rattle.depth_maker.specs.declared.rows.RowsDraft.{RowsDraft}
 use Rattle.depth_maker.specs.declared.rows.KnownPoint.{KnownPoint}
 use Rattle.depth_maker.specs.declared.rows.Source.{Source}
 use Rattle.depth_maker.specs.declared.table.Table as made
@@ -107,7 +107,7 @@ no_outline zero i o e = let f : None ≡ Some (Some o) = e in cc
 no_outline (suc n) zero o e = let f : Some None ≡ Some (Some o) = e in cc
 no_outline (suc n) (suc i) o e = no_outline n i o e
 
-pub draft_none : (s : Source) (d : Draft) (n : ℕ) → d.rows.items ≡ [] → d.outlines.items ≡ replicate n None → IsDraft s 0 d
+pub draft_none : (s : Source) (d : RowsDraft) (n : ℕ) → d.rows.items ≡ [] → d.outlines.items ≡ replicate n None → IsDraft s 0 d
 draft_none s d n empty none = record {
   sound = λ row c. absurd (let n = ap (λ (l : List NeedRow). length l) empty in omega (arith, c.1, n));
   complete = λ k p c. absurd (omega (arith, c.1));
@@ -115,7 +115,7 @@ draft_none s d n empty none = record {
 }
 
 -- one more entry
-pub draft_step : (s : Source) (i : ℕ) (q : Spot) (old new : Draft) → slice_get (keys (s.table.now).places) i ≡ Some q → IsDraft s i old → ((row : NeedRow) → Contains old.rows.items row → Contains new.rows.items row)
+pub draft_step : (s : Source) (i : ℕ) (q : Spot) (old new : RowsDraft) → slice_get (keys (s.table.now).places) i ≡ Some q → IsDraft s i old → ((row : NeedRow) → Contains old.rows.items row → Contains new.rows.items row)
     → ((row : NeedRow) → Contains new.rows.items row → Contains old.rows.items row ⊎ ((k : Key) × (p : ℕ) × IsPointRow s k p row))
     → ((k : Key) (p : ℕ) → q ≡ Point k p → (row : NeedRow) × Contains new.rows.items row × IsPointRow s k p row) → HaveRows s new.rows.items new.outlines.items → IsDraft s (i + 1) new
 draft_step s i q old new there so keeps only here outlines = record {
@@ -131,7 +131,7 @@ draft_step s i q old new there so keeps only here outlines = record {
 }
 
 -- for an exit, or a point with an equal row, nothing is added
-pub draft_same : (s : Source) (i : ℕ) (q : Spot) (old new : Draft) → slice_get (keys (s.table.now).places) i ≡ Some q → IsDraft s i old → new.rows ≡ old.rows → new.outlines ≡ old.outlines
+pub draft_same : (s : Source) (i : ℕ) (q : Spot) (old new : RowsDraft) → slice_get (keys (s.table.now).places) i ≡ Some q → IsDraft s i old → new.rows ≡ old.rows → new.outlines ≡ old.outlines
     → ((k : Key) (p : ℕ) → q ≡ Point k p → (row : NeedRow) × Contains old.rows.items row × IsPointRow s k p row) → IsDraft s (i + 1) new
 draft_same s i q old new there so rows outlines here =
     draft_step s i q old new there so (λ row c. subst (λ (v : Vec NeedRow Global). Contains v.items row) (sym rows) c) (λ row c. inl (subst (λ (v : Vec NeedRow Global). Contains v.items row) rows c))
@@ -139,7 +139,7 @@ draft_same s i q old new there so rows outlines here =
     (subst (λ (v : Vec (Option Outline) Global). HaveRows s new.rows.items v.items) (sym outlines) (subst (λ (v : Vec NeedRow Global). HaveRows s v.items old.outlines.items) (sym rows) so.outlines))
 
 -- the row of a point is added
-pub draft_more : (s : Source) (i : ℕ) (q : Spot) (old mid new : Draft) (at : KnownPoint) → slice_get (keys (s.table.now).places) i ≡ Some q → IsDraft s i old → mid.rows ≡ old.rows → mid.outlines ≡ old.outlines
+pub draft_more : (s : Source) (i : ℕ) (q : Spot) (old mid new : RowsDraft) (at : KnownPoint) → slice_get (keys (s.table.now).places) i ≡ Some q → IsDraft s i old → mid.rows ≡ old.rows → mid.outlines ≡ old.outlines
     → q ≡ Point at.key at.addr → AddsPointRow s mid new at → IsDraft s (i + 1) new
 draft_more s i q old mid new at there so rows outlines is add =
     let row = add.0 in
@@ -174,7 +174,7 @@ have_rows_more s rows row outlines node o plain lt so i x e =
     ]
 
 -- all points have rows
-pub rows_done : (s : Source) (d : Draft) (i : ℕ) → length (keys (s.table.now).places) ≤ i → IsDraft s i d → RowsOn s.ground.now s.table.now d.rows.items
+pub rows_done : (s : Source) (d : RowsDraft) (i : ℕ) → length (keys (s.table.now).places) ≤ i → IsDraft s i d → RowsOn s.ground.now s.table.now d.rows.items
 unfolding seen
 rows_done s d i le so = record {
   sound = λ row c. let r = so.sound row c in (r.0, r.1, (r.2).0, (r.2).1, (r.2).2);

@@ -22,7 +22,7 @@ use Rattle.frame_places.specs.declared.places.Spot.TheVariants.{Point}
 use Rattle.frame_places.specs.declared.places.Mark.TheVariants.{Plain}
 use Rattle.frame_places.specs.declared.places.Marked.{Marked}
 use Rattle.frame_places.specs.declared.needs.row.NeedRow.{NeedRow}
-use Rattle.depth_maker.specs.declared.rows.Draft.{Draft}
+use Rattle.depth_maker.specs.declared.rows.RowsDraft.{RowsDraft}
 use Rattle.depth_maker.specs.declared.rows.KnownPoint.{KnownPoint}
 use Rattle.depth_maker.specs.declared.rows.Source.{Source}
 use Rattle.depth_maker.specs.declared.table.Table as made
@@ -95,7 +95,7 @@ pub record HasEqualRow (outlines : List (Option Outline)) (node : ℕ) (known : 
 
 -- ---- one after another
 -- the rows of the first `count` entries of the table
-pub record IsDraft (s : Source) (count : ℕ) (draft : Draft) : Type 0 where
+pub record IsDraft (s : Source) (count : ℕ) (draft : RowsDraft) : Type 0 where
   pub sound : (row : NeedRow) → Contains draft.rows.items row → (k : Key) × (p : ℕ) × IsPointRow s k p row
   pub complete :
       (k : Key) (p : ℕ) → Contains (take count (keys (s.table.now).places)) (Point k p)
@@ -103,14 +103,14 @@ pub record IsDraft (s : Source) (count : ℕ) (draft : Draft) : Type 0 where
   pub outlines : HaveRows s draft.rows.items draft.outlines.items
 
 -- a row is appended
-pub record AddsRow (s : Source) (old new : Draft) (row : NeedRow) : Type 0 where
+pub record AddsRow (s : Source) (old new : RowsDraft) (row : NeedRow) : Type 0 where
   pub rows : new.rows.items ≡ old.rows.items ++ row ∷ []
   pub outlines : HaveRows s old.rows.items old.outlines.items → HaveRows s new.rows.items new.outlines.items
 
 -- the row of a plain point is appended
-abbrev pub AddsPlainRow : Source → Draft → Draft → ℕ → Outline → Type 0
+abbrev pub AddsPlainRow : Source → RowsDraft → RowsDraft → ℕ → Outline → Type 0
 AddsPlainRow s old new node o = (row : NeedRow) × IsPlainRow s node o row × AddsRow s old new row
 
 -- the row of a point is appended
-abbrev pub AddsPointRow : Source → Draft → Draft → KnownPoint → Type 0
+abbrev pub AddsPointRow : Source → RowsDraft → RowsDraft → KnownPoint → Type 0
 AddsPointRow s old new at = (row : NeedRow) × IsPointRow s at.key at.addr row × AddsRow s old new row

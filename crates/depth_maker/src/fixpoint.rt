@@ -20,7 +20,7 @@ use frame_places::{
 use indexmap::IndexMap;
 use small_states::{Incoming, ScratchState, SmallKnown};
 use std::alloc::Global;
-use vd_transfer::{Change, unchanged};
+use vd_transfer::{Change, identity_change};
 
 /// Room that visits write over: the state of the point, and the known words of code.
 #[derive(Drop)]
@@ -45,7 +45,7 @@ fn begin_fixpoint(alloc: Global, ground: &Ground) -> Result<Table, Refusal>
     let key = start_key(ground.image, ground.plan);
     let place = Spot::Point(key, key.entry);
     let start = start_state(ground.plan);
-    let same = unchanged(&start);
+    let same = identity_change(&start);
     let incoming = Incoming::Changed(&start, &same);
     let cell = SmallKnown::new(alloc, ground.bounds, &incoming)?;
     let mut places = IndexMap::with_capacity(alloc, first_table_room(ground.image))?;
@@ -134,7 +134,7 @@ fn fixpoint_turn(
     requires none { NoVisitOpen table.old }
     ensures { VisitTurnsOn ground.now table.old table.new result }
 {
-    let mut change = unchanged(scratch.state.state());
+    let mut change = identity_change(scratch.state.state());
     let mut cache = OperationCache::empty();
     for _done in 0..table.work.len() + 1024 {
         if !fixpoint_step(alloc, ground, table, scratch, &mut change, &mut cache)? {

@@ -95,7 +95,7 @@ pub(crate) fn point_row(
 
 /// Rows in the making.
 #[derive(Drop)]
-pub(crate) struct Draft {
+pub(crate) struct RowsDraft {
     rows: Vec<NeedRow>,
     /// For each frame by its number, the outline of its last plain point, whose row is in `rows`.
     outlines: Vec<Option<Outline>>,
@@ -127,7 +127,7 @@ fn has_equal_row(outlines: &[Option<Outline>], node: usize, known: &Marked<Small
 fn add_plain_row(
     alloc: Global,
     source: &Source,
-    draft: &mut Draft,
+    draft: &mut RowsDraft,
     node: usize,
     outline: Outline,
 ) -> Result<(), AllocError>
@@ -151,7 +151,7 @@ fn add_plain_row(
 fn add_point_row(
     alloc: Global,
     source: &Source,
-    draft: &mut Draft,
+    draft: &mut RowsDraft,
     at: &KnownPoint,
 ) -> Result<(), AllocError>
     requires source { IsRowSource source.now }
@@ -175,7 +175,7 @@ fn add_point_row(
 fn add_row(
     alloc: Global,
     source: &Source,
-    draft: &mut Draft,
+    draft: &mut RowsDraft,
     entry: usize,
 ) -> Result<(), AllocError>
     requires source { IsRowSource source.now }
@@ -210,7 +210,7 @@ pub(crate) fn rows(alloc: Global, source: &Source) -> Result<Vec<NeedRow>, Alloc
     requires { IsRowSource source.now }
     ensures { IfOk result (λ rows. RowsOn source.now.ground.now source.now.table.now rows.items) }
 {
-    let mut draft = Draft {
+    let mut draft = RowsDraft {
         rows: Vec::new(alloc),
         outlines: vec![in alloc; None; source.table.frames.len()]?,
         state: ScratchState::new(start_state(source.ground.plan)),
@@ -219,6 +219,6 @@ pub(crate) fn rows(alloc: Global, source: &Source) -> Result<Vec<NeedRow>, Alloc
     for entry in 0..source.table.places.len() {
         add_row(alloc, source, &mut draft, entry)?;
     }
-    let Draft { rows, .. } = draft;
+    let RowsDraft { rows, .. } = draft;
     Ok(rows)
 }

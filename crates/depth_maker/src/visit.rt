@@ -156,7 +156,7 @@ pub(crate) fn visit_place(
     let Spot::Point(key, addr) = *at else {
         return Ok(false);
     };
-    let located = scratch.codes.located(ground.image, ground.plan, addr);
+    let located = scratch.codes.locate(ground.image, ground.plan, addr);
     let site = Site {
         ground,
         key,

@@ -16,7 +16,7 @@ use crate::values::Values;
 use depth_cert::lower_value;
 use std::alloc::{AllocError, Global};
 use std::rc::Rc;
-use value_domain::{Bounds, State, Val};
+use value_domain::{A10_SLOT, Bounds, State, Val};
 use vd_transfer::{Base, Change, Put, is_lower_slot};
 
 /// Returns the incoming values, place by place. It is a call of its own, since it has room for a
@@ -56,7 +56,7 @@ fn pack_own(alloc: Global, own: &Values, incoming: &Incoming) -> Result<Values, 
             values.add_part(lower, 0, 8)?;
             values.add_part(own, 8, 8)?;
             values.add_part(lower, 8, 6)?;
-            values.add_part(own, 22, 5)?;
+            values.add_part(own, A10_SLOT, 5)?;
             Ok(values)
         }
         Incoming::Leaving(s) => {
@@ -108,7 +108,7 @@ fn upper_values(alloc: Global, own: &Values) -> Result<Values, AllocError>
     };
     values.add_part(own, 8, 8)?;
     values.add_anys(6);
-    values.add_part(own, 22, 5)?;
+    values.add_part(own, A10_SLOT, 5)?;
     Ok(values)
 }
 

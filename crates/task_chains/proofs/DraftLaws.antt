@@ -7,7 +7,7 @@ use Rattle.std.proofs.lemmas.List.{length-append, length-take, map-append, take_
 use Rattle.std.proofs.lemmas.List.Elements.{filter-append}
 use Rattle.tcd_text.specs.Lines.{text_lines, is_nonempty_line}
 use Rattle.task_chains.specs.declared.lines.Places.{Places}
-use Rattle.task_chains.specs.declared.drafts.Draft.{Draft}
+use Rattle.task_chains.specs.declared.drafts.TasksDraft.{TasksDraft}
 use Rattle.task_chains.specs.declared.task_lists.Task.{Task}
 use Rattle.task_chains.specs.declared.task_lists.TasksErr.TheVariants.{BadLine}
 use Rattle.task_chains.specs.Tasks.{TasksData}
@@ -122,15 +122,15 @@ module _ (before : List (List ℕ)) where
   pub bad_task : (line : List ℕ) (p : Places) (list : List Task) (eighth : Option ℕ) → 0 < length line → task_of line ≡ None → IsDraftBy before (Some p) list eighth → BreaksTaskForm before line
   bad_task line p list eighth lt none d = (not_empty line lt, inr ((tasks_with p d.all, d.said), none))
 
-pub draft_nothing : (before : List (List ℕ)) (line : List ℕ) (d : Draft) → length line ≡ 0 → IsTasksDraft before d → IsTasksDraft (before ++ line ∷ []) d
+pub draft_nothing : (before : List (List ℕ)) (line : List ℕ) (d : TasksDraft) → length line ≡ 0 → IsTasksDraft before d → IsTasksDraft (before ++ line ∷ []) d
 draft_nothing before [] d none is = draft_empty before d.places d.list.items d.eighth is
 draft_nothing before (x ∷ xs) d none is = absurd (omega arith)
 
 -- ---- a draft and one line more
-pub takes_nothing : (d : Draft) (n : ℕ) (line : List ℕ) → length line ≡ 0 → TakesTaskLine d n line d
+pub takes_nothing : (d : TasksDraft) (n : ℕ) (line : List ℕ) → length line ≡ 0 → TakesTaskLine d n line d
 takes_nothing d n line none before made at = draft_nothing before line d none made
 
-module _ (old : Draft) (n : ℕ) (line : List ℕ) (some : 0 < length line) where
+module _ (old : TasksDraft) (n : ℕ) (line : List ℕ) (some : 0 < length line) where
   pub takes_places : (p : Places) → old.places ≡ None → places_of line ≡ Some p → TakesTaskLine old n line (record { places = Some p; list = old.list; eighth = old.eighth })
   takes_places p none is before made at = draft_places before line p old.list.items old.eighth some is (subst (λ o. IsDraftBy before o old.list.items old.eighth) none made)
 
@@ -142,7 +142,7 @@ module _ (old : Draft) (n : ℕ) (line : List ℕ) (some : 0 < length line) wher
   takes_by None t list more eighth next there is room full before made at = absurd (let f : false ≡ true = there in cc)
   takes_by (Some p) t list more eighth next there is room full before made at = draft_task before n line p t list more eighth next at some is room full made
 
-  pub takes_task : (new : Draft) (t : Task) → IsSome old.places → task_of line ≡ Some t → new.places ≡ old.places → (length old.list.items < 7 → (new.list.items ≡ old.list.items ++ t ∷ []) × (new.eighth ≡ old.eighth))
+  pub takes_task : (new : TasksDraft) (t : Task) → IsSome old.places → task_of line ≡ Some t → new.places ≡ old.places → (length old.list.items < 7 → (new.list.items ≡ old.list.items ++ t ∷ []) × (new.eighth ≡ old.eighth))
       → (7 ≤ length old.list.items → (new.list.items ≡ old.list.items) × (new.eighth ≡ option_or old.eighth (Some n))) → TakesTaskLine old n line new
   takes_task new t there is same room full before made at =
       subst (λ o. IsDraftBy (before ++ line ∷ []) o new.list.items new.eighth) (sym same)
@@ -157,7 +157,7 @@ module _ (old : Draft) (n : ℕ) (line : List ℕ) (some : 0 < length line) wher
 
 -- ---- a text
 -- the draft is that of the lines before those that are left
-pub record IsDraftSoFar (bytes rest : List ℕ) (number : ℕ) (d : Draft) : Type 0 where
+pub record IsDraftSoFar (bytes rest : List ℕ) (number : ℕ) (d : TasksDraft) : Type 0 where
   pub before : List (List ℕ)
   pub split : text_lines bytes ≡ before ++ text_lines rest
   pub count : number ≡ length before
@@ -167,7 +167,7 @@ behind_one : (xs ys : List (List ℕ)) (x : List ℕ) → xs ++ x ∷ ys ≡ (xs
 behind_one [] ys x = refl
 behind_one (z ∷ zs) ys x = ap (λ l. z ∷ l) (behind_one zs ys x)
 
-pub drafted_more : (bytes rest line behind : List ℕ) (number : ℕ) (d more : Draft) → IsDraftSoFar bytes rest number d → text_lines rest ≡ line ∷ text_lines behind
+pub drafted_more : (bytes rest line behind : List ℕ) (number : ℕ) (d more : TasksDraft) → IsDraftSoFar bytes rest number d → text_lines rest ≡ line ∷ text_lines behind
     → ((before : List (List ℕ)) → IsTasksDraft before d → number + 1 ≡ length before + 1 → IsTasksDraft (before ++ line ∷ []) more) → IsDraftSoFar bytes behind (number + 1) more
 drafted_more bytes rest line behind number d more so cut takes = record {
   before = so.before ++ line ∷ [];
@@ -176,7 +176,7 @@ drafted_more bytes rest line behind number d more so cut takes = record {
   made = takes so.before so.made (ap (λ k. k + 1) so.count);
 }
 
-pub drafted_all : (bytes rest : List ℕ) (number : ℕ) (d : Draft) → length rest ≡ 0 → IsDraftSoFar bytes rest number d → IsTasksDraft (text_lines bytes) d
+pub drafted_all : (bytes rest : List ℕ) (number : ℕ) (d : TasksDraft) → length rest ≡ 0 → IsDraftSoFar bytes rest number d → IsTasksDraft (text_lines bytes) d
 unfolding text_lines
 drafted_all bytes [] number d none so = subst (λ ls. IsTasksDraft ls d) (sym (so.split ∙ append-nil so.before)) so.made
 drafted_all bytes (x ∷ xs) number d none so = absurd (omega arith)

@@ -8,7 +8,7 @@ use Rattle.tcd_base.specs.Ranges.{IsInOneRange}
 use Rattle.tcd_text.specs.Lines.{line_words, is_nonempty_line}
 use Rattle.tcd_text.specs.HexNumbers.{hex_number_of}
 use Rattle.task_chains.specs.declared.lines.Places.{Places}
-use Rattle.task_chains.specs.declared.drafts.Draft.{Draft}
+use Rattle.task_chains.specs.declared.drafts.TasksDraft.{TasksDraft}
 use Rattle.task_chains.specs.declared.task_lists.Task.{Task}
 use Rattle.task_chains.specs.declared.task_lists.TasksErr.{TasksErr}
 use Rattle.task_chains.specs.declared.task_lists.TasksErr.TheVariants.{BadLine, TooMany, TooFew, NotRam, NoRoom, OnIsp, Count}
@@ -149,15 +149,15 @@ IsDraftBy lines None list eighth = (written_task_lines lines ≡ []) × (list �
 IsDraftBy lines (Some places) list eighth = IsKept lines places list eighth
 
 -- the draft of these lines of a text of tasks
-abbrev pub IsTasksDraft : List (List ℕ) → Draft → Type 0
+abbrev pub IsTasksDraft : List (List ℕ) → TasksDraft → Type 0
 IsTasksDraft lines d = IsDraftBy lines d.places d.list.items d.eighth
 
 -- the draft of a text of tasks after one line more, whose number this is
-abbrev pub TakesTaskLine : Draft → ℕ → List ℕ → Draft → Type 0
+abbrev pub TakesTaskLine : TasksDraft → ℕ → List ℕ → TasksDraft → Type 0
 TakesTaskLine old n line new = (before : List (List ℕ)) → IsTasksDraft before old → n ≡ length before + 1 → IsTasksDraft (before ++ line ∷ []) new
 
 -- the line of this number is of another form
-abbrev pub IsLineBad : Draft → ℕ → List ℕ → TasksErr → Type 0
+abbrev pub IsLineBad : TasksDraft → ℕ → List ℕ → TasksErr → Type 0
 IsLineBad old n line e = (e ≡ BadLine n) × ((before : List (List ℕ)) → IsTasksDraft before old → BreaksTaskForm before line)
 
 -- ---- the law

@@ -15,7 +15,7 @@ const MOST_TASKS: usize = 7;
 
 /// What the lines so far say.
 #[derive(Drop)]
-pub struct Draft {
+pub struct TasksDraft {
     /// The addresses of the first line that isn't empty.
     pub places: Option<Places>,
     /// The first seven tasks.
@@ -25,10 +25,10 @@ pub struct Draft {
 }
 
 /// Returns the draft before the first line.
-fn new_tasks_draft() -> Draft
+fn new_tasks_draft() -> TasksDraft
     ensures { IsTasksDraft [] result }
 {
-    Draft {
+    TasksDraft {
         places: None,
         list: ArrayVec::new(),
         eighth: None,
@@ -36,7 +36,7 @@ fn new_tasks_draft() -> Draft
 }
 
 /// Adds the task of line `number`. If there are seven already, only the number is kept.
-fn add_task(draft: &mut Draft, number: u32, task: Task)
+fn add_task(draft: &mut TasksDraft, number: u32, task: Task)
     ensures places { draft.new.places ≡ draft.old.places }
     ensures room { length draft.old.list.items < 7
         → (draft.new.list.items ≡ draft.old.list.items ++ task ∷ [])
@@ -53,7 +53,7 @@ fn add_task(draft: &mut Draft, number: u32, task: Task)
 }
 
 /// Adds the addresses of the first line that isn't empty.
-fn add_first(draft: &mut Draft, number: u32, line: &[u8]) -> Result<(), TasksErr>
+fn add_first(draft: &mut TasksDraft, number: u32, line: &[u8]) -> Result<(), TasksErr>
     requires none { draft.old.places ≡ None }
     requires some { 0 < length line.now }
     ensures ok { OnOk result (TakesTaskLine draft.old number line.now draft.new) }
@@ -69,7 +69,7 @@ fn add_first(draft: &mut Draft, number: u32, line: &[u8]) -> Result<(), TasksErr
 }
 
 /// Adds the task of a later line that isn't empty.
-fn add_other(draft: &mut Draft, number: u32, line: &[u8]) -> Result<(), TasksErr>
+fn add_other(draft: &mut TasksDraft, number: u32, line: &[u8]) -> Result<(), TasksErr>
     requires places { IsSome draft.old.places }
     requires some { 0 < length line.now }
     ensures ok { OnOk result (TakesTaskLine draft.old number line.now draft.new) }
@@ -85,7 +85,7 @@ fn add_other(draft: &mut Draft, number: u32, line: &[u8]) -> Result<(), TasksErr
 }
 
 /// Adds what line `number` says, or returns the error of its form.
-fn add_line(draft: &mut Draft, number: u32, line: &[u8]) -> Result<(), TasksErr>
+fn add_line(draft: &mut TasksDraft, number: u32, line: &[u8]) -> Result<(), TasksErr>
     ensures ok { OnOk result (TakesTaskLine draft.old number line.now draft.new) }
     ensures err { IfErr result (IsLineBad draft.old number line.now) }
 {
@@ -99,7 +99,7 @@ fn add_line(draft: &mut Draft, number: u32, line: &[u8]) -> Result<(), TasksErr>
 }
 
 /// Returns what all lines of a text say, or the error of the first line that has another form.
-pub(crate) fn draft_of(bytes: &[u8]) -> Result<Draft, TasksErr>
+pub(crate) fn draft_of(bytes: &[u8]) -> Result<TasksDraft, TasksErr>
     requires { length bytes.now ≤ 2 ^ 30 }
     ensures ok { IfOk result (IsTasksDraft (text_lines bytes.now)) }
     ensures err { let lines = text_lines bytes.now in

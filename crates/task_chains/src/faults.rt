@@ -5,7 +5,7 @@ ghost use Rattle.cfg_recover.specs.RulesHoldOrFail.{Accepts};
 ghost use Rattle.task_chains.specs.Rule17.{KeepsApart, IsTaskFault, HoldsApartIn, IsNodeFault};
 
 use crate::Tasks;
-use crate::rule_17::{Rule, holds_apart};
+use crate::rule_17::{TasksRule, holds_apart};
 use cfg_recover::KnownCodes;
 use depth_cert::{Cert, Key, Node};
 use elf_image::Image;
@@ -13,7 +13,7 @@ use tcd_plan::Plan;
 use value_domain::Bounds;
 
 /// Returns the first address of a node's points at which rule 17 fails.
-fn node_task_fault(rule: &Rule, codes: &mut KnownCodes, node: &Node) -> Option<u32>
+fn node_task_fault(rule: &TasksRule, codes: &mut KnownCodes, node: &Node) -> Option<u32>
     requires { All (λ p. AreValues rule.now.bounds.now p.state.regs) node.now.points }
     ensures none { let r = rule.now in
         IfNone result
@@ -39,7 +39,7 @@ pub fn task_fault(view: &Image, plan: &Plan, tasks: &Tasks, cert: &Cert) -> Opti
     ensures some { IfSome result (λ f. IsTaskFault view.now plan.now tasks.now cert.now f.0 f.1) }
 {
     let bounds = Bounds::of(plan, cert.version);
-    let rule = Rule {
+    let rule = TasksRule {
         bounds: &bounds,
         view,
         plan,

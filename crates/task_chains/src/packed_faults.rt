@@ -5,7 +5,7 @@ ghost use Rattle.cfg_recover.specs.RulesHoldOrFail.{Accepts};
 ghost use Rattle.task_chains.specs.Rule17.{KeepsApart, IsTaskFault, HoldsApartIn, IsNodeFault};
 
 use crate::Tasks;
-use crate::rule_17::{Rule, holds_apart};
+use crate::rule_17::{TasksRule, holds_apart};
 use cfg_recover::KnownCodes;
 use depth_cert::Key;
 use elf_image::Image;
@@ -15,7 +15,7 @@ use value_domain::Bounds;
 
 /// Returns the first address of a node's points at which rule 17 fails.
 fn node_task_fault_packed<'a>(
-    rule: &Rule,
+    rule: &TasksRule,
     codes: &mut KnownCodes,
     node: &PackedNode<'a>,
     walk: &mut PointWalk<'a>,
@@ -50,7 +50,7 @@ pub fn task_fault_packed(
     ensures some { IfSome result (λ f. IsTaskFault view.now plan.now tasks.now cert.now f.0 f.1) }
 {
     let bounds = Bounds::of(plan, cert.version());
-    let rule = Rule {
+    let rule = TasksRule {
         bounds: &bounds,
         view,
         plan,

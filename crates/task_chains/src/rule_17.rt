@@ -18,9 +18,12 @@ use tcd_plan::Plan;
 use value_domain::{Bounds, State, Val};
 use vd_transfer::address_by;
 
+/// The number of the rule on tasks: the code of a task keeps apart from what its view hides.
+pub const TASKS_RULE: u8 = 17;
+
 /// What rule 17 is judged by: the image and the plan of a task's view.
 #[derive(Drop)]
-pub(crate) struct Rule<'a> {
+pub(crate) struct TasksRule<'a> {
     pub(crate) bounds: &'a Bounds,
     pub(crate) view: &'a Image,
     pub(crate) plan: &'a Plan,
@@ -29,7 +32,7 @@ pub(crate) struct Rule<'a> {
 
 /// Returns whether rule 17 holds at an address of a frame, with this state before the instruction.
 pub(crate) fn holds_apart(
-    rule: &Rule,
+    rule: &TasksRule,
     codes: &mut KnownCodes,
     key: &Key,
     addr: u32,
@@ -41,7 +44,7 @@ pub(crate) fn holds_apart(
         ↔ HoldsApartIn r.bounds.now r.view.now r.plan.now r.tasks.now key.now
         (record { addr = addr; state = s.now }) }
 {
-    match codes.located(rule.view, rule.plan, addr) {
+    match codes.locate(rule.view, rule.plan, addr) {
         Some(found) => stays_apart(rule, key, addr, s, found.shape),
         None => true,
     }
@@ -172,7 +175,7 @@ fn is_place_apart(tasks: &Tasks, key: &Key, addr: u32) -> bool
 
 /// Returns whether an instruction of this shape keeps the rule at an address of a frame, with this
 /// state before it.
-pub(crate) fn stays_apart(rule: &Rule, key: &Key, addr: u32, s: &State, shape: Shape) -> bool
+pub(crate) fn stays_apart(rule: &TasksRule, key: &Key, addr: u32, s: &State, shape: Shape) -> bool
     requires shape { IsShape shape }
     requires values { AreValues rule.now.bounds.now s.now.regs }
     ensures { let r = rule.now in

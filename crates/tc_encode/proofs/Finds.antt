@@ -6,6 +6,7 @@ use Rattle.std.proofs.lemmas.Bool.{and_parts, ltb-true, leb-true, eqb-true, eqb-
 use Rattle.std.proofs.lemmas.Option.{slice_get-get_or, slice_get_within, get_or_from_slice_get}
 use Rattle.std.proofs.lemmas.List.Sums.{AllPass-from_list_all}
 use Rattle.std.proofs.lemmas.List.{get_or-map}
+use Rattle.tcd_base.proofs.OptionLaws.{some_same}
 use Rattle.tc_isa.specs.declared.fields.Uses.{Uses}
 use Rattle.tc_isa.specs.declared.fields.Fields.{Fields}
 use Rattle.tc_isa.specs.declared.table.Form.{Form}
@@ -22,9 +23,6 @@ use Rattle.tc_encode.proofs.Gaps.{fields_below, word_back, full_word}
 use Rattle.tc_encode.proofs.Inverse.{first-word, second-word}
 use Rattle.tc_encode.proofs.Only.{only}
 use Rattle.tc_encode.proofs.Apart.{same_form}
-
-some_same : {A : Type 0} (x y : A) → Some x ≡ Some y → x ≡ y
-some_same x y e = cc
 
 -- the row of an instruction is the one at its place
 pub row_is : (place : ℕ) (r : RowData) (i : InstData) (is : IsInst i) → slice_get listed place ≡ Some r → i.row ≡ place → is.row ≡ r

@@ -2,6 +2,7 @@
 use Rattle.std.proofs.Common.{◌≡◌, inl, inr, ◌+◌, ℕ, zero, suc, true, false, List, [], ◌∷◌, refl, sym, ap, subst, ◌∙◌, arith, Option, Some, None, add-zero}
 use Rattle.std.specs.Prelude.{slice_get}
 use Rattle.std.proofs.lemmas.Bool.{cases_Bool, cond-true, cond-false, both_ways}
+use Rattle.tcd_base.proofs.OptionLaws.{some_same}
 use Rattle.tc_isa.specs.Rows.{RowData}
 use Rattle.tc_isa.specs.Insts.{InstData}
 use Rattle.tc_encode.specs.Decoding.{begins_with, decoded_row_length, fields_at, instruction_at_row, first_of}
@@ -16,9 +17,6 @@ pub record Gives (bytes : List ℕ) (place : ℕ) (rows : List RowData) (found :
 
 some_none : {A : Type 0} (x : A) → Some x ≡ None → ⊥
 some_none x e = cc
-
-some_same : {A : Type 0} (x y : A) → Some x ≡ Some y → x ≡ y
-some_same x y e = cc
 
 pub found_gives : (bytes : List ℕ) (place : ℕ) (rows : List RowData) (found : InstData × ℕ) → first_of bytes place rows ≡ Some found → Gives bytes place rows found
 found_gives bytes place [] found e = absurd (some_none found (sym e))

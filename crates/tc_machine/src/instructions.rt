@@ -52,7 +52,7 @@ impl Machine {
 
     /// Executes the sum of a base and a shifted index.
     #[tactic(auto, unfolding(crate::specs::Instructions::does))]
-    fn scaled(&mut self, dst: u8, base: u8, index: u8, k: u8, n: u32)
+    fn compute_scaled(&mut self, dst: u8, base: u8, index: u8, k: u8, n: u32)
         requires { IsShape (Shape.Scaled dst base index k) }
         ensures { (event : Event)
             → self.new ≡ does self.old event (Shape.Scaled dst base index k) n }
@@ -308,7 +308,7 @@ impl Machine {
                 base,
                 index,
                 n: k,
-            } => self.scaled(dst, base, index, k, n),
+            } => self.compute_scaled(dst, base, index, k, n),
             Shape::Load { .. } | Shape::Store { .. } => self.execute_access(event, shape, n),
             Shape::Branch {
                 cond,

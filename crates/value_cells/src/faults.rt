@@ -8,7 +8,7 @@ ghost use Rattle.value_cells.specs.Keeping.{KeepsCells, KeepsCellsAtPoint, IsFir
 
 use crate::cells::Cells;
 use crate::plans::with_cells;
-use crate::rule_16::{Rule, keeps_rule_16};
+use crate::rule_16::{CellsRule, keeps_rule_16};
 use cfg_recover::KnownCodes;
 use depth_cert::{Cert, Key, Node};
 use elf_image::Image;
@@ -16,7 +16,7 @@ use tcd_plan::Plan;
 use value_domain::Bounds;
 
 /// Returns the first address of a node's points at which rule 16 fails.
-fn node_cells_fault(rule: &Rule, codes: &mut KnownCodes, node: &Node) -> Option<u32>
+fn node_cells_fault(rule: &CellsRule, codes: &mut KnownCodes, node: &Node) -> Option<u32>
     requires values { All (λ p. AreValues rule.now.bounds.now p.state.regs) node.now.points }
     requires cells { All (λ c. c.at + 4 ≤ 2 ^ 32) rule.now.cells.now }
     ensures none { let r = rule.now in
@@ -48,7 +48,7 @@ pub fn cells_fault(image: &Image, plan: &Plan, cells: &Cells, cert: &Cert) -> Op
     let _areas = plan.areas;
     let other = with_cells(plan, cells);
     let bounds = Bounds::of(&other, cert.version);
-    let rule = Rule {
+    let rule = CellsRule {
         bounds: &bounds,
         image,
         plan: &other,

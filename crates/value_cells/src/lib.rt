@@ -17,3 +17,4 @@ pub use faults::cells_fault;
 pub use laws::{cells_in_words, cells_keep_their_bounds, faults_of_cells};
 pub use packed_faults::cells_fault_packed;
 pub use plans::with_cells;
+pub use rule_16::CELLS_RULE;

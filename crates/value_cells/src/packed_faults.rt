@@ -8,7 +8,7 @@ ghost use Rattle.value_cells.specs.Keeping.{KeepsCells, KeepsCellsAtPoint, IsFir
 
 use crate::cells::Cells;
 use crate::plans::with_cells;
-use crate::rule_16::{Rule, keeps_rule_16};
+use crate::rule_16::{CellsRule, keeps_rule_16};
 use cfg_recover::KnownCodes;
 use depth_cert::Key;
 use elf_image::Image;
@@ -18,7 +18,7 @@ use value_domain::Bounds;
 
 /// Returns the first address of a node's points at which rule 16 fails.
 fn node_cells_fault_packed<'a>(
-    rule: &Rule,
+    rule: &CellsRule,
     codes: &mut KnownCodes,
     node: &PackedNode<'a>,
     walk: &mut PointWalk<'a>,
@@ -59,7 +59,7 @@ pub fn cells_fault_packed(
     let _areas = plan.areas;
     let other = with_cells(plan, cells);
     let bounds = Bounds::of(&other, cert.version());
-    let rule = Rule {
+    let rule = CellsRule {
         bounds: &bounds,
         image,
         plan: &other,

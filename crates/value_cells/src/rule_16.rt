@@ -10,9 +10,12 @@ use elf_image::Image;
 use tcd_plan::Plan;
 use value_domain::{Bounds, State};
 
+/// The number of the rule on cells: every store keeps their bounds.
+pub const CELLS_RULE: u8 = 16;
+
 /// What rule 16 is judged by.
 #[derive(Drop)]
-pub(crate) struct Rule<'a> {
+pub(crate) struct CellsRule<'a> {
     pub(crate) bounds: &'a Bounds,
     pub(crate) image: &'a Image,
     /// The plan in which the cells are devices.
@@ -21,7 +24,7 @@ pub(crate) struct Rule<'a> {
 }
 
 /// Returns whether the instruction at an address, with this state before it, keeps the cells.
-pub(crate) fn keeps_rule_16(rule: &Rule, codes: &mut KnownCodes, addr: u32, s: &State) -> bool
+pub(crate) fn keeps_rule_16(rule: &CellsRule, codes: &mut KnownCodes, addr: u32, s: &State) -> bool
     requires values { AreValues rule.now.bounds.now s.now.regs }
     requires cells { All (λ c. c.at + 4 ≤ 2 ^ 32) rule.now.cells.now }
     ensures { let r = rule.now in
@@ -29,7 +32,7 @@ pub(crate) fn keeps_rule_16(rule: &Rule, codes: &mut KnownCodes, addr: u32, s: &
         ↔ KeepsCellsAtPoint r.bounds.now r.image.now r.plan.now r.cells.now
         (record { addr = addr; state = s.now }) }
 {
-    match codes.located(rule.image, rule.plan, addr) {
+    match codes.locate(rule.image, rule.plan, addr) {
         Some(found) => keeps_at(rule.bounds, rule.plan, found.shape, s, rule.cells),
         None => true,
     }

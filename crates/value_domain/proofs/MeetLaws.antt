@@ -2,6 +2,7 @@
 use Rattle.std.proofs.Common.{◌≡◌, ℕ, ◌^◌, ◌<◌, ◌≤◌, inl, inr, Bool, true, false, ◌&&◌, List, [], ◌∷◌, ◌++◌, length, refl, sym, ap, ◌∙◌, subst, arith, min, max, Some, None, leb, eqb}
 use Rattle.std.specs.List.{filter, list_any}
 use Rattle.std.proofs.lemmas.Bool.{cases_Bool, and_parts, and_from, leb-true, le-leb, or_cases, or_left, or_right, eqb-true, eq-eqb}
+use Rattle.tcd_base.proofs.OptionLaws.{some_same}
 use Rattle.value_domain.specs.declared.values.Val.{Val}
 use Rattle.value_domain.specs.declared.values.Val.TheVariants.{Set, Span}
 use Rattle.value_domain.specs.Sets.{Among, Within, alignment_log2, multiples}
@@ -21,9 +22,6 @@ cover_some-same b (x ∷ xs) (y ∷ ys) there back = ap (λ (v : Val). Some v) (
 pub add_first : (b : Limits) (x : ℕ) (xs : List ℕ) → AreLimits b → x < 2 ^ 32 → None ≡ cover_of_meet b xs → Some (Set (x ∷ [])) ≡ cover_of_meet b (xs ++ x ∷ [])
 add_first b x [] limits small e = ap (λ (v : Val). Some v) (cover-one b x limits small)
 add_first b x (y ∷ ys) limits small e = absurd (let f : None ≡ Some (cover b (y ∷ ys)) = e in cc)
-
-some_same : (v w : Val) → Some v ≡ Some w → v ≡ w
-some_same v w e = cc
 
 pub add_more : (b : Limits) (v : Val) (x : ℕ) (xs : List ℕ) → Some v ≡ cover_of_meet b xs → Some (cover b (x ∷ members v)) ≡ cover_of_meet b (xs ++ x ∷ [])
 add_more b v x [] e = absurd (let f : Some v ≡ None = e in cc)

@@ -1,11 +1,9 @@
 -- Where a state has the values of registers.
 use Rattle.std.proofs.Common.{◌≡◌, ℕ, ◌+◌, ◌-◌, ◌<◌, ◌≤◌, inl, inr, false, refl, sym, ap, ◌∙◌, arith, Some, None, leb, ltb, eqb, ◌&&◌, if◌then◌else◌}
 use Rattle.std.proofs.lemmas.Bool.{cases_lt, cases_Bool, lt-ltb, le-ltb, le-leb, lt-leb, eqb-true, leb-true, and_parts}
+use Rattle.tcd_base.proofs.OptionLaws.{some_same}
 use Rattle.vd_transfer.specs.Registers.{slot, is_lower_register}
 use Rattle.value_domain.specs.State.{is_lower_slot}
-
-some_same : (i j : ℕ) → Some i ≡ Some j → i ≡ j
-some_same i j e = cc
 
 none_some : {A : Type 0} (i : ℕ) → None ≡ Some i → A
 none_some i e = absurd (let f : None ≡ Some i = e in cc)

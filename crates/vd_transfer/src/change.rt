@@ -66,7 +66,7 @@ pub fn put_register(r: u8, v: Val) -> Put
 
 /// Returns the change that keeps the whole state.
 #[inline(always)]
-pub fn unchanged(s: &State) -> Change
+pub fn identity_change(s: &State) -> Change
     ensures kept { result ≡ kept_of s.now }
     ensures same { state_after s.now result ≡ s.now }
 {

@@ -16,7 +16,7 @@ mod strided_interval;
 
 pub use access::{address_by, write_address};
 pub use branch_sides::change_on;
-pub use change::{Base, Change, Put, put_register, unchanged};
+pub use change::{Base, Change, Put, identity_change, put_register};
 pub use changed_states::{changed_value, covers_changed};
 pub use effect::change_of;
 pub use laws::{effect_laws, operation_laws, refinement_laws};

@@ -16,7 +16,7 @@ use tcd_base::Files;
 use tcd_forms::{ElfFile, PlanFile, certified_cells_line, refused_line};
 use tcd_plan::Plan;
 use tcd_reading::{Outcome, Status, read_input, report, report_file};
-use value_cells::{Cells, cells_fault_packed, with_cells};
+use value_cells::{CELLS_RULE, Cells, cells_fault_packed, with_cells};
 
 /// Reads an executable, a plan and its cells, and makes their certificate.
 #[inline(never)]
@@ -90,7 +90,11 @@ fn report_cells_cert(
     match check_packed(image, &with_cells(plan, cells), &cert) {
         Verdict::Yes(need) => match cells_fault_packed(image, plan, cells, &cert) {
             Some((key, addr)) => {
-                report(alloc, Status::Refused, refused_line(alloc, 16, key, addr))
+                report(
+                    alloc,
+                    Status::Refused,
+                    refused_line(alloc, CELLS_RULE, key, addr),
+                )
             }
             None => {
                 let count = cells.list().len();

@@ -12,7 +12,7 @@ use tcd_base::Files;
 use tcd_forms::{CertFile, ElfFile, PlanFile, certified_cells_line, refused_line};
 use tcd_plan::Plan;
 use tcd_reading::{Outcome, Status, read_input, report};
-use value_cells::{Cells, cells_fault_packed, with_cells};
+use value_cells::{CELLS_RULE, Cells, cells_fault_packed, with_cells};
 
 /// Reads the four files, and reports whether the certificate is accepted under the plan in which
 /// the cells are devices, and keeps the cells.
@@ -70,7 +70,11 @@ fn cells_verdict(
     match check_packed(image, &with_cells(plan, cells), cert) {
         Verdict::Yes(need) => match cells_fault_packed(image, plan, cells, cert) {
             Some((key, addr)) => {
-                report(alloc, Status::Refused, refused_line(alloc, 16, key, addr))
+                report(
+                    alloc,
+                    Status::Refused,
+                    refused_line(alloc, CELLS_RULE, key, addr),
+                )
             }
             None => {
                 let areas = plan.areas - plan.reserve;

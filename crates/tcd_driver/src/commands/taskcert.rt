@@ -17,7 +17,9 @@ use depth_maker::{MakeErr, make_bytes};
 use elf_image::Image;
 use packed_cert::PackedCert;
 use std::alloc::Global;
-use task_chains::{Tasks, TasksErr, routine_fault, task_fault_packed, view_image, view_plan};
+use task_chains::{
+    TASKS_RULE, Tasks, TasksErr, routine_fault, task_fault_packed, view_image, view_plan,
+};
 use tcd_base::{Files, NoMemory};
 use tcd_forms::{
     ElfFile, PlanFile, certified_tasks_line, refused_sum_line, refused_switch_line,
@@ -240,7 +242,7 @@ fn check_task_view_cert(
     match check_packed(view, plan, &cert) {
         Verdict::Yes(need) => match task_fault_packed(view, plan, tasks, &cert) {
             Some((key, addr)) => Making::Refused {
-                rule: 17,
+                rule: TASKS_RULE,
                 key,
                 addr,
             },

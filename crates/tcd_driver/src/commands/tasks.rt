@@ -15,7 +15,9 @@ use depth_check::{Verdict, check_packed};
 use elf_image::Image;
 use packed_cert::PackedCert;
 use std::alloc::Global;
-use task_chains::{Tasks, TasksErr, routine_fault, task_fault_packed, view_image, view_plan};
+use task_chains::{
+    TASKS_RULE, Tasks, TasksErr, routine_fault, task_fault_packed, view_image, view_plan,
+};
 use tcd_base::{Files, NoMemory};
 use tcd_forms::{
     CertFile, ElfFile, PlanFile, certified_tasks_line, refused_sum_line, refused_switch_line,
@@ -231,7 +233,7 @@ fn judge_task(
     match check_packed(&view, &board, cert) {
         Verdict::Yes(need) => match task_fault_packed(&view, &board, tasks, cert) {
             Some((key, addr)) => Ok(Verdict::No {
-                rule: 17,
+                rule: TASKS_RULE,
                 key,
                 addr,
             }),

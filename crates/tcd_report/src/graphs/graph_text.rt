@@ -94,7 +94,7 @@ fn append_point(
     ensures front { OnOk result (string_bytes graph.new.key_front ≡ key_front key.now) }
     ensures handlers { OnOk result (KnowsHandlers judged.now.plan.now graph.new.ways.irq) }
 {
-    let Some(found) = codes.located(judged.image, judged.plan, addr) else {
+    let Some(found) = codes.locate(judged.image, judged.plan, addr) else {
         unreachable!()
     };
     find_edges(&mut graph.ways, judged, key, addr, s, &found)?;

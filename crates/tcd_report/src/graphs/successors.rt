@@ -21,7 +21,7 @@ use tc_isa::{Shape, Target};
 use tcd_base::NoMemory;
 use tcd_plan::Plan;
 use value_domain::State;
-use vd_transfer::{change_on, unchanged};
+use vd_transfer::{change_on, identity_change};
 
 /// Appends the addresses where the point may go on in its frame, except those after a call or a
 /// system call.
@@ -100,7 +100,7 @@ fn is_successor_possible(judged: &Judged, shape: Shape, s: &State, taken: bool) 
     ensures { let j = judged.now in
         result ≡ is_some (refine_of j.bounds.now j.plan.now shape s.now taken) }
 {
-    let mut c = unchanged(s);
+    let mut c = identity_change(s);
     change_on(judged.bounds, judged.plan, shape, s, taken, &mut c)
 }
 

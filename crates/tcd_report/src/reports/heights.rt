@@ -83,7 +83,7 @@ pub(crate) fn height_at_point(
         IsGreatestHeight (HasCalleeHeightAt j.image.now j.plan.now j.cert.now heights.now key.now
         (point_of addr s.now)) result }
 {
-    let Some(found) = codes.located(judged.image, judged.plan, addr) else {
+    let Some(found) = codes.locate(judged.image, judged.plan, addr) else {
         unreachable!()
     };
     match found.shape {

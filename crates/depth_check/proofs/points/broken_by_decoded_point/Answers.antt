@@ -16,14 +16,14 @@ returns-in-Err-clause-found c =
     let t = c.args.at.now in
     let key : c.node.inside.key ≡ t.node.now.key = c.node.invariant.same_key ∙ ap (λ (n : NodeData). n.key) c.node.view_is in
     own_broken t.image.now t.plan.now t.cert.now t.node.now (point_here t.point) t.bounds.now c.in-Err.rule c.requires.point.limits c.requires.point.values
-    (subst (λ (k : Key). IsLocalFault t.bounds.now t.image.now t.plan.now k t.point.addr t.point.state.now c.in-Err.rule) key (c.in-Err.ensures.fault t.image.now t.point.addr c.located-located.ensures.code))
+    (subst (λ (k : Key). IsLocalFault t.bounds.now t.image.now t.plan.now k t.point.addr t.point.state.now c.in-Err.rule) key (c.in-Err.ensures.fault t.image.now t.point.addr c.locate-located.ensures.code))
 
 pub broken_by_duties-duties-requires-clause-found : goal.broken_by_duties-duties-requires-clause-found
 broken_by_duties-duties-requires-clause-found c =
     let t = c.args.at.now in
     let key : c.node.inside.key ≡ t.node.now.key = c.node.invariant.same_key ∙ ap (λ (n : NodeData). n.key) c.node.view_is in
     subst (λ (k : Key). StandsFaultless t.bounds.now t.image.now t.plan.now k t.point.addr t.point.state.now c.in-Ok.found.now) key
-    (c.in-Ok.ensures.found t.image.now t.point.addr c.located-located.ensures.code)
+    (c.in-Ok.ensures.found t.image.now t.point.addr c.locate-located.ensures.code)
 
 pub returns-in-Ok-clause-found : goal.returns-in-Ok-clause-found
 returns-in-Ok-clause-found c =
@@ -32,7 +32,7 @@ returns-in-Ok-clause-found c =
     let key : c.node.inside.key ≡ t.node.now.key = c.node.invariant.same_key ∙ ap (λ (n : NodeData). n.key) c.node.view_is in
     let here =
     subst (λ (k : Key). StandsFaultless t.bounds.now t.image.now t.plan.now k t.point.addr t.point.state.now found) key
-    (c.in-Ok.ensures.found t.image.now t.point.addr c.located-located.ensures.code)
+    (c.in-Ok.ensures.found t.image.now t.point.addr c.locate-located.ensures.code)
     in
     let stands = subst (λ (b : Limits). StandsFaultless b t.image.now t.plan.now (t.node.now).key t.point.addr t.point.state.now found) c.requires.point.limits here in
     rw (c.lesser_broken_rule.ensures, c.rule_unless-need.ensures)

@@ -19,7 +19,7 @@ use Rattle.depth_maker.proofs.fixpoint.begin_fixpoint.Goals as goal
 pub new-requires : goal.new-requires
 new-requires c =
     let g = c.args.ground.now in
-    subst (λ (s : State). IsProperState g.bounds.now s) (sym (c.unchanged-same.ensures.same ∙ c.start_state-start.ensures)) (lawful g.bounds.now g.image.now g.plan.now g.sound).start_proper
+    subst (λ (s : State). IsProperState g.bounds.now s) (sym (c.identity_change-same.ensures.same ∙ c.start_state-start.ensures)) (lawful g.bounds.now g.image.now g.plan.now g.sound).start_proper
 
 pub add_queued_place-requires-clause-listed : goal.add_queued_place-requires-clause-listed
 add_queued_place-requires-clause-listed c = none_listed c.in_ok-places.places (all_work c.new-work.result) c.in_ok-places.ensures.empty c.new-work.ensures
@@ -36,7 +36,7 @@ returns-clause-ok c =
     let x = Point k k.entry in
     let v = c.in_ok-cell.cell in
     let place = ap (λ (z : Key). Point z z.entry) c.start_key-key.ensures in
-    let known = c.in_ok-cell.ensures ∙ ap state (c.unchanged-same.ensures.same ∙ c.start_state-start.ensures) in
+    let known = c.in_ok-cell.ensures ∙ ap state (c.identity_change-same.ensures.same ∙ c.start_state-start.ensures) in
     let puts = c.in_ok-add_queued_place.ensures.puts in
     begun_table g.bounds.now g.image.now g.plan.now _ x v place known
     (λ q. puts.values q ∙ ap (λ (o : Option Known). (if spot_eq x q then Some v else o)) (ap (option_map (λ (m : Marked Known). m.value)) (get_none c.in_ok-places.places q c.in_ok-places.ensures.empty)))

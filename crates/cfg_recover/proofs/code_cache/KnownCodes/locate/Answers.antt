@@ -2,8 +2,8 @@ use Rattle.std.proofs.Common.{ap, arith, get_or, ◌∙◌}
 use Rattle.cfg_recover.specs.Code.{LocatesCode}
 use Rattle.cfg_recover.specs.KnownCodes.{located_code_in}
 use Rattle.cfg_recover.proofs.KnownCodeLaws.{located_there, located_bounded}
-use Rattle.cfg_recover.proofs.code_cache.KnownCodes.located.Goals as goal
-use Rattle.cfg_recover.proofs.code_cache.KnownCodes.located.Goals.{Then-known-word}
+use Rattle.cfg_recover.proofs.code_cache.KnownCodes.locate.Goals as goal
+use Rattle.cfg_recover.proofs.code_cache.KnownCodes.locate.Goals.{Then-known-word}
 
 known_before : (c : goal.Then-known-word) → LocatesCode c.args.image.now c.args.plan.now c.args.addr (get_or c.args.self.now.codes c.code_cache_place-place.result c.index-self-place.result).found
 known_before c =
