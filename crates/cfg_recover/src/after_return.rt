@@ -43,6 +43,18 @@ pub fn covers_after(upper: &State, s: &State, exit: &Exit, kind: u8) -> bool
     are_below_after_return(&s.regs, &exit.lower, &upper.regs)
 }
 
+/// Returns the register values after a frame's return: those of the lower registers are the exit's,
+/// all others stay.
+fn regs_after_return(regs: &[Val; 27], lower: &[Val; 14]) -> [Val; 27]
+    ensures { result ≡ with_lower_from 0 lower.now regs.now }
+{
+    let mut out = std::array::from_fn(|_| Val::any());
+    for (i, v) in regs.iter().enumerate() {
+        out[i] = value_after_return(i, lower, v).copy();
+    }
+    out
+}
+
 /// Returns the IE that a frame has after a return to it: the exit's after a call, the caller's
 /// after a system call.
 fn ie_after_return(s: &State, exit: &Exit, kind: u8) -> bool
@@ -57,18 +69,6 @@ fn ccpn_after_return(s: &State, exit: &Exit, kind: u8) -> u8
     ensures { result ≡ (if kind == 1 then exit.now.ccpn else s.now.ccpn) }
 {
     if kind == CALL { exit.ccpn } else { s.ccpn }
-}
-
-/// Returns the register values after a frame's return: those of the lower registers are the exit's,
-/// all others stay.
-fn regs_after_return(regs: &[Val; 27], lower: &[Val; 14]) -> [Val; 27]
-    ensures { result ≡ with_lower_from 0 lower.now regs.now }
-{
-    let mut out = std::array::from_fn(|_| Val::any());
-    for (i, v) in regs.iter().enumerate() {
-        out[i] = value_after_return(i, lower, v).copy();
-    }
-    out
 }
 
 /// Returns the value of one register that a frame has after a return to it: the exit's for a lower

@@ -68,20 +68,6 @@ pub fn misaligned_change(b: &Bounds, plan: &Plan, key: &Key, s: &State) -> Chang
     c
 }
 
-/// The change at the entry of a handler with this stack pointer and CCPN.
-fn handler_with(s: &State, sp: Val, ccpn: u8) -> Change
-    ensures { result ≡ changes.handler_change sp ccpn }
-{
-    let mut c = identity_change(s);
-    c.base = Base::Any;
-    c.first = put_register(A10, sp);
-    c.ie = false;
-    c.ccpn = ccpn;
-    c.lower = true;
-    c.locals = ArrayVec::new();
-    c
-}
-
 /// The stack pointer of a handler: the interrupt stack's, or A10 if that stack is in use.
 fn handler_entry_stack(b: &Bounds, plan: &Plan, key: &Key, s: &State) -> Val
     requires { AreValues b.now s.now.regs }
@@ -104,4 +90,18 @@ fn entry_constant(b: &Bounds, x: u32) -> Val
 {
     let _most_words = b.most_words();
     Val::one(x)
+}
+
+/// The change at the entry of a handler with this stack pointer and CCPN.
+fn handler_with(s: &State, sp: Val, ccpn: u8) -> Change
+    ensures { result ≡ changes.handler_change sp ccpn }
+{
+    let mut c = identity_change(s);
+    c.base = Base::Any;
+    c.first = put_register(A10, sp);
+    c.ie = false;
+    c.ccpn = ccpn;
+    c.lower = true;
+    c.locals = ArrayVec::new();
+    c
 }

@@ -76,6 +76,31 @@ pub(crate) fn misaligned_flow_entry(
     }
 }
 
+/// Returns true if each address is a multiple of the size.
+pub fn is_flow_access_aligned(b: &Bounds, at: &Val, size: u8) -> bool
+    requires at { IsValue b.now at.now }
+    requires size { IsAccessSize size }
+    ensures { result ≡ are_aligned at.now size }
+{
+    let _most_words = b.most_words();
+    aligned(at, size)
+}
+
+/// Returns the leave of a Flow, which is told beside its entries: how the instruction leaves its
+/// own frame, by RET, by RFE, or not at all.
+#[tactic(auto, unfolding(crate::specs::FlowDuties::flow_leave_of))]
+pub(crate) fn flow_leave(key: &Key, s: &State, inst: &Inst) -> Leave
+    ensures told { told_leaving key.now s.now result
+        ≡ leavings_of key.now s.now (shape_of inst.now) }
+    ensures leave { result ≡ flow_leave_of (shape_of inst.now) }
+{
+    match shape(inst) {
+        Shape::Ret => Leave::Ret,
+        Shape::Rfe => Leave::Rfe,
+        _ => Leave::Stays,
+    }
+}
+
 /// The entry of the handler of misaligned accesses, unless all these addresses are multiples of the
 /// size.
 fn misaligned_flow_entry_at(
@@ -102,29 +127,4 @@ fn misaligned_flow_entry_at(
         state: state_after_change(s, &misaligned_change(b, plan, key, s)),
         resume: None,
     })
-}
-
-/// Returns true if each address is a multiple of the size.
-pub fn is_flow_access_aligned(b: &Bounds, at: &Val, size: u8) -> bool
-    requires at { IsValue b.now at.now }
-    requires size { IsAccessSize size }
-    ensures { result ≡ are_aligned at.now size }
-{
-    let _most_words = b.most_words();
-    aligned(at, size)
-}
-
-/// Returns the leave of a Flow, which is told beside its entries: how the instruction leaves its
-/// own frame, by RET, by RFE, or not at all.
-#[tactic(auto, unfolding(crate::specs::FlowDuties::flow_leave_of))]
-pub(crate) fn flow_leave(key: &Key, s: &State, inst: &Inst) -> Leave
-    ensures told { told_leaving key.now s.now result
-        ≡ leavings_of key.now s.now (shape_of inst.now) }
-    ensures leave { result ≡ flow_leave_of (shape_of inst.now) }
-{
-    match shape(inst) {
-        Shape::Ret => Leave::Ret,
-        Shape::Rfe => Leave::Rfe,
-        _ => Leave::Stays,
-    }
 }

@@ -58,6 +58,36 @@ pub(crate) fn successors(
     }
 }
 
+/// Writes into `c` how an instruction of this shape changes the state, whatever `c` was. The
+/// instruction stays in its frame and isn't a branch or a jump. If it saves a lower context, there
+/// is room for it; if it restores one, there is one.
+pub fn successor_change(
+    b: &Bounds,
+    image: &Image,
+    plan: &Plan,
+    shape: Shape,
+    s: &State,
+    c: &mut Change,
+)
+    requires shape { IsShape shape }
+    requires values { AreValues b.now s.now.regs }
+    requires room { EffectHasRoom b.now shape s.now }
+    ensures change { state_after s.now c.new
+        ≡ transfer_of b.now plan.now shape s.now
+        (loaded_for_duties b.now image.now plan.now s.now shape) }
+    ensures values { AreValues b.now (state_after s.now c.new).regs }
+{
+    match shape {
+        Shape::Nothing => keep_successor_state(s, c),
+        Shape::Load { .. } => {
+            write_address(b, plan, shape, s, &mut c.second.value);
+            write_flow_load(b, image, plan, shape, &c.second.value, &mut c.third.value);
+            change_of(b, plan, shape, s, c);
+        }
+        _ => change_of(b, plan, shape, s, c),
+    }
+}
+
 /// The jump on a side of a branch, if that side is possible.
 fn successor_on_side(
     b: &Bounds,
@@ -96,24 +126,6 @@ fn successor_by_step(b: &Bounds, image: &Image, plan: &Plan, s: &State, at: Inst
     }
 }
 
-/// Writes into `out` what a point's instruction loads from these addresses before it goes on to its
-/// successor, or any value if its shape isn't that of a load.
-fn write_flow_load(b: &Bounds, image: &Image, plan: &Plan, shape: Shape, at: &Val, out: &mut Val)
-    requires shape { IsShape shape }
-    requires value { IsValue b.now at.now }
-    ensures loaded { (s : State) → at.now ≡ address_of b.now plan.now shape s
-        → out.new ≡ loaded_for_duties b.now image.now plan.now s shape }
-    ensures value { IsValue b.now out.new }
-{
-    let _most_words = b.most_words();
-    match shape {
-        Shape::Load { size, signed, .. } => {
-            write_load(b, image, plan, at, LoadKind { size, signed }, out)
-        }
-        _ => write_any(out),
-    }
-}
-
 /// Writes the change by which a point's successor keeps the state. Mostly a state has no locals,
 /// and then none are copied.
 #[inline(always)]
@@ -134,32 +146,20 @@ fn keep_successor_state(s: &State, c: &mut Change)
     c.locals = ArrayVec::new();
 }
 
-/// Writes into `c` how an instruction of this shape changes the state, whatever `c` was. The
-/// instruction stays in its frame and isn't a branch or a jump. If it saves a lower context, there
-/// is room for it; if it restores one, there is one.
-pub fn successor_change(
-    b: &Bounds,
-    image: &Image,
-    plan: &Plan,
-    shape: Shape,
-    s: &State,
-    c: &mut Change,
-)
+/// Writes into `out` what a point's instruction loads from these addresses before it goes on to its
+/// successor, or any value if its shape isn't that of a load.
+fn write_flow_load(b: &Bounds, image: &Image, plan: &Plan, shape: Shape, at: &Val, out: &mut Val)
     requires shape { IsShape shape }
-    requires values { AreValues b.now s.now.regs }
-    requires room { EffectHasRoom b.now shape s.now }
-    ensures change { state_after s.now c.new
-        ≡ transfer_of b.now plan.now shape s.now
-        (loaded_for_duties b.now image.now plan.now s.now shape) }
-    ensures values { AreValues b.now (state_after s.now c.new).regs }
+    requires value { IsValue b.now at.now }
+    ensures loaded { (s : State) → at.now ≡ address_of b.now plan.now shape s
+        → out.new ≡ loaded_for_duties b.now image.now plan.now s shape }
+    ensures value { IsValue b.now out.new }
 {
+    let _most_words = b.most_words();
     match shape {
-        Shape::Nothing => keep_successor_state(s, c),
-        Shape::Load { .. } => {
-            write_address(b, plan, shape, s, &mut c.second.value);
-            write_flow_load(b, image, plan, shape, &c.second.value, &mut c.third.value);
-            change_of(b, plan, shape, s, c);
+        Shape::Load { size, signed, .. } => {
+            write_load(b, image, plan, at, LoadKind { size, signed }, out)
         }
-        _ => change_of(b, plan, shape, s, c),
+        _ => write_any(out),
     }
 }

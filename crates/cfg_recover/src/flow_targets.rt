@@ -41,6 +41,15 @@ pub fn targets(plan: &Plan, s: &State, addr: u32, to: Target) -> ArrayVec<u32, 1
     }
 }
 
+/// A list of one address.
+pub(crate) fn one_target(x: u32) -> ArrayVec<u32, 128>
+    ensures { result.items ≡ x ∷ [] }
+{
+    let mut targets = ArrayVec::new();
+    targets.push(x);
+    targets
+}
+
 /// The addresses that a register names. It is a function of its own, so that where no register is
 /// read no room of a value is filled.
 #[inline(never)]
@@ -49,15 +58,6 @@ fn targets_in_register(plan: &Plan, s: &State, r: u8) -> ArrayVec<u32, 128>
     ensures { result.items ≡ unwrap_or (targets_named_by (reg_of plan.now s.now r)) [] }
 {
     targets_of_value(&reg(plan, s, r))
-}
-
-/// A list of one address.
-pub(crate) fn one_target(x: u32) -> ArrayVec<u32, 128>
-    ensures { result.items ≡ x ∷ [] }
-{
-    let mut targets = ArrayVec::new();
-    targets.push(x);
-    targets
 }
 
 /// The addresses that the words of a value name; none for a span.

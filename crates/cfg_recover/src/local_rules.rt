@@ -200,67 +200,6 @@ pub fn rule_unless(holds: bool, rule: u8) -> Option<u8>
     if holds { None } else { Some(rule) }
 }
 
-/// Tries rule 9, then rule 10, for an access.
-fn local_access_fault(b: &Bounds, plan: &Plan, s: &State, shape: Shape) -> Option<u8>
-    requires shape { IsShape shape }
-    requires values { AreValues b.now s.now.regs }
-    ensures { IsAccessFault b.now plan.now s.now shape result }
-{
-    match rule_address_by_shape(b, plan, s, shape) {
-        Some(x) => local_fault_at_word(plan, x, shape),
-        None => local_fault_at_value(b, plan, s, shape),
-    }
-}
-
-/// The address of a load or a store, if its base has only one word.
-#[tactic(auto, unfolding(vd_transfer::specs::EffectsOnStates::address_of))]
-fn rule_address_by_shape(b: &Bounds, plan: &Plan, s: &State, shape: Shape) -> Option<u32>
-    requires shape { IsShape shape }
-    requires values { AreValues b.now s.now.regs }
-    ensures { IfSome result (λ x. address_of b.now plan.now shape s.now ≡ word_val x) }
-{
-    match shape {
-        Shape::Load {
-            base,
-            offset,
-            after,
-            ..
-        } => rule_address_by_base(b, plan, s, base, offset, after),
-        Shape::Store {
-            base,
-            offset,
-            after,
-            ..
-        } => rule_address_by_base(b, plan, s, base, offset, after),
-        _ => None,
-    }
-}
-
-/// Returns the address that the own parts of rules 9 and 10 test, if the base register of the
-/// access has only one word.
-#[inline(always)]
-fn rule_address_by_base(
-    b: &Bounds,
-    plan: &Plan,
-    s: &State,
-    base: Arg,
-    offset: u32,
-    after: bool,
-) -> Option<u32>
-    requires base { IsArg base }
-    requires values { AreValues b.now s.now.regs }
-    ensures { IfSome result (λ x. access_of b.now plan.now s.now base offset after ≡ word_val x) }
-{
-    let _most_words = b.most_words();
-    let Some(x) = arg_word(b, plan, s, base) else {
-        return None;
-    };
-    if after {
-        return Some(x);
-    }
-    Some(alu(Op::Add, x, offset))
-}
-
 /// Tries the rules for an access with one address.
 pub(crate) fn local_fault_at_word(plan: &Plan, x: u32, shape: Shape) -> Option<u8>
     requires shape { IsShape shape }
@@ -306,16 +245,6 @@ pub(crate) fn knows_target(plan: &Plan, s: &State, to: Target) -> bool
     }
 }
 
-/// Rule 5, at a jump or a call by a register: its value is a Set, a known list of targets.
-fn is_known_target_list(v: &Val) -> bool
-    ensures { IsTrue result ↔ IsSome (targets_named_by v.now) }
-{
-    match v {
-        Val::Set(_) => true,
-        Val::Span { .. } => false,
-    }
-}
-
 /// Rule 6, at RET: only a called function returns, and it has restored all lower contexts.
 pub(crate) fn may_return(key: &Key, s: &State) -> bool
     ensures { IsTrue result ↔ MayReturn key.now s.now Ret }
@@ -329,28 +258,6 @@ pub(crate) fn may_return_from_exception(key: &Key, s: &State) -> bool
     ensures { IsTrue result ↔ MayReturnFromException key.now s.now Rfe }
 {
     has_no_locals(s) && may_handler_return(key, s)
-}
-
-/// Rules 6 and 7: the frame has restored all lower contexts.
-fn has_no_locals(s: &State) -> bool
-    ensures { IsTrue result ↔ (length s.now.locals.items ≡ 0) }
-{
-    s.locals.is_empty()
-}
-
-/// Returns true if the handler's registers allow its return. The caller of a system call expects
-/// other registers. The handler of an interrupt or of a misaligned access may come anywhere, so its
-/// lower registers must be those of its entry.
-fn may_handler_return(key: &Key, s: &State) -> bool
-    ensures { IsTrue result
-        ↔ ((((key.now.kind ≡ 2) ⊎ (key.now.kind ≡ 4)) × (s.now.lower ≡ true))
-        ⊎ (key.now.kind ≡ 3)) }
-{
-    match key.kind {
-        IRQ | ALN => s.lower,
-        SYS => true,
-        _ => false,
-    }
 }
 
 /// Rule 8, at an instruction that saves a lower context: there is room for a local.
@@ -416,13 +323,104 @@ pub(crate) fn may_access_at(plan: &Plan, x: u32, shape: Shape) -> bool
     }
 }
 
-/// Rule 10, for an access of this size with only one address.
-fn is_allowed_at(plan: &Plan, x: u32, size: u8) -> bool
-    requires { IsShapeAccessSize size }
-    ensures { IsTrue result
-        ↔ ((are_aligned (word_val x) size ≡ true) ⊎ (plan.now.aln ≡ true)) }
+/// Rule 12, at SYSCALL: the plan states the trap of system calls.
+pub(crate) fn may_call_system(plan: &Plan) -> bool
+    ensures { IsTrue result ↔ (plan.now.sys ≡ true) }
 {
-    plan.aln || x % u32::from(size) == 0
+    plan.sys
+}
+
+/// Tries rule 9, then rule 10, for an access.
+fn local_access_fault(b: &Bounds, plan: &Plan, s: &State, shape: Shape) -> Option<u8>
+    requires shape { IsShape shape }
+    requires values { AreValues b.now s.now.regs }
+    ensures { IsAccessFault b.now plan.now s.now shape result }
+{
+    match rule_address_by_shape(b, plan, s, shape) {
+        Some(x) => local_fault_at_word(plan, x, shape),
+        None => local_fault_at_value(b, plan, s, shape),
+    }
+}
+
+/// The address of a load or a store, if its base has only one word.
+#[tactic(auto, unfolding(vd_transfer::specs::EffectsOnStates::address_of))]
+fn rule_address_by_shape(b: &Bounds, plan: &Plan, s: &State, shape: Shape) -> Option<u32>
+    requires shape { IsShape shape }
+    requires values { AreValues b.now s.now.regs }
+    ensures { IfSome result (λ x. address_of b.now plan.now shape s.now ≡ word_val x) }
+{
+    match shape {
+        Shape::Load {
+            base,
+            offset,
+            after,
+            ..
+        } => rule_address_by_base(b, plan, s, base, offset, after),
+        Shape::Store {
+            base,
+            offset,
+            after,
+            ..
+        } => rule_address_by_base(b, plan, s, base, offset, after),
+        _ => None,
+    }
+}
+
+/// Returns the address that the own parts of rules 9 and 10 test, if the base register of the
+/// access has only one word.
+#[inline(always)]
+fn rule_address_by_base(
+    b: &Bounds,
+    plan: &Plan,
+    s: &State,
+    base: Arg,
+    offset: u32,
+    after: bool,
+) -> Option<u32>
+    requires base { IsArg base }
+    requires values { AreValues b.now s.now.regs }
+    ensures { IfSome result (λ x. access_of b.now plan.now s.now base offset after ≡ word_val x) }
+{
+    let _most_words = b.most_words();
+    let Some(x) = arg_word(b, plan, s, base) else {
+        return None;
+    };
+    if after {
+        return Some(x);
+    }
+    Some(alu(Op::Add, x, offset))
+}
+
+/// Rule 5, at a jump or a call by a register: its value is a Set, a known list of targets.
+fn is_known_target_list(v: &Val) -> bool
+    ensures { IsTrue result ↔ IsSome (targets_named_by v.now) }
+{
+    match v {
+        Val::Set(_) => true,
+        Val::Span { .. } => false,
+    }
+}
+
+/// Rules 6 and 7: the frame has restored all lower contexts.
+fn has_no_locals(s: &State) -> bool
+    ensures { IsTrue result ↔ (length s.now.locals.items ≡ 0) }
+{
+    s.locals.is_empty()
+}
+
+/// Returns true if the handler's registers allow its return. The caller of a system call expects
+/// other registers. The handler of an interrupt or of a misaligned access may come anywhere, so its
+/// lower registers must be those of its entry.
+fn may_handler_return(key: &Key, s: &State) -> bool
+    ensures { IsTrue result
+        ↔ ((((key.now.kind ≡ 2) ⊎ (key.now.kind ≡ 4)) × (s.now.lower ≡ true))
+        ⊎ (key.now.kind ≡ 3)) }
+{
+    match key.kind {
+        IRQ | ALN => s.lower,
+        SYS => true,
+        _ => false,
+    }
 }
 
 /// Returns true if rule 10's own part holds for an access of this size: each address is a multiple
@@ -435,11 +433,13 @@ fn is_allowed(plan: &Plan, at: &Val, size: u8) -> bool
     plan.aln || aligned(at, size)
 }
 
-/// Rule 12, at SYSCALL: the plan states the trap of system calls.
-pub(crate) fn may_call_system(plan: &Plan) -> bool
-    ensures { IsTrue result ↔ (plan.now.sys ≡ true) }
+/// Rule 10, for an access of this size with only one address.
+fn is_allowed_at(plan: &Plan, x: u32, size: u8) -> bool
+    requires { IsShapeAccessSize size }
+    ensures { IsTrue result
+        ↔ ((are_aligned (word_val x) size ≡ true) ⊎ (plan.now.aln ≡ true)) }
 {
-    plan.sys
+    plan.aln || x % u32::from(size) == 0
 }
 
 // Rule 13: the instruction isn't MTCR, and writes none of A0, A1, A8, A9 and A11.

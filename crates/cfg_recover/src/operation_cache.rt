@@ -60,28 +60,6 @@ fn is_cached_set(v: &Val, words: &[u32]) -> bool
     }
 }
 
-/// The words of a data register's value, if that is a set of many words.
-fn cacheable_words(s: &State, r: Arg) -> Option<&[u32]>
-    ensures { IfSome result (λ ws. IsSetOperand s.now r ws.now) }
-{
-    let Arg::Reg(r) = r else {
-        return None;
-    };
-    if r >= 16 {
-        return None;
-    }
-    let regs = &s.regs[..];
-    let Val::Set(words) = &regs[r as usize] else {
-        return None;
-    };
-    let words = words.as_slice();
-    if words.len() < MANY_WORDS {
-        None
-    } else {
-        Some(words)
-    }
-}
-
 /// The operation of an instruction of this shape, if it works on two data registers whose values
 /// are sets of many words, and writes a data register.
 #[inline(always)]
@@ -106,6 +84,28 @@ fn set_operation(shape: Shape, s: &State) -> Option<SetOperation<'_>>
     })
 }
 
+/// The words of a data register's value, if that is a set of many words.
+fn cacheable_words(s: &State, r: Arg) -> Option<&[u32]>
+    ensures { IfSome result (λ ws. IsSetOperand s.now r ws.now) }
+{
+    let Arg::Reg(r) = r else {
+        return None;
+    };
+    if r >= 16 {
+        return None;
+    }
+    let regs = &s.regs[..];
+    let Val::Set(words) = &regs[r as usize] else {
+        return None;
+    };
+    let words = words.as_slice();
+    if words.len() < MANY_WORDS {
+        None
+    } else {
+        Some(words)
+    }
+}
+
 impl CachedOperation {
     /// An empty entry.
     #[inline(never)]
@@ -117,18 +117,6 @@ impl CachedOperation {
             x: Val::any(),
             y: Val::any(),
             result: Val::any(),
-        }
-    }
-
-    /// Whether the entry has this operation with the same operands.
-    fn has(&self, operation: SetOperation<'_>) -> bool
-        ensures { IsTrue result → IsSameOperation self.now operation.entry }
-    {
-        match self.op {
-            Some(op) => op == operation.op
-                && is_cached_set(&self.x, operation.x)
-                && is_cached_set(&self.y, operation.y),
-            None => false,
         }
     }
 
@@ -168,6 +156,18 @@ impl CachedOperation {
             set_words(&mut self.y, operation.y);
             copy_to(&c.second.value, &mut self.result);
             self.op = Some(operation.op);
+        }
+    }
+
+    /// Whether the entry has this operation with the same operands.
+    fn has(&self, operation: SetOperation<'_>) -> bool
+        ensures { IsTrue result → IsSameOperation self.now operation.entry }
+    {
+        match self.op {
+            Some(op) => op == operation.op
+                && is_cached_set(&self.x, operation.x)
+                && is_cached_set(&self.y, operation.y),
+            None => false,
         }
     }
 }

@@ -47,6 +47,31 @@ pub(crate) fn four_in_rom(
     }
 }
 
+/// The byte of the image at an address. The segment with the number `near` is tried first, and
+/// `near` becomes the number of the one that holds the byte.
+#[inline(always)]
+pub(crate) fn code_byte_at(image: &Image, addr: u32, near: &mut usize) -> Option<u8>
+    ensures { result ≡ image_byte image.now addr }
+{
+    if let Some(segment) = image.segments.get(*near) {
+        if let Some(byte) = code_byte_of(segment, addr) {
+            return Some(byte);
+        }
+    }
+    code_byte_anywhere(image, addr, near)
+}
+
+/// The instruction that the bytes begin with, and its length.
+#[inline(always)]
+fn code_in_bytes(bytes: &[u8]) -> Option<(Inst, u32)>
+    ensures { FindsCodeInBytes bytes.now result }
+{
+    match decode(bytes) {
+        Ok(found) => Some((found.0, found.1 as u32)),
+        Err(_) => None,
+    }
+}
+
 /// Two bytes of the image in one rom range.
 #[inline(always)]
 fn two_in_rom(image: &Image, plan: &Plan, addr: u32) -> Option<[u8; 2]>
@@ -68,6 +93,17 @@ fn is_code_in_rom(plan: &Plan, addr: u32, count: u32) -> bool
     is_in_any_range(plan.rom.as_slice(), addr, count)
 }
 
+/// Two bytes of the image, if segments hold them.
+#[inline(always)]
+fn two_code_bytes(image: &Image, addr: u32) -> Option<[u8; 2]>
+    requires { addr + 2 ≤ 2 ^ 32 }
+    ensures { result ≡ held_bytes image.now addr 2 }
+{
+    let first = image.byte(addr)?;
+    let second = image.byte(addr + 1)?;
+    Some([first, second])
+}
+
 /// Four bytes of the image, if segments hold them. The segment with the number `near` is tried
 /// first: mostly it holds all four, as it held the last ones.
 #[inline(always)]
@@ -81,22 +117,6 @@ fn four_code_bytes(image: &Image, addr: u32, near: &mut usize) -> Option<[u8; 4]
         }
     }
     four_code_bytes_anywhere(image, addr, near)
-}
-
-/// Four bytes of the image, if segments hold them. All segments are tried. If one holds all four
-/// bytes, `near` becomes its number.
-#[inline(never)]
-fn four_code_bytes_anywhere(image: &Image, addr: u32, near: &mut usize) -> Option<[u8; 4]>
-    requires { addr + 4 ≤ 2 ^ 32 }
-    ensures { result ≡ held_bytes image.now addr 4 }
-{
-    for (number, segment) in image.segments.iter().enumerate() {
-        if let Some(bytes) = four_code_bytes_of(segment, addr) {
-            *near = number;
-            return Some(bytes);
-        }
-    }
-    four_code_bytes_apart(image, addr)
 }
 
 /// Four bytes of a segment from an address on, if it holds them all.
@@ -115,6 +135,22 @@ fn four_code_bytes_of(segment: &Segment, addr: u32) -> Option<[u8; 4]>
     Some([bytes[at], bytes[at + 1], bytes[at + 2], bytes[at + 3]])
 }
 
+/// Four bytes of the image, if segments hold them. All segments are tried. If one holds all four
+/// bytes, `near` becomes its number.
+#[inline(never)]
+fn four_code_bytes_anywhere(image: &Image, addr: u32, near: &mut usize) -> Option<[u8; 4]>
+    requires { addr + 4 ≤ 2 ^ 32 }
+    ensures { result ≡ held_bytes image.now addr 4 }
+{
+    for (number, segment) in image.segments.iter().enumerate() {
+        if let Some(bytes) = four_code_bytes_of(segment, addr) {
+            *near = number;
+            return Some(bytes);
+        }
+    }
+    four_code_bytes_apart(image, addr)
+}
+
 /// Four bytes of the image, if segments hold them. Each byte is looked for by itself, since
 /// segments may meet within the four.
 #[inline(never)]
@@ -127,35 +163,6 @@ fn four_code_bytes_apart(image: &Image, addr: u32) -> Option<[u8; 4]>
     let third = image.byte(addr + 2)?;
     let fourth = image.byte(addr + 3)?;
     Some([first, second, third, fourth])
-}
-
-/// The byte of the image at an address. The segment with the number `near` is tried first, and
-/// `near` becomes the number of the one that holds the byte.
-#[inline(always)]
-pub(crate) fn code_byte_at(image: &Image, addr: u32, near: &mut usize) -> Option<u8>
-    ensures { result ≡ image_byte image.now addr }
-{
-    if let Some(segment) = image.segments.get(*near) {
-        if let Some(byte) = code_byte_of(segment, addr) {
-            return Some(byte);
-        }
-    }
-    code_byte_anywhere(image, addr, near)
-}
-
-/// Returns the byte at an address of code in rom, as the image has it. All segments are tried. If
-/// one holds the byte, `near` becomes its number.
-#[inline(never)]
-fn code_byte_anywhere(image: &Image, addr: u32, near: &mut usize) -> Option<u8>
-    ensures { result ≡ image_byte image.now addr }
-{
-    for (number, segment) in image.segments.iter().enumerate() {
-        if let Some(byte) = code_byte_of(segment, addr) {
-            *near = number;
-            return Some(byte);
-        }
-    }
-    image.byte(addr)
 }
 
 /// The byte of a segment at an address, if it holds it.
@@ -174,24 +181,17 @@ fn code_byte_of(segment: &Segment, addr: u32) -> Option<u8>
     Some(bytes[at])
 }
 
-/// Two bytes of the image, if segments hold them.
-#[inline(always)]
-fn two_code_bytes(image: &Image, addr: u32) -> Option<[u8; 2]>
-    requires { addr + 2 ≤ 2 ^ 32 }
-    ensures { result ≡ held_bytes image.now addr 2 }
+/// Returns the byte at an address of code in rom, as the image has it. All segments are tried. If
+/// one holds the byte, `near` becomes its number.
+#[inline(never)]
+fn code_byte_anywhere(image: &Image, addr: u32, near: &mut usize) -> Option<u8>
+    ensures { result ≡ image_byte image.now addr }
 {
-    let first = image.byte(addr)?;
-    let second = image.byte(addr + 1)?;
-    Some([first, second])
-}
-
-/// The instruction that the bytes begin with, and its length.
-#[inline(always)]
-fn code_in_bytes(bytes: &[u8]) -> Option<(Inst, u32)>
-    ensures { FindsCodeInBytes bytes.now result }
-{
-    match decode(bytes) {
-        Ok(found) => Some((found.0, found.1 as u32)),
-        Err(_) => None,
+    for (number, segment) in image.segments.iter().enumerate() {
+        if let Some(byte) = code_byte_of(segment, addr) {
+            *near = number;
+            return Some(byte);
+        }
     }
+    image.byte(addr)
 }

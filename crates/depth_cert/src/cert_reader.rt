@@ -65,6 +65,27 @@ pub fn read_node_count(c: &mut Cursor<'_>) -> Result<u16, FormErr>
     Ok(count)
 }
 
+/// Reads the version and the nodes of the certificate that the bytes spell, or returns their first
+/// fault.
+#[tactic(auto, unfolding(crate::specs::Grammar::certificate_of, crate::specs::Grammar::cert_at))]
+pub(crate) fn read_cert_parts(alloc: Global, bytes: &[u8]) -> Result<(u8, Vec<Node>), CertErr>
+    requires { length bytes.now ≤ 2 ^ 30 }
+    ensures ok { IfOk result
+        (λ r. certificate_of bytes.now ≡ Ok (record { version = r.0; nodes = r.1.items })) }
+    ensures err { IfErr result (IsFaultOf (certificate_of bytes.now)) }
+{
+    let mut c = Cursor::new(bytes);
+    let _magic = read_magic(&mut c)?;
+    let version = read_version(&mut c)?;
+    let count = read_node_count(&mut c)?;
+    let nodes = read_cert_nodes(alloc, &mut c, version, count)?;
+    let end = c.place();
+    if end != bytes.len() {
+        return Err(CertErr::Bad(form_err_at(TRAILING, end)));
+    }
+    Ok((version, nodes))
+}
+
 /// Reads all nodes of a certificate, as many as its head says.
 fn read_cert_nodes(
     alloc: Global,
@@ -93,25 +114,4 @@ fn count_cert_node_points(node: &Node) -> usize
     ensures { result ≡ length node.now.points }
 {
     node.points.len()
-}
-
-/// Reads the version and the nodes of the certificate that the bytes spell, or returns their first
-/// fault.
-#[tactic(auto, unfolding(crate::specs::Grammar::certificate_of, crate::specs::Grammar::cert_at))]
-pub(crate) fn read_cert_parts(alloc: Global, bytes: &[u8]) -> Result<(u8, Vec<Node>), CertErr>
-    requires { length bytes.now ≤ 2 ^ 30 }
-    ensures ok { IfOk result
-        (λ r. certificate_of bytes.now ≡ Ok (record { version = r.0; nodes = r.1.items })) }
-    ensures err { IfErr result (IsFaultOf (certificate_of bytes.now)) }
-{
-    let mut c = Cursor::new(bytes);
-    let _magic = read_magic(&mut c)?;
-    let version = read_version(&mut c)?;
-    let count = read_node_count(&mut c)?;
-    let nodes = read_cert_nodes(alloc, &mut c, version, count)?;
-    let end = c.place();
-    if end != bytes.len() {
-        return Err(CertErr::Bad(form_err_at(TRAILING, end)));
-    }
-    Ok((version, nodes))
 }

@@ -64,6 +64,17 @@ impl Cert {
         Ok(out)
     }
 
+    /// Returns the node that this `Cert`, a certificate in memory, has for a key, or `None` if
+    /// there is none.
+    pub fn node(&self, key: &Key) -> Option<&Node>
+        ensures { option_map (λ n. n.now) result ≡ find_node key.now self.now.nodes }
+    {
+        let number = number_of(key);
+        let nodes = self.nodes.as_slice();
+        let at = node_lookup_place(nodes, number);
+        looked_up_node(nodes, number, at)
+    }
+
     /// Returns the bytes that spell this `Cert`.
     #[tactic(auto, unfolding(crate::specs::Spelling::bytes_of_cert))]
     fn spell(&self, alloc: Global) -> Result<Vec<u8>, tcd_base::NoMemory>
@@ -75,16 +86,5 @@ impl Cert {
         put_u16(&mut out, self.nodes.len() as u16)?;
         write_nodes(&mut out, self.version, &self.nodes)?;
         Ok(out)
-    }
-
-    /// Returns the node that this `Cert`, a certificate in memory, has for a key, or `None` if
-    /// there is none.
-    pub fn node(&self, key: &Key) -> Option<&Node>
-        ensures { option_map (λ n. n.now) result ≡ find_node key.now self.now.nodes }
-    {
-        let number = number_of(key);
-        let nodes = self.nodes.as_slice();
-        let at = node_lookup_place(nodes, number);
-        looked_up_node(nodes, number, at)
     }
 }

@@ -10,27 +10,6 @@ use crate::keys::number_of;
 use crate::{Node, Point};
 use std::marker::Model;
 
-/// Returns true if a point's address is below `addr`.
-fn is_point_below(point: &Point, addr: u32) -> bool
-    ensures { result ≡ nat_lt point.now.addr addr }
-{
-    point.addr < addr
-}
-
-/// Returns true if a node's key is below the key of this number.
-fn is_node_key_below(node: &Node, number: u64) -> bool
-    ensures { result ≡ nat_lt (number_of_key node.now.key) number }
-{
-    number_of(&node.key) < number
-}
-
-/// Returns true if a node has the key of this number.
-fn is_node(node: &Node, number: u64) -> bool
-    ensures { result ≡ (number_of_key node.now.key == number) }
-{
-    number_of(&node.key) == number
-}
-
 /// Returns the number of nodes whose keys are below `number`.
 pub(crate) fn node_lookup_place(nodes: &[Node], number: u64) -> usize
     requires { IsStrictlyIncreasing (key_numbers nodes.now) }
@@ -73,4 +52,25 @@ pub(crate) fn looked_up_point(points: &[Point], addr: u32, at: usize) -> Option<
         return Some(&points[at]);
     }
     None
+}
+
+/// Returns true if a node's key is below the key of this number.
+fn is_node_key_below(node: &Node, number: u64) -> bool
+    ensures { result ≡ nat_lt (number_of_key node.now.key) number }
+{
+    number_of(&node.key) < number
+}
+
+/// Returns true if a node has the key of this number.
+fn is_node(node: &Node, number: u64) -> bool
+    ensures { result ≡ (number_of_key node.now.key == number) }
+{
+    number_of(&node.key) == number
+}
+
+/// Returns true if a point's address is below `addr`.
+fn is_point_below(point: &Point, addr: u32) -> bool
+    ensures { result ≡ nat_lt point.now.addr addr }
+{
+    point.addr < addr
 }

@@ -16,17 +16,6 @@ use tcd_base::{
     ABOVE_LIMIT, BAD_ORDER, BAD_VALUE, Cursor, FormErr, form_err_at, read_u8, read_u16, read_u32,
 };
 
-/// Returns true if the number of a key is above that of the node before, or if there is no node
-/// before.
-fn is_next_node_number(last: Option<u64>, number: u64) -> bool
-    ensures { result ≡ is_above_last_read last number }
-{
-    match last {
-        None => true,
-        Some(last) => last < number,
-    }
-}
-
 /// Reads the key of a node. `last` is the number of the node before, if there is one.
 #[tactic(auto, unfolding(crate::specs::Grammar::key_after))]
 #[inline]
@@ -56,6 +45,17 @@ pub fn read_key(c: &mut Cursor<'_>, last: Option<u64>) -> Result<Key, FormErr>
         prio,
         is: is == 1,
     })
+}
+
+/// Returns true if the number of a key is above that of the node before, or if there is no node
+/// before.
+fn is_next_node_number(last: Option<u64>, number: u64) -> bool
+    ensures { result ≡ is_above_last_read last number }
+{
+    match last {
+        None => true,
+        Some(last) => last < number,
+    }
 }
 
 /// The greatest need of a node, in areas.
@@ -103,21 +103,6 @@ pub fn read_exit(c: &mut Cursor<'_>, version: u8, out: &mut Exit) -> Result<(), 
     out.ccpn = read_u8(c)?;
     read_values(c, version, &mut out.lower)?;
     Ok(())
-}
-
-/// Reads a node's exit, or `None` if the node has none.
-#[tactic(auto, unfolding(crate::specs::Grammar::optional_exit_at))]
-fn read_optional_exit(c: &mut Cursor<'_>, version: u8, kind: u8) -> Result<Option<Exit>, FormErr>
-    requires { length c.old.bytes ≤ 2 ^ 30 }
-    ensures read { ReadsField result c.new (optional_exit_at version kind c.old) }
-    ensures bytes { c.new.bytes ≡ c.old.bytes }
-{
-    if !read_has_exit(c, kind)? {
-        return Ok(None);
-    }
-    let mut exit = no_exit();
-    read_exit(c, version, &mut exit)?;
-    Ok(Some(exit))
 }
 
 /// Reads a node after those before it, which have `used` points together.
@@ -175,4 +160,19 @@ pub(crate) fn last_node_number(nodes: &[Node]) -> Option<u64>
         None => None,
         Some(node) => Some(number_of(&node.key)),
     }
+}
+
+/// Reads a node's exit, or `None` if the node has none.
+#[tactic(auto, unfolding(crate::specs::Grammar::optional_exit_at))]
+fn read_optional_exit(c: &mut Cursor<'_>, version: u8, kind: u8) -> Result<Option<Exit>, FormErr>
+    requires { length c.old.bytes ≤ 2 ^ 30 }
+    ensures read { ReadsField result c.new (optional_exit_at version kind c.old) }
+    ensures bytes { c.new.bytes ≡ c.old.bytes }
+{
+    if !read_has_exit(c, kind)? {
+        return Ok(None);
+    }
+    let mut exit = no_exit();
+    read_exit(c, version, &mut exit)?;
+    Ok(Some(exit))
 }

@@ -30,24 +30,6 @@ pub fn read_locals(c: &mut Cursor<'_>, version: u8) -> Result<ArrayVec<bool, 8>,
     read_flags(c, count)
 }
 
-/// Reads `count` flags of a state's local areas.
-#[tactic(auto, unfolding(tcd_base::specs::FieldReaders::many_fields_at))]
-fn read_flags(c: &mut Cursor<'_>, count: u8) -> Result<ArrayVec<bool, 8>, FormErr>
-    requires short { length c.old.bytes ≤ 2 ^ 30 }
-    requires few { count ≤ 8 }
-    ensures ok { IfOk result
-        (λ l. many_fields_at (λ before. flag_at) count [] c.old ≡ Ok (l.items, c.new)) }
-    ensures err { IfErr result (λ e. many_fields_at (λ before. flag_at) count [] c.old ≡ Err e) }
-    ensures bytes { c.new.bytes ≡ c.old.bytes }
-{
-    let mut flags = ArrayVec::new();
-    for _i in 0..count {
-        let flag = read_flag(c)?;
-        flags.push(flag);
-    }
-    Ok(flags)
-}
-
 /// Reads the fields of a point's state, in place, or returns the first fault.
 #[tactic(auto, unfolding(crate::specs::Grammar::state_at))]
 pub fn read_state(c: &mut Cursor<'_>, version: u8, out: &mut State) -> Result<(), FormErr>
@@ -79,17 +61,6 @@ fn blank_point_for_reading(addr: u32) -> Point
     }
 }
 
-/// Returns true if a point's address is above that of the point before, or if there is no point
-/// before.
-fn is_next_point_address(last: Option<u32>, addr: u32) -> bool
-    ensures { result ≡ is_above_last_read last addr }
-{
-    match last {
-        None => true,
-        Some(last) => last < addr,
-    }
-}
-
 /// Reads the address of a point. `last` is the address of the point before, if there is one.
 #[tactic(auto, unfolding(crate::specs::Grammar::address_after))]
 #[inline]
@@ -105,6 +76,35 @@ pub fn read_address(c: &mut Cursor<'_>, last: Option<u32>) -> Result<u32, FormEr
         return Err(form_err_at(BAD_ORDER, start));
     }
     Ok(addr)
+}
+
+/// Reads `count` flags of a state's local areas.
+#[tactic(auto, unfolding(tcd_base::specs::FieldReaders::many_fields_at))]
+fn read_flags(c: &mut Cursor<'_>, count: u8) -> Result<ArrayVec<bool, 8>, FormErr>
+    requires short { length c.old.bytes ≤ 2 ^ 30 }
+    requires few { count ≤ 8 }
+    ensures ok { IfOk result
+        (λ l. many_fields_at (λ before. flag_at) count [] c.old ≡ Ok (l.items, c.new)) }
+    ensures err { IfErr result (λ e. many_fields_at (λ before. flag_at) count [] c.old ≡ Err e) }
+    ensures bytes { c.new.bytes ≡ c.old.bytes }
+{
+    let mut flags = ArrayVec::new();
+    for _i in 0..count {
+        let flag = read_flag(c)?;
+        flags.push(flag);
+    }
+    Ok(flags)
+}
+
+/// Returns true if a point's address is above that of the point before, or if there is no point
+/// before.
+fn is_next_point_address(last: Option<u32>, addr: u32) -> bool
+    ensures { result ≡ is_above_last_read last addr }
+{
+    match last {
+        None => true,
+        Some(last) => last < addr,
+    }
 }
 
 /// The greatest number of points in a certificate.

@@ -33,29 +33,6 @@ pub fn read_flag(c: &mut Cursor<'_>) -> Result<bool, FormErr>
     Ok(byte == 1)
 }
 
-/// Returns true if a word is above the last of those before it, or if there are none before it.
-fn is_next_set_word(before: &[u32], x: u32) -> bool
-    ensures { result ≡ is_above_last_read (last_number_read before.now) x }
-{
-    before.is_empty() || before[before.len() - 1] < x
-}
-
-/// Reads a word of a Set, which is above those before it.
-#[tactic(auto, unfolding(crate::specs::Grammar::set_word_after))]
-fn read_set_word(c: &mut Cursor<'_>, before: &[u32]) -> Result<u32, FormErr>
-    requires { length c.old.bytes ≤ 2 ^ 30 }
-    ensures read { ReadsField result c.new (set_word_after before.now c.old) }
-    ensures next { IfOk result (λ w. is_above_last_read (last_number_read before.now) w ≡ true) }
-    ensures bytes { c.new.bytes ≡ c.old.bytes }
-{
-    let at = c.place();
-    let word = read_u32(c)?;
-    if !is_next_set_word(before, word) {
-        return Err(form_err_at(BAD_VALUE, at));
-    }
-    Ok(word)
-}
-
 /// Reads a Set of `n` words, at most `N`, in place.
 #[tactic(auto, unfolding(crate::specs::Grammar::set_at))]
 #[inline(never)]
@@ -75,54 +52,6 @@ fn read_set<const N: usize>(c: &mut Cursor<'_>, n: usize, out: &mut Val) -> Resu
     }
     make_read_set(words.as_slice(), out);
     Ok(())
-}
-
-/// Makes a value the Set of ascending words.
-fn make_read_set(words: &[u32], out: &mut Val)
-    requires some { 1 ≤ length words.now }
-    requires few { length words.now ≤ 128 }
-    requires rising { IsStrictlyIncreasing words.now }
-    ensures { out.new ≡ Set words.now }
-{
-    set_words(out, words);
-}
-
-/// Reads the ends of a Span, whose first byte was read at `start`, in place.
-#[tactic(auto, unfolding(crate::specs::Grammar::span_at))]
-fn read_span(
-    c: &mut Cursor<'_>,
-    version: u8,
-    step: u8,
-    start: usize,
-    out: &mut Val,
-) -> Result<(), FormErr>
-    requires short { length c.old.bytes ≤ 2 ^ 30 }
-    requires step { step ≤ 2 }
-    requires start { start ≤ length c.old.bytes }
-    ensures ok { OnOk result
-        (span_at version step (record { bytes = c.old.bytes; place = start }) c.old
-        ≡ Ok (out.new, c.new)) }
-    ensures err { IfErr result
-        (λ e. span_at version step (record { bytes = c.old.bytes; place = start }) c.old
-        ≡ Err e) }
-    ensures bytes { c.new.bytes ≡ c.old.bytes }
-{
-    let lo = read_u32(c)?;
-    let last = read_u32(c)?;
-    if !is_cert_span(version, lo, last, step) {
-        return Err(form_err_at(BAD_VALUE, start));
-    }
-    set_span(out, lo, last, step);
-    Ok(())
-}
-
-/// Returns true if a certificate of the version spells these ends and this step as a Span.
-fn is_cert_span(version: u8, lo: u32, last: u32, step: u8) -> bool
-    requires { step ≤ 2 }
-    ensures { result ≡ is_cert_span version lo last step }
-{
-    let width = if version == 1 { 64 } else { 128 };
-    width < count_of(lo, last, step) && !(lo == 0 && last == u32::MAX && step == 0)
 }
 
 /// Reads a value of a version in place, or returns its first fault.
@@ -164,4 +93,75 @@ pub fn read_values(c: &mut Cursor<'_>, version: u8, out: &mut [Val]) -> Result<(
         read_value(c, version, &mut out[i])?;
     }
     Ok(())
+}
+
+/// Reads a word of a Set, which is above those before it.
+#[tactic(auto, unfolding(crate::specs::Grammar::set_word_after))]
+fn read_set_word(c: &mut Cursor<'_>, before: &[u32]) -> Result<u32, FormErr>
+    requires { length c.old.bytes ≤ 2 ^ 30 }
+    ensures read { ReadsField result c.new (set_word_after before.now c.old) }
+    ensures next { IfOk result (λ w. is_above_last_read (last_number_read before.now) w ≡ true) }
+    ensures bytes { c.new.bytes ≡ c.old.bytes }
+{
+    let at = c.place();
+    let word = read_u32(c)?;
+    if !is_next_set_word(before, word) {
+        return Err(form_err_at(BAD_VALUE, at));
+    }
+    Ok(word)
+}
+
+/// Makes a value the Set of ascending words.
+fn make_read_set(words: &[u32], out: &mut Val)
+    requires some { 1 ≤ length words.now }
+    requires few { length words.now ≤ 128 }
+    requires rising { IsStrictlyIncreasing words.now }
+    ensures { out.new ≡ Set words.now }
+{
+    set_words(out, words);
+}
+
+/// Returns true if a word is above the last of those before it, or if there are none before it.
+fn is_next_set_word(before: &[u32], x: u32) -> bool
+    ensures { result ≡ is_above_last_read (last_number_read before.now) x }
+{
+    before.is_empty() || before[before.len() - 1] < x
+}
+
+/// Reads the ends of a Span, whose first byte was read at `start`, in place.
+#[tactic(auto, unfolding(crate::specs::Grammar::span_at))]
+fn read_span(
+    c: &mut Cursor<'_>,
+    version: u8,
+    step: u8,
+    start: usize,
+    out: &mut Val,
+) -> Result<(), FormErr>
+    requires short { length c.old.bytes ≤ 2 ^ 30 }
+    requires step { step ≤ 2 }
+    requires start { start ≤ length c.old.bytes }
+    ensures ok { OnOk result
+        (span_at version step (record { bytes = c.old.bytes; place = start }) c.old
+        ≡ Ok (out.new, c.new)) }
+    ensures err { IfErr result
+        (λ e. span_at version step (record { bytes = c.old.bytes; place = start }) c.old
+        ≡ Err e) }
+    ensures bytes { c.new.bytes ≡ c.old.bytes }
+{
+    let lo = read_u32(c)?;
+    let last = read_u32(c)?;
+    if !is_cert_span(version, lo, last, step) {
+        return Err(form_err_at(BAD_VALUE, start));
+    }
+    set_span(out, lo, last, step);
+    Ok(())
+}
+
+/// Returns true if a certificate of the version spells these ends and this step as a Span.
+fn is_cert_span(version: u8, lo: u32, last: u32, step: u8) -> bool
+    requires { step ≤ 2 }
+    ensures { result ≡ is_cert_span version lo last step }
+{
+    let width = if version == 1 { 64 } else { 128 };
+    width < count_of(lo, last, step) && !(lo == 0 && last == u32::MAX && step == 0)
 }

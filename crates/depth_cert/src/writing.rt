@@ -13,55 +13,6 @@ use crate::{Exit, Key, Node, Point};
 use tcd_base::{NoMemory, put_u16, put_u32};
 use value_domain::{State, Val};
 
-/// Appends a byte to those of a certificate.
-fn write_cert_byte(out: &mut Vec<u8>, x: u8) -> Result<(), NoMemory>
-    ensures { OnOk result (out.new.items ≡ out.old.items ++ x ∷ []) }
-{
-    out.push(x)?;
-    Ok(())
-}
-
-/// Appends a truth value to the bytes of a certificate, as 0 or 1.
-fn write_cert_flag(out: &mut Vec<u8>, x: bool) -> Result<(), NoMemory>
-    ensures { OnOk result (out.new.items ≡ out.old.items ++ cert_flag_byte x ∷ []) }
-{
-    write_cert_byte(out, if x { 1 } else { 0 })
-}
-
-/// Appends the words of a Set, one after another.
-fn write_set_words(out: &mut Vec<u8>, words: &[u32]) -> Result<(), NoMemory>
-    ensures { OnOk result (out.new.items ≡ out.old.items ++ flat_map bytes_of_word words.now) }
-{
-    for w in words {
-        put_u32(out, *w)?;
-    }
-    Ok(())
-}
-
-/// Appends the bytes that spell a Set: the number of its words, and these.
-#[tactic(auto, unfolding(crate::specs::Spelling::bytes_of_value))]
-fn write_set(out: &mut Vec<u8>, words: &[u32]) -> Result<(), NoMemory>
-    requires { length words.now ≤ 128 }
-    ensures { OnOk result (out.new.items ≡ out.old.items ++ bytes_of_value (Set words.now)) }
-{
-    write_cert_byte(out, words.len() as u8)?;
-    write_set_words(out, words)
-}
-
-/// Appends the bytes that spell a Span: its step plus 240, and its ends; 0 for any word.
-#[tactic(auto, unfolding(crate::specs::Spelling::bytes_of_value))]
-fn write_span(out: &mut Vec<u8>, lo: u32, last: u32, step: u8) -> Result<(), NoMemory>
-    requires { step ≤ 2 }
-    ensures { OnOk result (out.new.items ≡ out.old.items ++ bytes_of_value (Span lo last step)) }
-{
-    if lo == 0 && last == u32::MAX && step == 0 {
-        return write_cert_byte(out, 0);
-    }
-    write_cert_byte(out, SPAN + step)?;
-    put_u32(out, lo)?;
-    put_u32(out, last)
-}
-
 /// Appends the only bytes that spell a value.
 pub fn write_value(out: &mut Vec<u8>, v: &Val) -> Result<(), NoMemory>
     requires { IsWell v.now }
@@ -84,16 +35,6 @@ pub fn write_values(out: &mut Vec<u8>, values: &[Val]) -> Result<(), NoMemory>
     Ok(())
 }
 
-/// Appends the flags of a state's local areas, a byte each.
-fn write_flags(out: &mut Vec<u8>, flags: &[bool]) -> Result<(), NoMemory>
-    ensures { OnOk result (out.new.items ≡ out.old.items ++ map cert_flag_byte flags.now) }
-{
-    for f in flags {
-        write_cert_flag(out, *f)?;
-    }
-    Ok(())
-}
-
 /// Appends the bytes that spell a state.
 #[tactic(auto, unfolding(crate::specs::Spelling::bytes_of_state))]
 pub fn write_state(out: &mut Vec<u8>, s: &State) -> Result<(), NoMemory>
@@ -107,15 +48,6 @@ pub fn write_state(out: &mut Vec<u8>, s: &State) -> Result<(), NoMemory>
     write_cert_byte(out, locals.len() as u8)?;
     write_flags(out, locals)?;
     write_values(out, &s.regs)
-}
-
-#[tactic(auto, unfolding(crate::specs::Spelling::bytes_of_point))]
-fn write_point(out: &mut Vec<u8>, p: &Point) -> Result<(), NoMemory>
-    requires { All IsWell p.now.state.regs }
-    ensures { OnOk result (out.new.items ≡ out.old.items ++ bytes_of_point p.now) }
-{
-    put_u32(out, p.addr)?;
-    write_state(out, &p.state)
 }
 
 /// Writes a key in a certificate: appends the bytes that spell it.
@@ -146,12 +78,74 @@ pub fn write_exit(out: &mut Vec<u8>, exit: &Option<Exit>) -> Result<(), NoMemory
     }
 }
 
-fn write_points(out: &mut Vec<u8>, points: &[Point]) -> Result<(), NoMemory>
-    requires { All (λ p. All IsWell p.state.regs) points.now }
-    ensures { OnOk result (out.new.items ≡ out.old.items ++ flat_map bytes_of_point points.now) }
+/// Appends the bytes that spell the nodes of a certificate, one after another.
+pub(crate) fn write_nodes(out: &mut Vec<u8>, version: u8, nodes: &[Node]) -> Result<(), NoMemory>
+    requires version { (version ≡ 1) ⊎ (version ≡ 2) }
+    requires nodes { All (IsNode version) nodes.now }
+    requires points { count_points nodes.now ≤ 2 ^ 16 }
+    ensures { OnOk result (out.new.items ≡ out.old.items ++ flat_map bytes_of_node nodes.now) }
 {
-    for p in points {
-        write_point(out, p)?;
+    for node in nodes {
+        write_node(out, node)?;
+    }
+    Ok(())
+}
+
+/// Appends the bytes that spell a Set: the number of its words, and these.
+#[tactic(auto, unfolding(crate::specs::Spelling::bytes_of_value))]
+fn write_set(out: &mut Vec<u8>, words: &[u32]) -> Result<(), NoMemory>
+    requires { length words.now ≤ 128 }
+    ensures { OnOk result (out.new.items ≡ out.old.items ++ bytes_of_value (Set words.now)) }
+{
+    write_cert_byte(out, words.len() as u8)?;
+    write_set_words(out, words)
+}
+
+/// Appends the bytes that spell a Span: its step plus 240, and its ends; 0 for any word.
+#[tactic(auto, unfolding(crate::specs::Spelling::bytes_of_value))]
+fn write_span(out: &mut Vec<u8>, lo: u32, last: u32, step: u8) -> Result<(), NoMemory>
+    requires { step ≤ 2 }
+    ensures { OnOk result (out.new.items ≡ out.old.items ++ bytes_of_value (Span lo last step)) }
+{
+    if lo == 0 && last == u32::MAX && step == 0 {
+        return write_cert_byte(out, 0);
+    }
+    write_cert_byte(out, SPAN + step)?;
+    put_u32(out, lo)?;
+    put_u32(out, last)
+}
+
+/// Appends a byte to those of a certificate.
+fn write_cert_byte(out: &mut Vec<u8>, x: u8) -> Result<(), NoMemory>
+    ensures { OnOk result (out.new.items ≡ out.old.items ++ x ∷ []) }
+{
+    out.push(x)?;
+    Ok(())
+}
+
+/// Appends the words of a Set, one after another.
+fn write_set_words(out: &mut Vec<u8>, words: &[u32]) -> Result<(), NoMemory>
+    ensures { OnOk result (out.new.items ≡ out.old.items ++ flat_map bytes_of_word words.now) }
+{
+    for w in words {
+        put_u32(out, *w)?;
+    }
+    Ok(())
+}
+
+/// Appends a truth value to the bytes of a certificate, as 0 or 1.
+fn write_cert_flag(out: &mut Vec<u8>, x: bool) -> Result<(), NoMemory>
+    ensures { OnOk result (out.new.items ≡ out.old.items ++ cert_flag_byte x ∷ []) }
+{
+    write_cert_byte(out, if x { 1 } else { 0 })
+}
+
+/// Appends the flags of a state's local areas, a byte each.
+fn write_flags(out: &mut Vec<u8>, flags: &[bool]) -> Result<(), NoMemory>
+    ensures { OnOk result (out.new.items ≡ out.old.items ++ map cert_flag_byte flags.now) }
+{
+    for f in flags {
+        write_cert_flag(out, *f)?;
     }
     Ok(())
 }
@@ -170,15 +164,21 @@ fn write_node(out: &mut Vec<u8>, node: &Node) -> Result<(), NoMemory>
     write_points(out, &node.points)
 }
 
-/// Appends the bytes that spell the nodes of a certificate, one after another.
-pub(crate) fn write_nodes(out: &mut Vec<u8>, version: u8, nodes: &[Node]) -> Result<(), NoMemory>
-    requires version { (version ≡ 1) ⊎ (version ≡ 2) }
-    requires nodes { All (IsNode version) nodes.now }
-    requires points { count_points nodes.now ≤ 2 ^ 16 }
-    ensures { OnOk result (out.new.items ≡ out.old.items ++ flat_map bytes_of_node nodes.now) }
+fn write_points(out: &mut Vec<u8>, points: &[Point]) -> Result<(), NoMemory>
+    requires { All (λ p. All IsWell p.state.regs) points.now }
+    ensures { OnOk result (out.new.items ≡ out.old.items ++ flat_map bytes_of_point points.now) }
 {
-    for node in nodes {
-        write_node(out, node)?;
+    for p in points {
+        write_point(out, p)?;
     }
     Ok(())
+}
+
+#[tactic(auto, unfolding(crate::specs::Spelling::bytes_of_point))]
+fn write_point(out: &mut Vec<u8>, p: &Point) -> Result<(), NoMemory>
+    requires { All IsWell p.now.state.regs }
+    ensures { OnOk result (out.new.items ≡ out.old.items ++ bytes_of_point p.now) }
+{
+    put_u32(out, p.addr)?;
+    write_state(out, &p.state)
 }

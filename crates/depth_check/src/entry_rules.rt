@@ -131,6 +131,48 @@ fn broken_by_entries(
     }
 }
 
+/// The least rule that the trap of a misaligned access breaks. Without that trap in the plan no
+/// entry is owed, since rule 10 holds.
+fn broken_by_access(at: &PointCheck<'_, '_>, found: &Located) -> Option<u8>
+    requires point { IsPointCheck at.now }
+    requires found { StandsFaultless at.now.bounds.now at.now.image.now at.now.plan.now
+        at.now.node.now.key at.now.point.addr at.now.point.state.now found.now }
+    ensures { LeastBrokenByDuties at.now
+        (misaligned_of at.now.bounds.now at.now.plan.now at.now.node.now.key at.now.point.state.now
+        found.now.shape) result }
+{
+    let plan = at.plan;
+    if !plan.aln {
+        return None;
+    }
+    match found.shape {
+        Shape::Load { size, .. } => broken_by_misaligned(at, found.shape, size),
+        Shape::Store { size, .. } => broken_by_misaligned(at, found.shape, size),
+        _ => None,
+    }
+}
+
+/// Returns the least rule that a point's duty to leave the node breaks, beside those to enter
+/// others: by RET, or by RFE in the handler of system calls.
+#[tactic(auto, unfolding(cfg_recover::specs::FlowDuties::flow_leave_of))]
+fn broken_by_leaving(node: &AnyNode<'_>, s: &State, shape: Shape) -> Option<u8>
+    requires node { IsWellNode node.now }
+    requires state { AreWell s.now.regs }
+    ensures { FindsLeastBroken (LeavingHolds node.now s.now (flows.flow_leave_of shape)) result }
+{
+    match shape {
+        Shape::Ret => rule_unless(has_covering_exit(node, s), NO_RETURN),
+        Shape::Rfe => {
+            if node.key.kind == SYS {
+                rule_unless(has_covering_exit(node, s), NO_EXCEPTION_RETURN)
+            } else {
+                None
+            }
+        }
+        _ => None,
+    }
+}
+
 /// The least rule that a call breaks. Calls by the register `called` are passed over if the point
 /// after them has the current state; if calls by another register hold, that one is kept.
 fn broken_by_call_kept(
@@ -166,6 +208,22 @@ fn broken_by_call_kept(
     found
 }
 
+/// Returns the least rule that the entry of the handler of the system call `tin` breaks, with the
+/// point to which it returns.
+#[inline(never)]
+fn broken_by_system(at: &PointCheck<'_, '_>, tin: u8, back: u32) -> Option<u8>
+    requires { IsPointCheck at.now }
+    ensures { LeastBrokenByDuties at.now
+        (entered_and_back 12 (entries.sys_key at.now.plan.now at.now.node.now.key)
+        (entries.sys_entry at.now.plan.now at.now.node.now.key at.now.point.state.now tin) back)
+        result }
+{
+    let node = at.node;
+    let entry = system_change(at.bounds, at.plan, &node.key, at.point.state, tin);
+    let key = sys_key(at.plan, &node.key);
+    broken_by_entry(at, NO_SYSTEM_CALL, &key, &entry, Some(back))
+}
+
 /// Returns the least rule that the entries of a call's functions break, with the points to which
 /// they return.
 #[inline(never)]
@@ -183,27 +241,6 @@ fn broken_by_call(at: &PointCheck<'_, '_>, to: Target, back: u32) -> Option<u8>
         Some(target) => broken_by_calls(at, &entry, &[target], back),
         None => broken_by_listed_calls(at, &entry, to, back),
     }
-}
-
-/// The least rule that a call breaks whose targets are those of a register.
-#[inline(never)]
-fn broken_by_listed_calls(
-    at: &PointCheck<'_, '_>,
-    entry: &Change,
-    to: Target,
-    back: u32,
-) -> Option<u8>
-    requires point { IsPointCheck at.now }
-    requires target { IsTarget to }
-    requires entry { AreWell (state_after at.now.point.state.now entry.now).regs }
-    ensures { LeastBrokenByDuties at.now
-        (flat_map (λ t. entered_and_back 5 (call_key at.now.node.now.key t)
-        (state_after at.now.point.state.now entry.now) back)
-        (unwrap_or (targets_of at.now.plan.now at.now.point.state.now at.now.point.addr to) []))
-        result }
-{
-    let targets = targets(at.plan, at.point.state, at.point.addr, to);
-    broken_by_calls(at, entry, targets.as_slice(), back)
 }
 
 /// The least rule that calls of these targets break. They return to `back`.
@@ -229,108 +266,25 @@ fn broken_by_calls(
     found
 }
 
-/// Returns the least rule that the entry of the handler of the system call `tin` breaks, with the
-/// point to which it returns.
+/// The least rule that a call breaks whose targets are those of a register.
 #[inline(never)]
-fn broken_by_system(at: &PointCheck<'_, '_>, tin: u8, back: u32) -> Option<u8>
-    requires { IsPointCheck at.now }
+fn broken_by_listed_calls(
+    at: &PointCheck<'_, '_>,
+    entry: &Change,
+    to: Target,
+    back: u32,
+) -> Option<u8>
+    requires point { IsPointCheck at.now }
+    requires target { IsTarget to }
+    requires entry { AreWell (state_after at.now.point.state.now entry.now).regs }
     ensures { LeastBrokenByDuties at.now
-        (entered_and_back 12 (entries.sys_key at.now.plan.now at.now.node.now.key)
-        (entries.sys_entry at.now.plan.now at.now.node.now.key at.now.point.state.now tin) back)
+        (flat_map (λ t. entered_and_back 5 (call_key at.now.node.now.key t)
+        (state_after at.now.point.state.now entry.now) back)
+        (unwrap_or (targets_of at.now.plan.now at.now.point.state.now at.now.point.addr to) []))
         result }
 {
-    let node = at.node;
-    let entry = system_change(at.bounds, at.plan, &node.key, at.point.state, tin);
-    let key = sys_key(at.plan, &node.key);
-    broken_by_entry(at, NO_SYSTEM_CALL, &key, &entry, Some(back))
-}
-
-/// The least rule that the trap of a misaligned access breaks. Without that trap in the plan no
-/// entry is owed, since rule 10 holds.
-fn broken_by_access(at: &PointCheck<'_, '_>, found: &Located) -> Option<u8>
-    requires point { IsPointCheck at.now }
-    requires found { StandsFaultless at.now.bounds.now at.now.image.now at.now.plan.now
-        at.now.node.now.key at.now.point.addr at.now.point.state.now found.now }
-    ensures { LeastBrokenByDuties at.now
-        (misaligned_of at.now.bounds.now at.now.plan.now at.now.node.now.key at.now.point.state.now
-        found.now.shape) result }
-{
-    let plan = at.plan;
-    if !plan.aln {
-        return None;
-    }
-    match found.shape {
-        Shape::Load { size, .. } => broken_by_misaligned(at, found.shape, size),
-        Shape::Store { size, .. } => broken_by_misaligned(at, found.shape, size),
-        _ => None,
-    }
-}
-
-/// Returns the least rule that the trap of a misaligned access of this size breaks, if it may be
-/// taken. The address is computed here, so that other instructions need no room for a value.
-#[inline(never)]
-fn broken_by_misaligned(at: &PointCheck<'_, '_>, shape: Shape, size: u8) -> Option<u8>
-    requires point { IsPointCheck at.now }
-    requires shape { IsShape shape }
-    requires size { IsShapeAccessSize size }
-    ensures { LeastBrokenByDuties at.now
-        (misaligned_at at.now.plan.now at.now.node.now.key at.now.point.state.now
-        (address_of at.now.bounds.now at.now.plan.now shape at.now.point.state.now) size) result }
-{
-    let accessed = address_by(at.bounds, at.plan, shape, at.point.state);
-    if is_flow_access_aligned(at.bounds, &accessed, size) {
-        return None;
-    }
-    broken_by_trap(at)
-}
-
-/// The least rule that the entry of the handler of misaligned accesses breaks.
-#[inline(never)]
-fn broken_by_trap(at: &PointCheck<'_, '_>) -> Option<u8>
-    requires { IsPointCheck at.now }
-    ensures { LeastBrokenByDuties at.now
-        (owed 10 (enter (entries.aln_key at.now.plan.now at.now.node.now.key)
-        (entries.aln_entry at.now.plan.now at.now.node.now.key at.now.point.state.now)) ∷ [])
-        result }
-{
-    let node = at.node;
-    let entry = misaligned_change(at.bounds, at.plan, &node.key, at.point.state);
-    let key = aln_key(at.plan, &node.key);
-    broken_by_entry(at, NO_MISALIGNED, &key, &entry, None)
-}
-
-/// The least rule that the entries of these interrupts break, which are all that may be taken.
-#[inline(never)]
-fn broken_by_taken(at: &PointCheck<'_, '_>, irqs: &[u8]) -> Option<u8>
-    requires point { IsPointCheck at.now }
-    requires irqs { irqs.now ≡ irqs_of at.now.plan.now at.now.point.state.now }
-    ensures { LeastBrokenByDuties at.now
-        (interrupts_of at.now.plan.now at.now.node.now.key at.now.point.state.now) result }
-{
-    let node = at.node;
-    let entry = handler_change(at.bounds, at.plan, &node.key, at.point.state, 0);
-    broken_by_irqs(at, irqs, entry)
-}
-
-/// Returns the least rule that a point's duty to leave the node breaks, beside those to enter
-/// others: by RET, or by RFE in the handler of system calls.
-#[tactic(auto, unfolding(cfg_recover::specs::FlowDuties::flow_leave_of))]
-fn broken_by_leaving(node: &AnyNode<'_>, s: &State, shape: Shape) -> Option<u8>
-    requires node { IsWellNode node.now }
-    requires state { AreWell s.now.regs }
-    ensures { FindsLeastBroken (LeavingHolds node.now s.now (flows.flow_leave_of shape)) result }
-{
-    match shape {
-        Shape::Ret => rule_unless(has_covering_exit(node, s), NO_RETURN),
-        Shape::Rfe => {
-            if node.key.kind == SYS {
-                rule_unless(has_covering_exit(node, s), NO_EXCEPTION_RETURN)
-            } else {
-                None
-            }
-        }
-        _ => None,
-    }
+    let targets = targets(at.plan, at.point.state, at.point.addr, to);
+    broken_by_calls(at, entry, targets.as_slice(), back)
 }
 
 /// The least rule that the entry of a key's node with a changed state breaks. `rule` asks for the
@@ -390,4 +344,50 @@ fn has_point_after_entry(
         Some(at) => has_point_after_return(node, at, s, entered, kind),
         None => true,
     }
+}
+
+/// Returns the least rule that the trap of a misaligned access of this size breaks, if it may be
+/// taken. The address is computed here, so that other instructions need no room for a value.
+#[inline(never)]
+fn broken_by_misaligned(at: &PointCheck<'_, '_>, shape: Shape, size: u8) -> Option<u8>
+    requires point { IsPointCheck at.now }
+    requires shape { IsShape shape }
+    requires size { IsShapeAccessSize size }
+    ensures { LeastBrokenByDuties at.now
+        (misaligned_at at.now.plan.now at.now.node.now.key at.now.point.state.now
+        (address_of at.now.bounds.now at.now.plan.now shape at.now.point.state.now) size) result }
+{
+    let accessed = address_by(at.bounds, at.plan, shape, at.point.state);
+    if is_flow_access_aligned(at.bounds, &accessed, size) {
+        return None;
+    }
+    broken_by_trap(at)
+}
+
+/// The least rule that the entry of the handler of misaligned accesses breaks.
+#[inline(never)]
+fn broken_by_trap(at: &PointCheck<'_, '_>) -> Option<u8>
+    requires { IsPointCheck at.now }
+    ensures { LeastBrokenByDuties at.now
+        (owed 10 (enter (entries.aln_key at.now.plan.now at.now.node.now.key)
+        (entries.aln_entry at.now.plan.now at.now.node.now.key at.now.point.state.now)) ∷ [])
+        result }
+{
+    let node = at.node;
+    let entry = misaligned_change(at.bounds, at.plan, &node.key, at.point.state);
+    let key = aln_key(at.plan, &node.key);
+    broken_by_entry(at, NO_MISALIGNED, &key, &entry, None)
+}
+
+/// The least rule that the entries of these interrupts break, which are all that may be taken.
+#[inline(never)]
+fn broken_by_taken(at: &PointCheck<'_, '_>, irqs: &[u8]) -> Option<u8>
+    requires point { IsPointCheck at.now }
+    requires irqs { irqs.now ≡ irqs_of at.now.plan.now at.now.point.state.now }
+    ensures { LeastBrokenByDuties at.now
+        (interrupts_of at.now.plan.now at.now.node.now.key at.now.point.state.now) result }
+{
+    let node = at.node;
+    let entry = handler_change(at.bounds, at.plan, &node.key, at.point.state, 0);
+    broken_by_irqs(at, irqs, entry)
 }

@@ -62,22 +62,6 @@ pub(crate) fn fast_path_next(at: &PointCheck<'_, '_>, codes: &mut KnownCodes) ->
     }
 }
 
-/// Whether the instruction is nop16, at an address with byte 00: the bytes are 00 00, the address
-/// is even, and one ROM range holds both. By its word in `KnownCodes` it takes 30 more instructions
-/// of the host.
-fn is_nop16(image: &Image, plan: &Plan, addr: u32, codes: &mut KnownCodes) -> bool
-    requires { image_byte image.now addr ≡ Some 0 }
-    ensures { IsTrue result → IsCode image.now plan.now addr Nothing 2 }
-{
-    if addr % 2 == 1 {
-        return false;
-    }
-    if !is_in_any_range(plan.rom.as_slice(), addr, 2) {
-        return false;
-    }
-    codes.has_byte(image, addr + 1, 0)
-}
-
 /// The least rule that fails at a point whose instruction only passes the state on to `next`.
 pub(crate) fn broken_on_fast_path(at: &PointCheck<'_, '_>, next: u32) -> Option<u8>
     requires point { IsPointCheck at.now }
@@ -117,6 +101,22 @@ pub(crate) fn may_skip_refinement(shape: Shape) -> bool
         Shape::Branch { lowers, .. } => !lowers,
         _ => false,
     }
+}
+
+/// Whether the instruction is nop16, at an address with byte 00: the bytes are 00 00, the address
+/// is even, and one ROM range holds both. By its word in `KnownCodes` it takes 30 more instructions
+/// of the host.
+fn is_nop16(image: &Image, plan: &Plan, addr: u32, codes: &mut KnownCodes) -> bool
+    requires { image_byte image.now addr ≡ Some 0 }
+    ensures { IsTrue result → IsCode image.now plan.now addr Nothing 2 }
+{
+    if addr % 2 == 1 {
+        return false;
+    }
+    if !is_in_any_range(plan.rom.as_slice(), addr, 2) {
+        return false;
+    }
+    codes.has_byte(image, addr + 1, 0)
 }
 
 /// A register by which calls hold in the current state, and one by which jumps hold, if they are

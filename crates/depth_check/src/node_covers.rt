@@ -147,6 +147,19 @@ pub(crate) fn has_covering_exit(node: &AnyNode<'_>, s: &State) -> bool
     }
 }
 
+/// Returns true if a node in memory has a point at this address that covers the state after a frame
+/// with this exit has returned.
+pub(crate) fn plain_has_after(node: &Node, addr: u32, s: &State, exit: &Exit, kind: u8) -> bool
+    requires node { IsWellNode node.now }
+    requires state { AreWell (state_after_exit s.now exit.now kind).regs }
+    ensures { IsTrue result ↔ HasPoint node.now addr (state_after_exit s.now exit.now kind) }
+{
+    match node.point(addr) {
+        Some(point) => covers_after(&point.state, s, exit, kind),
+        None => false,
+    }
+}
+
 /// Whether a node in memory covers the state at this address: its point there is looked up and
 /// compared.
 fn plain_has_point(node: &Node, addr: u32, s: &State) -> bool
@@ -196,6 +209,18 @@ fn packed_has_changed(node: &PackedNode<'_>, near: usize, addr: u32, s: &State, 
     }
 }
 
+/// Whether the node has a point at this address that covers the state after a frame with this exit
+/// has returned. The state is built.
+// A function of its own, so that its callers need no room for a state.
+#[inline(never)]
+fn has_built_point(node: &AnyNode<'_>, addr: u32, s: &State, exit: &Exit, kind: u8) -> bool
+    requires node { IsWellNode node.now }
+    requires state { AreWell (state_after_exit s.now exit.now kind).regs }
+    ensures { IsTrue result ↔ HasPoint node.now addr (state_after_exit s.now exit.now kind) }
+{
+    has_point(node, addr, &after(s, exit, kind))
+}
+
 /// Whether the node has a point at `at` that covers the state after a frame of the entered node, on
 /// bytes, has returned. True if the entered node has no exit.
 fn has_point_after_packed(
@@ -238,18 +263,6 @@ fn has_point_after_exit(
     }
 }
 
-/// Whether the node has a point at this address that covers the state after a frame with this exit
-/// has returned. The state is built.
-// A function of its own, so that its callers need no room for a state.
-#[inline(never)]
-fn has_built_point(node: &AnyNode<'_>, addr: u32, s: &State, exit: &Exit, kind: u8) -> bool
-    requires node { IsWellNode node.now }
-    requires state { AreWell (state_after_exit s.now exit.now kind).regs }
-    ensures { IsTrue result ↔ HasPoint node.now addr (state_after_exit s.now exit.now kind) }
-{
-    has_point(node, addr, &after(s, exit, kind))
-}
-
 /// Whether a node in memory has a point at this address that covers the state after a frame with
 /// this exit, which is read from bytes, has returned.
 // A function of its own, so that its callers need no room for an exit.
@@ -282,6 +295,15 @@ fn packed_has_after(
     }
 }
 
+/// Whether a node's exit covers the exit of a state: its IE, its CCPN and its lower registers.
+fn is_exit_covered(exit: &Exit, s: &State) -> bool
+    requires exit { AreWell exit.now.lower }
+    requires state { AreWell s.now.regs }
+    ensures { IsTrue result ↔ ExitCovers exit.now (exit_of s.now) }
+{
+    (exit.ie || !s.ie) && exit.ccpn <= s.ccpn && are_lower_below(s, exit)
+}
+
 /// Returns true if a node on bytes covers the exit of the state by its own exit; false if it has
 /// none.
 fn packed_has_exit(node: &PackedNode<'_>, s: &State) -> bool
@@ -293,15 +315,6 @@ fn packed_has_exit(node: &PackedNode<'_>, s: &State) -> bool
         Some(exit) => exit.covers(s),
         None => false,
     }
-}
-
-/// Whether a node's exit covers the exit of a state: its IE, its CCPN and its lower registers.
-fn is_exit_covered(exit: &Exit, s: &State) -> bool
-    requires exit { AreWell exit.now.lower }
-    requires state { AreWell s.now.regs }
-    ensures { IsTrue result ↔ ExitCovers exit.now (exit_of s.now) }
-{
-    (exit.ie || !s.ie) && exit.ccpn <= s.ccpn && are_lower_below(s, exit)
 }
 
 /// Whether a node's exit covers the lower registers of a state.
@@ -329,17 +342,4 @@ fn are_exit_values_below(low: &[Val], high: &[Val]) -> bool
         }
     }
     true
-}
-
-/// Returns true if a node in memory has a point at this address that covers the state after a frame
-/// with this exit has returned.
-pub(crate) fn plain_has_after(node: &Node, addr: u32, s: &State, exit: &Exit, kind: u8) -> bool
-    requires node { IsWellNode node.now }
-    requires state { AreWell (state_after_exit s.now exit.now kind).regs }
-    ensures { IsTrue result ↔ HasPoint node.now addr (state_after_exit s.now exit.now kind) }
-{
-    match node.point(addr) {
-        Some(point) => covers_after(&point.state, s, exit, kind),
-        None => false,
-    }
 }

@@ -65,6 +65,56 @@ pub(crate) fn node_fault<'a>(
     }
 }
 
+/// Returns true if rule 2 holds at the entry of a node in memory: it has a point there, and values
+/// of the plan in its exit if it has one.
+pub(crate) fn plain_holds_at_entry(b: &Bounds, node: &Node) -> bool
+    ensures { IsTrue result ↔ HoldsAtEntry b.now node.now }
+{
+    if node.point(node.key.entry).is_none() {
+        return false;
+    }
+    match &node.exit {
+        Some(exit) => are_plan_values(b, &exit.lower),
+        None => true,
+    }
+}
+
+/// The first fault of a node in memory.
+fn plain_node_fault<'a>(
+    b: &'a Bounds,
+    image: &'a Image,
+    plan: &'a Plan,
+    cert: &'a AnyCert<'a>,
+    node: &'a Node,
+    scratch: &mut PointScratch,
+) -> Option<Fault>
+    requires limits { b.now ≡ limits_in plan.now cert.now }
+    requires nodes { All IsWellNode cert.now.nodes }
+    requires member { Contains cert.now.nodes node.now }
+    requires results { HoldsCachedResults b.now scratch.old.cache }
+    ensures fault { MatchOption result (HoldsAtNode image.now plan.now cert.now node.now)
+        (λ f. IsNodeFault image.now plan.now cert.now node.now f.rule f.addr) }
+    ensures results { HoldsCachedResults b.now scratch.new.cache }
+{
+    let entry = node.key.entry;
+    let good = plain_holds_at_entry(b, node);
+    let any_node = AnyNode::plain(&*node);
+    for point in &node.points {
+        scratch.registers = NO_REGISTERS;
+        let here = CurrentPoint::alone(point.addr, &point.state);
+        let at = PointCheck::new(&*b, &*image, &*plan, &*cert, &any_node, here);
+        let found = broken_by_point(&at, scratch);
+        if let Some(fault) = earlier_node_fault(good, entry, point.addr, found) {
+            return Some(fault);
+        }
+    }
+    if good {
+        None
+    } else {
+        Some(node_entry_fault(entry))
+    }
+}
+
 /// The first fault of a node on bytes. It takes the fast paths that look at the point before or
 /// after the current one.
 fn packed_node_fault<'a>(
@@ -105,42 +155,6 @@ fn packed_node_fault<'a>(
         let is_checked = here.state.ie && !here.again && !plan.irqs.is_empty();
         if is_checked {
             scratch.interrupts.keep_context(node, &at);
-        }
-    }
-    if good {
-        None
-    } else {
-        Some(node_entry_fault(entry))
-    }
-}
-
-/// The first fault of a node in memory.
-fn plain_node_fault<'a>(
-    b: &'a Bounds,
-    image: &'a Image,
-    plan: &'a Plan,
-    cert: &'a AnyCert<'a>,
-    node: &'a Node,
-    scratch: &mut PointScratch,
-) -> Option<Fault>
-    requires limits { b.now ≡ limits_in plan.now cert.now }
-    requires nodes { All IsWellNode cert.now.nodes }
-    requires member { Contains cert.now.nodes node.now }
-    requires results { HoldsCachedResults b.now scratch.old.cache }
-    ensures fault { MatchOption result (HoldsAtNode image.now plan.now cert.now node.now)
-        (λ f. IsNodeFault image.now plan.now cert.now node.now f.rule f.addr) }
-    ensures results { HoldsCachedResults b.now scratch.new.cache }
-{
-    let entry = node.key.entry;
-    let good = plain_holds_at_entry(b, node);
-    let any_node = AnyNode::plain(&*node);
-    for point in &node.points {
-        scratch.registers = NO_REGISTERS;
-        let here = CurrentPoint::alone(point.addr, &point.state);
-        let at = PointCheck::new(&*b, &*image, &*plan, &*cert, &any_node, here);
-        let found = broken_by_point(&at, scratch);
-        if let Some(fault) = earlier_node_fault(good, entry, point.addr, found) {
-            return Some(fault);
         }
     }
     if good {
@@ -192,20 +206,6 @@ pub(crate) fn packed_holds_at_entry(b: &Bounds, node: &PackedNode<'_>) -> bool
     }
     match node.exit() {
         Some(exit) => exit.are_values(b),
-        None => true,
-    }
-}
-
-/// Returns true if rule 2 holds at the entry of a node in memory: it has a point there, and values
-/// of the plan in its exit if it has one.
-pub(crate) fn plain_holds_at_entry(b: &Bounds, node: &Node) -> bool
-    ensures { IsTrue result ↔ HoldsAtEntry b.now node.now }
-{
-    if node.point(node.key.entry).is_none() {
-        return false;
-    }
-    match &node.exit {
-        Some(exit) => are_plan_values(b, &exit.lower),
         None => true,
     }
 }

@@ -181,42 +181,6 @@ pub(crate) fn broken_by_point(at: &PointCheck<'_, '_>, scratch: &mut PointScratc
     }
 }
 
-/// Returns the least rule that fails at a point whose values are values of the plan. The point's
-/// instruction is decoded, and then its duties and its need are checked.
-#[inline(never)]
-fn broken_by_decoded_point(at: &PointCheck<'_, '_>, scratch: &mut PointScratch) -> Option<u8>
-    requires point { IsPointCheck at.now }
-    requires results { HoldsCachedResults at.now.bounds.now scratch.old.cache }
-    requires registers { RegistersHoldAt at.now scratch.old.registers }
-    ensures found { FindsLeastBroken (RuleHolds at.now.image.now at.now.plan.now at.now.cert.now
-        at.now.node.now (point_here at.now.point)) result }
-    ensures results { HoldsCachedResults at.now.bounds.now scratch.new.cache }
-    ensures registers { RegistersHoldAt at.now scratch.new.registers }
-{
-    let node = at.node;
-    let s = at.point.state;
-    let located = scratch.codes.locate(at.image, at.plan, at.point.addr);
-    match check_located(at.bounds, at.plan, &node.key, s, &located) {
-        Err(rule) => Some(rule),
-        Ok(found) => {
-            let duties = broken_by_duties(at, found, scratch);
-            let need = rule_unless(has_own_need(at), SMALL_NEED);
-            lesser_broken_rule(duties, need)
-        }
-    }
-}
-
-/// Whether the values of a point are values of the plan.
-fn are_point_values(b: &Bounds, point: CurrentPoint<'_>) -> bool
-    requires { IsTrue point.known → AreValues b.now point.state.now.regs }
-    ensures { IsTrue result ↔ AreValues b.now point.entry.state.now.regs }
-{
-    if point.known {
-        return true;
-    }
-    are_plan_values(b, &point.state.regs)
-}
-
 /// Writes what the instruction changes into the change of `scratch`. The result of an operation on
 /// two sets may be in its cache.
 #[inline(always)]
@@ -295,4 +259,40 @@ pub(crate) fn are_plan_values(b: &Bounds, vs: &[Val]) -> bool
         }
     }
     true
+}
+
+/// Whether the values of a point are values of the plan.
+fn are_point_values(b: &Bounds, point: CurrentPoint<'_>) -> bool
+    requires { IsTrue point.known → AreValues b.now point.state.now.regs }
+    ensures { IsTrue result ↔ AreValues b.now point.entry.state.now.regs }
+{
+    if point.known {
+        return true;
+    }
+    are_plan_values(b, &point.state.regs)
+}
+
+/// Returns the least rule that fails at a point whose values are values of the plan. The point's
+/// instruction is decoded, and then its duties and its need are checked.
+#[inline(never)]
+fn broken_by_decoded_point(at: &PointCheck<'_, '_>, scratch: &mut PointScratch) -> Option<u8>
+    requires point { IsPointCheck at.now }
+    requires results { HoldsCachedResults at.now.bounds.now scratch.old.cache }
+    requires registers { RegistersHoldAt at.now scratch.old.registers }
+    ensures found { FindsLeastBroken (RuleHolds at.now.image.now at.now.plan.now at.now.cert.now
+        at.now.node.now (point_here at.now.point)) result }
+    ensures results { HoldsCachedResults at.now.bounds.now scratch.new.cache }
+    ensures registers { RegistersHoldAt at.now scratch.new.registers }
+{
+    let node = at.node;
+    let s = at.point.state;
+    let located = scratch.codes.locate(at.image, at.plan, at.point.addr);
+    match check_located(at.bounds, at.plan, &node.key, s, &located) {
+        Err(rule) => Some(rule),
+        Ok(found) => {
+            let duties = broken_by_duties(at, found, scratch);
+            let need = rule_unless(has_own_need(at), SMALL_NEED);
+            lesser_broken_rule(duties, need)
+        }
+    }
 }

@@ -76,6 +76,47 @@ fn broken_by_sides(
     lesser_broken_rule(straight, taken)
 }
 
+/// Returns the least rule that a point breaks by its successors, if its instruction is a jump. A
+/// list of targets is made only for a jump by a register.
+fn broken_by_jump(at: &PointCheck<'_, '_>, to: Target, jumped: &mut Option<u8>) -> Option<u8>
+    requires point { IsPointCheck at.now }
+    requires target { IsTarget to }
+    requires jumped { RegisterJumpsHoldAt at.now jumped.old }
+    ensures found { LeastBrokenByDuties at.now
+        (jumps_to at.now.point.state.now
+        (unwrap_or (targets_of at.now.plan.now at.now.point.state.now at.now.point.addr to) []))
+        result }
+    ensures jumped { RegisterJumpsHoldAt at.now jumped.new }
+{
+    match to {
+        Target::Rel(by) => broken_by_pass(at, at.point.addr.wrapping_add(by)),
+        Target::Abs(x) => broken_by_pass(at, x),
+        Target::Reg(r) => broken_by_listed_jumps(at, r, jumped),
+    }
+}
+
+/// The least rule that an instruction breaks whose only successor is the next one.
+fn broken_by_next(
+    at: &PointCheck<'_, '_>,
+    found: &Located,
+    scratch: &mut PointScratch,
+) -> Option<u8>
+    requires point { IsPointCheck at.now }
+    requires found { StandsFaultless at.now.bounds.now at.now.image.now at.now.plan.now
+        at.now.node.now.key at.now.point.addr at.now.point.state.now found.now }
+    requires results { HoldsCachedResults at.now.bounds.now scratch.old.cache }
+    ensures found { LeastBrokenByDuties at.now
+        (next_of at.now.bounds.now at.now.image.now at.now.plan.now at.now.point.addr
+        at.now.point.state.now found.now.shape found.now.size) result }
+    ensures results { HoldsCachedResults at.now.bounds.now scratch.new.cache }
+    ensures registers { scratch.new.registers ≡ scratch.old.registers }
+{
+    if may_skip_change(found.shape) {
+        return broken_by_pass(at, at.point.addr.wrapping_add(found.size));
+    }
+    broken_by_step(at, found, scratch)
+}
+
 /// The least rule that a side of a branch breaks, if the side is possible. If the side allows no
 /// more than the state before it, a point that covers that state suffices.
 fn broken_by_side(
@@ -121,25 +162,6 @@ fn broken_by_change(
     rule_unless(has_changed_next(at, to, c), NO_POINT)
 }
 
-/// Returns the least rule that a point breaks by its successors, if its instruction is a jump. A
-/// list of targets is made only for a jump by a register.
-fn broken_by_jump(at: &PointCheck<'_, '_>, to: Target, jumped: &mut Option<u8>) -> Option<u8>
-    requires point { IsPointCheck at.now }
-    requires target { IsTarget to }
-    requires jumped { RegisterJumpsHoldAt at.now jumped.old }
-    ensures found { LeastBrokenByDuties at.now
-        (jumps_to at.now.point.state.now
-        (unwrap_or (targets_of at.now.plan.now at.now.point.state.now at.now.point.addr to) []))
-        result }
-    ensures jumped { RegisterJumpsHoldAt at.now jumped.new }
-{
-    match to {
-        Target::Rel(by) => broken_by_pass(at, at.point.addr.wrapping_add(by)),
-        Target::Abs(x) => broken_by_pass(at, x),
-        Target::Reg(r) => broken_by_listed_jumps(at, r, jumped),
-    }
-}
-
 /// The least rule that a jump to the targets of a register breaks. Jumps by the register `jumped`
 /// are passed over; if jumps by another register hold, that one is kept.
 #[inline(never)]
@@ -164,28 +186,6 @@ fn broken_by_listed_jumps(at: &PointCheck<'_, '_>, r: u8, jumped: &mut Option<u8
     } else {
         Some(NO_POINT)
     }
-}
-
-/// The least rule that an instruction breaks whose only successor is the next one.
-fn broken_by_next(
-    at: &PointCheck<'_, '_>,
-    found: &Located,
-    scratch: &mut PointScratch,
-) -> Option<u8>
-    requires point { IsPointCheck at.now }
-    requires found { StandsFaultless at.now.bounds.now at.now.image.now at.now.plan.now
-        at.now.node.now.key at.now.point.addr at.now.point.state.now found.now }
-    requires results { HoldsCachedResults at.now.bounds.now scratch.old.cache }
-    ensures found { LeastBrokenByDuties at.now
-        (next_of at.now.bounds.now at.now.image.now at.now.plan.now at.now.point.addr
-        at.now.point.state.now found.now.shape found.now.size) result }
-    ensures results { HoldsCachedResults at.now.bounds.now scratch.new.cache }
-    ensures registers { scratch.new.registers ≡ scratch.old.registers }
-{
-    if may_skip_change(found.shape) {
-        return broken_by_pass(at, at.point.addr.wrapping_add(found.size));
-    }
-    broken_by_step(at, found, scratch)
 }
 
 /// The least rule that the step to the next instruction breaks.

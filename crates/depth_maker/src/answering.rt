@@ -53,83 +53,6 @@ impl From<tcd_base::NoMemory> for MakeErr {
     }
 }
 
-/// Returns the refusal for a fault of a derived assignment at a place.
-fn answer_for_fault(_ground: &Ground, rule: u8, place: Spot) -> MakeErr
-    requires { AnsweredOn _ground.now (Fault rule place) }
-    ensures { Refuses _ground.now result }
-{
-    match place {
-        Spot::Point(key, addr) => MakeErr::Refused { rule, key, addr },
-        Spot::Exit(key) => MakeErr::Refused {
-            rule,
-            key,
-            addr: key.entry,
-        },
-    }
-}
-
-/// Returns the refusal for a fault of a derived assignment.
-fn answer_for_refusal(ground: &Ground, refusal: Refusal) -> MakeErr
-    requires { AnsweredOn ground.now refusal }
-    ensures { Refuses ground.now result }
-{
-    match refusal {
-        Refusal::Fault(rule, place) => answer_for_fault(ground, rule, place),
-        Refusal::NoMemory => MakeErr::NoMemory,
-    }
-}
-
-/// Returns the bytes of the certificate of a table without work, or why its needs are too great.
-fn answer_from_source(alloc: Global, source: &Source, version: u8) -> Result<Vec<u8>, MakeErr>
-    requires source { IsRowSource source.now }
-    requires version { (version ≡ 1) ⊎ (version ≡ 2) }
-    requires limits { IsGroundOf source.now.ground.now version }
-    ensures ok { IfOk result (λ out. AreSpelledBytes source.now.ground.now version out.items) }
-    ensures err { IfErr result (Refuses source.now.ground.now) }
-{
-    match frame_needs(alloc, source)? {
-        Ok(needs) => Ok(spelled_cert_bytes(alloc, source, version, needs.as_slice())?),
-        Err(place) => Err(needs_error(source, place)),
-    }
-}
-
-/// Returns the bytes of the certificate of a table without work, or why its needs are too great.
-fn answer_from_table(
-    alloc: Global,
-    ground: &Ground,
-    table: &Table,
-    version: u8,
-) -> Result<Vec<u8>, MakeErr>
-    requires done { IsDone ground.now table.now }
-    requires version { (version ≡ 1) ⊎ (version ≡ 2) }
-    requires limits { IsGroundOf ground.now version }
-    ensures ok { IfOk result (λ out. AreSpelledBytes ground.now version out.items) }
-    ensures err { IfErr result (Refuses ground.now) }
-{
-    let numbers = number_frames(alloc, table.frames.as_slice())?;
-    let handlers = all_handler_frames(alloc, ground.plan, &numbers)?;
-    let source = Source {
-        ground,
-        table,
-        numbers: &numbers,
-        handlers: handlers.as_slice(),
-    };
-    answer_from_source(alloc, &source, version)
-}
-
-/// Returns the bytes of the least certificate within these limits, or why there is none.
-fn answer_on_ground(alloc: Global, ground: &Ground, version: u8) -> Result<Vec<u8>, MakeErr>
-    requires version { (version ≡ 1) ⊎ (version ≡ 2) }
-    requires limits { IsGroundOf ground.now version }
-    ensures made { IfOk result (λ out. AreMadeOn ground.now version out.items) }
-    ensures refused { IfErr result (IsRefusedOn ground.now version) }
-{
-    match least_fixpoint(alloc, ground) {
-        Ok(table) => answer_from_table(alloc, ground, &table, version),
-        Err(refusal) => Err(answer_for_refusal(ground, refusal)),
-    }
-}
-
 /// Returns the bytes of the least certificate of version 1 or 2 that the rules accept, or why none
 /// is accepted.
 pub fn make_bytes(
@@ -164,5 +87,82 @@ pub fn make(alloc: Global, image: &Image, plan: &Plan, version: u8) -> Result<Ce
         Ok(cert) => Ok(cert),
         Err(CertErr::NoMemory) => Err(MakeErr::NoMemory),
         Err(CertErr::Bad(_)) => unreachable!(),
+    }
+}
+
+/// Returns the bytes of the least certificate within these limits, or why there is none.
+fn answer_on_ground(alloc: Global, ground: &Ground, version: u8) -> Result<Vec<u8>, MakeErr>
+    requires version { (version ≡ 1) ⊎ (version ≡ 2) }
+    requires limits { IsGroundOf ground.now version }
+    ensures made { IfOk result (λ out. AreMadeOn ground.now version out.items) }
+    ensures refused { IfErr result (IsRefusedOn ground.now version) }
+{
+    match least_fixpoint(alloc, ground) {
+        Ok(table) => answer_from_table(alloc, ground, &table, version),
+        Err(refusal) => Err(answer_for_refusal(ground, refusal)),
+    }
+}
+
+/// Returns the bytes of the certificate of a table without work, or why its needs are too great.
+fn answer_from_table(
+    alloc: Global,
+    ground: &Ground,
+    table: &Table,
+    version: u8,
+) -> Result<Vec<u8>, MakeErr>
+    requires done { IsDone ground.now table.now }
+    requires version { (version ≡ 1) ⊎ (version ≡ 2) }
+    requires limits { IsGroundOf ground.now version }
+    ensures ok { IfOk result (λ out. AreSpelledBytes ground.now version out.items) }
+    ensures err { IfErr result (Refuses ground.now) }
+{
+    let numbers = number_frames(alloc, table.frames.as_slice())?;
+    let handlers = all_handler_frames(alloc, ground.plan, &numbers)?;
+    let source = Source {
+        ground,
+        table,
+        numbers: &numbers,
+        handlers: handlers.as_slice(),
+    };
+    answer_from_source(alloc, &source, version)
+}
+
+/// Returns the refusal for a fault of a derived assignment.
+fn answer_for_refusal(ground: &Ground, refusal: Refusal) -> MakeErr
+    requires { AnsweredOn ground.now refusal }
+    ensures { Refuses ground.now result }
+{
+    match refusal {
+        Refusal::Fault(rule, place) => answer_for_fault(ground, rule, place),
+        Refusal::NoMemory => MakeErr::NoMemory,
+    }
+}
+
+/// Returns the bytes of the certificate of a table without work, or why its needs are too great.
+fn answer_from_source(alloc: Global, source: &Source, version: u8) -> Result<Vec<u8>, MakeErr>
+    requires source { IsRowSource source.now }
+    requires version { (version ≡ 1) ⊎ (version ≡ 2) }
+    requires limits { IsGroundOf source.now.ground.now version }
+    ensures ok { IfOk result (λ out. AreSpelledBytes source.now.ground.now version out.items) }
+    ensures err { IfErr result (Refuses source.now.ground.now) }
+{
+    match frame_needs(alloc, source)? {
+        Ok(needs) => Ok(spelled_cert_bytes(alloc, source, version, needs.as_slice())?),
+        Err(place) => Err(needs_error(source, place)),
+    }
+}
+
+/// Returns the refusal for a fault of a derived assignment at a place.
+fn answer_for_fault(_ground: &Ground, rule: u8, place: Spot) -> MakeErr
+    requires { AnsweredOn _ground.now (Fault rule place) }
+    ensures { Refuses _ground.now result }
+{
+    match place {
+        Spot::Point(key, addr) => MakeErr::Refused { rule, key, addr },
+        Spot::Exit(key) => MakeErr::Refused {
+            rule,
+            key,
+            addr: key.entry,
+        },
     }
 }

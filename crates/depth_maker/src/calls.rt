@@ -22,52 +22,67 @@ use tc_isa::Target;
 use value_domain::State;
 use vd_transfer::Change;
 
-/// Returns true only if the visited point's call joins no new entries: the last noted call of
-/// several functions shows that the entries of these are covered.
-fn has_noted_call(table: &Table, v: &Visit, entry: &Change, targets: &ArrayVec<u32, 128>) -> bool
-    requires visited { VisitedBy v.now table.now }
-    requires entry { state_after v.now.state.now entry.now ≡ entries.call_entry v.now.state.now }
-    ensures { IsTrue result
-        → JoinedBy v.now table.now table.now (enters_by v.now targets.now.items) }
+/// Joins a call. The list of targets is made only for a call by a register. The entry is written
+/// over `c`.
+pub(crate) fn join_call(
+    alloc: Global,
+    table: &mut Table,
+    v: &Visit,
+    to: Target,
+    back: u32,
+    c: &mut Change,
+) -> Result<(), Refusal>
+    requires visited { VisitedBy v.now table.old }
+    requires target { IsTarget to }
+    requires owes { OwesAll v.now (calls_by v.now back
+        (unwrap_or (targets_of v.now.ground.now.plan.now v.now.state.now v.now.addr to) [])) }
+    ensures ok { OnOk result (JoinedBy v.now table.old table.new (calls_by v.now back
+        (unwrap_or (targets_of v.now.ground.now.plan.now v.now.state.now v.now.addr to) []))) }
+    ensures err { IfErr result (AnsweredOn v.now.ground.now) }
 {
-    match &table.covered.call {
-        Some(last) => {
-            let incoming = Incoming::Changed(v.state, entry);
-            last.covers(v.ground.bounds, &v.key, targets, &incoming)
+    enter_by_call(c, v.state);
+    match direct_target(v.addr, to) {
+        Some(target) => {
+            let key = entered_key(&v.key, CALL, target);
+            join_entry_and_back(alloc, table, v, key, &*c, back)
         }
-        None => false,
+        None => join_listed_calls(alloc, table, v, &*c, to, back),
     }
 }
 
-/// Notes a call of several functions, unless the point has new work: then some entries may have
-/// been skipped.
+/// Writes the change of the visited point's state by a call. The entries of the called functions
+/// are joined with it.
+#[inline(always)]
+fn enter_by_call(c: &mut Change, s: &State)
+    ensures { state_after s.now c.new ≡ entries.call_entry s.now }
+{
+    c.keep(s);
+    c.lower = false;
+    c.locals = ArrayVec::new();
+}
+
+/// Joins the calls of the targets that a register lists.
 #[inline(never)]
-fn note_call(
+fn join_listed_calls(
     alloc: Global,
     table: &mut Table,
     v: &Visit,
     entry: &Change,
-    targets: &ArrayVec<u32, 128>,
+    to: Target,
+    back: u32,
 ) -> Result<(), Refusal>
     requires visited { VisitedBy v.now table.old }
+    requires target { IsTarget to }
     requires entry { state_after v.now.state.now entry.now ≡ entries.call_entry v.now.state.now }
-    ensures ok { OnOk result
-        (StayJoined v.now table.old table.new (enters_by v.now targets.now.items)) }
+    requires owes { OwesAll v.now (calls_by v.now back
+        (unwrap_or (targets_of v.now.ground.now.plan.now v.now.state.now v.now.addr to) [])) }
+    ensures ok { OnOk result (JoinedBy v.now table.old table.new (calls_by v.now back
+        (unwrap_or (targets_of v.now.ground.now.plan.now v.now.state.now v.now.addr to) []))) }
     ensures err { IfErr result (AnsweredOn v.now.ground.now) }
 {
-    if targets.len() < 2 {
-        return Ok(());
-    }
-    if has_queued_mark(&table.places, table.near) {
-        return Ok(());
-    }
-    let Some((_, own)) = table.places.get_index(table.near) else {
-        unreachable!();
-    };
-    let incoming = Incoming::Changed(v.state, entry);
-    let entry = own.value.apply(alloc, &incoming)?;
-    table.covered.call = Some(LastCall::of(&v.key, targets, entry));
-    Ok(())
+    let targets = targets(v.ground.plan, v.state, v.addr, to);
+    join_listed_call_entries(alloc, table, v, entry, &targets)?;
+    join_call_returns(alloc, table, v, targets.as_slice(), back)
 }
 
 /// Joins the entries of these functions, unless they are known to be covered.
@@ -114,65 +129,50 @@ fn join_call_returns(
     Ok(())
 }
 
-/// Joins the calls of the targets that a register lists.
+/// Returns true only if the visited point's call joins no new entries: the last noted call of
+/// several functions shows that the entries of these are covered.
+fn has_noted_call(table: &Table, v: &Visit, entry: &Change, targets: &ArrayVec<u32, 128>) -> bool
+    requires visited { VisitedBy v.now table.now }
+    requires entry { state_after v.now.state.now entry.now ≡ entries.call_entry v.now.state.now }
+    ensures { IsTrue result
+        → JoinedBy v.now table.now table.now (enters_by v.now targets.now.items) }
+{
+    match &table.covered.call {
+        Some(last) => {
+            let incoming = Incoming::Changed(v.state, entry);
+            last.covers(v.ground.bounds, &v.key, targets, &incoming)
+        }
+        None => false,
+    }
+}
+
+/// Notes a call of several functions, unless the point has new work: then some entries may have
+/// been skipped.
 #[inline(never)]
-fn join_listed_calls(
+fn note_call(
     alloc: Global,
     table: &mut Table,
     v: &Visit,
     entry: &Change,
-    to: Target,
-    back: u32,
+    targets: &ArrayVec<u32, 128>,
 ) -> Result<(), Refusal>
     requires visited { VisitedBy v.now table.old }
-    requires target { IsTarget to }
     requires entry { state_after v.now.state.now entry.now ≡ entries.call_entry v.now.state.now }
-    requires owes { OwesAll v.now (calls_by v.now back
-        (unwrap_or (targets_of v.now.ground.now.plan.now v.now.state.now v.now.addr to) [])) }
-    ensures ok { OnOk result (JoinedBy v.now table.old table.new (calls_by v.now back
-        (unwrap_or (targets_of v.now.ground.now.plan.now v.now.state.now v.now.addr to) []))) }
+    ensures ok { OnOk result
+        (StayJoined v.now table.old table.new (enters_by v.now targets.now.items)) }
     ensures err { IfErr result (AnsweredOn v.now.ground.now) }
 {
-    let targets = targets(v.ground.plan, v.state, v.addr, to);
-    join_listed_call_entries(alloc, table, v, entry, &targets)?;
-    join_call_returns(alloc, table, v, targets.as_slice(), back)
-}
-
-/// Writes the change of the visited point's state by a call. The entries of the called functions
-/// are joined with it.
-#[inline(always)]
-fn enter_by_call(c: &mut Change, s: &State)
-    ensures { state_after s.now c.new ≡ entries.call_entry s.now }
-{
-    c.keep(s);
-    c.lower = false;
-    c.locals = ArrayVec::new();
-}
-
-/// Joins a call. The list of targets is made only for a call by a register. The entry is written
-/// over `c`.
-pub(crate) fn join_call(
-    alloc: Global,
-    table: &mut Table,
-    v: &Visit,
-    to: Target,
-    back: u32,
-    c: &mut Change,
-) -> Result<(), Refusal>
-    requires visited { VisitedBy v.now table.old }
-    requires target { IsTarget to }
-    requires owes { OwesAll v.now (calls_by v.now back
-        (unwrap_or (targets_of v.now.ground.now.plan.now v.now.state.now v.now.addr to) [])) }
-    ensures ok { OnOk result (JoinedBy v.now table.old table.new (calls_by v.now back
-        (unwrap_or (targets_of v.now.ground.now.plan.now v.now.state.now v.now.addr to) []))) }
-    ensures err { IfErr result (AnsweredOn v.now.ground.now) }
-{
-    enter_by_call(c, v.state);
-    match direct_target(v.addr, to) {
-        Some(target) => {
-            let key = entered_key(&v.key, CALL, target);
-            join_entry_and_back(alloc, table, v, key, &*c, back)
-        }
-        None => join_listed_calls(alloc, table, v, &*c, to, back),
+    if targets.len() < 2 {
+        return Ok(());
     }
+    if has_queued_mark(&table.places, table.near) {
+        return Ok(());
+    }
+    let Some((_, own)) = table.places.get_index(table.near) else {
+        unreachable!();
+    };
+    let incoming = Incoming::Changed(v.state, entry);
+    let entry = own.value.apply(alloc, &incoming)?;
+    table.covered.call = Some(LastCall::of(&v.key, targets, entry));
+    Ok(())
 }

@@ -17,50 +17,6 @@ use tc_isa::Shape;
 use tcd_plan::Plan;
 use vd_transfer::address_by;
 
-/// Appends the frames of these functions, which a call enters.
-fn add_called_frames(keys: &mut Vec<Key>, key: Key, targets: &[u32]) -> Result<(), AllocError>
-    ensures { OnOk result
-        (keys.new.items ≡ keys.old.items ++ map (frames.call_key key) targets.now) }
-{
-    for t in targets {
-        keys.push(entered_key(&key, CALL, *t))?;
-    }
-    Ok(())
-}
-
-/// Appends the frames that the instruction enters by a call or a system call.
-fn add_entered_frames(keys: &mut Vec<Key>, v: &Visit, found: &Located) -> Result<(), AllocError>
-    requires { IsShape found.now.shape }
-    ensures { OnOk result
-        (keys.new.items
-        ≡ keys.old.items ++ entered_in (entries_by v.now found.now.shape found.now.size)) }
-{
-    match found.shape {
-        Shape::Call { to } => {
-            let targets = targets(v.ground.plan, v.state, v.addr, to);
-            add_called_frames(keys, v.key, targets.as_slice())
-        }
-        Shape::Syscall { .. } => {
-            keys.push(sys_key(v.ground.plan, &v.key))?;
-            Ok(())
-        }
-        _ => Ok(()),
-    }
-}
-
-/// Appends the frame of the handler of misaligned accesses, if the instruction may enter it.
-fn add_misaligned_frame(keys: &mut Vec<Key>, v: &Visit, found: &Located) -> Result<(), AllocError>
-    requires proper { IsProperState v.now.ground.now.bounds.now v.now.state.now }
-    requires stands { StandsBy v.now found.now }
-    ensures { OnOk result
-        (keys.new.items ≡ keys.old.items ++ entered_in (access_by v.now found.now)) }
-{
-    if may_enter_misaligned_handler(v, found) {
-        keys.push(aln_key(v.ground.plan, &v.key))?;
-    }
-    Ok(())
-}
-
 /// Returns the frames that the instruction at the point enters, in the order of its duties.
 pub(crate) fn entered_frames(
     alloc: Global,
@@ -125,4 +81,48 @@ pub(crate) fn accesses_misaligned(v: &Visit, shape: Shape, size: u8) -> bool
     let g = v.ground;
     let at = address_by(g.bounds, g.plan, shape, v.state);
     !is_flow_access_aligned(g.bounds, &at, size)
+}
+
+/// Appends the frames that the instruction enters by a call or a system call.
+fn add_entered_frames(keys: &mut Vec<Key>, v: &Visit, found: &Located) -> Result<(), AllocError>
+    requires { IsShape found.now.shape }
+    ensures { OnOk result
+        (keys.new.items
+        ≡ keys.old.items ++ entered_in (entries_by v.now found.now.shape found.now.size)) }
+{
+    match found.shape {
+        Shape::Call { to } => {
+            let targets = targets(v.ground.plan, v.state, v.addr, to);
+            add_called_frames(keys, v.key, targets.as_slice())
+        }
+        Shape::Syscall { .. } => {
+            keys.push(sys_key(v.ground.plan, &v.key))?;
+            Ok(())
+        }
+        _ => Ok(()),
+    }
+}
+
+/// Appends the frame of the handler of misaligned accesses, if the instruction may enter it.
+fn add_misaligned_frame(keys: &mut Vec<Key>, v: &Visit, found: &Located) -> Result<(), AllocError>
+    requires proper { IsProperState v.now.ground.now.bounds.now v.now.state.now }
+    requires stands { StandsBy v.now found.now }
+    ensures { OnOk result
+        (keys.new.items ≡ keys.old.items ++ entered_in (access_by v.now found.now)) }
+{
+    if may_enter_misaligned_handler(v, found) {
+        keys.push(aln_key(v.ground.plan, &v.key))?;
+    }
+    Ok(())
+}
+
+/// Appends the frames of these functions, which a call enters.
+fn add_called_frames(keys: &mut Vec<Key>, key: Key, targets: &[u32]) -> Result<(), AllocError>
+    ensures { OnOk result
+        (keys.new.items ≡ keys.old.items ++ map (frames.call_key key) targets.now) }
+{
+    for t in targets {
+        keys.push(entered_key(&key, CALL, *t))?;
+    }
+    Ok(())
 }

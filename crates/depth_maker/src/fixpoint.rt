@@ -29,11 +29,20 @@ pub(crate) struct VisitScratch {
     pub(crate) codes: KnownCodes,
 }
 
-/// Returns the readers of exits at the start of the fixpoint: there are none.
-fn fixpoint_start_readers(alloc: Global) -> IndexMap<Spot, Vec<Spot>>
-    ensures { (z : spots.Spot) → get spot_eq result z ≡ None }
+/// Returns the least closed assignment, or a fault of a derived one.
+// It is a function of its own, so that its stack room is free before the rows are made.
+#[inline(never)]
+pub(crate) fn least_fixpoint(alloc: Global, ground: &Ground) -> Result<Table, Refusal>
+    ensures ok { IfOk result (IsDone ground.now) }
+    ensures err { IfErr result (AnsweredOn ground.now) }
 {
-    IndexMap::new(alloc)
+    let mut table = begin_fixpoint(alloc, ground)?;
+    let mut scratch = VisitScratch {
+        state: ScratchState::new(start_state(ground.plan)),
+        codes: KnownCodes::new(),
+    };
+    while fixpoint_turn(alloc, ground, &mut table, &mut scratch)? {}
+    Ok(table)
 }
 
 /// Returns the table with only the start.
@@ -72,25 +81,34 @@ fn begin_fixpoint(alloc: Global, ground: &Ground) -> Result<Table, Refusal>
     })
 }
 
-/// Visits the place that was taken off the list.
-fn fixpoint_visit(
+/// Takes up to as many places off the list as it has now, and 1,024 more, and visits those with
+/// work. Returns whether some are left.
+#[inline(never)]
+fn fixpoint_turn(
     alloc: Global,
     ground: &Ground,
     table: &mut Table,
     scratch: &mut VisitScratch,
-    change: &mut Change,
-    cache: &mut OperationCache,
-) -> Result<(), Refusal>
+) -> Result<bool, Refusal>
     requires fine { FineOn ground.now table.old }
-    requires opened { HasVisitOpen table.old }
-    requires results { HoldsCachedResults ground.now.bounds.now cache.old }
-    ensures ok { OnOk result (VisitEndsOn ground.now table.old table.new) }
-    ensures err { IfErr result (AnsweredOn ground.now) }
-    ensures results { HoldsCachedResults ground.now.bounds.now cache.new }
+    requires none { NoVisitOpen table.old }
+    ensures { VisitTurnsOn ground.now table.old table.new result }
 {
-    let plain = visit_place(alloc, ground, table, scratch, change, cache)?;
-    end_visit(&mut table.places, table.near, plain);
-    Ok(())
+    let mut change = identity_change(scratch.state.state());
+    let mut cache = OperationCache::empty();
+    for _done in 0..table.work.len() + 1024 {
+        if !fixpoint_step(alloc, ground, table, scratch, &mut change, &mut cache)? {
+            return Ok(false);
+        }
+    }
+    Ok(!table.work.is_empty())
+}
+
+/// Returns the readers of exits at the start of the fixpoint: there are none.
+fn fixpoint_start_readers(alloc: Global) -> IndexMap<Spot, Vec<Spot>>
+    ensures { (z : spots.Spot) → get spot_eq result z ≡ None }
+{
+    IndexMap::new(alloc)
 }
 
 /// Takes the next place off the list, and visits it if it still has work. Returns false if the list
@@ -121,41 +139,23 @@ fn fixpoint_step(
     Ok(true)
 }
 
-/// Takes up to as many places off the list as it has now, and 1,024 more, and visits those with
-/// work. Returns whether some are left.
-#[inline(never)]
-fn fixpoint_turn(
+/// Visits the place that was taken off the list.
+fn fixpoint_visit(
     alloc: Global,
     ground: &Ground,
     table: &mut Table,
     scratch: &mut VisitScratch,
-) -> Result<bool, Refusal>
+    change: &mut Change,
+    cache: &mut OperationCache,
+) -> Result<(), Refusal>
     requires fine { FineOn ground.now table.old }
-    requires none { NoVisitOpen table.old }
-    ensures { VisitTurnsOn ground.now table.old table.new result }
-{
-    let mut change = identity_change(scratch.state.state());
-    let mut cache = OperationCache::empty();
-    for _done in 0..table.work.len() + 1024 {
-        if !fixpoint_step(alloc, ground, table, scratch, &mut change, &mut cache)? {
-            return Ok(false);
-        }
-    }
-    Ok(!table.work.is_empty())
-}
-
-/// Returns the least closed assignment, or a fault of a derived one.
-// It is a function of its own, so that its stack room is free before the rows are made.
-#[inline(never)]
-pub(crate) fn least_fixpoint(alloc: Global, ground: &Ground) -> Result<Table, Refusal>
-    ensures ok { IfOk result (IsDone ground.now) }
+    requires opened { HasVisitOpen table.old }
+    requires results { HoldsCachedResults ground.now.bounds.now cache.old }
+    ensures ok { OnOk result (VisitEndsOn ground.now table.old table.new) }
     ensures err { IfErr result (AnsweredOn ground.now) }
+    ensures results { HoldsCachedResults ground.now.bounds.now cache.new }
 {
-    let mut table = begin_fixpoint(alloc, ground)?;
-    let mut scratch = VisitScratch {
-        state: ScratchState::new(start_state(ground.plan)),
-        codes: KnownCodes::new(),
-    };
-    while fixpoint_turn(alloc, ground, &mut table, &mut scratch)? {}
-    Ok(table)
+    let plain = visit_place(alloc, ground, table, scratch, change, cache)?;
+    end_visit(&mut table.places, table.near, plain);
+    Ok(())
 }

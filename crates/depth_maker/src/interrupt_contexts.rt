@@ -50,16 +50,6 @@ impl InterruptContext {
         }
     }
 
-    /// Returns whether A10 of this state is covered. It matters only on the interrupt stack.
-    fn covers_stack(&self, s: &State) -> bool
-        requires own { IsWell self.now.sp }
-        requires other { IsWell (a10_of s.now) }
-        ensures { IsTrue result → IsTrue self.now.is
-            → IsBelow (a10_of s.now) self.now.sp }
-    {
-        !self.is || leq(&s.regs[A10_SLOT], &self.sp)
-    }
-
     /// Returns true only if its entries cover those of a frame with this state.
     pub(crate) fn covers(&self, is: bool, s: &State) -> bool
         requires own { IsWell self.now.sp }
@@ -92,6 +82,16 @@ impl InterruptContext {
         ensures { self.new ≡ joined_context b.now self.old (a10_of s.now) }
     {
         self.sp = join(b, &self.sp, &s.regs[A10_SLOT]);
+    }
+
+    /// Returns whether A10 of this state is covered. It matters only on the interrupt stack.
+    fn covers_stack(&self, s: &State) -> bool
+        requires own { IsWell self.now.sp }
+        requires other { IsWell (a10_of s.now) }
+        ensures { IsTrue result → IsTrue self.now.is
+            → IsBelow (a10_of s.now) self.now.sp }
+    {
+        !self.is || leq(&s.regs[A10_SLOT], &self.sp)
     }
 }
 

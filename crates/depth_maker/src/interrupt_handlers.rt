@@ -18,6 +18,36 @@ pub(crate) struct Handler {
     node: usize,
 }
 
+/// Returns the handlers of all stated interrupts.
+pub(crate) fn all_handler_frames(
+    alloc: Global,
+    plan: &Plan,
+    numbers: &IndexMap<Key, usize>,
+) -> Result<Vec<Handler>, AllocError>
+    ensures { IfOk result (λ handlers. (frames : List keys.Key)
+        → AreFrameNumbers numbers.now frames frames
+        → AreHandlers plan.now frames plan.now.irqs handlers.items) }
+{
+    handler_frames_of(alloc, plan, numbers, plan.irqs.as_slice())
+}
+
+/// Appends the frames of the interrupts that may be taken: those above this priority if IE is on.
+pub(crate) fn add_taken_handlers(
+    into: &mut Vec<usize>,
+    ie: bool,
+    ccpn: u8,
+    handlers: &[Handler],
+) -> Result<(), AllocError>
+    ensures { OnOk result (into.new.items ≡ into.old.items ++ nodes_taken ie ccpn handlers.now) }
+{
+    if !ie {
+        return Ok(());
+    }
+    into.reserve(handlers.len())?;
+    add_handlers_above(into, ccpn, handlers);
+    Ok(())
+}
+
 /// Returns the maker's list of the handlers of these interrupts, each with its priority and the
 /// number of its frame.
 fn handler_frames_of(
@@ -38,17 +68,16 @@ fn handler_frames_of(
     Ok(handlers)
 }
 
-/// Returns the handlers of all stated interrupts.
-pub(crate) fn all_handler_frames(
-    alloc: Global,
-    plan: &Plan,
-    numbers: &IndexMap<Key, usize>,
-) -> Result<Vec<Handler>, AllocError>
-    ensures { IfOk result (λ handlers. (frames : List keys.Key)
-        → AreFrameNumbers numbers.now frames frames
-        → AreHandlers plan.now frames plan.now.irqs handlers.items) }
+/// Appends the numbers of the frames of all interrupt handlers above this priority. There is room
+/// for them.
+#[inline(always)]
+fn add_handlers_above(into: &mut Vec<usize>, ccpn: u8, handlers: &[Handler])
+    requires { vec_len into.old + length handlers.now ≤ vec_capacity into.old }
+    ensures { into.new.items ≡ into.old.items ++ nodes_above ccpn handlers.now }
 {
-    handler_frames_of(alloc, plan, numbers, plan.irqs.as_slice())
+    for h in handlers {
+        add_handler_above(into, ccpn, h);
+    }
 }
 
 /// Appends the frame of a handler if its interrupt is above this priority. There is room for it.
@@ -63,33 +92,4 @@ fn add_handler_above(into: &mut Vec<usize>, ccpn: u8, handler: &Handler)
         return;
     }
     into.push_reserved(handler.node);
-}
-
-/// Appends the numbers of the frames of all interrupt handlers above this priority. There is room
-/// for them.
-#[inline(always)]
-fn add_handlers_above(into: &mut Vec<usize>, ccpn: u8, handlers: &[Handler])
-    requires { vec_len into.old + length handlers.now ≤ vec_capacity into.old }
-    ensures { into.new.items ≡ into.old.items ++ nodes_above ccpn handlers.now }
-{
-    for h in handlers {
-        add_handler_above(into, ccpn, h);
-    }
-}
-
-/// Appends the frames of the interrupts that may be taken: those above this priority if IE is on.
-pub(crate) fn add_taken_handlers(
-    into: &mut Vec<usize>,
-    ie: bool,
-    ccpn: u8,
-    handlers: &[Handler],
-) -> Result<(), AllocError>
-    ensures { OnOk result (into.new.items ≡ into.old.items ++ nodes_taken ie ccpn handlers.now) }
-{
-    if !ie {
-        return Ok(());
-    }
-    into.reserve(handlers.len())?;
-    add_handlers_above(into, ccpn, handlers);
-    Ok(())
 }

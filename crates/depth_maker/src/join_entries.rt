@@ -31,26 +31,6 @@ use std::alloc::Global;
 use tc_isa::Shape;
 use vd_transfer::Change;
 
-/// Joins the entry of the handler of the system call `tin`, and the state after its return. It is a
-/// call of its own, since it has room for a change.
-#[inline(never)]
-fn join_system_call_entry(
-    alloc: Global,
-    table: &mut Table,
-    v: &Visit,
-    tin: u8,
-    back: u32,
-) -> Result<(), Refusal>
-    requires visited { VisitedBy v.now table.old }
-    requires owes { OwesAll v.now (system_by v.now tin back) }
-    ensures ok { OnOk result (JoinedBy v.now table.old table.new (system_by v.now tin back)) }
-    ensures err { IfErr result (AnsweredOn v.now.ground.now) }
-{
-    let g = v.ground;
-    let entry = system_change(g.bounds, g.plan, &v.key, v.state, tin);
-    join_entry_and_back(alloc, table, v, sys_key(g.plan, &v.key), &entry, back)
-}
-
 /// Joins the entries by a call or a system call. The change by a call is written over `c`.
 pub(crate) fn join_entries(
     alloc: Global,
@@ -74,20 +54,6 @@ pub(crate) fn join_entries(
     }
 }
 
-/// Joins the entry of the handler of misaligned accesses, as the other entries of the visited
-/// point. It is a call of its own, since it has room for a change.
-#[inline(never)]
-fn join_misaligned_entry(alloc: Global, table: &mut Table, v: &Visit) -> Result<(), Refusal>
-    requires visited { VisitedBy v.now table.old }
-    requires owes { OwesAll v.now (misaligned_by v.now ∷ []) }
-    ensures ok { OnOk result (JoinedBy v.now table.old table.new (misaligned_by v.now ∷ [])) }
-    ensures err { IfErr result (AnsweredOn v.now.ground.now) }
-{
-    let g = v.ground;
-    let entry = misaligned_change(g.bounds, g.plan, &v.key, v.state);
-    join_entry(alloc, table, v, aln_key(g.plan, &v.key), &entry)
-}
-
 /// Joins the entry that the visited point's access may enter: that of the handler of misaligned
 /// accesses, if an address may be misaligned.
 pub(crate) fn join_access_entry(
@@ -106,50 +72,6 @@ pub(crate) fn join_access_entry(
         return Ok(());
     }
     join_misaligned_entry(alloc, table, v)
-}
-
-/// Joins the entries of the handlers of these interrupts. `entry` is the change at an entry, except
-/// for its CCPN.
-fn join_each_handler_entry(
-    alloc: Global,
-    table: &mut Table,
-    v: &Visit,
-    irqs: &[u8],
-    entry: Change,
-) -> Result<(), Refusal>
-    requires visited { VisitedBy v.now table.old }
-    requires owes { OwesAll v.now
-        (told_irqs v.now.ground.now.plan.now (state_after v.now.state.now entry) irqs.now) }
-    ensures ok { OnOk result
-        (JoinedBy v.now table.old table.new
-        (told_irqs v.now.ground.now.plan.now (state_after v.now.state.now entry) irqs.now)) }
-    ensures err { IfErr result (AnsweredOn v.now.ground.now) }
-{
-    let mut entry = entry;
-    for p in irqs {
-        entry.ccpn = *p;
-        join_entry(alloc, table, v, irq_key(v.ground.plan, *p), &entry)?;
-    }
-    Ok(())
-}
-
-/// Joins the entries that the visited point enters by these interrupts, which may be taken. It is a
-/// call of its own, since it has room for a change.
-#[inline(never)]
-fn join_interrupt_entries(
-    alloc: Global,
-    table: &mut Table,
-    v: &Visit,
-    irqs: &[u8],
-) -> Result<(), Refusal>
-    requires visited { VisitedBy v.now table.old }
-    requires irqs { irqs.now ≡ irqs_of v.now.ground.now.plan.now v.now.state.now }
-    requires owes { OwesAll v.now (interrupts_by v.now) }
-    ensures ok { OnOk result (JoinedBy v.now table.old table.new (interrupts_by v.now)) }
-    ensures err { IfErr result (AnsweredOn v.now.ground.now) }
-{
-    let entry = handler_change(v.ground.bounds, v.ground.plan, &v.key, v.state, 0);
-    join_each_handler_entry(alloc, table, v, irqs, entry)
 }
 
 /// Joins the entries of the handlers of the interrupts that may be taken. There are none if IE is
@@ -262,4 +184,82 @@ pub(crate) fn join_entry_and_back(
 {
     join_entry(alloc, table, v, key, c)?;
     join_return_after_entry(alloc, table, v, key, back)
+}
+
+/// Joins the entry of the handler of the system call `tin`, and the state after its return. It is a
+/// call of its own, since it has room for a change.
+#[inline(never)]
+fn join_system_call_entry(
+    alloc: Global,
+    table: &mut Table,
+    v: &Visit,
+    tin: u8,
+    back: u32,
+) -> Result<(), Refusal>
+    requires visited { VisitedBy v.now table.old }
+    requires owes { OwesAll v.now (system_by v.now tin back) }
+    ensures ok { OnOk result (JoinedBy v.now table.old table.new (system_by v.now tin back)) }
+    ensures err { IfErr result (AnsweredOn v.now.ground.now) }
+{
+    let g = v.ground;
+    let entry = system_change(g.bounds, g.plan, &v.key, v.state, tin);
+    join_entry_and_back(alloc, table, v, sys_key(g.plan, &v.key), &entry, back)
+}
+
+/// Joins the entry of the handler of misaligned accesses, as the other entries of the visited
+/// point. It is a call of its own, since it has room for a change.
+#[inline(never)]
+fn join_misaligned_entry(alloc: Global, table: &mut Table, v: &Visit) -> Result<(), Refusal>
+    requires visited { VisitedBy v.now table.old }
+    requires owes { OwesAll v.now (misaligned_by v.now ∷ []) }
+    ensures ok { OnOk result (JoinedBy v.now table.old table.new (misaligned_by v.now ∷ [])) }
+    ensures err { IfErr result (AnsweredOn v.now.ground.now) }
+{
+    let g = v.ground;
+    let entry = misaligned_change(g.bounds, g.plan, &v.key, v.state);
+    join_entry(alloc, table, v, aln_key(g.plan, &v.key), &entry)
+}
+
+/// Joins the entries that the visited point enters by these interrupts, which may be taken. It is a
+/// call of its own, since it has room for a change.
+#[inline(never)]
+fn join_interrupt_entries(
+    alloc: Global,
+    table: &mut Table,
+    v: &Visit,
+    irqs: &[u8],
+) -> Result<(), Refusal>
+    requires visited { VisitedBy v.now table.old }
+    requires irqs { irqs.now ≡ irqs_of v.now.ground.now.plan.now v.now.state.now }
+    requires owes { OwesAll v.now (interrupts_by v.now) }
+    ensures ok { OnOk result (JoinedBy v.now table.old table.new (interrupts_by v.now)) }
+    ensures err { IfErr result (AnsweredOn v.now.ground.now) }
+{
+    let entry = handler_change(v.ground.bounds, v.ground.plan, &v.key, v.state, 0);
+    join_each_handler_entry(alloc, table, v, irqs, entry)
+}
+
+/// Joins the entries of the handlers of these interrupts. `entry` is the change at an entry, except
+/// for its CCPN.
+fn join_each_handler_entry(
+    alloc: Global,
+    table: &mut Table,
+    v: &Visit,
+    irqs: &[u8],
+    entry: Change,
+) -> Result<(), Refusal>
+    requires visited { VisitedBy v.now table.old }
+    requires owes { OwesAll v.now
+        (told_irqs v.now.ground.now.plan.now (state_after v.now.state.now entry) irqs.now) }
+    ensures ok { OnOk result
+        (JoinedBy v.now table.old table.new
+        (told_irqs v.now.ground.now.plan.now (state_after v.now.state.now entry) irqs.now)) }
+    ensures err { IfErr result (AnsweredOn v.now.ground.now) }
+{
+    let mut entry = entry;
+    for p in irqs {
+        entry.ccpn = *p;
+        join_entry(alloc, table, v, irq_key(v.ground.plan, *p), &entry)?;
+    }
+    Ok(())
 }

@@ -27,49 +27,6 @@ use indexmap::IndexMap;
 use small_states::{Incoming, SmallKnown, incoming_priority};
 use std::alloc::{AllocError, Global};
 
-/// Joins what flows into `y`, which has this number, and queues `y`, unless it is covered. Returns
-/// whether it wasn't. The entry point of a frame waits for the next round if it was visited.
-fn join_known_place(
-    alloc: Global,
-    table: &mut Table,
-    v: &Visit,
-    number: usize,
-    y: &Spot,
-    incoming: &Incoming,
-) -> Result<bool, Refusal>
-    requires fine { FineOn v.now.ground.now table.old }
-    requires there { PlaceHasNumber table.old.places number y.now }
-    requires near { PlaceHasNumber table.old.places table.old.near (Point v.now.key v.now.addr) }
-    requires at { (seen table.old).cells (point v.now.key v.now.addr)
-        ≡ Some (state v.now.state.now) }
-    requires own { sender_state incoming.now ≡ v.now.state.now }
-    requires incoming { AsksOn v.now.ground.now table.old y.now (incoming_known incoming.now) }
-    ensures { JoinsOn v.now.ground.now table.old table.new y.now
-        (incoming_known incoming.now) result }
-{
-    let Some((_, place)) = table.places.get_index(number) else {
-        unreachable!();
-    };
-    let Some((_, own)) = table.places.get_index(table.near) else {
-        unreachable!();
-    };
-    let b = v.ground.bounds;
-    if place.value.covers(b, incoming) {
-        return Ok(false);
-    }
-    let Some(cell) = place.value.join_from(alloc, b, &own.value, incoming)? else {
-        return Err(Refusal::Fault(LOCALS_RULE, *y));
-    };
-    put_place(
-        &mut table.places,
-        &mut table.work,
-        number,
-        cell,
-        y.is_entry(),
-    )?;
-    Ok(true)
-}
-
 /// Adds the place `y` with this value, which flows in, and counts it. If `y` is known, returns its
 /// number and adds nothing. It is never inlined: if `join_new_place` and `pass_on` each had its
 /// text, LLVM would inline neither `add_or_find_place` nor the pushes of `count_place`.
@@ -93,32 +50,32 @@ pub(crate) fn add_joined_place(
     }
 }
 
-/// Adds the place `y` with what flows in. If `y` is known, joins what flows in, unless it is
-/// covered. Returns whether it wasn't.
-fn join_new_place(
+/// Joins what flows from the visited point, which still has its state, into `y`. The readers of a
+/// known exit that rises wait for the next round.
+pub(crate) fn join_at_place(
     alloc: Global,
     table: &mut Table,
     v: &Visit,
     y: &Spot,
     incoming: &Incoming,
-) -> Result<bool, Refusal>
+) -> Result<(), Refusal>
     requires fine { FineOn v.now.ground.now table.old }
     requires near { PlaceHasNumber table.old.places table.old.near (Point v.now.key v.now.addr) }
     requires at { (seen table.old).cells (point v.now.key v.now.addr)
         ≡ Some (state v.now.state.now) }
     requires own { sender_state incoming.now ≡ v.now.state.now }
     requires incoming { AsksOn v.now.ground.now table.old y.now (incoming_known incoming.now) }
-    ensures { JoinsOn v.now.ground.now table.old table.new y.now
-        (incoming_known incoming.now) result }
+    ensures ok { OnOk result
+        (JoinedOn v.now.ground.now table.old table.new y.now (incoming_known incoming.now)) }
+    ensures err { IfErr result (AnsweredOn v.now.ground.now) }
 {
-    let Some((_, own)) = table.places.get_index(table.near) else {
-        unreachable!();
-    };
-    let value = own.value.apply(alloc, incoming)?;
-    match add_joined_place(table, *y, value)? {
-        None => Ok(true),
-        Some(number) => join_known_place(alloc, table, v, number, y, incoming),
+    let _byte = incoming_priority(incoming);
+    let known = table.places.len();
+    if join_place_alone(alloc, table, v, y, incoming)? {
+        let again = table.places.len() == known;
+        requeue_readers_after_join(&mut table.places, &mut table.work, &table.readers, y, again)?;
     }
+    Ok(())
 }
 
 /// Joins what flows into `y` alone, unless it is covered. Returns whether it wasn't. After the last
@@ -168,30 +125,73 @@ fn requeue_readers_after_join(
     requeue_readers_of(places, work, readers, *y, waits)
 }
 
-/// Joins what flows from the visited point, which still has its state, into `y`. The readers of a
-/// known exit that rises wait for the next round.
-pub(crate) fn join_at_place(
+/// Joins what flows into `y`, which has this number, and queues `y`, unless it is covered. Returns
+/// whether it wasn't. The entry point of a frame waits for the next round if it was visited.
+fn join_known_place(
+    alloc: Global,
+    table: &mut Table,
+    v: &Visit,
+    number: usize,
+    y: &Spot,
+    incoming: &Incoming,
+) -> Result<bool, Refusal>
+    requires fine { FineOn v.now.ground.now table.old }
+    requires there { PlaceHasNumber table.old.places number y.now }
+    requires near { PlaceHasNumber table.old.places table.old.near (Point v.now.key v.now.addr) }
+    requires at { (seen table.old).cells (point v.now.key v.now.addr)
+        ≡ Some (state v.now.state.now) }
+    requires own { sender_state incoming.now ≡ v.now.state.now }
+    requires incoming { AsksOn v.now.ground.now table.old y.now (incoming_known incoming.now) }
+    ensures { JoinsOn v.now.ground.now table.old table.new y.now
+        (incoming_known incoming.now) result }
+{
+    let Some((_, place)) = table.places.get_index(number) else {
+        unreachable!();
+    };
+    let Some((_, own)) = table.places.get_index(table.near) else {
+        unreachable!();
+    };
+    let b = v.ground.bounds;
+    if place.value.covers(b, incoming) {
+        return Ok(false);
+    }
+    let Some(cell) = place.value.join_from(alloc, b, &own.value, incoming)? else {
+        return Err(Refusal::Fault(LOCALS_RULE, *y));
+    };
+    put_place(
+        &mut table.places,
+        &mut table.work,
+        number,
+        cell,
+        y.is_entry(),
+    )?;
+    Ok(true)
+}
+
+/// Adds the place `y` with what flows in. If `y` is known, joins what flows in, unless it is
+/// covered. Returns whether it wasn't.
+fn join_new_place(
     alloc: Global,
     table: &mut Table,
     v: &Visit,
     y: &Spot,
     incoming: &Incoming,
-) -> Result<(), Refusal>
+) -> Result<bool, Refusal>
     requires fine { FineOn v.now.ground.now table.old }
     requires near { PlaceHasNumber table.old.places table.old.near (Point v.now.key v.now.addr) }
     requires at { (seen table.old).cells (point v.now.key v.now.addr)
         ≡ Some (state v.now.state.now) }
     requires own { sender_state incoming.now ≡ v.now.state.now }
     requires incoming { AsksOn v.now.ground.now table.old y.now (incoming_known incoming.now) }
-    ensures ok { OnOk result
-        (JoinedOn v.now.ground.now table.old table.new y.now (incoming_known incoming.now)) }
-    ensures err { IfErr result (AnsweredOn v.now.ground.now) }
+    ensures { JoinsOn v.now.ground.now table.old table.new y.now
+        (incoming_known incoming.now) result }
 {
-    let _byte = incoming_priority(incoming);
-    let known = table.places.len();
-    if join_place_alone(alloc, table, v, y, incoming)? {
-        let again = table.places.len() == known;
-        requeue_readers_after_join(&mut table.places, &mut table.work, &table.readers, y, again)?;
+    let Some((_, own)) = table.places.get_index(table.near) else {
+        unreachable!();
+    };
+    let value = own.value.apply(alloc, incoming)?;
+    match add_joined_place(table, *y, value)? {
+        None => Ok(true),
+        Some(number) => join_known_place(alloc, table, v, number, y, incoming),
     }
-    Ok(())
 }

@@ -37,151 +37,6 @@ struct Side {
     to: u32,
 }
 
-/// Joins a side of a branch if it is possible.
-fn join_side(
-    alloc: Global,
-    table: &mut Table,
-    v: &Visit,
-    side: Side,
-    c: &mut Change,
-) -> Result<(), Refusal>
-    requires visited { VisitedBy v.now table.old }
-    requires shape { IsShape side.shape }
-    requires owes { OwesAll v.now (jump_on side.to (side_by v.now side.shape side.taken)) }
-    ensures ok { OnOk result
-        (JoinedBy v.now table.old table.new
-        (jump_on side.to (side_by v.now side.shape side.taken))) }
-    ensures err { IfErr result (AnsweredOn v.now.ground.now) }
-{
-    let g = v.ground;
-    if !change_on(g.bounds, g.plan, side.shape, v.state, side.taken, c) {
-        return Ok(());
-    }
-    join_jump(alloc, table, v, side.to, &*c)
-}
-
-/// Joins both sides of a branch.
-fn join_sides(
-    alloc: Global,
-    table: &mut Table,
-    v: &Visit,
-    next: Side,
-    taken: Side,
-    c: &mut Change,
-) -> Result<(), Refusal>
-    requires visited { VisitedBy v.now table.old }
-    requires next { IsShape next.shape }
-    requires taken { IsShape taken.shape }
-    requires owes { OwesAll v.now
-        (jump_on next.to (side_by v.now next.shape next.taken)
-        ++ jump_on taken.to (side_by v.now taken.shape taken.taken)) }
-    ensures ok { OnOk result
-        (JoinedBy v.now table.old table.new
-        (jump_on next.to (side_by v.now next.shape next.taken)
-        ++ jump_on taken.to (side_by v.now taken.shape taken.taken))) }
-    ensures err { IfErr result (AnsweredOn v.now.ground.now) }
-{
-    join_side(alloc, table, v, next, c)?;
-    join_side(alloc, table, v, taken, c)
-}
-
-/// Joins the unchanged state at each of these addresses.
-fn join_jumps(
-    alloc: Global,
-    table: &mut Table,
-    v: &Visit,
-    targets: &[u32],
-    c: &mut Change,
-) -> Result<(), Refusal>
-    requires visited { VisitedBy v.now table.old }
-    requires owes { OwesAll v.now (jumps_to v.now.state.now targets.now) }
-    ensures ok { OnOk result
-        (JoinedBy v.now table.old table.new (jumps_to v.now.state.now targets.now)) }
-    ensures err { IfErr result (AnsweredOn v.now.ground.now) }
-{
-    c.keep(v.state);
-    for t in targets {
-        join_jump(alloc, table, v, *t, &*c)?;
-    }
-    Ok(())
-}
-
-/// Joins the unchanged state at each target that is listed.
-#[inline(never)]
-fn join_listed_jumps(
-    alloc: Global,
-    table: &mut Table,
-    v: &Visit,
-    to: Target,
-    c: &mut Change,
-) -> Result<(), Refusal>
-    requires visited { VisitedBy v.now table.old }
-    requires target { IsTarget to }
-    requires owes { OwesAll v.now
-        (jumps_to v.now.state.now
-        (unwrap_or (targets_of v.now.ground.now.plan.now v.now.state.now v.now.addr to) [])) }
-    ensures ok { OnOk result (JoinedBy v.now table.old table.new
-        (jumps_to v.now.state.now
-        (unwrap_or (targets_of v.now.ground.now.plan.now v.now.state.now v.now.addr to) []))) }
-    ensures err { IfErr result (AnsweredOn v.now.ground.now) }
-{
-    let targets = targets(v.ground.plan, v.state, v.addr, to);
-    join_jumps(alloc, table, v, targets.as_slice(), c)
-}
-
-/// Joins the unchanged state at the targets of a jump, before anything else is joined. The list of
-/// targets is made only for a jump by a register.
-fn join_targets(
-    alloc: Global,
-    table: &mut Table,
-    v: &Visit,
-    to: Target,
-    c: &mut Change,
-) -> Result<(), Refusal>
-    requires visited { VisitedBy v.now table.old }
-    requires at { (seen table.old).cells (point v.now.key v.now.addr)
-        ≡ Some (state v.now.state.now) }
-    requires target { IsTarget to }
-    requires owes { OwesAll v.now
-        (jumps_to v.now.state.now
-        (unwrap_or (targets_of v.now.ground.now.plan.now v.now.state.now v.now.addr to) [])) }
-    ensures ok { OnOk result (JoinedBy v.now table.old table.new
-        (jumps_to v.now.state.now
-        (unwrap_or (targets_of v.now.ground.now.plan.now v.now.state.now v.now.addr to) []))) }
-    ensures err { IfErr result (AnsweredOn v.now.ground.now) }
-{
-    match direct_target(v.addr, to) {
-        Some(target) => {
-            c.keep(v.state);
-            join_first_jump(alloc, table, v, target, &*c)
-        }
-        None => join_listed_jumps(alloc, table, v, to, c),
-    }
-}
-
-/// Joins the state after the instruction at the next one, before anything else is joined.
-fn join_step(
-    alloc: Global,
-    table: &mut Table,
-    v: &Visit,
-    found: &Located,
-    c: &mut Change,
-    cache: &mut OperationCache,
-) -> Result<(), Refusal>
-    requires visited { VisitedBy v.now table.old }
-    requires at { (seen table.old).cells (point v.now.key v.now.addr)
-        ≡ Some (state v.now.state.now) }
-    requires found { StandsBy v.now found.now }
-    requires owes { OwesAll v.now (next_by v.now found.now) }
-    requires results { HoldsCachedResults v.now.ground.now.bounds.now cache.old }
-    ensures ok { OnOk result (JoinedBy v.now table.old table.new (next_by v.now found.now)) }
-    ensures err { IfErr result (AnsweredOn v.now.ground.now) }
-    ensures results { HoldsCachedResults v.now.ground.now.bounds.now cache.new }
-{
-    write_visit_change(v, found.shape, c, cache);
-    join_first_jump(alloc, table, v, v.addr.wrapping_add(found.size), &*c)
-}
-
 /// Joins the successors in the same frame, before anything else is joined; those after calls and
 /// system calls are left to `join_entries`. The change by the instruction is written over `c`, and
 /// results of operations on two sets are in `cache`.
@@ -337,4 +192,149 @@ pub(crate) fn join_leavings(
         }
         _ => Ok(()),
     }
+}
+
+/// Joins both sides of a branch.
+fn join_sides(
+    alloc: Global,
+    table: &mut Table,
+    v: &Visit,
+    next: Side,
+    taken: Side,
+    c: &mut Change,
+) -> Result<(), Refusal>
+    requires visited { VisitedBy v.now table.old }
+    requires next { IsShape next.shape }
+    requires taken { IsShape taken.shape }
+    requires owes { OwesAll v.now
+        (jump_on next.to (side_by v.now next.shape next.taken)
+        ++ jump_on taken.to (side_by v.now taken.shape taken.taken)) }
+    ensures ok { OnOk result
+        (JoinedBy v.now table.old table.new
+        (jump_on next.to (side_by v.now next.shape next.taken)
+        ++ jump_on taken.to (side_by v.now taken.shape taken.taken))) }
+    ensures err { IfErr result (AnsweredOn v.now.ground.now) }
+{
+    join_side(alloc, table, v, next, c)?;
+    join_side(alloc, table, v, taken, c)
+}
+
+/// Joins the unchanged state at the targets of a jump, before anything else is joined. The list of
+/// targets is made only for a jump by a register.
+fn join_targets(
+    alloc: Global,
+    table: &mut Table,
+    v: &Visit,
+    to: Target,
+    c: &mut Change,
+) -> Result<(), Refusal>
+    requires visited { VisitedBy v.now table.old }
+    requires at { (seen table.old).cells (point v.now.key v.now.addr)
+        ≡ Some (state v.now.state.now) }
+    requires target { IsTarget to }
+    requires owes { OwesAll v.now
+        (jumps_to v.now.state.now
+        (unwrap_or (targets_of v.now.ground.now.plan.now v.now.state.now v.now.addr to) [])) }
+    ensures ok { OnOk result (JoinedBy v.now table.old table.new
+        (jumps_to v.now.state.now
+        (unwrap_or (targets_of v.now.ground.now.plan.now v.now.state.now v.now.addr to) []))) }
+    ensures err { IfErr result (AnsweredOn v.now.ground.now) }
+{
+    match direct_target(v.addr, to) {
+        Some(target) => {
+            c.keep(v.state);
+            join_first_jump(alloc, table, v, target, &*c)
+        }
+        None => join_listed_jumps(alloc, table, v, to, c),
+    }
+}
+
+/// Joins the state after the instruction at the next one, before anything else is joined.
+fn join_step(
+    alloc: Global,
+    table: &mut Table,
+    v: &Visit,
+    found: &Located,
+    c: &mut Change,
+    cache: &mut OperationCache,
+) -> Result<(), Refusal>
+    requires visited { VisitedBy v.now table.old }
+    requires at { (seen table.old).cells (point v.now.key v.now.addr)
+        ≡ Some (state v.now.state.now) }
+    requires found { StandsBy v.now found.now }
+    requires owes { OwesAll v.now (next_by v.now found.now) }
+    requires results { HoldsCachedResults v.now.ground.now.bounds.now cache.old }
+    ensures ok { OnOk result (JoinedBy v.now table.old table.new (next_by v.now found.now)) }
+    ensures err { IfErr result (AnsweredOn v.now.ground.now) }
+    ensures results { HoldsCachedResults v.now.ground.now.bounds.now cache.new }
+{
+    write_visit_change(v, found.shape, c, cache);
+    join_first_jump(alloc, table, v, v.addr.wrapping_add(found.size), &*c)
+}
+
+/// Joins a side of a branch if it is possible.
+fn join_side(
+    alloc: Global,
+    table: &mut Table,
+    v: &Visit,
+    side: Side,
+    c: &mut Change,
+) -> Result<(), Refusal>
+    requires visited { VisitedBy v.now table.old }
+    requires shape { IsShape side.shape }
+    requires owes { OwesAll v.now (jump_on side.to (side_by v.now side.shape side.taken)) }
+    ensures ok { OnOk result
+        (JoinedBy v.now table.old table.new
+        (jump_on side.to (side_by v.now side.shape side.taken))) }
+    ensures err { IfErr result (AnsweredOn v.now.ground.now) }
+{
+    let g = v.ground;
+    if !change_on(g.bounds, g.plan, side.shape, v.state, side.taken, c) {
+        return Ok(());
+    }
+    join_jump(alloc, table, v, side.to, &*c)
+}
+
+/// Joins the unchanged state at each target that is listed.
+#[inline(never)]
+fn join_listed_jumps(
+    alloc: Global,
+    table: &mut Table,
+    v: &Visit,
+    to: Target,
+    c: &mut Change,
+) -> Result<(), Refusal>
+    requires visited { VisitedBy v.now table.old }
+    requires target { IsTarget to }
+    requires owes { OwesAll v.now
+        (jumps_to v.now.state.now
+        (unwrap_or (targets_of v.now.ground.now.plan.now v.now.state.now v.now.addr to) [])) }
+    ensures ok { OnOk result (JoinedBy v.now table.old table.new
+        (jumps_to v.now.state.now
+        (unwrap_or (targets_of v.now.ground.now.plan.now v.now.state.now v.now.addr to) []))) }
+    ensures err { IfErr result (AnsweredOn v.now.ground.now) }
+{
+    let targets = targets(v.ground.plan, v.state, v.addr, to);
+    join_jumps(alloc, table, v, targets.as_slice(), c)
+}
+
+/// Joins the unchanged state at each of these addresses.
+fn join_jumps(
+    alloc: Global,
+    table: &mut Table,
+    v: &Visit,
+    targets: &[u32],
+    c: &mut Change,
+) -> Result<(), Refusal>
+    requires visited { VisitedBy v.now table.old }
+    requires owes { OwesAll v.now (jumps_to v.now.state.now targets.now) }
+    ensures ok { OnOk result
+        (JoinedBy v.now table.old table.new (jumps_to v.now.state.now targets.now)) }
+    ensures err { IfErr result (AnsweredOn v.now.ground.now) }
+{
+    c.keep(v.state);
+    for t in targets {
+        join_jump(alloc, table, v, *t, &*c)?;
+    }
+    Ok(())
 }

@@ -23,36 +23,6 @@ pub(crate) fn need_limit(plan: &Plan) -> u32
     plan.areas - plan.reserve
 }
 
-/// Returns the least needs that meet these rows of all points, or the first recursion, if any, if
-/// no needs are within the areas. If a few passes don't find the needs, it looks for recursion
-/// before it makes up to as many passes as there are areas.
-fn needs_by(
-    alloc: Global,
-    source: &Source,
-    rows: &[NeedRow],
-    frames: &[Key],
-) -> Result<Result<Vec<u32>, Option<(Key, u32)>>, AllocError>
-    requires source { IsRowSource source.now }
-    requires rows { RowsOn source.now.ground.now source.now.table.now rows.now }
-    requires frames { frames.now ≡ source.now.table.now.frames.items }
-    ensures { IfOk result (NeedsOrRecursion source.now) }
-{
-    let cap = need_limit(source.ground.plan);
-    let soon = soon_needs(alloc, frames.len(), rows, cap)?;
-    if let Some(found) = soon {
-        return Ok(Ok(found));
-    }
-    let recurs = recursion(alloc, source)?;
-    if let Some(place) = recurs {
-        return Ok(Err(Some(place)));
-    }
-    let needs = least_needs(alloc, frames.len(), rows, cap)?;
-    match needs {
-        Some(found) => Ok(Ok(found)),
-        None => Ok(Err(recurs)),
-    }
-}
-
 /// Returns the least needs of the frames, by their numbers. If the start needs more than the areas
 /// without the reserve, it returns the first recursion, if there is one. Passes begin at the last
 /// row, and interrupts enter frames of higher priority, so the rows of these are last.
@@ -93,5 +63,35 @@ pub(crate) fn needs_error(source: &Source, place: Option<(Key, u32)>) -> MakeErr
                 addr: key.entry,
             }
         }
+    }
+}
+
+/// Returns the least needs that meet these rows of all points, or the first recursion, if any, if
+/// no needs are within the areas. If a few passes don't find the needs, it looks for recursion
+/// before it makes up to as many passes as there are areas.
+fn needs_by(
+    alloc: Global,
+    source: &Source,
+    rows: &[NeedRow],
+    frames: &[Key],
+) -> Result<Result<Vec<u32>, Option<(Key, u32)>>, AllocError>
+    requires source { IsRowSource source.now }
+    requires rows { RowsOn source.now.ground.now source.now.table.now rows.now }
+    requires frames { frames.now ≡ source.now.table.now.frames.items }
+    ensures { IfOk result (NeedsOrRecursion source.now) }
+{
+    let cap = need_limit(source.ground.plan);
+    let soon = soon_needs(alloc, frames.len(), rows, cap)?;
+    if let Some(found) = soon {
+        return Ok(Ok(found));
+    }
+    let recurs = recursion(alloc, source)?;
+    if let Some(place) = recurs {
+        return Ok(Err(Some(place)));
+    }
+    let needs = least_needs(alloc, frames.len(), rows, cap)?;
+    match needs {
+        Some(found) => Ok(Ok(found)),
+        None => Ok(Err(recurs)),
     }
 }

@@ -17,6 +17,37 @@ use frame_places::{Refusal, Spot};
 use std::alloc::Global;
 use tc_isa::Shape;
 
+/// Joins the state at the successor, if the instruction only passes the state on, no interrupt's
+/// entry has to be joined, and the successor is unknown: the successor shares the state, which
+/// isn't read. Otherwise nothing is joined, and it returns false.
+///
+/// This is tried only at the place that was found last. The successors of other places are mostly
+/// known already, and the look-up here would be in vain.
+pub(crate) fn pass_on(alloc: Global, table: &mut Table, site: &Site) -> Result<bool, Refusal>
+    requires fine { FineOn site.now.ground.now table.old }
+    requires near { PlaceHasNumber table.old.places table.old.near
+        (Point site.now.key site.now.addr) }
+    requires code { LocatesCode site.now.ground.now.image.now site.now.ground.now.plan.now
+        site.now.addr site.now.located.now }
+    requires shape { IfSome site.now.located.now (λ found. IsShape found.shape) }
+    ensures { StateSharedBy site.now table.old table.new result }
+{
+    let Some(to) = passed_to(site) else {
+        return Ok(false);
+    };
+    if !may_pass_state_on(&*table, site) {
+        return Ok(false);
+    }
+    let Some((_, own)) = table.places.get_index(table.near) else {
+        unreachable!();
+    };
+    let value = own.value.copy()?;
+    match add_joined_place(table, Spot::Point(site.key, to), value)? {
+        None => Ok(true),
+        Some(_) => Ok(false),
+    }
+}
+
 /// Returns the address after an instruction that only passes the state on: one that does nothing,
 /// or a jump to one address.
 #[inline(always)]
@@ -58,36 +89,5 @@ fn may_pass_state_on(table: &Table, site: &Site) -> bool
             !outline.ie || has_noted_interrupts(table, site.key.is, outline.ccpn)
         }
         None => false,
-    }
-}
-
-/// Joins the state at the successor, if the instruction only passes the state on, no interrupt's
-/// entry has to be joined, and the successor is unknown: the successor shares the state, which
-/// isn't read. Otherwise nothing is joined, and it returns false.
-///
-/// This is tried only at the place that was found last. The successors of other places are mostly
-/// known already, and the look-up here would be in vain.
-pub(crate) fn pass_on(alloc: Global, table: &mut Table, site: &Site) -> Result<bool, Refusal>
-    requires fine { FineOn site.now.ground.now table.old }
-    requires near { PlaceHasNumber table.old.places table.old.near
-        (Point site.now.key site.now.addr) }
-    requires code { LocatesCode site.now.ground.now.image.now site.now.ground.now.plan.now
-        site.now.addr site.now.located.now }
-    requires shape { IfSome site.now.located.now (λ found. IsShape found.shape) }
-    ensures { StateSharedBy site.now table.old table.new result }
-{
-    let Some(to) = passed_to(site) else {
-        return Ok(false);
-    };
-    if !may_pass_state_on(&*table, site) {
-        return Ok(false);
-    }
-    let Some((_, own)) = table.places.get_index(table.near) else {
-        unreachable!();
-    };
-    let value = own.value.copy()?;
-    match add_joined_place(table, Spot::Point(site.key, to), value)? {
-        None => Ok(true),
-        Some(_) => Ok(false),
     }
 }

@@ -15,31 +15,94 @@ use frame_places::{
 use small_states::ScratchState;
 use std::alloc::{AllocError, Global};
 
-/// Returns whether the point enters a marked frame.
-fn is_recursive_by_marks(
+/// Returns the first point, by key and address, that enters a frame from which its own is reached,
+/// or `None` if no point does.
+pub(crate) fn recursion(alloc: Global, source: &Source) -> Result<Option<(Key, u32)>, AllocError>
+    requires { IsRowSource source.now }
+    ensures { IfOk result (IsRecursion source.now) }
+{
+    let rows = rows(alloc, source)?;
+    let edges = frame_edges(alloc, rows.as_slice())?;
+    let frames = source.table.frames.as_slice();
+    recursion_by(alloc, source, edges.as_slice(), frames)
+}
+
+/// Returns the first recursive point, from the entries between frames.
+fn recursion_by(
+    alloc: Global,
+    source: &Source,
+    edges: &[FrameEdge],
+    frames: &[Key],
+) -> Result<Option<(Key, u32)>, AllocError>
+    requires source { IsRowSource source.now }
+    requires frames { frames.now ≡ source.now.table.now.frames.items }
+    requires edges { RecursionEdgesOn source.now edges.now }
+    ensures { IfOk result (IsRecursion source.now) }
+{
+    let orders = frame_orders(alloc, frames)?;
+    match first_recurring(alloc, orders.as_slice(), edges)? {
+        None => Ok(None),
+        Some(node) => recursion_in(alloc, source, edges, frames, node),
+    }
+}
+
+/// Returns the first recursive point of the first recursive frame.
+fn recursion_in(
+    alloc: Global,
+    source: &Source,
+    edges: &[FrameEdge],
+    frames: &[Key],
+    node: usize,
+) -> Result<Option<(Key, u32)>, AllocError>
+    requires source { IsRowSource source.now }
+    requires frames { frames.now ≡ source.now.table.now.frames.items }
+    requires edges { RecursionEdgesOn source.now edges.now }
+    requires first { IsFirstRecurring (recursion_orders_in source.now) edges.now (Some node) }
+    ensures { IfOk result (IsRecursion source.now) }
+{
+    let marks = nodes_reaching(alloc, frames.len(), edges, node)?;
+    let key = frames[node];
+    let points = source.table.points.as_slice();
+    match first_recursive_address(alloc, source, marks.as_slice(), key, points)? {
+        Some(addr) => Ok(Some((key, addr))),
+        None => unreachable!(),
+    }
+}
+
+/// Returns the first address of the frame at which it enters a marked frame.
+fn first_recursive_address(
     alloc: Global,
     source: &Source,
     marks: &[bool],
     key: Key,
-    addr: u32,
-) -> Result<bool, AllocError>
+    points: &[Spot],
+) -> Result<Option<u32>, AllocError>
     requires { IsRowSource source.now }
-    ensures { IfOk result (λ enters. IsTrue enters
-        ↔ IsRecursiveByMarks source.now marks.now key addr) }
+    ensures { IfOk result (IsFirstRecursive source.now marks.now key points.now) }
 {
-    let place = Spot::Point(key, addr);
-    let Some(known) = source.table.places.get(&place) else {
-        return Ok(false);
-    };
-    let at = KnownPoint {
-        key,
-        addr,
-        node: frame_number(source.numbers, key),
-        known,
-    };
-    let mut state = ScratchState::new(start_state(source.ground.plan));
-    let row = point_row(alloc, source, &mut state, &at)?;
-    Ok(has_reaching_node(marks, row.into.as_slice()))
+    let mut first = None;
+    for place in points {
+        first = recursive_address_at_place(alloc, source, marks, key, *place, first)?;
+    }
+    Ok(first)
+}
+
+/// Returns the first address among some places and this one, which may be in any frame.
+fn recursive_address_at_place(
+    alloc: Global,
+    source: &Source,
+    marks: &[bool],
+    key: Key,
+    place: Spot,
+    first: Option<u32>,
+) -> Result<Option<u32>, AllocError>
+    requires { IsRowSource source.now }
+    ensures { IfOk result (IsFirstRecursiveWith source.now marks.now key place first) }
+{
+    match address_in_frame(key, place) {
+        None => Ok(first),
+        Some(addr) => recursive_address_with(alloc, source, marks, key, addr, first),
+    }
 }
 
 /// Returns the first address among some places and this one. `first` is that of the others.
@@ -66,92 +129,29 @@ fn recursive_address_with(
     }
 }
 
-/// Returns the first address among some places and this one, which may be in any frame.
-fn recursive_address_at_place(
+/// Returns whether the point enters a marked frame.
+fn is_recursive_by_marks(
     alloc: Global,
     source: &Source,
     marks: &[bool],
     key: Key,
-    place: Spot,
-    first: Option<u32>,
-) -> Result<Option<u32>, AllocError>
+    addr: u32,
+) -> Result<bool, AllocError>
     requires { IsRowSource source.now }
-    ensures { IfOk result (IsFirstRecursiveWith source.now marks.now key place first) }
+    ensures { IfOk result (λ enters. IsTrue enters
+        ↔ IsRecursiveByMarks source.now marks.now key addr) }
 {
-    match address_in_frame(key, place) {
-        None => Ok(first),
-        Some(addr) => recursive_address_with(alloc, source, marks, key, addr, first),
-    }
-}
-
-/// Returns the first address of the frame at which it enters a marked frame.
-fn first_recursive_address(
-    alloc: Global,
-    source: &Source,
-    marks: &[bool],
-    key: Key,
-    points: &[Spot],
-) -> Result<Option<u32>, AllocError>
-    requires { IsRowSource source.now }
-    ensures { IfOk result (IsFirstRecursive source.now marks.now key points.now) }
-{
-    let mut first = None;
-    for place in points {
-        first = recursive_address_at_place(alloc, source, marks, key, *place, first)?;
-    }
-    Ok(first)
-}
-
-/// Returns the first recursive point of the first recursive frame.
-fn recursion_in(
-    alloc: Global,
-    source: &Source,
-    edges: &[FrameEdge],
-    frames: &[Key],
-    node: usize,
-) -> Result<Option<(Key, u32)>, AllocError>
-    requires source { IsRowSource source.now }
-    requires frames { frames.now ≡ source.now.table.now.frames.items }
-    requires edges { RecursionEdgesOn source.now edges.now }
-    requires first { IsFirstRecurring (recursion_orders_in source.now) edges.now (Some node) }
-    ensures { IfOk result (IsRecursion source.now) }
-{
-    let marks = nodes_reaching(alloc, frames.len(), edges, node)?;
-    let key = frames[node];
-    let points = source.table.points.as_slice();
-    match first_recursive_address(alloc, source, marks.as_slice(), key, points)? {
-        Some(addr) => Ok(Some((key, addr))),
-        None => unreachable!(),
-    }
-}
-
-/// Returns the first recursive point, from the entries between frames.
-fn recursion_by(
-    alloc: Global,
-    source: &Source,
-    edges: &[FrameEdge],
-    frames: &[Key],
-) -> Result<Option<(Key, u32)>, AllocError>
-    requires source { IsRowSource source.now }
-    requires frames { frames.now ≡ source.now.table.now.frames.items }
-    requires edges { RecursionEdgesOn source.now edges.now }
-    ensures { IfOk result (IsRecursion source.now) }
-{
-    let orders = frame_orders(alloc, frames)?;
-    match first_recurring(alloc, orders.as_slice(), edges)? {
-        None => Ok(None),
-        Some(node) => recursion_in(alloc, source, edges, frames, node),
-    }
-}
-
-/// Returns the first point, by key and address, that enters a frame from which its own is reached,
-/// or `None` if no point does.
-pub(crate) fn recursion(alloc: Global, source: &Source) -> Result<Option<(Key, u32)>, AllocError>
-    requires { IsRowSource source.now }
-    ensures { IfOk result (IsRecursion source.now) }
-{
-    let rows = rows(alloc, source)?;
-    let edges = frame_edges(alloc, rows.as_slice())?;
-    let frames = source.table.frames.as_slice();
-    recursion_by(alloc, source, edges.as_slice(), frames)
+    let place = Spot::Point(key, addr);
+    let Some(known) = source.table.places.get(&place) else {
+        return Ok(false);
+    };
+    let at = KnownPoint {
+        key,
+        addr,
+        node: frame_number(source.numbers, key),
+        known,
+    };
+    let mut state = ScratchState::new(start_state(source.ground.plan));
+    let row = point_row(alloc, source, &mut state, &at)?;
+    Ok(has_reaching_node(marks, row.into.as_slice()))
 }

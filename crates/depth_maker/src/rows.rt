@@ -40,6 +40,32 @@ pub(crate) struct KnownPoint<'a> {
     pub(crate) known: &'a Marked<SmallKnown>,
 }
 
+/// Returns the row of a point. Its state is written over `state`.
+pub(crate) fn point_row(
+    alloc: Global,
+    source: &Source,
+    state: &mut ScratchState,
+    at: &KnownPoint,
+) -> Result<NeedRow, AllocError>
+    requires source { IsRowSource source.now }
+    requires at { IsKnownRowPoint source.now at.now }
+    ensures { IfOk result (IsPointRow source.now at.now.key at.now.addr) }
+{
+    let g = source.ground;
+    let cell = &at.known.value;
+    cell.read_state(g.bounds, state);
+    let v = Visit {
+        ground: g,
+        key: at.key,
+        addr: at.addr,
+        state: state.state(),
+    };
+    match local_check(g.bounds, g.image, g.plan, &v.key, v.addr, v.state) {
+        Ok(found) => Ok(row_with(alloc, &v, source, at.node, &found)?),
+        Err(_) => unreachable!(),
+    }
+}
+
 /// Returns the row of a point, from its instruction.
 fn row_with(
     alloc: Global,
@@ -67,32 +93,6 @@ fn row_with(
     })
 }
 
-/// Returns the row of a point. Its state is written over `state`.
-pub(crate) fn point_row(
-    alloc: Global,
-    source: &Source,
-    state: &mut ScratchState,
-    at: &KnownPoint,
-) -> Result<NeedRow, AllocError>
-    requires source { IsRowSource source.now }
-    requires at { IsKnownRowPoint source.now at.now }
-    ensures { IfOk result (IsPointRow source.now at.now.key at.now.addr) }
-{
-    let g = source.ground;
-    let cell = &at.known.value;
-    cell.read_state(g.bounds, state);
-    let v = Visit {
-        ground: g,
-        key: at.key,
-        addr: at.addr,
-        state: state.state(),
-    };
-    match local_check(g.bounds, g.image, g.plan, &v.key, v.addr, v.state) {
-        Ok(found) => Ok(row_with(alloc, &v, source, at.node, &found)?),
-        Err(_) => unreachable!(),
-    }
-}
-
 /// Rows in the making.
 #[derive(Drop)]
 pub(crate) struct RowsDraft {
@@ -105,69 +105,23 @@ pub(crate) struct RowsDraft {
     node: usize,
 }
 
-/// Returns true only if the frame has a row that is equal to that of a point with this value.
-#[inline(always)]
-fn has_equal_row(outlines: &[Option<Outline>], node: usize, known: &Marked<SmallKnown>) -> bool
-    ensures { IsTrue result → HasEqualRow outlines.now node known.now }
+/// Returns the rows of all points. A plain point has none of its own if its outline is that of the
+/// last plain point of its frame.
+pub(crate) fn rows(alloc: Global, source: &Source) -> Result<Vec<NeedRow>, AllocError>
+    requires { IsRowSource source.now }
+    ensures { IfOk result (λ rows. RowsOn source.now.ground.now source.now.table.now rows.items) }
 {
-    if !is_plain_mark(known.mark) {
-        return false;
-    }
-    let Some(Some(other)) = outlines.get(node) else {
-        return false;
+    let mut draft = RowsDraft {
+        rows: Vec::new(alloc),
+        outlines: vec![in alloc; None; source.table.frames.len()]?,
+        state: ScratchState::new(start_state(source.ground.plan)),
+        node: 0,
     };
-    let cell = &known.value;
-    match cell.outline() {
-        Some(outline) => *other == outline,
-        None => false,
+    for entry in 0..source.table.places.len() {
+        add_row(alloc, source, &mut draft, entry)?;
     }
-}
-
-/// Appends the row of a point whose instruction enters no frame by itself.
-fn add_plain_row(
-    alloc: Global,
-    source: &Source,
-    draft: &mut RowsDraft,
-    node: usize,
-    outline: Outline,
-) -> Result<(), AllocError>
-    ensures { OnOk result (AddsPlainRow source.now draft.old draft.new node outline) }
-{
-    let mut into = Vec::new(alloc);
-    add_taken_handlers(&mut into, outline.ie, outline.ccpn, source.handlers)?;
-    draft.rows.push(NeedRow {
-        node,
-        held: outline.held,
-        into,
-    })?;
-    if node < draft.outlines.len() {
-        draft.outlines[node] = Some(outline);
-    }
-    Ok(())
-}
-
-/// Appends the row of a point. Few points need this call.
-#[inline(never)]
-fn add_point_row(
-    alloc: Global,
-    source: &Source,
-    draft: &mut RowsDraft,
-    at: &KnownPoint,
-) -> Result<(), AllocError>
-    requires source { IsRowSource source.now }
-    requires at { IsKnownRowPoint source.now at.now }
-    ensures { OnOk result (AddsPointRow source.now draft.old draft.new at.now) }
-{
-    if is_plain_mark(at.known.mark) {
-        let cell = &at.known.value;
-        if let Some(outline) = cell.outline() {
-            add_plain_row(alloc, source, draft, at.node, outline)?;
-            return Ok(());
-        }
-    }
-    let row = point_row(alloc, source, &mut draft.state, at)?;
-    draft.rows.push(row)?;
-    Ok(())
+    let RowsDraft { rows, .. } = draft;
+    Ok(rows)
 }
 
 /// Appends the row of the place with this number if it is a point without an equal row.
@@ -204,21 +158,67 @@ fn add_row(
     Ok(())
 }
 
-/// Returns the rows of all points. A plain point has none of its own if its outline is that of the
-/// last plain point of its frame.
-pub(crate) fn rows(alloc: Global, source: &Source) -> Result<Vec<NeedRow>, AllocError>
-    requires { IsRowSource source.now }
-    ensures { IfOk result (λ rows. RowsOn source.now.ground.now source.now.table.now rows.items) }
+/// Returns true only if the frame has a row that is equal to that of a point with this value.
+#[inline(always)]
+fn has_equal_row(outlines: &[Option<Outline>], node: usize, known: &Marked<SmallKnown>) -> bool
+    ensures { IsTrue result → HasEqualRow outlines.now node known.now }
 {
-    let mut draft = RowsDraft {
-        rows: Vec::new(alloc),
-        outlines: vec![in alloc; None; source.table.frames.len()]?,
-        state: ScratchState::new(start_state(source.ground.plan)),
-        node: 0,
-    };
-    for entry in 0..source.table.places.len() {
-        add_row(alloc, source, &mut draft, entry)?;
+    if !is_plain_mark(known.mark) {
+        return false;
     }
-    let RowsDraft { rows, .. } = draft;
-    Ok(rows)
+    let Some(Some(other)) = outlines.get(node) else {
+        return false;
+    };
+    let cell = &known.value;
+    match cell.outline() {
+        Some(outline) => *other == outline,
+        None => false,
+    }
+}
+
+/// Appends the row of a point. Few points need this call.
+#[inline(never)]
+fn add_point_row(
+    alloc: Global,
+    source: &Source,
+    draft: &mut RowsDraft,
+    at: &KnownPoint,
+) -> Result<(), AllocError>
+    requires source { IsRowSource source.now }
+    requires at { IsKnownRowPoint source.now at.now }
+    ensures { OnOk result (AddsPointRow source.now draft.old draft.new at.now) }
+{
+    if is_plain_mark(at.known.mark) {
+        let cell = &at.known.value;
+        if let Some(outline) = cell.outline() {
+            add_plain_row(alloc, source, draft, at.node, outline)?;
+            return Ok(());
+        }
+    }
+    let row = point_row(alloc, source, &mut draft.state, at)?;
+    draft.rows.push(row)?;
+    Ok(())
+}
+
+/// Appends the row of a point whose instruction enters no frame by itself.
+fn add_plain_row(
+    alloc: Global,
+    source: &Source,
+    draft: &mut RowsDraft,
+    node: usize,
+    outline: Outline,
+) -> Result<(), AllocError>
+    ensures { OnOk result (AddsPlainRow source.now draft.old draft.new node outline) }
+{
+    let mut into = Vec::new(alloc);
+    add_taken_handlers(&mut into, outline.ie, outline.ccpn, source.handlers)?;
+    draft.rows.push(NeedRow {
+        node,
+        held: outline.held,
+        into,
+    })?;
+    if node < draft.outlines.len() {
+        draft.outlines[node] = Some(outline);
+    }
+    Ok(())
 }

@@ -104,53 +104,6 @@ pub(crate) struct Ordered<'a> {
     pub(crate) points: &'a [PointEntry],
 }
 
-/// Appends the node of a frame.
-fn spell_table_node(out: &mut Vec<u8>, ordered: &Ordered, key: Key) -> Result<(), NoMemory>
-    requires ordered { IsSpelledInOrder ordered.now }
-    requires key { IsSpelledFrameOf ordered.now.source.now key }
-    ensures { OnOk result (SpellsTableNode ordered.now key out.old.items out.new.items) }
-{
-    let source = ordered.source;
-    let points = ordered_frame_points(ordered.points, key);
-    write_key(out, &key)?;
-    put_u16(out, spelled_need_at(source, ordered.needs, key))?;
-    spell_table_exit(out, source, key)?;
-    put_u32(out, points.len() as u32)?;
-    spell_table_points(out, source, key, points)?;
-    Ok(())
-}
-
-/// Appends the nodes of these frames.
-fn spell_table_nodes(out: &mut Vec<u8>, ordered: &Ordered, frames: &[Key]) -> Result<(), NoMemory>
-    requires ordered { IsSpelledInOrder ordered.now }
-    requires frames { AreSpelledFrames ordered.now frames.now }
-    ensures { OnOk result (SpellsTableNodes ordered.now frames.now out.old.items out.new.items) }
-{
-    for k in frames {
-        spell_table_node(out, ordered, *k)?;
-    }
-    Ok(())
-}
-
-/// Returns the bytes of the certificate of these frames, which are in order.
-fn spell_table_cert(
-    alloc: Global,
-    ordered: &Ordered,
-    version: u8,
-    frames: &[Key],
-) -> Result<Vec<u8>, NoMemory>
-    requires ordered { IsSpelledInOrder ordered.now }
-    requires frames { AreSpelledFrames ordered.now frames.now }
-    ensures { IfOk result (λ out. SpellsTableCert ordered.now version frames.now out.items) }
-{
-    let mut out = Vec::new(alloc);
-    put_u32(&mut out, MAGIC)?;
-    put_u16(&mut out, u16::from(version))?;
-    put_u16(&mut out, frames.len() as u16)?;
-    spell_table_nodes(&mut out, ordered, frames)?;
-    Ok(out)
-}
-
 /// Returns the bytes of the certificate of a table without work, with the least needs of its
 /// frames.
 pub(crate) fn spelled_cert_bytes(
@@ -174,4 +127,51 @@ pub(crate) fn spelled_cert_bytes(
     };
     let out = spell_table_cert(alloc, &ordered, version, frames.as_slice())?;
     Ok(out)
+}
+
+/// Returns the bytes of the certificate of these frames, which are in order.
+fn spell_table_cert(
+    alloc: Global,
+    ordered: &Ordered,
+    version: u8,
+    frames: &[Key],
+) -> Result<Vec<u8>, NoMemory>
+    requires ordered { IsSpelledInOrder ordered.now }
+    requires frames { AreSpelledFrames ordered.now frames.now }
+    ensures { IfOk result (λ out. SpellsTableCert ordered.now version frames.now out.items) }
+{
+    let mut out = Vec::new(alloc);
+    put_u32(&mut out, MAGIC)?;
+    put_u16(&mut out, u16::from(version))?;
+    put_u16(&mut out, frames.len() as u16)?;
+    spell_table_nodes(&mut out, ordered, frames)?;
+    Ok(out)
+}
+
+/// Appends the nodes of these frames.
+fn spell_table_nodes(out: &mut Vec<u8>, ordered: &Ordered, frames: &[Key]) -> Result<(), NoMemory>
+    requires ordered { IsSpelledInOrder ordered.now }
+    requires frames { AreSpelledFrames ordered.now frames.now }
+    ensures { OnOk result (SpellsTableNodes ordered.now frames.now out.old.items out.new.items) }
+{
+    for k in frames {
+        spell_table_node(out, ordered, *k)?;
+    }
+    Ok(())
+}
+
+/// Appends the node of a frame.
+fn spell_table_node(out: &mut Vec<u8>, ordered: &Ordered, key: Key) -> Result<(), NoMemory>
+    requires ordered { IsSpelledInOrder ordered.now }
+    requires key { IsSpelledFrameOf ordered.now.source.now key }
+    ensures { OnOk result (SpellsTableNode ordered.now key out.old.items out.new.items) }
+{
+    let source = ordered.source;
+    let points = ordered_frame_points(ordered.points, key);
+    write_key(out, &key)?;
+    put_u16(out, spelled_need_at(source, ordered.needs, key))?;
+    spell_table_exit(out, source, key)?;
+    put_u32(out, points.len() as u32)?;
+    spell_table_points(out, source, key, points)?;
+    Ok(())
 }

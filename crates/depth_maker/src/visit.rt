@@ -31,31 +31,6 @@ use std::alloc::Global;
 use tc_isa::Shape;
 use vd_transfer::Change;
 
-/// Joins all that the point owes. The change by its instruction is written over `c`.
-fn join_visit_duties(
-    alloc: Global,
-    table: &mut Table,
-    v: &Visit,
-    found: &Located,
-    c: &mut Change,
-    cache: &mut OperationCache,
-) -> Result<(), Refusal>
-    requires visited { VisitedBy v.now table.old }
-    requires at { (seen table.old).cells (point v.now.key v.now.addr)
-        ≡ Some (state v.now.state.now) }
-    requires found { StandsBy v.now found.now }
-    requires results { HoldsCachedResults v.now.ground.now.bounds.now cache.old }
-    ensures ok { OnOk result (JoinedBy v.now table.old table.new (duties_by v.now found.now)) }
-    ensures err { IfErr result (AnsweredOn v.now.ground.now) }
-    ensures results { HoldsCachedResults v.now.ground.now.bounds.now cache.new }
-{
-    join_successors(alloc, table, v, found, c, cache)?;
-    join_entries(alloc, table, v, found.shape, found.size, c)?;
-    join_access_entry(alloc, table, v, found)?;
-    join_interrupts(alloc, table, v)?;
-    join_leavings(alloc, table, v, found.shape)
-}
-
 /// Joins what the point owes, or a part of it if the point has new work. Returns true only if its
 /// instruction enters no frame by itself. The change by the instruction is written over `c`, and
 /// results of operations on two sets are in `cache`.
@@ -88,45 +63,6 @@ pub(crate) fn visit_point(
         }
         Err(rule) => Err(Refusal::Fault(rule, Spot::Point(v.key, v.addr))),
     }
-}
-
-/// Reads the state of the visited point over `scratch`, and joins what the point owes, as
-/// `visit_point` does.
-fn read_and_visit(
-    alloc: Global,
-    table: &mut Table,
-    site: &Site,
-    scratch: &mut VisitScratch,
-    change: &mut Change,
-    cache: &mut OperationCache,
-) -> Result<bool, Refusal>
-    requires fine { FineOn site.now.ground.now table.old }
-    requires near { PlaceHasNumber table.old.places table.old.near
-        (Point site.now.key site.now.addr) }
-    requires code { LocatesCode site.now.ground.now.image.now site.now.ground.now.plan.now
-        site.now.addr site.now.located.now }
-    requires shape { IfSome site.now.located.now (λ found. IsShape found.shape) }
-    requires results { HoldsCachedResults site.now.ground.now.bounds.now cache.old }
-    ensures ok { OnOk result (VisitJoinsPointOn site.now.ground.now table.old table.new
-        (Point site.now.key site.now.addr)) }
-    ensures plain { IfOk result (λ plain. IsTrue plain
-        → IsPlainAt site.now.ground.now.image.now site.now.ground.now.plan.now site.now.addr) }
-    ensures err { IfErr result (AnsweredOn site.now.ground.now) }
-    ensures results { HoldsCachedResults site.now.ground.now.bounds.now cache.new }
-{
-    let Some((_, place)) = table.places.get_index(table.near) else {
-        unreachable!();
-    };
-    place
-        .value
-        .read_state(site.ground.bounds, &mut scratch.state);
-    let v = Visit {
-        ground: site.ground,
-        key: site.key,
-        addr: site.addr,
-        state: scratch.state.state(),
-    };
-    visit_point(alloc, table, &v, site.located, change, cache)
 }
 
 /// Joins what the visited place owes, and returns true only if its instruction enters no frame by
@@ -190,4 +126,68 @@ pub(crate) fn write_visit_change(
         return;
     }
     successor_change(g.bounds, g.image, g.plan, shape, v.state, c);
+}
+
+/// Joins all that the point owes. The change by its instruction is written over `c`.
+fn join_visit_duties(
+    alloc: Global,
+    table: &mut Table,
+    v: &Visit,
+    found: &Located,
+    c: &mut Change,
+    cache: &mut OperationCache,
+) -> Result<(), Refusal>
+    requires visited { VisitedBy v.now table.old }
+    requires at { (seen table.old).cells (point v.now.key v.now.addr)
+        ≡ Some (state v.now.state.now) }
+    requires found { StandsBy v.now found.now }
+    requires results { HoldsCachedResults v.now.ground.now.bounds.now cache.old }
+    ensures ok { OnOk result (JoinedBy v.now table.old table.new (duties_by v.now found.now)) }
+    ensures err { IfErr result (AnsweredOn v.now.ground.now) }
+    ensures results { HoldsCachedResults v.now.ground.now.bounds.now cache.new }
+{
+    join_successors(alloc, table, v, found, c, cache)?;
+    join_entries(alloc, table, v, found.shape, found.size, c)?;
+    join_access_entry(alloc, table, v, found)?;
+    join_interrupts(alloc, table, v)?;
+    join_leavings(alloc, table, v, found.shape)
+}
+
+/// Reads the state of the visited point over `scratch`, and joins what the point owes, as
+/// `visit_point` does.
+fn read_and_visit(
+    alloc: Global,
+    table: &mut Table,
+    site: &Site,
+    scratch: &mut VisitScratch,
+    change: &mut Change,
+    cache: &mut OperationCache,
+) -> Result<bool, Refusal>
+    requires fine { FineOn site.now.ground.now table.old }
+    requires near { PlaceHasNumber table.old.places table.old.near
+        (Point site.now.key site.now.addr) }
+    requires code { LocatesCode site.now.ground.now.image.now site.now.ground.now.plan.now
+        site.now.addr site.now.located.now }
+    requires shape { IfSome site.now.located.now (λ found. IsShape found.shape) }
+    requires results { HoldsCachedResults site.now.ground.now.bounds.now cache.old }
+    ensures ok { OnOk result (VisitJoinsPointOn site.now.ground.now table.old table.new
+        (Point site.now.key site.now.addr)) }
+    ensures plain { IfOk result (λ plain. IsTrue plain
+        → IsPlainAt site.now.ground.now.image.now site.now.ground.now.plan.now site.now.addr) }
+    ensures err { IfErr result (AnsweredOn site.now.ground.now) }
+    ensures results { HoldsCachedResults site.now.ground.now.bounds.now cache.new }
+{
+    let Some((_, place)) = table.places.get_index(table.near) else {
+        unreachable!();
+    };
+    place
+        .value
+        .read_state(site.ground.bounds, &mut scratch.state);
+    let v = Visit {
+        ground: site.ground,
+        key: site.key,
+        addr: site.addr,
+        state: scratch.state.state(),
+    };
+    visit_point(alloc, table, &v, site.located, change, cache)
 }

@@ -31,21 +31,6 @@ pub(crate) fn check_start(bytes: &[u8]) -> Result<(), ImageErr>
     Ok(())
 }
 
-// Returns the number of the first bad program header.
-fn first_bad(bytes: &[u8]) -> Option<u32>
-    requires { 52 ≤ length bytes.now }
-    ensures { result ≡ option_map (λ h. h.number)
-        (find (is_bad_header bytes.now) (headers_of bytes.now)) }
-{
-    let count = elf_half_at(bytes, E_PHNUM);
-    for number in 0..count {
-        if is_bad_header(bytes, number) {
-            return Some(u32::from(number));
-        }
-    }
-    None
-}
-
 // Checks that no program header is bad.
 #[tactic(auto, unfolding(crate::specs::ReadElf::segment_refusal))]
 pub(crate) fn check_segments(bytes: &[u8]) -> Result<(), ImageErr>
@@ -59,18 +44,6 @@ pub(crate) fn check_segments(bytes: &[u8]) -> Result<(), ImageErr>
         Some(number) => Err(ImageErr::BadSegment(number)),
         None => Ok(()),
     }
-}
-
-// Returns the number of the first of `others` that shares an address with `header`.
-fn first_meeting(header: &Header, others: &[Header]) -> Option<u32>
-    ensures { result ≡ option_map (λ k. k.number) (find (has_overlap_with header.now) others.now) }
-{
-    for other in others {
-        if has_overlap_with(header, other) {
-            return Some(other.number);
-        }
-    }
-    None
 }
 
 // Checks that no two of the headers that load bytes share an address.
@@ -119,4 +92,31 @@ pub(crate) fn has_overlap_with(header: &Header, other: &Header) -> bool
 {
     let (at, other_at) = (u64::from(header.address), u64::from(other.address));
     at < other_at + u64::from(other.file_size) && other_at < at + u64::from(header.file_size)
+}
+
+// Returns the number of the first bad program header.
+fn first_bad(bytes: &[u8]) -> Option<u32>
+    requires { 52 ≤ length bytes.now }
+    ensures { result ≡ option_map (λ h. h.number)
+        (find (is_bad_header bytes.now) (headers_of bytes.now)) }
+{
+    let count = elf_half_at(bytes, E_PHNUM);
+    for number in 0..count {
+        if is_bad_header(bytes, number) {
+            return Some(u32::from(number));
+        }
+    }
+    None
+}
+
+// Returns the number of the first of `others` that shares an address with `header`.
+fn first_meeting(header: &Header, others: &[Header]) -> Option<u32>
+    ensures { result ≡ option_map (λ k. k.number) (find (has_overlap_with header.now) others.now) }
+{
+    for other in others {
+        if has_overlap_with(header, other) {
+            return Some(other.number);
+        }
+    }
+    None
 }

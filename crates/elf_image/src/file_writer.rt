@@ -6,6 +6,23 @@ ghost use Rattle.elf_image.specs.WrittenElf.{elf_header, program_header, program
 use crate::{ImageErr, Segment};
 use std::alloc::Global;
 
+// Returns the ELF file of these segments, with the address at which the program begins.
+#[tactic(auto, unfolding(crate::specs::WrittenElf::file_of))]
+pub(crate) fn file_of(alloc: Global, entry: u32, segments: &[Segment]) -> Result<Vec<u8>, ImageErr>
+    requires few { length segments.now ≤ 64 }
+    requires small { sum_by (λ s. length s.bytes) (map segment_data segments.now) ≤ 2 ^ 24 }
+    ensures ok { IfOk result (λ v.
+        v.items ≡ file_of (record { entry = entry; segments = map segment_data segments.now })) }
+    ensures err { IfErr result (λ e. e ≡ ImageErr.NoMemory) }
+{
+    let mut out = Vec::new(alloc);
+    let header = elf_header(entry, segments.len() as u16);
+    out.extend_from_slice(&header)?;
+    put_headers(&mut out, segments)?;
+    put_contents(&mut out, segments)?;
+    Ok(out)
+}
+
 /// Returns the ELF header with which a written file begins: that of an executable with this entry
 /// and `count` program headers.
 #[tactic(auto, unfolding(crate::specs::WrittenElf::elf_header))]
@@ -18,21 +35,6 @@ fn elf_header(entry: u32, count: u16) -> [u8; 52]
         0x7f, b'E', b'L', b'F', 1, 1, 1, 0, 0, 0, 0, 0, 0, 0, 0, 0, 2, 0, 44, 0, 1, 0, 0, 0, e[0],
         e[1], e[2], e[3], 52, 0, 0, 0, 0, 0, 0, 0, 0, 0, 0, 0, 52, 0, 32, 0, n[0], n[1], 0, 0, 0,
         0, 0, 0,
-    ]
-}
-
-// Returns the program header of `len` bytes at `offset` of the file, which are loaded at the
-// address `at`.
-#[tactic(auto, unfolding(crate::specs::WrittenElf::program_header))]
-fn program_header(offset: u32, at: u32, len: u32) -> [u8; 32]
-    ensures { result ≡ program_header offset at len }
-{
-    let o = offset.to_le_bytes();
-    let a = at.to_le_bytes();
-    let n = len.to_le_bytes();
-    [
-        1, 0, 0, 0, o[0], o[1], o[2], o[3], a[0], a[1], a[2], a[3], a[0], a[1], a[2], a[3], n[0],
-        n[1], n[2], n[3], n[0], n[1], n[2], n[3], 5, 0, 0, 0, 1, 0, 0, 0,
     ]
 }
 
@@ -68,19 +70,17 @@ fn put_contents(out: &mut Vec<u8>, segments: &[Segment]) -> Result<(), ImageErr>
     Ok(())
 }
 
-// Returns the ELF file of these segments, with the address at which the program begins.
-#[tactic(auto, unfolding(crate::specs::WrittenElf::file_of))]
-pub(crate) fn file_of(alloc: Global, entry: u32, segments: &[Segment]) -> Result<Vec<u8>, ImageErr>
-    requires few { length segments.now ≤ 64 }
-    requires small { sum_by (λ s. length s.bytes) (map segment_data segments.now) ≤ 2 ^ 24 }
-    ensures ok { IfOk result (λ v.
-        v.items ≡ file_of (record { entry = entry; segments = map segment_data segments.now })) }
-    ensures err { IfErr result (λ e. e ≡ ImageErr.NoMemory) }
+// Returns the program header of `len` bytes at `offset` of the file, which are loaded at the
+// address `at`.
+#[tactic(auto, unfolding(crate::specs::WrittenElf::program_header))]
+fn program_header(offset: u32, at: u32, len: u32) -> [u8; 32]
+    ensures { result ≡ program_header offset at len }
 {
-    let mut out = Vec::new(alloc);
-    let header = elf_header(entry, segments.len() as u16);
-    out.extend_from_slice(&header)?;
-    put_headers(&mut out, segments)?;
-    put_contents(&mut out, segments)?;
-    Ok(out)
+    let o = offset.to_le_bytes();
+    let a = at.to_le_bytes();
+    let n = len.to_le_bytes();
+    [
+        1, 0, 0, 0, o[0], o[1], o[2], o[3], a[0], a[1], a[2], a[3], a[0], a[1], a[2], a[3], n[0],
+        n[1], n[2], n[3], n[0], n[1], n[2], n[3], 5, 0, 0, 0, 1, 0, 0, 0,
+    ]
 }

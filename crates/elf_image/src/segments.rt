@@ -29,15 +29,6 @@ pub(crate) fn segment_byte(segment: &Segment, addr: u32) -> Option<u8>
     segment.bytes.get((addr - segment.at) as usize).copied()
 }
 
-/// Establishes a fact for proofs: the bytes of a segment of an executable are numbers below 256.
-fn segment_bytes_below_256(bytes: &[u8])
-    ensures { All (λ b. b < 2 ^ 8) bytes.now }
-{
-    for byte in bytes {
-        let _value = *byte;
-    }
-}
-
 /// Establishes that the bytes of segments are numbers below 256, which an image requires. It reads
 /// each byte and changes nothing.
 pub fn read_segments(segments: &[Segment])
@@ -46,21 +37,6 @@ pub fn read_segments(segments: &[Segment])
     for segment in segments {
         segment_bytes_below_256(&segment.bytes);
     }
-}
-
-// Copies the bytes that a header loads.
-fn segment_of(alloc: Global, bytes: &[u8], load: &Header) -> Result<Segment, ImageErr>
-    requires { load.now.offset + load.now.file_size ≤ length bytes.now }
-    ensures ok { IfOk result (λ s. segment_data s ≡ segment_of bytes.now load.now) }
-    ensures err { IfErr result (λ e. e ≡ ImageErr.NoMemory) }
-{
-    let start = load.offset as usize;
-    let end = start + load.file_size as usize;
-    let loaded = Vec::from_slice(alloc, &bytes[start..end])?;
-    Ok(Segment {
-        at: load.address,
-        bytes: loaded,
-    })
 }
 
 // Copies the segments of these headers, in order.
@@ -80,4 +56,28 @@ pub(crate) fn segments_of(
         segments.push(segment)?;
     }
     Ok(segments)
+}
+
+/// Establishes a fact for proofs: the bytes of a segment of an executable are numbers below 256.
+fn segment_bytes_below_256(bytes: &[u8])
+    ensures { All (λ b. b < 2 ^ 8) bytes.now }
+{
+    for byte in bytes {
+        let _value = *byte;
+    }
+}
+
+// Copies the bytes that a header loads.
+fn segment_of(alloc: Global, bytes: &[u8], load: &Header) -> Result<Segment, ImageErr>
+    requires { load.now.offset + load.now.file_size ≤ length bytes.now }
+    ensures ok { IfOk result (λ s. segment_data s ≡ segment_of bytes.now load.now) }
+    ensures err { IfErr result (λ e. e ≡ ImageErr.NoMemory) }
+{
+    let start = load.offset as usize;
+    let end = start + load.file_size as usize;
+    let loaded = Vec::from_slice(alloc, &bytes[start..end])?;
+    Ok(Segment {
+        at: load.address,
+        bytes: loaded,
+    })
 }

@@ -14,6 +14,32 @@ const MOST_POINTS: usize = 65536;
 /// The greatest number of frames in a certificate.
 const MOST_FRAMES: usize = 2048;
 
+/// Counts a place, unless it is known.
+pub fn count_place(
+    known: bool,
+    points: &mut Vec<Spot>,
+    frames: &mut Vec<Key>,
+    y: Spot,
+) -> Result<(), Refusal>
+    requires points { length points.old.items ≤ 2 ^ 16 }
+    requires frames { length frames.old.items ≤ 2048 }
+    ensures points { OnOk result
+        (points.new.items ≡ counted_points_after known points.old.items y) }
+    ensures frames { OnOk result
+        (frames.new.items ≡ counted_frames_after known frames.old.items y) }
+    ensures few_points { OnOk result (length points.new.items ≤ 2 ^ 16) }
+    ensures few_frames { OnOk result (length frames.new.items ≤ 2048) }
+    ensures err { IfErr result (IsCountRefusal known points.old.items frames.old.items y) }
+{
+    if known {
+        return Ok(());
+    }
+    match y {
+        Spot::Exit(_) => Ok(()),
+        Spot::Point(key, addr) => count_point(points, frames, key, addr),
+    }
+}
+
 /// Counts a new point, and its frame if it is the frame's entry point.
 fn count_point(
     points: &mut Vec<Spot>,
@@ -42,30 +68,4 @@ fn count_point(
     }
     points.push(Spot::Point(key, addr))?;
     Ok(())
-}
-
-/// Counts a place, unless it is known.
-pub fn count_place(
-    known: bool,
-    points: &mut Vec<Spot>,
-    frames: &mut Vec<Key>,
-    y: Spot,
-) -> Result<(), Refusal>
-    requires points { length points.old.items ≤ 2 ^ 16 }
-    requires frames { length frames.old.items ≤ 2048 }
-    ensures points { OnOk result
-        (points.new.items ≡ counted_points_after known points.old.items y) }
-    ensures frames { OnOk result
-        (frames.new.items ≡ counted_frames_after known frames.old.items y) }
-    ensures few_points { OnOk result (length points.new.items ≤ 2 ^ 16) }
-    ensures few_frames { OnOk result (length frames.new.items ≤ 2048) }
-    ensures err { IfErr result (IsCountRefusal known points.old.items frames.old.items y) }
-{
-    if known {
-        return Ok(());
-    }
-    match y {
-        Spot::Exit(_) => Ok(()),
-        Spot::Point(key, addr) => count_point(points, frames, key, addr),
-    }
 }

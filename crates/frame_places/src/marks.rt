@@ -100,25 +100,6 @@ pub fn is_plain_mark(mark: Mark) -> bool
     matches!(mark, Mark::Plain)
 }
 
-/// Returns the mark of a place whose visit ends.
-#[inline(always)]
-fn mark_after(mark: Mark, plain: bool) -> Mark
-    ensures { result ≡ settled_mark plain (Some mark) }
-{
-    match mark {
-        Mark::Queued => Mark::Queued,
-        _ => mark_without_work(plain),
-    }
-}
-
-/// Returns the mark of a place without work.
-#[inline(always)]
-fn mark_without_work(plain: bool) -> Mark
-    ensures { result ≡ idle_mark plain }
-{
-    if plain { Mark::Plain } else { Mark::Idle }
-}
-
 /// Ends the visit of the place with this number: it has no work, unless it was queued during the
 /// visit. `plain` may be set if the instruction there enters no frame by itself.
 #[inline(always)]
@@ -152,4 +133,23 @@ pub(crate) fn requeue<V>(
         enqueue(work, number, later)?;
     }
     Ok(())
+}
+
+/// Returns the mark of a place whose visit ends.
+#[inline(always)]
+fn mark_after(mark: Mark, plain: bool) -> Mark
+    ensures { result ≡ settled_mark plain (Some mark) }
+{
+    match mark {
+        Mark::Queued => Mark::Queued,
+        _ => mark_without_work(plain),
+    }
+}
+
+/// Returns the mark of a place without work.
+#[inline(always)]
+fn mark_without_work(plain: bool) -> Mark
+    ensures { result ≡ idle_mark plain }
+{
+    if plain { Mark::Plain } else { Mark::Idle }
 }

@@ -31,35 +31,6 @@ pub(crate) fn push_other_reader(out: &mut Vec<Spot>, x: Spot) -> Result<(), Allo
     Ok(())
 }
 
-/// Sorts the list, and drops its duplicates if they are at least half of it.
-#[inline(never)]
-fn drop_doubles(alloc: Global, list: &mut Vec<Spot>) -> Result<(), AllocError>
-    ensures { OnOk result ((q : spots.Spot)
-        → Contains list.new.items q ↔ Contains list.old.items q) }
-{
-    list.sort_by_key(|x| x.number())?;
-    let out = without_doubles(alloc, list.as_slice())?;
-    if out.len() <= list.len() / 2 {
-        *list = out;
-    }
-    Ok(())
-}
-
-/// Appends `x` to the readers of a place. Each visit of a point does so. When the length is a power
-/// of two, the list is searched for duplicates: it stays short, or at most four times as long as
-/// its number of readers.
-#[inline(always)]
-fn push_reader(alloc: Global, list: &mut Vec<Spot>, x: Spot) -> Result<(), AllocError>
-    ensures { OnOk result ((q : spots.Spot)
-        → Contains list.new.items q ↔ (Contains list.old.items q ⊎ (q ≡ x))) }
-{
-    list.push(x)?;
-    if list.len() >= MANY && list.len().is_power_of_two() {
-        drop_doubles(alloc, list)?;
-    }
-    Ok(())
-}
-
 /// Records that `x` reads `z`.
 pub fn register_reader(
     alloc: Global,
@@ -109,4 +80,33 @@ pub(crate) fn without_doubles(alloc: Global, list: &[Spot]) -> Result<Vec<Spot>,
         push_other_reader(&mut out, *x)?;
     }
     Ok(out)
+}
+
+/// Appends `x` to the readers of a place. Each visit of a point does so. When the length is a power
+/// of two, the list is searched for duplicates: it stays short, or at most four times as long as
+/// its number of readers.
+#[inline(always)]
+fn push_reader(alloc: Global, list: &mut Vec<Spot>, x: Spot) -> Result<(), AllocError>
+    ensures { OnOk result ((q : spots.Spot)
+        → Contains list.new.items q ↔ (Contains list.old.items q ⊎ (q ≡ x))) }
+{
+    list.push(x)?;
+    if list.len() >= MANY && list.len().is_power_of_two() {
+        drop_doubles(alloc, list)?;
+    }
+    Ok(())
+}
+
+/// Sorts the list, and drops its duplicates if they are at least half of it.
+#[inline(never)]
+fn drop_doubles(alloc: Global, list: &mut Vec<Spot>) -> Result<(), AllocError>
+    ensures { OnOk result ((q : spots.Spot)
+        → Contains list.new.items q ↔ Contains list.old.items q) }
+{
+    list.sort_by_key(|x| x.number())?;
+    let out = without_doubles(alloc, list.as_slice())?;
+    if out.len() <= list.len() / 2 {
+        *list = out;
+    }
+    Ok(())
 }

@@ -102,52 +102,21 @@ impl Work {
         Ok(())
     }
 
-    /// Begins a round with the places that wait. The least number is the last, where places are
-    /// taken.
-    fn begin_round(&mut self)
-        ensures { BeginsRound self.old self.new }
-    {
-        swap(&mut self.round, &mut self.waiting);
-        self.round
-            .sort_unstable_by_key(|number| usize::MAX - *number);
-    }
-
-    /// Takes a place of this round.
+    /// Takes a place.
     #[inline(always)]
-    fn pop_round(&mut self) -> Option<usize>
-        ensures some { IfSome result (TakesRound self.old self.new) }
-        ensures none { IfNone result ((self.old.round ≡ []) × (self.new ≡ self.old)) }
+    pub fn pop(&mut self) -> Option<usize>
+        ensures some { IfSome result (Takes self.old self.new) }
+        ensures none { IfNone result (all_work self.old ≡ []) }
+        ensures empty { IfNone result (all_work self.new ≡ []) }
     {
-        let number = self.round.pop();
-        self.base = self.round.len();
-        number
-    }
-
-    /// Makes the places that are next the first ones, in reverse, since they are taken from the
-    /// end.
-    fn turn(&mut self)
-        ensures { Turns self.old self.new }
-    {
-        swap(&mut self.first, &mut self.next);
-        self.first.reverse();
-    }
-
-    /// Takes the first place.
-    #[inline(always)]
-    fn pop_first(&mut self) -> Option<usize>
-        ensures some { IfSome result (TakesFirst self.old self.new) }
-        ensures none { IfNone result ((self.old.first ≡ []) × (self.new ≡ self.old)) }
-    {
-        self.first.pop()
-    }
-
-    /// Takes the last of the places that are next.
-    #[inline(always)]
-    fn pop_last(&mut self) -> Option<usize>
-        ensures some { IfSome result (TakesLast self.old self.new) }
-        ensures none { IfNone result ((self.old.next ≡ []) × (self.new ≡ self.old)) }
-    {
-        self.next.pop()
+        if let Some(number) = self.pop_next() {
+            return Some(number);
+        }
+        if let Some(number) = self.pop_round() {
+            return Some(number);
+        }
+        self.begin_round();
+        self.pop_round()
     }
 
     /// Takes the first of the places that are next. A single one is also the last.
@@ -166,21 +135,52 @@ impl Work {
         self.pop_last()
     }
 
-    /// Takes a place.
+    /// Takes a place of this round.
     #[inline(always)]
-    pub fn pop(&mut self) -> Option<usize>
-        ensures some { IfSome result (Takes self.old self.new) }
-        ensures none { IfNone result (all_work self.old ≡ []) }
-        ensures empty { IfNone result (all_work self.new ≡ []) }
+    fn pop_round(&mut self) -> Option<usize>
+        ensures some { IfSome result (TakesRound self.old self.new) }
+        ensures none { IfNone result ((self.old.round ≡ []) × (self.new ≡ self.old)) }
     {
-        if let Some(number) = self.pop_next() {
-            return Some(number);
-        }
-        if let Some(number) = self.pop_round() {
-            return Some(number);
-        }
-        self.begin_round();
-        self.pop_round()
+        let number = self.round.pop();
+        self.base = self.round.len();
+        number
+    }
+
+    /// Begins a round with the places that wait. The least number is the last, where places are
+    /// taken.
+    fn begin_round(&mut self)
+        ensures { BeginsRound self.old self.new }
+    {
+        swap(&mut self.round, &mut self.waiting);
+        self.round
+            .sort_unstable_by_key(|number| usize::MAX - *number);
+    }
+
+    /// Takes the first place.
+    #[inline(always)]
+    fn pop_first(&mut self) -> Option<usize>
+        ensures some { IfSome result (TakesFirst self.old self.new) }
+        ensures none { IfNone result ((self.old.first ≡ []) × (self.new ≡ self.old)) }
+    {
+        self.first.pop()
+    }
+
+    /// Makes the places that are next the first ones, in reverse, since they are taken from the
+    /// end.
+    fn turn(&mut self)
+        ensures { Turns self.old self.new }
+    {
+        swap(&mut self.first, &mut self.next);
+        self.first.reverse();
+    }
+
+    /// Takes the last of the places that are next.
+    #[inline(always)]
+    fn pop_last(&mut self) -> Option<usize>
+        ensures some { IfSome result (TakesLast self.old self.new) }
+        ensures none { IfNone result ((self.old.next ≡ []) × (self.new ≡ self.old)) }
+    {
+        self.next.pop()
     }
 }
 

@@ -142,13 +142,6 @@ fn count_packed_points(nodes: &[NodePlaces]) -> usize
     total
 }
 
-/// Returns true if the key of a packed certificate's node is below the key of this number.
-fn is_cert_node_below(node: &NodePlaces, number: u64) -> bool
-    ensures { result ≡ nat_lt node.now.number number }
-{
-    node.number < number
-}
-
 /// Returns the number of nodes whose keys are below `number`.
 fn cert_node_place(nodes: &[NodePlaces], number: u64) -> usize
     requires { IsStrictlyIncreasing (map (λ n. n.number) nodes.now) }
@@ -156,4 +149,11 @@ fn cert_node_place(nodes: &[NodePlaces], number: u64) -> usize
         (λ n. nat_lt n.number number ≡ false) nodes.now result }
 {
     nodes.partition_point(|n| is_cert_node_below(n, number))
+}
+
+/// Returns true if the key of a packed certificate's node is below the key of this number.
+fn is_cert_node_below(node: &NodePlaces, number: u64) -> bool
+    ensures { result ≡ nat_lt node.now.number number }
+{
+    node.number < number
 }

@@ -57,40 +57,6 @@ pub(crate) fn are_covered_at(
     true
 }
 
-/// Returns value number `i` of those that are to be covered. `any` is returned for one that has all
-/// words.
-#[inline(always)]
-fn value_to_cover<'a>(values: &'a ToCover, any: &'a Val, i: usize) -> &'a Val
-    requires place { i < length (values_to_cover values.now) }
-    requires any { any.now ≡ any_val }
-    ensures { result.now ≡ slice_index_or (values_to_cover values.now) i any_val }
-{
-    match values {
-        ToCover::Whole(s) => {
-            let _regs = &s.regs[..];
-            own_value(s, i)
-        }
-        ToCover::Changed(s, c) => {
-            let _regs = &s.regs[..];
-            changed_value(s, c, any, i)
-        }
-        ToCover::Lower(s) => {
-            let _regs = &s.regs[..];
-            lower_value(&s.regs, i)
-        }
-    }
-}
-
-/// Returns the state's own value number `i`, which is to be covered.
-#[inline(always)]
-fn own_value<'a>(s: &'a State, i: usize) -> &'a Val
-    requires place { i < 27 }
-    ensures { result.now ≡ slice_index_or s.now.regs i any_val }
-{
-    let _regs = &s.regs[..];
-    &s.regs[i]
-}
-
 /// Returns true if the value at a place is below the value at another. The first is read.
 #[inline(never)]
 pub(crate) fn is_read_value_covered(low: ValuesAt<'_>, high: ValuesAt<'_>) -> bool
@@ -144,6 +110,52 @@ pub(crate) fn are_words_covered_at(own: &[u32], bytes: &[u8], place: usize, n: u
     true
 }
 
+/// Returns true if a value is below the one at a place, which is read.
+// A function of its own, so that the others have no room of a value to fill.
+#[inline(never)]
+pub(crate) fn is_covered_by_read(v: &Val, bytes: &[u8], version: u8, place: usize) -> bool
+    requires short { length bytes.now ≤ 2 ^ 30 }
+    requires well { IsWell v.now }
+    requires stands { HasValueInBytes version bytes.now place }
+    ensures { IsTrue result ↔ IsBelow v.now (value_in version bytes.now place) }
+{
+    leq(v, &value_at_place(bytes, version, place))
+}
+
+/// Returns value number `i` of those that are to be covered. `any` is returned for one that has all
+/// words.
+#[inline(always)]
+fn value_to_cover<'a>(values: &'a ToCover, any: &'a Val, i: usize) -> &'a Val
+    requires place { i < length (values_to_cover values.now) }
+    requires any { any.now ≡ any_val }
+    ensures { result.now ≡ slice_index_or (values_to_cover values.now) i any_val }
+{
+    match values {
+        ToCover::Whole(s) => {
+            let _regs = &s.regs[..];
+            own_value(s, i)
+        }
+        ToCover::Changed(s, c) => {
+            let _regs = &s.regs[..];
+            changed_value(s, c, any, i)
+        }
+        ToCover::Lower(s) => {
+            let _regs = &s.regs[..];
+            lower_value(&s.regs, i)
+        }
+    }
+}
+
+/// Returns the state's own value number `i`, which is to be covered.
+#[inline(always)]
+fn own_value<'a>(s: &'a State, i: usize) -> &'a Val
+    requires place { i < 27 }
+    ensures { result.now ≡ slice_index_or s.now.regs i any_val }
+{
+    let _regs = &s.regs[..];
+    &s.regs[i]
+}
+
 /// Returns the number of the first word from number `k` on that isn't below `x`, or `n` if all are.
 fn first_covering_word(bytes: &[u8], place: usize, n: usize, k: usize, x: u32) -> usize
     requires within { place + 4 * n ≤ length bytes.now }
@@ -161,16 +173,4 @@ fn first_covering_word(bytes: &[u8], place: usize, n: usize, k: usize, x: u32) -
         at += 1;
     }
     at
-}
-
-/// Returns true if a value is below the one at a place, which is read.
-// A function of its own, so that the others have no room of a value to fill.
-#[inline(never)]
-pub(crate) fn is_covered_by_read(v: &Val, bytes: &[u8], version: u8, place: usize) -> bool
-    requires short { length bytes.now ≤ 2 ^ 30 }
-    requires well { IsWell v.now }
-    requires stands { HasValueInBytes version bytes.now place }
-    ensures { IsTrue result ↔ IsBelow v.now (value_in version bytes.now place) }
-{
-    leq(v, &value_at_place(bytes, version, place))
 }

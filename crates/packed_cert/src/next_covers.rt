@@ -38,35 +38,6 @@ pub(crate) fn are_puts_below(s: &State, c: &Change, row: ValueRow) -> bool
     is_put_below(s, c, row, c.third.at)
 }
 
-/// Returns true if the changed value at a place is below the state's own, or if there is no place,
-/// or it is inside the row.
-fn is_put_below(s: &State, c: &Change, row: ValueRow, place: Option<usize>) -> bool
-    requires hand { AreWell s.now.regs }
-    requires well { AreWell (state_after s.now c.now).regs }
-    ensures { IsTrue result → (i : ℕ) → place ≡ Some i → i < 27 → IsOutside row i
-        → IsCoveredByOwn s.now c.now i }
-{
-    let Some(i) = place else {
-        return true;
-    };
-    if i >= VALUES || row.first as usize <= i && i < row.behind as usize {
-        return true;
-    }
-    let regs = &s.regs[..];
-    let any = Val::any();
-    let low = changed_value(s, c, &any, i);
-    let high = &regs[i];
-    // To see that two sets are equal takes less than to see that one is below the other.
-    if let Val::Set(own) = low {
-        if let Val::Set(words) = high {
-            if own.as_slice() == words.as_slice() {
-                return true;
-            }
-        }
-    }
-    leq(low, high)
-}
-
 /// Returns true if each changed value of a point's row is below the point's own.
 pub(crate) fn is_row_below(
     s: &State,
@@ -123,4 +94,33 @@ pub(crate) fn does_next_point_cover(
         return false;
     }
     are_puts_below(s, c, point.row) && is_row_below(s, c, bytes, version, point)
+}
+
+/// Returns true if the changed value at a place is below the state's own, or if there is no place,
+/// or it is inside the row.
+fn is_put_below(s: &State, c: &Change, row: ValueRow, place: Option<usize>) -> bool
+    requires hand { AreWell s.now.regs }
+    requires well { AreWell (state_after s.now c.now).regs }
+    ensures { IsTrue result → (i : ℕ) → place ≡ Some i → i < 27 → IsOutside row i
+        → IsCoveredByOwn s.now c.now i }
+{
+    let Some(i) = place else {
+        return true;
+    };
+    if i >= VALUES || row.first as usize <= i && i < row.behind as usize {
+        return true;
+    }
+    let regs = &s.regs[..];
+    let any = Val::any();
+    let low = changed_value(s, c, &any, i);
+    let high = &regs[i];
+    // To see that two sets are equal takes less than to see that one is below the other.
+    if let Val::Set(own) = low {
+        if let Val::Set(words) = high {
+            if own.as_slice() == words.as_slice() {
+                return true;
+            }
+        }
+    }
+    leq(low, high)
 }

@@ -93,27 +93,6 @@ impl<'a> PackedNode<'a> {
     }
 }
 
-/// Returns true if the address of a packed node's point is below `addr`.
-fn is_node_point_below(point: &PackedPoint, addr: u32) -> bool
-    ensures { result ≡ nat_lt point.now.addr addr }
-{
-    point.addr < addr
-}
-
-/// Returns the number that the point at `addr` has if all instructions between it and point number
-/// `near` have four bytes. A guess that saves the search.
-fn node_point_guess(points: &[PackedPoint], addr: u32, near: usize) -> usize {
-    if near >= points.len() {
-        return near;
-    }
-    let from = points[near].addr;
-    if addr < from {
-        near.wrapping_sub((from - addr) as usize / 4)
-    } else {
-        near.wrapping_add((addr - from) as usize / 4)
-    }
-}
-
 /// Returns the number of points whose addresses are below `addr`. The points number `near` and
 /// `near + 1` are tried first, since most instructions go on to the next one, and then a guess for
 /// jumps over instructions of four bytes.
@@ -134,4 +113,25 @@ pub(crate) fn node_point_place(points: &[PackedPoint], addr: u32, near: usize) -
         return far;
     }
     points.partition_point(|p| is_node_point_below(p, addr))
+}
+
+/// Returns the number that the point at `addr` has if all instructions between it and point number
+/// `near` have four bytes. A guess that saves the search.
+fn node_point_guess(points: &[PackedPoint], addr: u32, near: usize) -> usize {
+    if near >= points.len() {
+        return near;
+    }
+    let from = points[near].addr;
+    if addr < from {
+        near.wrapping_sub((from - addr) as usize / 4)
+    } else {
+        near.wrapping_add((addr - from) as usize / 4)
+    }
+}
+
+/// Returns true if the address of a packed node's point is below `addr`.
+fn is_node_point_below(point: &PackedPoint, addr: u32) -> bool
+    ensures { result ≡ nat_lt point.now.addr addr }
+{
+    point.addr < addr
 }

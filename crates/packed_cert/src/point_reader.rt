@@ -101,29 +101,6 @@ pub(crate) fn read_points(
     Ok(points)
 }
 
-/// Returns what a point keeps of the state that was read. For a node's first point it is the row of
-/// all values, as any state may be at hand before it.
-fn for_point(read: ReadState, first: bool) -> ReadState
-    requires { read.at.values < 2 ^ 32 }
-    ensures first { IsTrue first → IsWholeRow 27 result.row × (result.same ≡ false) }
-    ensures later { IsFalse first → result ≡ read }
-    ensures from { (bytes : List ℕ) → RowBeginsAtPlace bytes read.at.values read.row
-        → RowBeginsAtPlace bytes read.at.values result.row }
-{
-    if !first {
-        return read;
-    }
-    ReadState {
-        at: read.at,
-        row: ValueRow {
-            first: 0,
-            behind: VALUES as u8,
-            from: read.at.values as u32,
-        },
-        same: false,
-    }
-}
-
 /// Reads a point's state over that of the point before, whose places are `before`. If its bytes
 /// come again, they are passed over, and the places stay those of the first state with these bytes.
 #[inline(always)]
@@ -226,4 +203,27 @@ pub(crate) fn read_state_after(
         row: fields.1,
         same: false,
     })
+}
+
+/// Returns what a point keeps of the state that was read. For a node's first point it is the row of
+/// all values, as any state may be at hand before it.
+fn for_point(read: ReadState, first: bool) -> ReadState
+    requires { read.at.values < 2 ^ 32 }
+    ensures first { IsTrue first → IsWholeRow 27 result.row × (result.same ≡ false) }
+    ensures later { IsFalse first → result ≡ read }
+    ensures from { (bytes : List ℕ) → RowBeginsAtPlace bytes read.at.values read.row
+        → RowBeginsAtPlace bytes read.at.values result.row }
+{
+    if !first {
+        return read;
+    }
+    ReadState {
+        at: read.at,
+        row: ValueRow {
+            first: 0,
+            behind: VALUES as u8,
+            from: read.at.values as u32,
+        },
+        same: false,
+    }
 }

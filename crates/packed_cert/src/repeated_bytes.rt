@@ -77,41 +77,6 @@ fn count_repeated_blocks(bytes: &[u8], x: usize, y: usize, n: usize) -> usize
     i
 }
 
-/// Returns true if the block after the first `i` bytes is equal at two places, where these are.
-#[inline(always)]
-fn is_block_repeated(bytes: &[u8], x: usize, y: usize, i: usize) -> bool
-    requires first { x + i + 64 ≤ length bytes.now }
-    requires second { y + i + 64 ≤ length bytes.now }
-    requires same { SameBytesAtPlaces bytes.now x y i }
-    ensures { IsTrue result → SameBytesAtPlaces bytes.now x y (i + 64) }
-{
-    if !is_half_block_repeated(bytes, x, y, i) {
-        return false;
-    }
-    is_half_block_repeated(bytes, x, y, i + 32)
-}
-
-/// Returns true if the bytes at two places, of which the first `i` are equal, are equal in the next
-/// 32 too.
-#[inline(always)]
-fn is_half_block_repeated(bytes: &[u8], x: usize, y: usize, i: usize) -> bool
-    requires first { x + i + 32 ≤ length bytes.now }
-    requires second { y + i + 32 ≤ length bytes.now }
-    requires same { SameBytesAtPlaces bytes.now x y i }
-    ensures { IsTrue result → SameBytesAtPlaces bytes.now x y (i + 32) }
-{
-    if !are_eight_bytes_repeated(bytes, x + i, y + i) {
-        return false;
-    }
-    if !are_eight_bytes_repeated(bytes, x + (i + 8), y + (i + 8)) {
-        return false;
-    }
-    if !are_eight_bytes_repeated(bytes, x + (i + 16), y + (i + 16)) {
-        return false;
-    }
-    are_eight_bytes_repeated(bytes, x + (i + 24), y + (i + 24))
-}
-
 /// Counts the bytes that are equal at two places, as far as eight at a time are. The first `from`
 /// are.
 #[inline(always)]
@@ -174,33 +139,6 @@ fn count_repeated_from(bytes: &[u8], x: usize, y: usize, from: usize, n: usize) 
     i
 }
 
-/// Returns true if the eight bytes from one place on are repeated at another.
-fn are_eight_bytes_repeated(bytes: &[u8], x: usize, y: usize) -> bool
-    requires first { x + 8 ≤ length bytes.now }
-    requires second { y + 8 ≤ length bytes.now }
-    ensures { IsTrue result → eight_bytes_at_place bytes.now x ≡ eight_bytes_at_place bytes.now y }
-{
-    eight_bytes_to_compare(bytes, x) == eight_bytes_to_compare(bytes, y)
-}
-
-/// Returns the eight bytes from a place on as a number.
-#[inline(always)]
-fn eight_bytes_to_compare(bytes: &[u8], place: usize) -> u64
-    requires { place + 8 ≤ length bytes.now }
-    ensures { result ≡ eight_bytes_at_place bytes.now place }
-{
-    u64::from_le_bytes([
-        bytes[place],
-        bytes[place + 1],
-        bytes[place + 2],
-        bytes[place + 3],
-        bytes[place + 4],
-        bytes[place + 5],
-        bytes[place + 6],
-        bytes[place + 7],
-    ])
-}
-
 /// Returns true if the bytes from `x` on come again at the cursor, which then moves past them.
 #[inline(always)]
 pub(crate) fn has_passed_repeated_bytes(
@@ -244,4 +182,66 @@ pub(crate) fn end_of_same(bytes: &[u8], state: RepeatedState, start: usize, at: 
         return state.at.start + state.same;
     }
     state.at.values + count_repeated_before(bytes, state.at.values, at, state.at.end)
+}
+
+/// Returns true if the block after the first `i` bytes is equal at two places, where these are.
+#[inline(always)]
+fn is_block_repeated(bytes: &[u8], x: usize, y: usize, i: usize) -> bool
+    requires first { x + i + 64 ≤ length bytes.now }
+    requires second { y + i + 64 ≤ length bytes.now }
+    requires same { SameBytesAtPlaces bytes.now x y i }
+    ensures { IsTrue result → SameBytesAtPlaces bytes.now x y (i + 64) }
+{
+    if !is_half_block_repeated(bytes, x, y, i) {
+        return false;
+    }
+    is_half_block_repeated(bytes, x, y, i + 32)
+}
+
+/// Returns true if the bytes at two places, of which the first `i` are equal, are equal in the next
+/// 32 too.
+#[inline(always)]
+fn is_half_block_repeated(bytes: &[u8], x: usize, y: usize, i: usize) -> bool
+    requires first { x + i + 32 ≤ length bytes.now }
+    requires second { y + i + 32 ≤ length bytes.now }
+    requires same { SameBytesAtPlaces bytes.now x y i }
+    ensures { IsTrue result → SameBytesAtPlaces bytes.now x y (i + 32) }
+{
+    if !are_eight_bytes_repeated(bytes, x + i, y + i) {
+        return false;
+    }
+    if !are_eight_bytes_repeated(bytes, x + (i + 8), y + (i + 8)) {
+        return false;
+    }
+    if !are_eight_bytes_repeated(bytes, x + (i + 16), y + (i + 16)) {
+        return false;
+    }
+    are_eight_bytes_repeated(bytes, x + (i + 24), y + (i + 24))
+}
+
+/// Returns true if the eight bytes from one place on are repeated at another.
+fn are_eight_bytes_repeated(bytes: &[u8], x: usize, y: usize) -> bool
+    requires first { x + 8 ≤ length bytes.now }
+    requires second { y + 8 ≤ length bytes.now }
+    ensures { IsTrue result → eight_bytes_at_place bytes.now x ≡ eight_bytes_at_place bytes.now y }
+{
+    eight_bytes_to_compare(bytes, x) == eight_bytes_to_compare(bytes, y)
+}
+
+/// Returns the eight bytes from a place on as a number.
+#[inline(always)]
+fn eight_bytes_to_compare(bytes: &[u8], place: usize) -> u64
+    requires { place + 8 ≤ length bytes.now }
+    ensures { result ≡ eight_bytes_at_place bytes.now place }
+{
+    u64::from_le_bytes([
+        bytes[place],
+        bytes[place + 1],
+        bytes[place + 2],
+        bytes[place + 3],
+        bytes[place + 4],
+        bytes[place + 5],
+        bytes[place + 6],
+        bytes[place + 7],
+    ])
 }

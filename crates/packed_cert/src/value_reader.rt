@@ -85,29 +85,6 @@ pub(crate) fn value_length_by_tag(tag: u8) -> usize
     }
 }
 
-/// Returns the row with value number `i`, which is after its others and was read at `place`.
-fn with_read(row: ValueRow, i: u8, place: u32) -> ValueRow
-    requires order { row.first ≤ row.behind }
-    requires behind { row.behind ≤ i }
-    requires number { i < 27 }
-    ensures read { IsWithRead row i result }
-    ensures from { (bytes : List ℕ) (x : ℕ) → RowBeginsAtPlace bytes x row
-        → place ≡ place_after_values bytes x i → RowBeginsAtPlace bytes x result }
-{
-    if row.behind == 0 {
-        return ValueRow {
-            first: i,
-            behind: i + 1,
-            from: place,
-        };
-    }
-    ValueRow {
-        first: row.first,
-        behind: i + 1,
-        from: row.from,
-    }
-}
-
 /// Moves the cursor that reads values on to a place, past those that aren't read as their bytes
 /// come again.
 #[inline(always)]
@@ -167,4 +144,27 @@ pub(crate) fn read_value_word(bytes: &[u8], place: usize) -> u32
         bytes[place + 2],
         bytes[place + 3],
     ])
+}
+
+/// Returns the row with value number `i`, which is after its others and was read at `place`.
+fn with_read(row: ValueRow, i: u8, place: u32) -> ValueRow
+    requires order { row.first ≤ row.behind }
+    requires behind { row.behind ≤ i }
+    requires number { i < 27 }
+    ensures read { IsWithRead row i result }
+    ensures from { (bytes : List ℕ) (x : ℕ) → RowBeginsAtPlace bytes x row
+        → place ≡ place_after_values bytes x i → RowBeginsAtPlace bytes x result }
+{
+    if row.behind == 0 {
+        return ValueRow {
+            first: i,
+            behind: i + 1,
+            from: place,
+        };
+    }
+    ValueRow {
+        first: row.first,
+        behind: i + 1,
+        from: row.from,
+    }
 }

@@ -35,27 +35,6 @@ pub(crate) fn is_below_value_at(v: &Val, bytes: &[u8], version: u8, place: usize
     }
 }
 
-/// Tests the `n` words at a place in the bytes: returns true if a value is the Set of just these
-/// words.
-fn has_words_at(v: &Val, bytes: &[u8], place: usize, n: usize) -> bool
-    requires within { place + 4 * n ≤ length bytes.now }
-    ensures { IsTrue result → v.now ≡ Set (words_at bytes.now place n) }
-{
-    let Val::Set(words) = v else {
-        return false;
-    };
-    let own = words.as_slice();
-    if own.len() != n {
-        return false;
-    }
-    for i in 0..n {
-        if own[i] != read_value_word(bytes, place + 4 * i) {
-            return false;
-        }
-    }
-    true
-}
-
 /// Returns true if each of the `n` values from a place on is one of the plan and the version.
 pub(crate) fn are_values_at(b: &Bounds, bytes: &[u8], version: u8, place: usize, n: usize) -> bool
     requires short { length bytes.now ≤ 2 ^ 30 }
@@ -73,16 +52,6 @@ pub(crate) fn are_values_at(b: &Bounds, bytes: &[u8], version: u8, place: usize,
         at += value_length_by_tag(tag);
     }
     true
-}
-
-/// Returns true if the value at a place is one of the plan and the version.
-#[inline(never)]
-fn is_value_at(b: &Bounds, bytes: &[u8], version: u8, place: usize) -> bool
-    requires short { length bytes.now ≤ 2 ^ 30 }
-    requires stands { HasValueInBytes version bytes.now place }
-    ensures { IsTrue result ↔ IsValue b.now (value_in version bytes.now place) }
-{
-    is_value(b, &value_at_place(bytes, version, place))
 }
 
 /// Reads the value at a place.
@@ -142,4 +111,35 @@ fn make_set_at_place<const N: usize>(out: &mut Val, bytes: &[u8], place: usize, 
         words[i] = read_value_word(bytes, place + 4 * i);
     }
     set_words(out, &words[..n]);
+}
+
+/// Tests the `n` words at a place in the bytes: returns true if a value is the Set of just these
+/// words.
+fn has_words_at(v: &Val, bytes: &[u8], place: usize, n: usize) -> bool
+    requires within { place + 4 * n ≤ length bytes.now }
+    ensures { IsTrue result → v.now ≡ Set (words_at bytes.now place n) }
+{
+    let Val::Set(words) = v else {
+        return false;
+    };
+    let own = words.as_slice();
+    if own.len() != n {
+        return false;
+    }
+    for i in 0..n {
+        if own[i] != read_value_word(bytes, place + 4 * i) {
+            return false;
+        }
+    }
+    true
+}
+
+/// Returns true if the value at a place is one of the plan and the version.
+#[inline(never)]
+fn is_value_at(b: &Bounds, bytes: &[u8], version: u8, place: usize) -> bool
+    requires short { length bytes.now ≤ 2 ^ 30 }
+    requires stands { HasValueInBytes version bytes.now place }
+    ensures { IsTrue result ↔ IsValue b.now (value_in version bytes.now place) }
+{
+    is_value(b, &value_at_place(bytes, version, place))
 }

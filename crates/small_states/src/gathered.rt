@@ -93,24 +93,6 @@ impl Gathered {
         self.len += 1;
     }
 
-    /// Adds the bytes of words. There is room for them.
-    #[inline(always)]
-    fn push_words(&mut self, words: &[u32])
-        requires { length self.old + 4 * length words.now ≤ 192 }
-        ensures { self.new ≡ self.old ++ flat_map bytes_of_word words.now }
-    {
-        let mut at = self.len;
-        for n in 0..words.len() {
-            let word = words[n].to_le_bytes();
-            self.bytes[at] = word[0];
-            self.bytes[at + 1] = word[1];
-            self.bytes[at + 2] = word[2];
-            self.bytes[at + 3] = word[3];
-            at += 4;
-        }
-        self.len = at;
-    }
-
     /// Adds the value that holds these words, at most 32 words at a time.
     #[tactic(auto, unfolding(depth_cert::specs::Spelling::bytes_of_value))]
     pub(crate) fn put_set(&mut self, out: &mut Vec<u8>, words: &[u32]) -> Result<(), NoMemory>
@@ -189,5 +171,23 @@ impl Gathered {
         }
         self.len += count as usize;
         Ok(())
+    }
+
+    /// Adds the bytes of words. There is room for them.
+    #[inline(always)]
+    fn push_words(&mut self, words: &[u32])
+        requires { length self.old + 4 * length words.now ≤ 192 }
+        ensures { self.new ≡ self.old ++ flat_map bytes_of_word words.now }
+    {
+        let mut at = self.len;
+        for n in 0..words.len() {
+            let word = words[n].to_le_bytes();
+            self.bytes[at] = word[0];
+            self.bytes[at + 1] = word[1];
+            self.bytes[at + 2] = word[2];
+            self.bytes[at + 3] = word[3];
+            at += 4;
+        }
+        self.len = at;
     }
 }

@@ -39,117 +39,6 @@ pub(crate) fn pack_values(alloc: Global, incoming: &Incoming) -> Result<Values, 
 }
 
 /// Returns the incoming values, from a point whose compact values are at hand.
-#[inline(never)]
-fn pack_own(alloc: Global, own: &Values, incoming: &Incoming) -> Result<Values, AllocError>
-    requires { all_values own.now ≡ (sender_state incoming.now).regs }
-    ensures { IfOk result (λ values. all_values values ≡ incoming_values incoming.now) }
-{
-    let mut values = Values {
-        known: Vec::with_capacity(alloc, own.known.len())?,
-        rest: 0,
-    };
-    match incoming {
-        Incoming::Changed(_, _) => pack_values(alloc, incoming),
-        Incoming::After(s, exit, _) => {
-            let _regs = &s.regs[..];
-            let lower = exit.lower.as_ref();
-            values.add_part(lower, 0, 8)?;
-            values.add_part(own, 8, 8)?;
-            values.add_part(lower, 8, 6)?;
-            values.add_part(own, A10_SLOT, 5)?;
-            Ok(values)
-        }
-        Incoming::Leaving(s) => {
-            let _regs = &s.regs[..];
-            values.add_part(own, 0, 8)?;
-            values.add_part(own, 16, 6)?;
-            Ok(values)
-        }
-    }
-}
-
-/// Puts one value of a change over a list of compact incoming values, if the change has it.
-#[inline(always)]
-fn put_over(alloc: Global, values: &mut Values, put: &Put) -> Result<(), AllocError>
-    ensures { OnOk result (all_values values.new ≡ put_in (all_values values.old) put.now) }
-{
-    let Some(at) = put.at else {
-        return Ok(());
-    };
-    let value = Small::of(alloc, &put.value)?;
-    values.put(at, value)
-}
-
-/// Returns the values that a change starts from, with room for more known ones.
-#[inline(always)]
-fn base_values(alloc: Global, own: &Values, base: Base) -> Result<Values, AllocError>
-    requires { length (all_values own.now) ≡ 27 }
-    ensures { IfOk result (λ values. all_values values ≡ base_of base (all_values own.now)) }
-{
-    match base {
-        Base::Same => own.copy(alloc),
-        Base::Forgotten => upper_values(alloc, own),
-        Base::Any => Ok(Values {
-            known: Vec::with_capacity(alloc, 3)?,
-            rest: 27,
-        }),
-    }
-}
-
-/// Returns a state's values with the lower registers unknown.
-#[inline(never)]
-fn upper_values(alloc: Global, own: &Values) -> Result<Values, AllocError>
-    requires { length (all_values own.now) ≡ 27 }
-    ensures { IfOk result (λ values. all_values values ≡ forgotten_from 0 (all_values own.now)) }
-{
-    let mut values = Values {
-        known: Vec::with_capacity(alloc, own.known.len() + 1)?,
-        rest: 8,
-    };
-    values.add_part(own, 8, 8)?;
-    values.add_anys(6);
-    values.add_part(own, A10_SLOT, 5)?;
-    Ok(values)
-}
-
-/// Returns the compact incoming values of a changed state: its values with the change put over
-/// them. If no part of them changes, the list is shared.
-#[inline(always)]
-fn put_all_over(alloc: Global, own: &Rc<Values>, c: &Change) -> Result<Rc<Values>, AllocError>
-    requires { length (all_values own.now.value) ≡ 27 }
-    ensures { IfOk result
-        (λ values. all_values values.value
-        ≡ put_in (put_in (put_in (base_of c.now.base (all_values own.now.value)) c.now.first)
-        c.now.second) c.now.third) }
-{
-    if c.first.at.is_none() && c.second.at.is_none() && c.third.at.is_none() {
-        if let Base::Same = c.base {
-            return own.clone();
-        }
-    }
-    let mut values = base_values(alloc, own.as_ref(), c.base)?;
-    put_over(alloc, &mut values, &c.first)?;
-    put_over(alloc, &mut values, &c.second)?;
-    put_over(alloc, &mut values, &c.third)?;
-    Ok(Rc::new(alloc, values)?)
-}
-
-/// Returns the incoming values of a changed state in compact form, from the state's compact values.
-#[inline(always)]
-fn pack_change(
-    alloc: Global,
-    own: &Rc<Values>,
-    s: &State,
-    c: &Change,
-) -> Result<Rc<Values>, AllocError>
-    requires { all_values own.now.value ≡ s.now.regs }
-    ensures { IfOk result (λ values. all_values values.value ≡ (state_after s.now c.now).regs) }
-{
-    let _regs = &s.regs[..];
-    put_all_over(alloc, own, c)
-}
-
-/// Returns the incoming values, from a point whose compact values are at hand.
 pub(crate) fn pack_for(
     alloc: Global,
     own: &Rc<Values>,
@@ -229,25 +118,138 @@ pub(crate) fn join_values(
     Ok(values)
 }
 
-/// Returns the value at a place before a change puts others over it.
+/// Returns the incoming value at a place. `any` is returned for an unknown value.
 #[inline(always)]
-fn base_given<'a>(s: &'a State, base: Base, any: &'a Small, i: usize) -> Given<'a>
-    requires place { i < 27 }
+pub(crate) fn incoming_value<'a>(incoming: &'a Incoming, any: &'a Small, i: usize) -> Given<'a>
+    requires place { i < length (incoming_values incoming.now) }
     requires any { any.now ≡ any_val }
-    ensures { given_of result ≡ slice_index_or (base_of base s.now.regs) i any_val }
+    ensures { given_of result ≡ slice_index_or (incoming_values incoming.now) i any_val }
+{
+    match incoming {
+        Incoming::Changed(s, c) => {
+            let _regs = &s.regs[..];
+            changed_given(s, c, any, i)
+        }
+        Incoming::After(s, exit, _) => {
+            let _regs = &s.regs[..];
+            incoming_value_after(s, exit, any, i)
+        }
+        Incoming::Leaving(s) => {
+            let _regs = &s.regs[..];
+            Given::Whole(lower_value(&s.regs, i))
+        }
+    }
+}
+
+/// Returns the incoming values of a changed state in compact form, from the state's compact values.
+#[inline(always)]
+fn pack_change(
+    alloc: Global,
+    own: &Rc<Values>,
+    s: &State,
+    c: &Change,
+) -> Result<Rc<Values>, AllocError>
+    requires { all_values own.now.value ≡ s.now.regs }
+    ensures { IfOk result (λ values. all_values values.value ≡ (state_after s.now c.now).regs) }
 {
     let _regs = &s.regs[..];
-    match base {
-        Base::Same => Given::Whole(&s.regs[i]),
-        Base::Forgotten => {
-            if is_lower_slot(i) {
-                Given::Packed(any)
-            } else {
-                Given::Whole(&s.regs[i])
-            }
+    put_all_over(alloc, own, c)
+}
+
+/// Returns the incoming values, from a point whose compact values are at hand.
+#[inline(never)]
+fn pack_own(alloc: Global, own: &Values, incoming: &Incoming) -> Result<Values, AllocError>
+    requires { all_values own.now ≡ (sender_state incoming.now).regs }
+    ensures { IfOk result (λ values. all_values values ≡ incoming_values incoming.now) }
+{
+    let mut values = Values {
+        known: Vec::with_capacity(alloc, own.known.len())?,
+        rest: 0,
+    };
+    match incoming {
+        Incoming::Changed(_, _) => pack_values(alloc, incoming),
+        Incoming::After(s, exit, _) => {
+            let _regs = &s.regs[..];
+            let lower = exit.lower.as_ref();
+            values.add_part(lower, 0, 8)?;
+            values.add_part(own, 8, 8)?;
+            values.add_part(lower, 8, 6)?;
+            values.add_part(own, A10_SLOT, 5)?;
+            Ok(values)
         }
-        Base::Any => Given::Packed(any),
+        Incoming::Leaving(s) => {
+            let _regs = &s.regs[..];
+            values.add_part(own, 0, 8)?;
+            values.add_part(own, 16, 6)?;
+            Ok(values)
+        }
     }
+}
+
+/// Returns the compact incoming values of a changed state: its values with the change put over
+/// them. If no part of them changes, the list is shared.
+#[inline(always)]
+fn put_all_over(alloc: Global, own: &Rc<Values>, c: &Change) -> Result<Rc<Values>, AllocError>
+    requires { length (all_values own.now.value) ≡ 27 }
+    ensures { IfOk result
+        (λ values. all_values values.value
+        ≡ put_in (put_in (put_in (base_of c.now.base (all_values own.now.value)) c.now.first)
+        c.now.second) c.now.third) }
+{
+    if c.first.at.is_none() && c.second.at.is_none() && c.third.at.is_none() {
+        if let Base::Same = c.base {
+            return own.clone();
+        }
+    }
+    let mut values = base_values(alloc, own.as_ref(), c.base)?;
+    put_over(alloc, &mut values, &c.first)?;
+    put_over(alloc, &mut values, &c.second)?;
+    put_over(alloc, &mut values, &c.third)?;
+    Ok(Rc::new(alloc, values)?)
+}
+
+/// Returns the values that a change starts from, with room for more known ones.
+#[inline(always)]
+fn base_values(alloc: Global, own: &Values, base: Base) -> Result<Values, AllocError>
+    requires { length (all_values own.now) ≡ 27 }
+    ensures { IfOk result (λ values. all_values values ≡ base_of base (all_values own.now)) }
+{
+    match base {
+        Base::Same => own.copy(alloc),
+        Base::Forgotten => upper_values(alloc, own),
+        Base::Any => Ok(Values {
+            known: Vec::with_capacity(alloc, 3)?,
+            rest: 27,
+        }),
+    }
+}
+
+/// Puts one value of a change over a list of compact incoming values, if the change has it.
+#[inline(always)]
+fn put_over(alloc: Global, values: &mut Values, put: &Put) -> Result<(), AllocError>
+    ensures { OnOk result (all_values values.new ≡ put_in (all_values values.old) put.now) }
+{
+    let Some(at) = put.at else {
+        return Ok(());
+    };
+    let value = Small::of(alloc, &put.value)?;
+    values.put(at, value)
+}
+
+/// Returns a state's values with the lower registers unknown.
+#[inline(never)]
+fn upper_values(alloc: Global, own: &Values) -> Result<Values, AllocError>
+    requires { length (all_values own.now) ≡ 27 }
+    ensures { IfOk result (λ values. all_values values ≡ forgotten_from 0 (all_values own.now)) }
+{
+    let mut values = Values {
+        known: Vec::with_capacity(alloc, own.known.len() + 1)?,
+        rest: 8,
+    };
+    values.add_part(own, 8, 8)?;
+    values.add_anys(6);
+    values.add_part(own, A10_SLOT, 5)?;
+    Ok(values)
 }
 
 /// Returns the value at a place of a changed state.
@@ -268,6 +270,45 @@ fn changed_given<'a>(s: &'a State, c: &'a Change, any: &'a Small, i: usize) -> G
         return Given::Whole(&c.first.value);
     }
     base_given(s, c.base, any, i)
+}
+
+/// Returns the value at a place after a frame returned with an exit.
+#[inline(always)]
+fn incoming_value_after<'a>(
+    s: &'a State,
+    exit: &'a SmallExit,
+    any: &'a Small,
+    i: usize,
+) -> Given<'a>
+    requires place { i < 27 }
+    requires any { any.now ≡ any_val }
+    ensures { given_of result
+        ≡ slice_index_or (with_lower_from 0 (all_values exit.now.lower.value) s.now.regs) i
+        any_val }
+{
+    let _regs = &s.regs[..];
+    restored_incoming_value(i, exit, any, &s.regs[i])
+}
+
+/// Returns the value at a place before a change puts others over it.
+#[inline(always)]
+fn base_given<'a>(s: &'a State, base: Base, any: &'a Small, i: usize) -> Given<'a>
+    requires place { i < 27 }
+    requires any { any.now ≡ any_val }
+    ensures { given_of result ≡ slice_index_or (base_of base s.now.regs) i any_val }
+{
+    let _regs = &s.regs[..];
+    match base {
+        Base::Same => Given::Whole(&s.regs[i]),
+        Base::Forgotten => {
+            if is_lower_slot(i) {
+                Given::Packed(any)
+            } else {
+                Given::Whole(&s.regs[i])
+            }
+        }
+        Base::Any => Given::Packed(any),
+    }
 }
 
 /// Returns the value at a place after a frame returned: the exit's for a lower register, else the
@@ -292,46 +333,5 @@ fn restored_incoming_value<'a>(
         exit.lower.as_ref().given_at(any, i - 8)
     } else {
         Given::Whole(v)
-    }
-}
-
-/// Returns the value at a place after a frame returned with an exit.
-#[inline(always)]
-fn incoming_value_after<'a>(
-    s: &'a State,
-    exit: &'a SmallExit,
-    any: &'a Small,
-    i: usize,
-) -> Given<'a>
-    requires place { i < 27 }
-    requires any { any.now ≡ any_val }
-    ensures { given_of result
-        ≡ slice_index_or (with_lower_from 0 (all_values exit.now.lower.value) s.now.regs) i
-        any_val }
-{
-    let _regs = &s.regs[..];
-    restored_incoming_value(i, exit, any, &s.regs[i])
-}
-
-/// Returns the incoming value at a place. `any` is returned for an unknown value.
-#[inline(always)]
-pub(crate) fn incoming_value<'a>(incoming: &'a Incoming, any: &'a Small, i: usize) -> Given<'a>
-    requires place { i < length (incoming_values incoming.now) }
-    requires any { any.now ≡ any_val }
-    ensures { given_of result ≡ slice_index_or (incoming_values incoming.now) i any_val }
-{
-    match incoming {
-        Incoming::Changed(s, c) => {
-            let _regs = &s.regs[..];
-            changed_given(s, c, any, i)
-        }
-        Incoming::After(s, exit, _) => {
-            let _regs = &s.regs[..];
-            incoming_value_after(s, exit, any, i)
-        }
-        Incoming::Leaving(s) => {
-            let _regs = &s.regs[..];
-            Given::Whole(lower_value(&s.regs, i))
-        }
     }
 }

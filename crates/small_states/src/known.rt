@@ -53,19 +53,6 @@ impl Model for SmallKnown {
     ghost view = { λ c. known_of c.form };
 }
 
-/// Returns whether what is known at a place, in compact form, is the value that is put there or has
-/// fewer words. If none is put, it returns true. The answer is only a hint.
-fn has_known_grown(known: &SmallState, put: &Put) -> bool {
-    let Some(at) = put.at else {
-        return true;
-    };
-    let any = Small { form: Form::Any };
-    match known.regs.as_ref().given_at(&any, at) {
-        Given::Whole(_) => false,
-        Given::Packed(low) => low.is_same(&put.value) || low.has_fewer(&put.value),
-    }
-}
-
 /// Returns whether the incoming state seems to cover the known one. The answer is only a hint,
 /// which saves most comparisons.
 #[inline(always)]
@@ -80,6 +67,19 @@ fn may_be_above_known(known: &KnownForm, incoming: &Incoming) -> bool {
         && has_known_grown(known, &c.first)
         && has_known_grown(known, &c.second)
         && has_known_grown(known, &c.third)
+}
+
+/// Returns whether what is known at a place, in compact form, is the value that is put there or has
+/// fewer words. If none is put, it returns true. The answer is only a hint.
+fn has_known_grown(known: &SmallState, put: &Put) -> bool {
+    let Some(at) = put.at else {
+        return true;
+    };
+    let any = Small { form: Form::Any };
+    match known.regs.as_ref().given_at(&any, at) {
+        Given::Whole(_) => false,
+        Given::Packed(low) => low.is_same(&put.value) || low.has_fewer(&put.value),
+    }
 }
 
 impl SmallKnown {
@@ -175,27 +175,6 @@ impl SmallKnown {
         }
     }
 
-    /// Returns true only if both are states and this one covers the other.
-    fn is_above(&self, low: &SmallKnown, _b: &Bounds) -> bool
-        requires own { IsProperKnown _b.now self.now }
-        requires low { IsProperKnown _b.now low.now }
-        ensures { IsTrue result → CoversKnown self.now low.now }
-    {
-        let KnownForm::Point(upper) = &self.form else {
-            return false;
-        };
-        let KnownForm::Point(s) = &low.form else {
-            return false;
-        };
-        if !upper.covers_context(s.ie, s.ccpn, s.lower) {
-            return false;
-        }
-        if !are_flags_implied(upper.locals.as_slice(), s.locals.as_slice()) {
-            return false;
-        }
-        are_all_below(s.regs.as_ref(), upper.regs.as_ref())
-    }
-
     /// Returns the least that covers both. `own` is the state of the point that the flow comes
     /// from. If what flows in covers what is known, it is the answer, and shares its unchanged
     /// values with `own`.
@@ -268,5 +247,26 @@ impl SmallKnown {
             KnownForm::Point(_) => None,
             KnownForm::Leaves(x) => Some(x),
         }
+    }
+
+    /// Returns true only if both are states and this one covers the other.
+    fn is_above(&self, low: &SmallKnown, _b: &Bounds) -> bool
+        requires own { IsProperKnown _b.now self.now }
+        requires low { IsProperKnown _b.now low.now }
+        ensures { IsTrue result → CoversKnown self.now low.now }
+    {
+        let KnownForm::Point(upper) = &self.form else {
+            return false;
+        };
+        let KnownForm::Point(s) = &low.form else {
+            return false;
+        };
+        if !upper.covers_context(s.ie, s.ccpn, s.lower) {
+            return false;
+        }
+        if !are_flags_implied(upper.locals.as_slice(), s.locals.as_slice()) {
+            return false;
+        }
+        are_all_below(s.regs.as_ref(), upper.regs.as_ref())
     }
 }

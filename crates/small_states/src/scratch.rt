@@ -28,6 +28,28 @@ impl Model for ScratchState {
     ghost invariant = { λ s. IfSome s.last (λ last. s.state.regs ≡ all_values last.value) };
 }
 
+/// Writes values over the last ones, and remembers them.
+#[inline(always)]
+fn write_scratch_values(values: &Rc<Values>, last: &mut Option<Rc<Values>>, regs: &mut [Val; 27])
+    requires long { length (all_values values.now.value) ≡ 27 }
+    requires last { IfSome last.old (λ v. regs.old ≡ all_values v.value) }
+    ensures regs { regs.new ≡ all_values values.now.value }
+    ensures last { IfSome last.new (λ v. regs.new ≡ all_values v.value) }
+{
+    match &*last {
+        Some(own) => {
+            if overwrite_scratch(values.as_ref(), own.as_ref(), regs) {
+                return;
+            }
+        }
+        None => values.as_ref().write(regs),
+    }
+    *last = match values.clone() {
+        Ok(own) => Some(own),
+        Err(_) => None,
+    };
+}
+
 /// Writes values over the last ones. If both have the same gaps, only the values that differ are
 /// written. Returns true only if none was written.
 #[inline(always)]
@@ -60,28 +82,6 @@ fn overwrite_scratch(values: &Values, last: &Values, regs: &mut [Val; 27]) -> bo
         at = place + 1;
     }
     same
-}
-
-/// Writes values over the last ones, and remembers them.
-#[inline(always)]
-fn write_scratch_values(values: &Rc<Values>, last: &mut Option<Rc<Values>>, regs: &mut [Val; 27])
-    requires long { length (all_values values.now.value) ≡ 27 }
-    requires last { IfSome last.old (λ v. regs.old ≡ all_values v.value) }
-    ensures regs { regs.new ≡ all_values values.now.value }
-    ensures last { IfSome last.new (λ v. regs.new ≡ all_values v.value) }
-{
-    match &*last {
-        Some(own) => {
-            if overwrite_scratch(values.as_ref(), own.as_ref(), regs) {
-                return;
-            }
-        }
-        None => values.as_ref().write(regs),
-    }
-    *last = match values.clone() {
-        Ok(own) => Some(own),
-        Err(_) => None,
-    };
 }
 
 impl ScratchState {

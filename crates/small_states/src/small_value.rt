@@ -56,24 +56,6 @@ fn is_single_word(words: &Words, x: u32) -> bool
     all[0] == x
 }
 
-/// Returns true only if a small value's words begin with the words of another. It compares all of
-/// them, since that takes several at once.
-#[inline(always)]
-fn is_value_prefix(own: &[u32], words: &[u32]) -> bool
-    ensures { IsTrue result → (rest : List ℕ) × (own.now ≡ words.now ++ rest) }
-{
-    if own.len() < words.len() {
-        return false;
-    }
-    let mut same = true;
-    for n in 0..words.len() {
-        if own[n] != words[n] {
-            same = false;
-        }
-    }
-    same
-}
-
 /// Returns true only if both values are sets of the same words, one of them the set that a small
 /// value shares.
 #[inline(never)]
@@ -166,30 +148,27 @@ fn small_range_form(lo: u32, last: u32, step: u8) -> Form
     Form::Range { lo, last, step }
 }
 
+/// Returns true only if a small value's words begin with the words of another. It compares all of
+/// them, since that takes several at once.
+#[inline(always)]
+fn is_value_prefix(own: &[u32], words: &[u32]) -> bool
+    ensures { IsTrue result → (rest : List ℕ) × (own.now ≡ words.now ++ rest) }
+{
+    if own.len() < words.len() {
+        return false;
+    }
+    let mut same = true;
+    for n in 0..words.len() {
+        if own[n] != words[n] {
+            same = false;
+        }
+    }
+    same
+}
+
 // Code that needs room for a whole value is in functions of its own, so that the others have no
 // such room to fill.
 impl Small {
-    /// Returns a copy of a whole value.
-    #[inline(never)]
-    fn of_many(alloc: Global, v: &Val) -> Result<Small, AllocError>
-        ensures { IfOk result (λ s. s ≡ v.now) }
-    {
-        let form = Form::Many(Rc::new(alloc, v.copy())?);
-        Ok(Small { form })
-    }
-
-    /// Returns a compact value. If it is a set of several words, it isn't copied.
-    #[inline(never)]
-    fn of_own(alloc: Global, v: Val) -> Result<Small, AllocError>
-        ensures { IfOk result (λ s. s ≡ v) }
-    {
-        if only_register_word(&v).is_none() && is_set(&v) {
-            let form = Form::Many(Rc::new(alloc, v)?);
-            return Ok(Small { form });
-        }
-        Small::of(alloc, &v)
-    }
-
     /// Returns a copy of a value.
     #[inline(always)]
     pub fn of(alloc: Global, v: &Val) -> Result<Small, AllocError>
@@ -275,37 +254,6 @@ impl Small {
         }
     }
 
-    /// Returns true only if it has the form of this range.
-    #[inline(always)]
-    fn has_ends(&self, lo: u32, last: u32, step: u8) -> bool
-        ensures { IsTrue result → self.now ≡ Span lo last step }
-    {
-        match &self.form {
-            Form::Range {
-                lo: own_lo,
-                last: own_last,
-                step: own_step,
-            } => *own_lo == lo && *own_last == last && *own_step == step,
-            _ => false,
-        }
-    }
-
-    /// Returns true only if it is this compact value.
-    #[inline(always)]
-    fn is_equal_form(&self, v: &Small) -> bool
-        ensures { IsTrue result → v.now ≡ self.now }
-    {
-        match &v.form {
-            Form::Any => self.is_any(),
-            Form::One(x) => self.word() == Some(*x),
-            Form::Many(words) => match &self.form {
-                Form::Many(own) => have_same_words(words.as_ref(), own.as_ref()),
-                _ => false,
-            },
-            Form::Range { lo, last, step } => self.has_ends(*lo, *last, *step),
-        }
-    }
-
     /// Returns true only if it is this compact value. Most are single words, which are asked for
     /// first.
     #[inline(always)]
@@ -334,14 +282,6 @@ impl Small {
             },
         };
         Ok(Small { form })
-    }
-
-    /// Returns a copy. It is a call of its own, for rare cases.
-    #[inline(never)]
-    fn copy_any(&self) -> Result<Small, AllocError>
-        ensures { IfOk result (λ s. s ≡ self.now) }
-    {
-        self.copy()
     }
 
     /// Returns a compact copy of an incoming value.
@@ -379,22 +319,6 @@ impl Small {
         ensures { OnOk result (out.new.items ≡ out.old.items ++ bytes_of_value self.now) }
     {
         write_value(out, &self.value())
-    }
-
-    /// Returns whether a word is one of its members.
-    #[inline(always)]
-    fn has(&self, x: u32) -> bool
-        ensures { IsTrue result ↔ IsMember x self.now }
-    {
-        match &self.form {
-            Form::Any => true,
-            Form::One(own) => x == *own,
-            Form::Many(own) => match own.as_ref() {
-                Val::Set(words) => words.as_slice().contains(&x),
-                Val::Span { lo, last, step } => is_word_in_range(x, *lo, *last, *step),
-            },
-            Form::Range { lo, last, step } => is_word_in_range(x, *lo, *last, *step),
-        }
     }
 
     /// Returns whether it has all members of a value.
@@ -439,37 +363,6 @@ impl Small {
         }
     }
 
-    /// Returns whether it has all members of a compact value. It makes the whole value.
-    #[inline(never)]
-    fn covers_unpacked(&self, v: &Small) -> bool
-        requires own { IsWell self.now }
-        requires value { IsWell v.now }
-        ensures { IsTrue result ↔ IsBelow v.now self.now }
-    {
-        self.covers(&v.value())
-    }
-
-    /// Returns whether it has all members of a compact value. The caller has asked for an equal one
-    /// before.
-    #[inline(never)]
-    fn covers_packed(&self, v: &Small) -> bool
-        requires own { IsWell self.now }
-        requires value { IsWell v.now }
-        ensures { IsTrue result ↔ IsBelow v.now self.now }
-    {
-        match &v.form {
-            Form::One(x) => self.has(*x),
-            Form::Many(words) => self.covers(words.as_ref()),
-            Form::Range { lo, last, step } => {
-                if self.has_range(*lo, *last, *step) {
-                    return true;
-                }
-                self.covers_unpacked(v)
-            }
-            Form::Any => self.covers_unpacked(v),
-        }
-    }
-
     /// Returns whether it has all members of a compact value.
     #[inline(always)]
     pub(crate) fn covers_small(&self, v: &Small) -> bool
@@ -496,19 +389,124 @@ impl Small {
         }
     }
 
-    /// Returns true only if its form shows that its members are words of a range.
+    /// Returns the least value with the members of both.
     #[inline(always)]
-    fn is_within(&self, lo: u32, last: u32, step: u8) -> bool
-        ensures { IsTrue result → IsBelow self.now (Span lo last step) }
+    pub fn join(&self, alloc: Global, b: &Bounds, v: &Val) -> Result<Small, AllocError>
+        requires own { IsValue b.now self.now }
+        requires value { IsValue b.now v.now }
+        ensures { IfOk result (λ s. s ≡ join_of b.now self.now v.now) }
+    {
+        if self.is_same(v) {
+            return self.copy();
+        }
+        if let Some(x) = only_register_word(v) {
+            if self.has(x) {
+                return self.copy();
+            }
+        }
+        match v {
+            Val::Set(words) => self.join_words(alloc, b, v, words.as_slice()),
+            Val::Span { .. } => self.join_range(alloc, b, v),
+        }
+    }
+
+    /// Returns the least value with the members of both.
+    #[inline(always)]
+    pub(crate) fn join_given(
+        &self,
+        alloc: Global,
+        b: &Bounds,
+        v: &Given,
+    ) -> Result<Small, AllocError>
+        requires own { IsValue b.now self.now }
+        requires value { IsValue b.now (given_of v.now) }
+        ensures { IfOk result (λ s. s ≡ join_of b.now self.now (given_of v.now)) }
+    {
+        match v {
+            Given::Whole(v) => self.join(alloc, b, v),
+            Given::Packed(v) => {
+                if self.is_equal(v) {
+                    return v.copy();
+                }
+                self.join_packed(alloc, b, v)
+            }
+        }
+    }
+
+    /// Returns a copy of a whole value.
+    #[inline(never)]
+    fn of_many(alloc: Global, v: &Val) -> Result<Small, AllocError>
+        ensures { IfOk result (λ s. s ≡ v.now) }
+    {
+        let form = Form::Many(Rc::new(alloc, v.copy())?);
+        Ok(Small { form })
+    }
+
+    /// Returns true only if it is this compact value.
+    #[inline(always)]
+    fn is_equal_form(&self, v: &Small) -> bool
+        ensures { IsTrue result → v.now ≡ self.now }
+    {
+        match &v.form {
+            Form::Any => self.is_any(),
+            Form::One(x) => self.word() == Some(*x),
+            Form::Many(words) => match &self.form {
+                Form::Many(own) => have_same_words(words.as_ref(), own.as_ref()),
+                _ => false,
+            },
+            Form::Range { lo, last, step } => self.has_ends(*lo, *last, *step),
+        }
+    }
+
+    /// Returns true only if it has the form of this range.
+    #[inline(always)]
+    fn has_ends(&self, lo: u32, last: u32, step: u8) -> bool
+        ensures { IsTrue result → self.now ≡ Span lo last step }
     {
         match &self.form {
-            Form::One(x) => is_word_in_range(*x, lo, last, step),
             Form::Range {
                 lo: own_lo,
                 last: own_last,
                 step: own_step,
-            } => lo <= *own_lo && *own_last <= last && step <= *own_step,
+            } => *own_lo == lo && *own_last == last && *own_step == step,
             _ => false,
+        }
+    }
+
+    /// Returns whether a word is one of its members.
+    #[inline(always)]
+    fn has(&self, x: u32) -> bool
+        ensures { IsTrue result ↔ IsMember x self.now }
+    {
+        match &self.form {
+            Form::Any => true,
+            Form::One(own) => x == *own,
+            Form::Many(own) => match own.as_ref() {
+                Val::Set(words) => words.as_slice().contains(&x),
+                Val::Span { lo, last, step } => is_word_in_range(x, *lo, *last, *step),
+            },
+            Form::Range { lo, last, step } => is_word_in_range(x, *lo, *last, *step),
+        }
+    }
+
+    /// Returns whether it has all members of a compact value. The caller has asked for an equal one
+    /// before.
+    #[inline(never)]
+    fn covers_packed(&self, v: &Small) -> bool
+        requires own { IsWell self.now }
+        requires value { IsWell v.now }
+        ensures { IsTrue result ↔ IsBelow v.now self.now }
+    {
+        match &v.form {
+            Form::One(x) => self.has(*x),
+            Form::Many(words) => self.covers(words.as_ref()),
+            Form::Range { lo, last, step } => {
+                if self.has_range(*lo, *last, *step) {
+                    return true;
+                }
+                self.covers_unpacked(v)
+            }
+            Form::Any => self.covers_unpacked(v),
         }
     }
 
@@ -527,54 +525,14 @@ impl Small {
         }
     }
 
-    /// Returns the least value with the members of both. It adds those of `v` to a copy.
+    /// Returns whether it has all members of a compact value. It makes the whole value.
     #[inline(never)]
-    fn join_whole(&self, alloc: Global, b: &Bounds, v: &Val) -> Result<Small, AllocError>
-        requires own { IsValue b.now self.now }
-        requires value { IsValue b.now v.now }
-        ensures { IfOk result (λ s. s ≡ join_of b.now self.now v.now) }
+    fn covers_unpacked(&self, v: &Small) -> bool
+        requires own { IsWell self.now }
+        requires value { IsWell v.now }
+        ensures { IsTrue result ↔ IsBelow v.now self.now }
     {
-        let mut out = Val::one(0);
-        self.replace(&mut out);
-        add_value(b, &mut out, v);
-        Small::of_own(alloc, out)
-    }
-
-    /// Returns the least value with its members and these words. It adds them to a copy.
-    #[inline(never)]
-    fn with_words(&self, alloc: Global, b: &Bounds, words: &[u32]) -> Result<Small, AllocError>
-        requires own { IsValue b.now self.now }
-        ensures { IfOk result (λ s. s ≡ cover b.now (members self.now ++ words.now)) }
-    {
-        let mut out = Val::one(0);
-        self.replace(&mut out);
-        add_words(b, &mut out, words);
-        if is_set(&out) {
-            let form = Form::Many(Rc::new(alloc, out)?);
-            return Ok(Small { form });
-        }
-        Small::of(alloc, &out)
-    }
-
-    /// Returns the least value with these words, a set's, and others.
-    #[inline(never)]
-    fn with_others(
-        alloc: Global,
-        b: &Bounds,
-        words: &[u32],
-        others: &[u32],
-    ) -> Result<Small, AllocError>
-        requires { IsValue b.now (Set words.now) }
-        ensures { IfOk result (λ s. s ≡ cover b.now (words.now ++ others.now)) }
-    {
-        let mut out = Val::one(0);
-        set_words(&mut out, words);
-        add_words(b, &mut out, others);
-        if is_set(&out) {
-            let form = Form::Many(Rc::new(alloc, out)?);
-            return Ok(Small { form });
-        }
-        Small::of(alloc, &out)
+        self.covers(&v.value())
     }
 
     /// Returns the least value with its members and these words, a set's. Of two sets it adds the
@@ -634,35 +592,90 @@ impl Small {
         self.join_whole(alloc, b, v)
     }
 
-    /// Returns the least value with the members of both.
-    #[inline(always)]
-    pub fn join(&self, alloc: Global, b: &Bounds, v: &Val) -> Result<Small, AllocError>
-        requires own { IsValue b.now self.now }
-        requires value { IsValue b.now v.now }
-        ensures { IfOk result (λ s. s ≡ join_of b.now self.now v.now) }
+    /// Returns the least value with these words, a set's, and others.
+    #[inline(never)]
+    fn with_others(
+        alloc: Global,
+        b: &Bounds,
+        words: &[u32],
+        others: &[u32],
+    ) -> Result<Small, AllocError>
+        requires { IsValue b.now (Set words.now) }
+        ensures { IfOk result (λ s. s ≡ cover b.now (words.now ++ others.now)) }
     {
-        if self.is_same(v) {
-            return self.copy();
+        let mut out = Val::one(0);
+        set_words(&mut out, words);
+        add_words(b, &mut out, others);
+        if is_set(&out) {
+            let form = Form::Many(Rc::new(alloc, out)?);
+            return Ok(Small { form });
         }
-        if let Some(x) = only_register_word(v) {
-            if self.has(x) {
-                return self.copy();
-            }
-        }
-        match v {
-            Val::Set(words) => self.join_words(alloc, b, v, words.as_slice()),
-            Val::Span { .. } => self.join_range(alloc, b, v),
-        }
+        Small::of(alloc, &out)
     }
 
-    /// Returns the least value with the members of both. It makes the other whole value.
+    /// Returns the least value with its members and these words. It adds them to a copy.
     #[inline(never)]
-    fn join_unpacked(&self, alloc: Global, b: &Bounds, v: &Small) -> Result<Small, AllocError>
+    fn with_words(&self, alloc: Global, b: &Bounds, words: &[u32]) -> Result<Small, AllocError>
+        requires own { IsValue b.now self.now }
+        ensures { IfOk result (λ s. s ≡ cover b.now (members self.now ++ words.now)) }
+    {
+        let mut out = Val::one(0);
+        self.replace(&mut out);
+        add_words(b, &mut out, words);
+        if is_set(&out) {
+            let form = Form::Many(Rc::new(alloc, out)?);
+            return Ok(Small { form });
+        }
+        Small::of(alloc, &out)
+    }
+
+    /// Returns a copy. It is a call of its own, for rare cases.
+    #[inline(never)]
+    fn copy_any(&self) -> Result<Small, AllocError>
+        ensures { IfOk result (λ s. s ≡ self.now) }
+    {
+        self.copy()
+    }
+
+    /// Returns the least value with the members of both. It adds those of `v` to a copy.
+    #[inline(never)]
+    fn join_whole(&self, alloc: Global, b: &Bounds, v: &Val) -> Result<Small, AllocError>
         requires own { IsValue b.now self.now }
         requires value { IsValue b.now v.now }
         ensures { IfOk result (λ s. s ≡ join_of b.now self.now v.now) }
     {
-        self.join(alloc, b, &v.value())
+        let mut out = Val::one(0);
+        self.replace(&mut out);
+        add_value(b, &mut out, v);
+        Small::of_own(alloc, out)
+    }
+
+    /// Returns a compact value. If it is a set of several words, it isn't copied.
+    #[inline(never)]
+    fn of_own(alloc: Global, v: Val) -> Result<Small, AllocError>
+        ensures { IfOk result (λ s. s ≡ v) }
+    {
+        if only_register_word(&v).is_none() && is_set(&v) {
+            let form = Form::Many(Rc::new(alloc, v)?);
+            return Ok(Small { form });
+        }
+        Small::of(alloc, &v)
+    }
+
+    /// Returns true only if its form shows that its members are words of a range.
+    #[inline(always)]
+    fn is_within(&self, lo: u32, last: u32, step: u8) -> bool
+        ensures { IsTrue result → IsBelow self.now (Span lo last step) }
+    {
+        match &self.form {
+            Form::One(x) => is_word_in_range(*x, lo, last, step),
+            Form::Range {
+                lo: own_lo,
+                last: own_last,
+                step: own_step,
+            } => lo <= *own_lo && *own_last <= last && step <= *own_step,
+            _ => false,
+        }
     }
 
     /// Returns the least value with the members of both. The caller has asked for an equal one
@@ -685,26 +698,13 @@ impl Small {
         }
     }
 
-    /// Returns the least value with the members of both.
-    #[inline(always)]
-    pub(crate) fn join_given(
-        &self,
-        alloc: Global,
-        b: &Bounds,
-        v: &Given,
-    ) -> Result<Small, AllocError>
+    /// Returns the least value with the members of both. It makes the other whole value.
+    #[inline(never)]
+    fn join_unpacked(&self, alloc: Global, b: &Bounds, v: &Small) -> Result<Small, AllocError>
         requires own { IsValue b.now self.now }
-        requires value { IsValue b.now (given_of v.now) }
-        ensures { IfOk result (λ s. s ≡ join_of b.now self.now (given_of v.now)) }
+        requires value { IsValue b.now v.now }
+        ensures { IfOk result (λ s. s ≡ join_of b.now self.now v.now) }
     {
-        match v {
-            Given::Whole(v) => self.join(alloc, b, v),
-            Given::Packed(v) => {
-                if self.is_equal(v) {
-                    return v.copy();
-                }
-                self.join_packed(alloc, b, v)
-            }
-        }
+        self.join(alloc, b, &v.value())
     }
 }

@@ -20,6 +20,23 @@ fn spelled_flag_byte(x: bool) -> u8
     if x { 1 } else { 0 }
 }
 
+/// Appends the bytes of all values of a list.
+#[inline(always)]
+fn spell_values(out: &mut Vec<u8>, gathered: &mut Gathered, values: &Values) -> Result<(), NoMemory>
+    requires { All IsWell (all_values values.now) }
+    ensures { OnOk result (out.new.items ++ gathered.new
+        ≡ (out.old.items ++ gathered.old) ++ flat_map bytes_of_value (all_values values.now)) }
+{
+    let known = values.known.as_slice();
+    for n in 0..known.len() {
+        let here = &known[n];
+        if !gathered.put_one(here) {
+            spell_spaced_value(out, gathered, here.anys, &here.value)?;
+        }
+    }
+    gathered.put_anys(out, values.rest)
+}
+
 /// Appends unknown values and then a known one. The caller has tried a single word before.
 #[inline(never)]
 fn spell_spaced_value(
@@ -43,23 +60,6 @@ fn spell_spaced_value(
     }
     gathered.flush(out)?;
     v.spell(out)
-}
-
-/// Appends the bytes of all values of a list.
-#[inline(always)]
-fn spell_values(out: &mut Vec<u8>, gathered: &mut Gathered, values: &Values) -> Result<(), NoMemory>
-    requires { All IsWell (all_values values.now) }
-    ensures { OnOk result (out.new.items ++ gathered.new
-        ≡ (out.old.items ++ gathered.old) ++ flat_map bytes_of_value (all_values values.now)) }
-{
-    let known = values.known.as_slice();
-    for n in 0..known.len() {
-        let here = &known[n];
-        if !gathered.put_one(here) {
-            spell_spaced_value(out, gathered, here.anys, &here.value)?;
-        }
-    }
-    gathered.put_anys(out, values.rest)
 }
 
 impl SmallState {

@@ -77,24 +77,6 @@ impl Values {
         self.add_small(value)
     }
 
-    /// Finds a place: returns the number of known values before it, and the number of unknown ones
-    /// between.
-    #[inline(always)]
-    fn find(&self, i: usize) -> (usize, usize)
-        ensures { IsFoundIn self.now i result.0 result.1 }
-    {
-        let known = self.known.as_slice();
-        let mut left = i;
-        for n in 0..known.len() {
-            let anys = known[n].anys as usize;
-            if left <= anys {
-                return (n, left);
-            }
-            left = left - anys - 1;
-        }
-        (known.len(), left)
-    }
-
     /// Returns the value at a place. `any` is returned for an unknown value.
     pub(crate) fn given_at<'a>(&'a self, any: &'a Small, i: usize) -> Given<'a>
         requires { any.now ≡ any_val }
@@ -108,56 +90,6 @@ impl Values {
             }
         }
         Given::Packed(any)
-    }
-
-    /// Puts a value after the last known one and `anys` unknown ones. Nothing changes if there is
-    /// no such place.
-    fn put_behind(&mut self, anys: usize, value: Small) -> Result<(), AllocError>
-        ensures { OnOk result
-            (all_values self.new
-            ≡ slice_set (all_values self.old)
-            (length (compact_front self.old.known.items) + anys) value) }
-    {
-        let rest = self.rest as usize;
-        if rest <= anys || value.is_any() {
-            return Ok(());
-        }
-        self.rest = (rest - anys - 1) as u32;
-        self.known.push(SpacedValue {
-            anys: anys as u32,
-            value,
-        })?;
-        Ok(())
-    }
-
-    /// Puts a value after `n` known ones and `anys` unknown ones: over the next known value, or
-    /// before it.
-    fn put_before(&mut self, n: usize, anys: usize, value: Small) -> Result<(), AllocError>
-        requires within { n < length self.old.known.items }
-        requires before { (d : spaced.SpacedValue)
-            → anys ≤ (slice_index_or self.old.known.items n d).anys }
-        ensures { OnOk result
-            (all_values self.new
-            ≡ slice_set (all_values self.old)
-            (length (compact_front (take n self.old.known.items)) + anys) value) }
-    {
-        let past = self.known[n].anys as usize - anys;
-        if past == 0 {
-            self.known[n].value = value;
-            return Ok(());
-        }
-        if value.is_any() {
-            return Ok(());
-        }
-        self.known[n].anys = (past - 1) as u32;
-        self.known.insert(
-            n,
-            SpacedValue {
-                anys: anys as u32,
-                value,
-            },
-        )?;
-        Ok(())
     }
 
     /// Puts a value at a place, if there is one.
@@ -253,6 +185,74 @@ impl Values {
             }
         }
         self.add_anys((to - done) as u32);
+        Ok(())
+    }
+
+    /// Finds a place: returns the number of known values before it, and the number of unknown ones
+    /// between.
+    #[inline(always)]
+    fn find(&self, i: usize) -> (usize, usize)
+        ensures { IsFoundIn self.now i result.0 result.1 }
+    {
+        let known = self.known.as_slice();
+        let mut left = i;
+        for n in 0..known.len() {
+            let anys = known[n].anys as usize;
+            if left <= anys {
+                return (n, left);
+            }
+            left = left - anys - 1;
+        }
+        (known.len(), left)
+    }
+
+    /// Puts a value after `n` known ones and `anys` unknown ones: over the next known value, or
+    /// before it.
+    fn put_before(&mut self, n: usize, anys: usize, value: Small) -> Result<(), AllocError>
+        requires within { n < length self.old.known.items }
+        requires before { (d : spaced.SpacedValue)
+            → anys ≤ (slice_index_or self.old.known.items n d).anys }
+        ensures { OnOk result
+            (all_values self.new
+            ≡ slice_set (all_values self.old)
+            (length (compact_front (take n self.old.known.items)) + anys) value) }
+    {
+        let past = self.known[n].anys as usize - anys;
+        if past == 0 {
+            self.known[n].value = value;
+            return Ok(());
+        }
+        if value.is_any() {
+            return Ok(());
+        }
+        self.known[n].anys = (past - 1) as u32;
+        self.known.insert(
+            n,
+            SpacedValue {
+                anys: anys as u32,
+                value,
+            },
+        )?;
+        Ok(())
+    }
+
+    /// Puts a value after the last known one and `anys` unknown ones. Nothing changes if there is
+    /// no such place.
+    fn put_behind(&mut self, anys: usize, value: Small) -> Result<(), AllocError>
+        ensures { OnOk result
+            (all_values self.new
+            ≡ slice_set (all_values self.old)
+            (length (compact_front self.old.known.items) + anys) value) }
+    {
+        let rest = self.rest as usize;
+        if rest <= anys || value.is_any() {
+            return Ok(());
+        }
+        self.rest = (rest - anys - 1) as u32;
+        self.known.push(SpacedValue {
+            anys: anys as u32,
+            value,
+        })?;
         Ok(())
     }
 }

@@ -73,6 +73,19 @@ fn write_each(b: &Bounds, image: &Image, plan: &Plan, words: &[u32], load: LoadK
     }
 }
 
+/// Overwrites a value with what a Span of addresses gives.
+fn write_loads_of_span(b: &Bounds, plan: &Plan, at: &Val, load: LoadKind, out: &mut Val)
+    requires at { IsValue b.now at.now }
+    requires size { IsAccessSize load.size }
+    ensures loaded { out.new ≡ cover b.now (loads.loaded_answers load.size load.signed
+        (loads.device_of_loads plan.now load.size (members at.now))) }
+    ensures value { IsValue b.now out.new }
+{
+    let e = extent_of(at);
+    let device = device_of_load(plan, e.least, e.greatest, load.size);
+    write_answers(b, device, load, out);
+}
+
 /// Overwrites a value with what an address gives.
 fn write_at(b: &Bounds, image: &Image, plan: &Plan, x: u32, load: LoadKind, out: &mut Val)
     requires { IsAccessSize load.size }
@@ -102,19 +115,6 @@ fn add_at(b: &Bounds, image: &Image, plan: &Plan, x: u32, load: LoadKind, out: &
         Some(number) => add_words(b, out, &[extend_loaded_number(number, load)]),
         None => add_answers(b, device, load, out),
     }
-}
-
-/// Overwrites a value with what a Span of addresses gives.
-fn write_loads_of_span(b: &Bounds, plan: &Plan, at: &Val, load: LoadKind, out: &mut Val)
-    requires at { IsValue b.now at.now }
-    requires size { IsAccessSize load.size }
-    ensures loaded { out.new ≡ cover b.now (loads.loaded_answers load.size load.signed
-        (loads.device_of_loads plan.now load.size (members at.now))) }
-    ensures value { IsValue b.now out.new }
-{
-    let e = extent_of(at);
-    let device = device_of_load(plan, e.least, e.greatest, load.size);
-    write_answers(b, device, load, out);
 }
 
 /// Returns the device whose range has a word both at `low` and at `high`. For smaller accesses
@@ -162,22 +162,6 @@ fn write_answers(b: &Bounds, device: Option<Device>, load: LoadKind, out: &mut V
     }
 }
 
-/// Widens a value to the least one that holds the words that a device can answer, too. This is a
-/// function of its own, so that its callers need no stack for a value.
-#[inline(never)]
-fn add_answers(b: &Bounds, device: Option<Device>, load: LoadKind, out: &mut Val)
-    requires size { IsAccessSize load.size }
-    requires bounds { IfSome device (λ d. d.lo ≤ d.hi) }
-    requires value { IsValue b.now out.old }
-    ensures cover { out.new
-        ≡ cover b.now (members out.old ++ loads.loaded_answers load.size load.signed device) }
-    ensures value { IsValue b.now out.new }
-{
-    let mut answers = Val::any();
-    write_answers(b, device, load, &mut answers);
-    add_value(b, out, &answers);
-}
-
 /// Overwrites a value with the cover of all words that a load of this kind can give.
 fn write_anything(b: &Bounds, load: LoadKind, out: &mut Val)
     requires { IsAccessSize load.size }
@@ -217,4 +201,20 @@ fn greatest_loaded_number(size: u8) -> u32
         2 => 0xFFFF,
         _ => 0xFFFF_FFFF,
     }
+}
+
+/// Widens a value to the least one that holds the words that a device can answer, too. This is a
+/// function of its own, so that its callers need no stack for a value.
+#[inline(never)]
+fn add_answers(b: &Bounds, device: Option<Device>, load: LoadKind, out: &mut Val)
+    requires size { IsAccessSize load.size }
+    requires bounds { IfSome device (λ d. d.lo ≤ d.hi) }
+    requires value { IsValue b.now out.old }
+    ensures cover { out.new
+        ≡ cover b.now (members out.old ++ loads.loaded_answers load.size load.signed device) }
+    ensures value { IsValue b.now out.new }
+{
+    let mut answers = Val::any();
+    write_answers(b, device, load, &mut answers);
+    add_value(b, out, &answers);
 }

@@ -50,20 +50,6 @@ pub fn is_in_range(plan: &Plan, x: u32, size: u8) -> bool
     range_end(plan, x, size).is_some()
 }
 
-/// Returns the end of a ram range or device range that holds the access.
-fn range_end(plan: &Plan, x: u32, size: u8) -> Option<u64>
-    ensures { MatchOption result (¬ IsStoreInRange plan.now (x, size))
-        (λ end. StaysInRange plan.now size x end) }
-{
-    match store_range_at(plan.ram.as_slice(), x, size) {
-        Some(range) => Some(range.end()),
-        None => {
-            let device = device_range_at(plan.devices.as_slice(), x, x, size)?;
-            Some(device.range.end())
-        }
-    }
-}
-
 /// Walks from range to range: the first member whose access isn't in the last range is looked for
 /// in the others.
 pub(crate) fn is_span_in_range(plan: &Plan, least: u32, last: u32, step: u8, size: u8) -> bool
@@ -89,4 +75,18 @@ pub(crate) fn next_store_address(x: u64, step: u8) -> u64
 {
     let unit = 1u64 << step;
     (x / unit + 1) * unit
+}
+
+/// Returns the end of a ram range or device range that holds the access.
+fn range_end(plan: &Plan, x: u32, size: u8) -> Option<u64>
+    ensures { MatchOption result (¬ IsStoreInRange plan.now (x, size))
+        (λ end. StaysInRange plan.now size x end) }
+{
+    match store_range_at(plan.ram.as_slice(), x, size) {
+        Some(range) => Some(range.end()),
+        None => {
+            let device = device_range_at(plan.devices.as_slice(), x, x, size)?;
+            Some(device.range.end())
+        }
+    }
 }

@@ -22,6 +22,19 @@ pub fn loaded_rom(image: &Image, plan: &Plan, addr: u32, len: u8) -> bool
     are_held_in_rom(image, addr, len)
 }
 
+/// Returns the number in the `n` bytes from `x` on, little-endian, if they are in one rom range and
+/// held by segments.
+pub(crate) fn rom_number(image: &Image, plan: &Plan, x: u32, n: u8) -> Option<u32>
+    requires { n ≤ 4 }
+    ensures value { result ≡ loads.rom_number image.now plan.now x n }
+    ensures small { IfSome result (λ w. w < 2 ^ (8 * n)) }
+{
+    if !is_in_rom(plan, x, n) {
+        return None;
+    }
+    held_number(image, x, n)
+}
+
 /// Returns true if the `n` bytes from `x` on are in one rom range.
 fn is_in_rom(plan: &Plan, x: u32, n: u8) -> bool
     ensures value { result ≡ list_any (is_within_range x n) plan.now.rom }
@@ -41,19 +54,6 @@ fn are_held_in_rom(image: &Image, x: u32, n: u8) -> bool
         }
     }
     true
-}
-
-/// Returns the number in the `n` bytes from `x` on, little-endian, if they are in one rom range and
-/// held by segments.
-pub(crate) fn rom_number(image: &Image, plan: &Plan, x: u32, n: u8) -> Option<u32>
-    requires { n ≤ 4 }
-    ensures value { result ≡ loads.rom_number image.now plan.now x n }
-    ensures small { IfSome result (λ w. w < 2 ^ (8 * n)) }
-{
-    if !is_in_rom(plan, x, n) {
-        return None;
-    }
-    held_number(image, x, n)
 }
 
 /// Returns the number in the `n` bytes from `x` on, little-endian, if segments hold them.

@@ -24,6 +24,25 @@ pub struct TasksDraft {
     pub eighth: Option<u32>,
 }
 
+/// Returns what all lines of a text say, or the error of the first line that has another form.
+pub(crate) fn draft_of(bytes: &[u8]) -> Result<TasksDraft, TasksErr>
+    requires { length bytes.now ≤ 2 ^ 30 }
+    ensures ok { IfOk result (IsTasksDraft (text_lines bytes.now)) }
+    ensures err { let lines = text_lines bytes.now in
+        IfErr result (λ e. (n : ℕ) × (e ≡ BadLine n) × FirstBadTaskLine lines n) }
+{
+    let mut draft = new_tasks_draft();
+    let mut number = 0u32;
+    let mut rest = bytes;
+    'lines: while !rest.is_empty() {
+        let (line, behind) = cut_line(rest);
+        number += 1;
+        add_line(&mut draft, number, line)?;
+        rest = behind;
+    }
+    Ok(draft)
+}
+
 /// Returns the draft before the first line.
 fn new_tasks_draft() -> TasksDraft
     ensures { IsTasksDraft [] result }
@@ -35,36 +54,17 @@ fn new_tasks_draft() -> TasksDraft
     }
 }
 
-/// Adds the task of line `number`. If there are seven already, only the number is kept.
-fn add_task(draft: &mut TasksDraft, number: u32, task: Task)
-    ensures places { draft.new.places ≡ draft.old.places }
-    ensures room { length draft.old.list.items < 7
-        → (draft.new.list.items ≡ draft.old.list.items ++ task ∷ [])
-        × (draft.new.eighth ≡ draft.old.eighth) }
-    ensures full { 7 ≤ length draft.old.list.items
-        → (draft.new.list.items ≡ draft.old.list.items)
-        × (draft.new.eighth ≡ option_or draft.old.eighth (Some number)) }
-{
-    if draft.list.len() < MOST_TASKS {
-        draft.list.push(task);
-    } else {
-        draft.eighth = draft.eighth.or(Some(number));
-    }
-}
-
-/// Adds the addresses of the first line that isn't empty.
-fn add_first(draft: &mut TasksDraft, number: u32, line: &[u8]) -> Result<(), TasksErr>
-    requires none { draft.old.places ≡ None }
-    requires some { 0 < length line.now }
+/// Adds what line `number` says, or returns the error of its form.
+fn add_line(draft: &mut TasksDraft, number: u32, line: &[u8]) -> Result<(), TasksErr>
     ensures ok { OnOk result (TakesTaskLine draft.old number line.now draft.new) }
     ensures err { IfErr result (IsLineBad draft.old number line.now) }
 {
-    match switch_places_in(line) {
-        Some(places) => {
-            draft.places = Some(places);
-            Ok(())
-        }
-        None => Err(TasksErr::BadLine(number)),
+    if line.is_empty() {
+        return Ok(());
+    }
+    match draft.places {
+        Some(_) => add_other(draft, number, line),
+        None => add_first(draft, number, line),
     }
 }
 
@@ -84,35 +84,35 @@ fn add_other(draft: &mut TasksDraft, number: u32, line: &[u8]) -> Result<(), Tas
     }
 }
 
-/// Adds what line `number` says, or returns the error of its form.
-fn add_line(draft: &mut TasksDraft, number: u32, line: &[u8]) -> Result<(), TasksErr>
+/// Adds the addresses of the first line that isn't empty.
+fn add_first(draft: &mut TasksDraft, number: u32, line: &[u8]) -> Result<(), TasksErr>
+    requires none { draft.old.places ≡ None }
+    requires some { 0 < length line.now }
     ensures ok { OnOk result (TakesTaskLine draft.old number line.now draft.new) }
     ensures err { IfErr result (IsLineBad draft.old number line.now) }
 {
-    if line.is_empty() {
-        return Ok(());
-    }
-    match draft.places {
-        Some(_) => add_other(draft, number, line),
-        None => add_first(draft, number, line),
+    match switch_places_in(line) {
+        Some(places) => {
+            draft.places = Some(places);
+            Ok(())
+        }
+        None => Err(TasksErr::BadLine(number)),
     }
 }
 
-/// Returns what all lines of a text say, or the error of the first line that has another form.
-pub(crate) fn draft_of(bytes: &[u8]) -> Result<TasksDraft, TasksErr>
-    requires { length bytes.now ≤ 2 ^ 30 }
-    ensures ok { IfOk result (IsTasksDraft (text_lines bytes.now)) }
-    ensures err { let lines = text_lines bytes.now in
-        IfErr result (λ e. (n : ℕ) × (e ≡ BadLine n) × FirstBadTaskLine lines n) }
+/// Adds the task of line `number`. If there are seven already, only the number is kept.
+fn add_task(draft: &mut TasksDraft, number: u32, task: Task)
+    ensures places { draft.new.places ≡ draft.old.places }
+    ensures room { length draft.old.list.items < 7
+        → (draft.new.list.items ≡ draft.old.list.items ++ task ∷ [])
+        × (draft.new.eighth ≡ draft.old.eighth) }
+    ensures full { 7 ≤ length draft.old.list.items
+        → (draft.new.list.items ≡ draft.old.list.items)
+        × (draft.new.eighth ≡ option_or draft.old.eighth (Some number)) }
 {
-    let mut draft = new_tasks_draft();
-    let mut number = 0u32;
-    let mut rest = bytes;
-    'lines: while !rest.is_empty() {
-        let (line, behind) = cut_line(rest);
-        number += 1;
-        add_line(&mut draft, number, line)?;
-        rest = behind;
+    if draft.list.len() < MOST_TASKS {
+        draft.list.push(task);
+    } else {
+        draft.eighth = draft.eighth.or(Some(number));
     }
-    Ok(draft)
 }

@@ -12,24 +12,6 @@ use elf_image::Image;
 use tcd_plan::Plan;
 use value_domain::Bounds;
 
-/// Returns the first address of a node's points at which rule 17 fails.
-fn node_task_fault(rule: &TasksRule, codes: &mut KnownCodes, node: &Node) -> Option<u32>
-    requires { All (λ p. AreValues rule.now.bounds.now p.state.regs) node.now.points }
-    ensures none { let r = rule.now in
-        IfNone result
-        (All (HoldsApartIn r.bounds.now r.view.now r.plan.now r.tasks.now node.now.key)
-        node.now.points) }
-    ensures some { let r = rule.now in
-        IfSome result (IsNodeFault r.bounds.now r.view.now r.plan.now r.tasks.now node.now) }
-{
-    for point in &node.points {
-        if !holds_apart(rule, codes, &node.key, point.addr, &point.state) {
-            return Some(point.addr);
-        }
-    }
-    None
-}
-
 /// Returns the first key and address at which rule 17 fails: another frame's point in the switch
 /// routine, a load that can reach a save area or the routine, an instruction that reads a link, or
 /// a BISR outside of all interrupts. The rules accept the certificate for a task's view.
@@ -49,6 +31,24 @@ pub fn task_fault(view: &Image, plan: &Plan, tasks: &Tasks, cert: &Cert) -> Opti
     for node in &cert.nodes {
         if let Some(addr) = node_task_fault(&rule, &mut codes, node) {
             return Some((node.key, addr));
+        }
+    }
+    None
+}
+
+/// Returns the first address of a node's points at which rule 17 fails.
+fn node_task_fault(rule: &TasksRule, codes: &mut KnownCodes, node: &Node) -> Option<u32>
+    requires { All (λ p. AreValues rule.now.bounds.now p.state.regs) node.now.points }
+    ensures none { let r = rule.now in
+        IfNone result
+        (All (HoldsApartIn r.bounds.now r.view.now r.plan.now r.tasks.now node.now.key)
+        node.now.points) }
+    ensures some { let r = rule.now in
+        IfSome result (IsNodeFault r.bounds.now r.view.now r.plan.now r.tasks.now node.now) }
+{
+    for point in &node.points {
+        if !holds_apart(rule, codes, &node.key, point.addr, &point.state) {
+            return Some(point.addr);
         }
     }
     None

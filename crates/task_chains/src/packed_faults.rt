@@ -13,30 +13,6 @@ use packed_cert::{PackedCert, PackedNode, PointWalk};
 use tcd_plan::Plan;
 use value_domain::Bounds;
 
-/// Returns the first address of a node's points at which rule 17 fails.
-fn node_task_fault_packed<'a>(
-    rule: &TasksRule,
-    codes: &mut KnownCodes,
-    node: &PackedNode<'a>,
-    walk: &mut PointWalk<'a>,
-) -> Option<u32>
-    requires { All (λ p. AreValues rule.now.bounds.now p.state.regs) node.now.points }
-    ensures none { let r = rule.now in
-        IfNone result
-        (All (HoldsApartIn r.bounds.now r.view.now r.plan.now r.tasks.now node.now.key)
-        node.now.points) }
-    ensures some { let r = rule.now in
-        IfSome result (IsNodeFault r.bounds.now r.view.now r.plan.now r.tasks.now node.now) }
-{
-    node.walk(walk);
-    while let Some(addr) = walk.step() {
-        if !holds_apart(rule, codes, &node.key, addr, walk.state()) {
-            return Some(addr);
-        }
-    }
-    None
-}
-
 /// Returns what `task_fault` returns, for a certificate on the bytes of its file.
 #[inline(never)]
 pub fn task_fault_packed(
@@ -64,6 +40,30 @@ pub fn task_fault_packed(
         };
         if let Some(addr) = node_task_fault_packed(&rule, &mut codes, &node, &mut walk) {
             return Some((node.key, addr));
+        }
+    }
+    None
+}
+
+/// Returns the first address of a node's points at which rule 17 fails.
+fn node_task_fault_packed<'a>(
+    rule: &TasksRule,
+    codes: &mut KnownCodes,
+    node: &PackedNode<'a>,
+    walk: &mut PointWalk<'a>,
+) -> Option<u32>
+    requires { All (λ p. AreValues rule.now.bounds.now p.state.regs) node.now.points }
+    ensures none { let r = rule.now in
+        IfNone result
+        (All (HoldsApartIn r.bounds.now r.view.now r.plan.now r.tasks.now node.now.key)
+        node.now.points) }
+    ensures some { let r = rule.now in
+        IfSome result (IsNodeFault r.bounds.now r.view.now r.plan.now r.tasks.now node.now) }
+{
+    node.walk(walk);
+    while let Some(addr) = walk.step() {
+        if !holds_apart(rule, codes, &node.key, addr, walk.state()) {
+            return Some(addr);
         }
     }
     None

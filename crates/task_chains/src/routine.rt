@@ -23,48 +23,6 @@ pub(crate) fn routine_offset_bits(k: u32) -> u32
     k / 64 % 16 * 0x1000_0000 + k / 1024 * 0x40_0000 + k % 64 * 0x1_0000
 }
 
-/// Returns the words of the routine of `n` tasks whose block is at `b`.
-fn routine_words(n: u32, b: u32) -> [u32; 18]
-    requires { n ≤ 7 }
-    ensures { flat_map four_bytes result ≡ bytes_of_routine (routine_of n b) }
-{
-    let upper = upper_half(b);
-    let lower = routine_offset_bits(lower_half(b));
-    let count = routine_offset_bits(4 * n);
-    [
-        0x0340_000D, // disable
-        0x0200_000D, // svlcx
-        0x2000_0091 + upper * 0x1000, // movh.a a2, hi(b)
-        0x0000_22D9 + lower, // lea.l a2, [a2]lo(b)
-        0x0000_2019 + count, // ld.w.l d0, [a2]4n
-        0x3602_2001, // addsc.a a3, a2, d0, 2
-        0x1FE0_004D, // mfcr d1, 0xFE00
-        0x0000_3159, // st.w.l [a3]0, d1
-        0x0000_101B, // addi d0, d0, 1
-        0x8004_00DF + n * 0x1000, // jne d0, n, .+8
-        0x0000_003B, // mov d0, 0
-        0x0000_2059 + count, // st.w.l [a2]4n, d0
-        0x3602_2001, // addsc.a a3, a2, d0, 2
-        0x0000_3119, // ld.w.l d1, [a3]0
-        0x0FE0_01CD, // mtcr 0xFE00, d1
-        0x04C0_000D, // isync
-        0x0240_000D, // rslcx
-        0x0180_000D, // ret
-    ]
-}
-
-/// Returns the bytes of a word, the lowest first.
-fn routine_word_bytes(w: u32) -> [u8; 4]
-    ensures { result ≡ four_bytes w }
-{
-    [
-        (w % 0x100) as u8,
-        (w / 0x100 % 0x100) as u8,
-        (w / 0x1_0000 % 0x100) as u8,
-        (w / 0x100_0000) as u8,
-    ]
-}
-
 /// Returns the bytes of the words, one word after another.
 pub(crate) fn routine_bytes_of_words(words: &[u32; 18]) -> [u8; 72]
     ensures { result ≡ flat_map four_bytes words.now }
@@ -86,27 +44,6 @@ pub(crate) fn switch_routine_bytes(tasks: &Tasks) -> [u8; 72]
     ensures { result ≡ routine_bytes tasks.now }
 {
     routine_bytes_of_words(&routine_words(tasks.list.len() as u32, tasks.block))
-}
-
-/// Returns whether the switch routine, the `n` addresses from `x` on, is inside one rom range.
-fn is_routine_in_rom(plan: &Plan, x: u32, n: u32) -> bool
-    ensures decides { IsTrue result ↔ IsInOneRange x n plan.now.rom }
-    ensures fits { IsTrue result → x + n ≤ 2 ^ 32 }
-{
-    is_in_any_range(plan.rom.as_slice(), x, n)
-}
-
-/// Returns whether the image has byte `i` of the routine, `byte`, at its address. The bytes up to
-/// it are to be inside one rom range.
-fn has_byte(image: &Image, plan: &Plan, tasks: &Tasks, i: u32, byte: u8) -> bool
-    requires within { i < 72 }
-    requires byte { slice_index (routine_bytes tasks.now) i ≡ byte }
-    ensures { IsTrue result ↔ HasRoutineByte image.now plan.now tasks.now i }
-{
-    if !is_routine_in_rom(plan, tasks.switch, i + 1) {
-        return false;
-    }
-    image.has_byte(tasks.switch + i, byte)
 }
 
 /// Returns the first address of the switch routine at which the image doesn't have it: its bytes
@@ -137,6 +74,76 @@ pub(crate) fn is_routine_step(tasks: &Tasks, addr: u32) -> bool
     offset < ROUTINE_BYTES && offset % 4 == 0
 }
 
+/// Returns the bytes that the image of a task's view has instead of those of the switch routine.
+pub(crate) fn view_routine(tasks: &Tasks) -> [u8; 72]
+    ensures { result ≡ view_routine_bytes tasks.now }
+{
+    routine_bytes_of_words(&view_routine_words(tasks.list.len() as u32, tasks.block))
+}
+
+/// Returns the bytes of a word, the lowest first.
+fn routine_word_bytes(w: u32) -> [u8; 4]
+    ensures { result ≡ four_bytes w }
+{
+    [
+        (w % 0x100) as u8,
+        (w / 0x100 % 0x100) as u8,
+        (w / 0x1_0000 % 0x100) as u8,
+        (w / 0x100_0000) as u8,
+    ]
+}
+
+/// Returns the words of the routine of `n` tasks whose block is at `b`.
+fn routine_words(n: u32, b: u32) -> [u32; 18]
+    requires { n ≤ 7 }
+    ensures { flat_map four_bytes result ≡ bytes_of_routine (routine_of n b) }
+{
+    let upper = upper_half(b);
+    let lower = routine_offset_bits(lower_half(b));
+    let count = routine_offset_bits(4 * n);
+    [
+        0x0340_000D, // disable
+        0x0200_000D, // svlcx
+        0x2000_0091 + upper * 0x1000, // movh.a a2, hi(b)
+        0x0000_22D9 + lower, // lea.l a2, [a2]lo(b)
+        0x0000_2019 + count, // ld.w.l d0, [a2]4n
+        0x3602_2001, // addsc.a a3, a2, d0, 2
+        0x1FE0_004D, // mfcr d1, 0xFE00
+        0x0000_3159, // st.w.l [a3]0, d1
+        0x0000_101B, // addi d0, d0, 1
+        0x8004_00DF + n * 0x1000, // jne d0, n, .+8
+        0x0000_003B, // mov d0, 0
+        0x0000_2059 + count, // st.w.l [a2]4n, d0
+        0x3602_2001, // addsc.a a3, a2, d0, 2
+        0x0000_3119, // ld.w.l d1, [a3]0
+        0x0FE0_01CD, // mtcr 0xFE00, d1
+        0x04C0_000D, // isync
+        0x0240_000D, // rslcx
+        0x0180_000D, // ret
+    ]
+}
+
+/// Returns whether the image has byte `i` of the routine, `byte`, at its address. The bytes up to
+/// it are to be inside one rom range.
+fn has_byte(image: &Image, plan: &Plan, tasks: &Tasks, i: u32, byte: u8) -> bool
+    requires within { i < 72 }
+    requires byte { slice_index (routine_bytes tasks.now) i ≡ byte }
+    ensures { IsTrue result ↔ HasRoutineByte image.now plan.now tasks.now i }
+{
+    if !is_routine_in_rom(plan, tasks.switch, i + 1) {
+        return false;
+    }
+    image.has_byte(tasks.switch + i, byte)
+}
+
+/// Returns whether the switch routine, the `n` addresses from `x` on, is inside one rom range.
+fn is_routine_in_rom(plan: &Plan, x: u32, n: u32) -> bool
+    ensures decides { IsTrue result ↔ IsInOneRange x n plan.now.rom }
+    ensures fits { IsTrue result → x + n ≤ 2 ^ 32 }
+{
+    is_in_any_range(plan.rom.as_slice(), x, n)
+}
+
 /// Returns the words that the view of a task has instead of those of the switch routine.
 fn view_routine_words(n: u32, b: u32) -> [u32; 18]
     requires { n ≤ 7 }
@@ -164,11 +171,4 @@ fn view_routine_words(n: u32, b: u32) -> [u32; 18]
         0x0240_000D, // rslcx
         0x0180_000D, // ret
     ]
-}
-
-/// Returns the bytes that the image of a task's view has instead of those of the switch routine.
-pub(crate) fn view_routine(tasks: &Tasks) -> [u8; 72]
-    ensures { result ≡ view_routine_bytes tasks.now }
-{
-    routine_bytes_of_words(&view_routine_words(tasks.list.len() as u32, tasks.block))
 }

@@ -50,11 +50,52 @@ pub(crate) fn holds_apart(
     }
 }
 
-/// Returns whether a word is in `low..=high`, for the test of rule 17 on accesses.
-fn is_between(x: u32, low: u32, high: u32) -> bool
-    ensures { IsTrue result ↔ (low ≤ x) × (x ≤ high) }
+/// Returns whether a load keeps rule 17: no access of `size` bytes (1, 2 or 4), at an address that
+/// is a word of the value, shares a byte with the `len` bytes from `from` on.
+pub(crate) fn are_accesses_apart(at: &Val, size: u8, from: u32, len: u32) -> bool
+    requires at { IsWell at.now }
+    requires size { IsAccessSize size }
+    requires some { 0 < len }
+    ensures { IsTrue result ↔ AreAccessesApart at.now size from len }
 {
-    low <= x && x <= high
+    let below = u32::from(size) - 1;
+    let last = from.saturating_add(len - 1);
+    if has_access_between(at, from.saturating_sub(below), last) {
+        return false;
+    }
+    if below <= from {
+        return true;
+    }
+    !has_access_between(at, from.wrapping_sub(below), 0xFFFF_FFFF)
+}
+
+/// Returns whether an instruction of this shape keeps the rule at an address of a frame, with this
+/// state before it.
+pub(crate) fn stays_apart(rule: &TasksRule, key: &Key, addr: u32, s: &State, shape: Shape) -> bool
+    requires shape { IsShape shape }
+    requires values { AreValues rule.now.bounds.now s.now.regs }
+    ensures { let r = rule.now in
+        IsTrue result
+        ↔ StaysApart r.bounds.now r.plan.now r.tasks.now key.now addr s.now shape }
+{
+    is_place_apart(rule.tasks, key, addr)
+        && loads_elsewhere(rule.bounds, rule.plan, rule.tasks, s, shape)
+        && reads_no_link(shape)
+        && (key.prio != 0 || key.is || is_no_bisr(shape))
+}
+
+/// Returns whether some word of the value, at which an access begins, is in `low..=high`, for the
+/// test of rule 17.
+fn has_access_between(v: &Val, low: u32, high: u32) -> bool
+    requires { IsWell v.now }
+    ensures { IsTrue result ↔ HasAccessBetween v.now low high }
+{
+    match v {
+        Val::Set(words) => has_word_between(words.as_slice(), low, high),
+        Val::Span { lo, last, step } => {
+            multiple_from(u64::from(low.max(*lo)), *step) <= u64::from(high.min(*last))
+        }
+    }
 }
 
 /// Returns whether one of the words is in `low..=high`, for the test of rule 17 on accesses.
@@ -79,37 +120,23 @@ fn multiple_from(x: u64, step: u8) -> u64
     (x + (unit - 1)) / unit * unit
 }
 
-/// Returns whether some word of the value, at which an access begins, is in `low..=high`, for the
-/// test of rule 17.
-fn has_access_between(v: &Val, low: u32, high: u32) -> bool
-    requires { IsWell v.now }
-    ensures { IsTrue result ↔ HasAccessBetween v.now low high }
+/// Returns whether a word is in `low..=high`, for the test of rule 17 on accesses.
+fn is_between(x: u32, low: u32, high: u32) -> bool
+    ensures { IsTrue result ↔ (low ≤ x) × (x ≤ high) }
 {
-    match v {
-        Val::Set(words) => has_word_between(words.as_slice(), low, high),
-        Val::Span { lo, last, step } => {
-            multiple_from(u64::from(low.max(*lo)), *step) <= u64::from(high.min(*last))
-        }
-    }
+    low <= x && x <= high
 }
 
-/// Returns whether a load keeps rule 17: no access of `size` bytes (1, 2 or 4), at an address that
-/// is a word of the value, shares a byte with the `len` bytes from `from` on.
-pub(crate) fn are_accesses_apart(at: &Val, size: u8, from: u32, len: u32) -> bool
-    requires at { IsWell at.now }
-    requires size { IsAccessSize size }
-    requires some { 0 < len }
-    ensures { IsTrue result ↔ AreAccessesApart at.now size from len }
+/// Returns whether a frame can have a point at an address: the routine's frame only at the
+/// routine's instructions, each other frame only outside of the routine.
+fn is_place_apart(tasks: &Tasks, key: &Key, addr: u32) -> bool
+    ensures { IsTrue result ↔ IsPlaceApart tasks.now key.now addr }
 {
-    let below = u32::from(size) - 1;
-    let last = from.saturating_add(len - 1);
-    if has_access_between(at, from.saturating_sub(below), last) {
-        return false;
+    if *key == key_of_switch(tasks) {
+        is_routine_step(tasks, addr)
+    } else {
+        addr < tasks.switch || ROUTINE_BYTES <= addr - tasks.switch
     }
-    if below <= from {
-        return true;
-    }
-    !has_access_between(at, from.wrapping_sub(below), 0xFFFF_FFFF)
 }
 
 /// Returns whether the instruction is no load, or each of its possible accesses misses the save
@@ -159,31 +186,4 @@ fn key_of_switch(tasks: &Tasks) -> Key
         prio: 0,
         is: false,
     }
-}
-
-/// Returns whether a frame can have a point at an address: the routine's frame only at the
-/// routine's instructions, each other frame only outside of the routine.
-fn is_place_apart(tasks: &Tasks, key: &Key, addr: u32) -> bool
-    ensures { IsTrue result ↔ IsPlaceApart tasks.now key.now addr }
-{
-    if *key == key_of_switch(tasks) {
-        is_routine_step(tasks, addr)
-    } else {
-        addr < tasks.switch || ROUTINE_BYTES <= addr - tasks.switch
-    }
-}
-
-/// Returns whether an instruction of this shape keeps the rule at an address of a frame, with this
-/// state before it.
-pub(crate) fn stays_apart(rule: &TasksRule, key: &Key, addr: u32, s: &State, shape: Shape) -> bool
-    requires shape { IsShape shape }
-    requires values { AreValues rule.now.bounds.now s.now.regs }
-    ensures { let r = rule.now in
-        IsTrue result
-        ↔ StaysApart r.bounds.now r.plan.now r.tasks.now key.now addr s.now shape }
-{
-    is_place_apart(rule.tasks, key, addr)
-        && loads_elsewhere(rule.bounds, rule.plan, rule.tasks, s, shape)
-        && reads_no_link(shape)
-        && (key.prio != 0 || key.is || is_no_bisr(shape))
 }

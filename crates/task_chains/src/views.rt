@@ -13,40 +13,6 @@ use std::alloc::Global;
 use tcd_base::NoMemory;
 use tcd_plan::Plan;
 
-/// Writes the byte of address `x` into bytes that begin at `at`, if they reach that address.
-fn put_view_byte(bytes: &mut [u8], at: u32, x: u64, byte: u8)
-    ensures { bytes.new ≡ (if nat_le at x && nat_lt (x - at) (length bytes.old)
-        then set bytes.old (x - at) byte else bytes.old) }
-{
-    let at = u64::from(at);
-    if at <= x && ((x - at) as usize) < bytes.len() {
-        bytes[(x - at) as usize] = byte;
-    }
-}
-
-/// Writes the view's routine over the bytes of a segment that are in the routine.
-fn write_view_routine(bytes: &mut [u8], at: u32, tasks: &Tasks)
-    ensures { bytes.new ≡ with_routine_from tasks.now at bytes.old }
-{
-    let routine = view_routine(tasks);
-    for (i, byte) in routine.iter().enumerate() {
-        put_view_byte(bytes, at, u64::from(tasks.switch) + i as u64, *byte);
-    }
-}
-
-/// Returns a segment of the view's image.
-fn segment_of_view(alloc: Global, segment: &Segment, tasks: &Tasks) -> Result<Segment, NoMemory>
-    ensures { IfOk result (λ s. segment_data s
-        ≡ view_segment tasks.now (segment_data segment.now)) }
-{
-    let mut bytes = Vec::from_slice(alloc, &segment.bytes)?;
-    write_view_routine(&mut bytes, segment.at, tasks);
-    Ok(Segment {
-        at: segment.at,
-        bytes,
-    })
-}
-
 /// Returns the image of a task's view. It begins at the task's entry, and has another switch
 /// routine: what the routine reads of the block and of PCXI is an input, and it writes neither.
 pub fn view_image(alloc: Global, image: &Image, tasks: &Tasks, u: usize) -> Result<Image, NoMemory>
@@ -62,14 +28,6 @@ pub fn view_image(alloc: Global, image: &Image, tasks: &Tasks, u: usize) -> Resu
         entry: tasks.list.as_slice()[u].entry,
         segments,
     })
-}
-
-/// Returns whether interrupts are on at the start of a task: as the plan says for the first, off
-/// for each other.
-fn is_task_start_enabled(plan: &Plan, u: usize) -> bool
-    ensures { result ≡ (if u == 0 then plan.now.start_ie else false) }
-{
-    if u == 0 { plan.start_ie } else { false }
 }
 
 /// Returns the plan of a task's view. It has the task's stack pointer, and no ram: what is left of
@@ -100,4 +58,46 @@ pub fn view_plan(plan: &Plan, tasks: &Tasks, u: usize) -> Plan
         globals: plan.globals,
         core: plan.core,
     }
+}
+
+/// Returns a segment of the view's image.
+fn segment_of_view(alloc: Global, segment: &Segment, tasks: &Tasks) -> Result<Segment, NoMemory>
+    ensures { IfOk result (λ s. segment_data s
+        ≡ view_segment tasks.now (segment_data segment.now)) }
+{
+    let mut bytes = Vec::from_slice(alloc, &segment.bytes)?;
+    write_view_routine(&mut bytes, segment.at, tasks);
+    Ok(Segment {
+        at: segment.at,
+        bytes,
+    })
+}
+
+/// Writes the view's routine over the bytes of a segment that are in the routine.
+fn write_view_routine(bytes: &mut [u8], at: u32, tasks: &Tasks)
+    ensures { bytes.new ≡ with_routine_from tasks.now at bytes.old }
+{
+    let routine = view_routine(tasks);
+    for (i, byte) in routine.iter().enumerate() {
+        put_view_byte(bytes, at, u64::from(tasks.switch) + i as u64, *byte);
+    }
+}
+
+/// Writes the byte of address `x` into bytes that begin at `at`, if they reach that address.
+fn put_view_byte(bytes: &mut [u8], at: u32, x: u64, byte: u8)
+    ensures { bytes.new ≡ (if nat_le at x && nat_lt (x - at) (length bytes.old)
+        then set bytes.old (x - at) byte else bytes.old) }
+{
+    let at = u64::from(at);
+    if at <= x && ((x - at) as usize) < bytes.len() {
+        bytes[(x - at) as usize] = byte;
+    }
+}
+
+/// Returns whether interrupts are on at the start of a task: as the plan says for the first, off
+/// for each other.
+fn is_task_start_enabled(plan: &Plan, u: usize) -> bool
+    ensures { result ≡ (if u == 0 then plan.now.start_ie else false) }
+{
+    if u == 0 { plan.start_ie } else { false }
 }

@@ -20,36 +20,20 @@ use std::alloc::{AllocError, Global};
 use tc_object::Object;
 use tc_stmt::{Item, Line, NO_RULE, Source, read_source};
 
-/// Whether items of the first pass over a source are new, if those before the last one are: there
-/// is room for its symbol, and it defines no label twice.
-#[inline(always)]
-fn are_items_new(before: bool, room: bool, new: bool) -> bool
-    ensures { result ≡ (before && (room && new)) }
+/// The object of a source, or the least line that breaks a rule, counted from 1, and the least rule
+/// there.
+pub fn assemble(alloc: Global, source: &[u8]) -> Result<Object, AsmErr>
+    requires { length source.now ≤ 2 ^ 30 }
+    ensures ok { IfOk result
+        (λ o. o ≡ object_of (draft_from_lines (symbols_in (lines_in source.now))
+        (lines_in source.now))) }
+    ensures kept { OnOk result (KeepsRules (lines_in source.now) (length (lines_in source.now))) }
+    ensures bad { IfErr result (IfBad (IsLeastBrokenLine (lines_in source.now))) }
 {
-    before && (room && new)
-}
-
-// Adds items as far as symbols depend on them: section names, labels and sizes. Returns whether
-// there is room for all symbols, and no label is there twice.
-fn count_items<'a>(
-    alloc: Global,
-    draft: &mut Draft<'a>,
-    items: &[Item<'a>],
-) -> Result<bool, AllocError>
-    requires { All (λ i. IsAddedItem (item_of i)) items.now }
-    ensures symbols { OnOk result
-        (draft.new.symbols ≡ (fold (draft_after_item []) draft.old
-        (map item_of items.now)).symbols) }
-    ensures new { IfOk result (λ new. new ≡ are_new [] draft.old (map item_of items.now)) }
-{
-    let none = Symbols::new(alloc);
-    let mut all_new = true;
-    for item in items {
-        let room = draft.has_symbol_room();
-        let new = draft.count(alloc, &none, item)?;
-        all_new = are_items_new(all_new, room, new);
-    }
-    Ok(all_new)
+    let read = read_source(alloc, source)?;
+    let (labels, known) = symbols_of(alloc, &read.items)?;
+    let draft = draft_of_lines(alloc, &labels, known, &read)?;
+    Ok(emit_object(alloc, draft_with_known_symbols(draft, known, labels))?)
 }
 
 // The symbols of all items, which don't depend on the targets of jumps, and whether there is room
@@ -63,66 +47,6 @@ fn symbols_of<'a>(alloc: Global, items: &[Item<'a>]) -> Result<(Symbols<'a>, boo
     let mut draft = Draft::new(alloc);
     let new = count_items(alloc, &mut draft, items)?;
     Ok((draft.symbols, new))
-}
-
-/// The first `count` of the items of a source that are still to be assembled: those of the next
-/// line.
-fn first_items<'p, 'a>(items: &'p [Item<'a>], count: u8) -> &'p [Item<'a>]
-    ensures { result.now ≡ take count items.now }
-{
-    &items[..usize::from(count).min(items.len())]
-}
-
-// The items after the first `count`.
-fn later_items<'p, 'a>(items: &'p [Item<'a>], count: u8) -> &'p [Item<'a>]
-    ensures { result.now ≡ drop count items.now }
-{
-    &items[usize::from(count).min(items.len())..]
-}
-
-// Adds a line, whose items are first in `items`, and returns the least rule that it breaks.
-#[inline(always)]
-#[tactic(auto, unfolding(crate::specs::DraftedSources::with_line))]
-fn add_line<'a>(
-    alloc: Global,
-    draft: &mut Draft<'a>,
-    labels: &Symbols<'a>,
-    known: bool,
-    line: Line,
-    items: &[Item<'a>],
-) -> Result<u8, AllocError>
-    ensures draft { OnOk result (kept known draft.new
-        ≡ kept known (with_line labels.now draft.old
-        (line_data line.rule (take line.count (map item_of items.now))))) }
-    ensures rule { IfOk result (λ rule. rule ≡ min line.rule
-        (kept_rule known labels.now draft.old (take line.count (map item_of items.now)))) }
-{
-    let rule = add_items(alloc, draft, labels, known, first_items(items, line.count))?;
-    Ok(line.rule.min(rule))
-}
-
-/// The draft of a second pass over a source, with these symbols of the first pass.
-fn draft_with_symbols<'a>(draft: Draft<'a>, symbols: Symbols<'a>) -> Draft<'a>
-    ensures { result ≡ record draft.entry { symbols = symbols.entry } }
-{
-    Draft {
-        section: draft.section,
-        parts: draft.parts,
-        symbols,
-        total: draft.total,
-        count: draft.count,
-    }
-}
-
-// The draft with these symbols, if they are known.
-fn draft_with_known_symbols<'a>(draft: Draft<'a>, known: bool, symbols: Symbols<'a>) -> Draft<'a>
-    ensures { result
-        ≡ (if known then record draft.entry { symbols = symbols.entry } else draft.entry) }
-{
-    if known {
-        return draft_with_symbols(draft, symbols);
-    }
-    draft
 }
 
 // The draft of all lines, or the first line that breaks a rule with the least rule there. If there
@@ -164,18 +88,94 @@ fn draft_of_lines<'a>(
     Ok(draft)
 }
 
-/// The object of a source, or the least line that breaks a rule, counted from 1, and the least rule
-/// there.
-pub fn assemble(alloc: Global, source: &[u8]) -> Result<Object, AsmErr>
-    requires { length source.now ≤ 2 ^ 30 }
-    ensures ok { IfOk result
-        (λ o. o ≡ object_of (draft_from_lines (symbols_in (lines_in source.now))
-        (lines_in source.now))) }
-    ensures kept { OnOk result (KeepsRules (lines_in source.now) (length (lines_in source.now))) }
-    ensures bad { IfErr result (IfBad (IsLeastBrokenLine (lines_in source.now))) }
+// The draft with these symbols, if they are known.
+fn draft_with_known_symbols<'a>(draft: Draft<'a>, known: bool, symbols: Symbols<'a>) -> Draft<'a>
+    ensures { result
+        ≡ (if known then record draft.entry { symbols = symbols.entry } else draft.entry) }
 {
-    let read = read_source(alloc, source)?;
-    let (labels, known) = symbols_of(alloc, &read.items)?;
-    let draft = draft_of_lines(alloc, &labels, known, &read)?;
-    Ok(emit_object(alloc, draft_with_known_symbols(draft, known, labels))?)
+    if known {
+        return draft_with_symbols(draft, symbols);
+    }
+    draft
+}
+
+// Adds items as far as symbols depend on them: section names, labels and sizes. Returns whether
+// there is room for all symbols, and no label is there twice.
+fn count_items<'a>(
+    alloc: Global,
+    draft: &mut Draft<'a>,
+    items: &[Item<'a>],
+) -> Result<bool, AllocError>
+    requires { All (λ i. IsAddedItem (item_of i)) items.now }
+    ensures symbols { OnOk result
+        (draft.new.symbols ≡ (fold (draft_after_item []) draft.old
+        (map item_of items.now)).symbols) }
+    ensures new { IfOk result (λ new. new ≡ are_new [] draft.old (map item_of items.now)) }
+{
+    let none = Symbols::new(alloc);
+    let mut all_new = true;
+    for item in items {
+        let room = draft.has_symbol_room();
+        let new = draft.count(alloc, &none, item)?;
+        all_new = are_items_new(all_new, room, new);
+    }
+    Ok(all_new)
+}
+
+/// Whether items of the first pass over a source are new, if those before the last one are: there
+/// is room for its symbol, and it defines no label twice.
+#[inline(always)]
+fn are_items_new(before: bool, room: bool, new: bool) -> bool
+    ensures { result ≡ (before && (room && new)) }
+{
+    before && (room && new)
+}
+
+// Adds a line, whose items are first in `items`, and returns the least rule that it breaks.
+#[inline(always)]
+#[tactic(auto, unfolding(crate::specs::DraftedSources::with_line))]
+fn add_line<'a>(
+    alloc: Global,
+    draft: &mut Draft<'a>,
+    labels: &Symbols<'a>,
+    known: bool,
+    line: Line,
+    items: &[Item<'a>],
+) -> Result<u8, AllocError>
+    ensures draft { OnOk result (kept known draft.new
+        ≡ kept known (with_line labels.now draft.old
+        (line_data line.rule (take line.count (map item_of items.now))))) }
+    ensures rule { IfOk result (λ rule. rule ≡ min line.rule
+        (kept_rule known labels.now draft.old (take line.count (map item_of items.now)))) }
+{
+    let rule = add_items(alloc, draft, labels, known, first_items(items, line.count))?;
+    Ok(line.rule.min(rule))
+}
+
+// The items after the first `count`.
+fn later_items<'p, 'a>(items: &'p [Item<'a>], count: u8) -> &'p [Item<'a>]
+    ensures { result.now ≡ drop count items.now }
+{
+    &items[usize::from(count).min(items.len())..]
+}
+
+/// The first `count` of the items of a source that are still to be assembled: those of the next
+/// line.
+fn first_items<'p, 'a>(items: &'p [Item<'a>], count: u8) -> &'p [Item<'a>]
+    ensures { result.now ≡ take count items.now }
+{
+    &items[..usize::from(count).min(items.len())]
+}
+
+/// The draft of a second pass over a source, with these symbols of the first pass.
+fn draft_with_symbols<'a>(draft: Draft<'a>, symbols: Symbols<'a>) -> Draft<'a>
+    ensures { result ≡ record draft.entry { symbols = symbols.entry } }
+{
+    Draft {
+        section: draft.section,
+        parts: draft.parts,
+        symbols,
+        total: draft.total,
+        count: draft.count,
+    }
 }

@@ -94,6 +94,146 @@ impl<'a> Draft<'a> {
         n <= MOST_BYTES && self.total <= MOST_BYTES - n
     }
 
+    /// Adds bytes to the draft of an object, at the end of its current section, if they are within
+    /// the limit.
+    #[inline(always)]
+    #[tactic(auto, unfolding(crate::specs::Drafts::with_bytes))]
+    pub(crate) fn add_bytes(&mut self, bytes: &[u8]) -> Result<(), AllocError>
+        ensures { OnOk result (self.new ≡ with_bytes self.old bytes.now) }
+    {
+        if self.has_section() && self.has_room(bytes.len()) {
+            extend_part(&mut self.parts, self.section, bytes)?;
+            self.total += bytes.len();
+        }
+        Ok(())
+    }
+
+    /// Notes a relocation for the next bytes, of which there are `size`, if they are four and there
+    /// is room for it.
+    #[inline(always)]
+    #[tactic(auto, unfolding(crate::specs::Drafts::with_use))]
+    pub(crate) fn add_use(&mut self, size: usize, r: Reference<'a>) -> Result<(), AllocError>
+        ensures { OnOk result (self.new ≡ with_use self.old size (reference_of r.entry)) }
+    {
+        if self.has_section()
+            && self.has_room(size)
+            && size == 4
+            && is_reloc(r.kind)
+            && self.count < MOST_RELOCS
+        {
+            let offset = self.place();
+            use_part(&mut self.parts, self.section, offset, r)?;
+            self.count += 1;
+        }
+        Ok(())
+    }
+
+    /// Adds bytes at the end of the draft's current section, with their symbol if they have one.
+    pub(crate) fn add_content(
+        &mut self,
+        bytes: &[u8],
+        r: &Option<Reference<'a>>,
+    ) -> Result<(), AllocError>
+        ensures { OnOk result
+            (self.new ≡ with_content self.old bytes.now (option_map reference_of r.now)) }
+    {
+        self.add_reference(bytes.len(), r)?;
+        self.add_bytes(bytes)
+    }
+
+    /// Adds an item. `labels` are the symbols of the whole source.
+    #[tactic(auto, unfolding(crate::specs::Drafts::draft_after_item))]
+    pub fn step(
+        &mut self,
+        alloc: Global,
+        labels: &Symbols<'a>,
+        item: &Item<'a>,
+    ) -> Result<(), AllocError>
+        ensures { OnOk result (self.new ≡ draft_after_item labels.now self.old (item_of item.now)) }
+    {
+        match item {
+            Item::Label(name) => {
+                self.add_label(*name)?;
+                Ok(())
+            }
+            Item::Section(name) => self.enter(alloc, *name),
+            Item::Global(name) => self.make_global(*name),
+            Item::Code(row, fields) => self.add_code(labels, *row, fields, &None),
+            Item::Linked(row, kind, minus, fields, size, name) => {
+                let r = Some(reference_to(*kind, *name, *minus, *size));
+                self.add_code(labels, *row, fields, &r)
+            }
+            Item::Data(len, bytes) => self.add_content(first_assembled_bytes(bytes, *len), &None),
+            Item::Word(len, minus, size, name) => {
+                let r = Some(reference_to(WORD32, *name, *minus, *size));
+                self.add_content(first_assembled_bytes(&[0; 4], *len), &r)
+            }
+            Item::Zeros(n) => self.add_zeros(*n as usize),
+        }
+    }
+
+    /// Adds an item to the first pass's draft as far as symbols depend on it, and returns whether
+    /// it defines no label twice. `none` is an empty table of labels.
+    pub fn count(
+        &mut self,
+        alloc: Global,
+        none: &Symbols<'a>,
+        item: &Item<'a>,
+    ) -> Result<bool, AllocError>
+        requires none { none.now ≡ [] }
+        requires added { IsAddedItem (item_of item.now) }
+        ensures alike { OnOk result ((d : DraftData) → Alike self.old d
+            → Alike self.new (draft_after_item [] d (item_of item.now))) }
+        ensures new { IfOk result (λ new. new ≡ is_new self.old.symbols (item_of item.now)) }
+    {
+        match item {
+            Item::Label(name) => return self.count_label(*name),
+            Item::Code(row, fields) => self.count_code(*row, fields, &None)?,
+            Item::Linked(row, kind, minus, fields, size, name) => {
+                let r = Some(reference_to(*kind, *name, *minus, *size));
+                self.count_code(*row, fields, &r)?
+            }
+            Item::Data(len, bytes) => self.count_data(first_assembled_bytes(bytes, *len), &None)?,
+            Item::Word(len, minus, size, name) => {
+                let r = Some(reference_to(WORD32, *name, *minus, *size));
+                self.count_data(first_assembled_bytes(&[0; 4], *len), &r)?
+            }
+            Item::Section(_) => self.count_other(alloc, none, item)?,
+            Item::Global(_) => self.count_other(alloc, none, item)?,
+            Item::Zeros(_) => self.count_other(alloc, none, item)?,
+        }
+        Ok(true)
+    }
+
+    /// Notes in the draft the symbol of the next bytes, of which there are `size`, if they have
+    /// one.
+    #[inline(always)]
+    #[tactic(auto, unfolding(crate::specs::Drafts::with_reference))]
+    fn add_reference(&mut self, size: usize, r: &Option<Reference<'a>>) -> Result<(), AllocError>
+        ensures { OnOk result
+            (self.new ≡ with_reference self.old size (option_map reference_of r.now)) }
+    {
+        match r {
+            None => Ok(()),
+            Some(r) => self.add_named(size, r),
+        }
+    }
+
+    /// Notes in the draft of an object the symbol of its next bytes, of which there are `size`, and
+    /// a relocation if they need one.
+    #[inline(never)]
+    #[tactic(auto, unfolding(crate::specs::Drafts::with_reference))]
+    fn add_named(&mut self, size: usize, r: &Reference<'a>) -> Result<(), AllocError>
+        ensures { OnOk result
+            (self.new ≡ with_reference self.old size (Some (reference_of r.now))) }
+    {
+        if is_source_name(r.name) {
+            self.symbols.see(r.name)?;
+            self.add_use(size, *r)?;
+        }
+        Ok(())
+    }
+
     // Adds a label here, and returns whether its name has no label before it.
     #[inline(never)]
     #[tactic(auto, unfolding(crate::specs::Drafts::with_label))]
@@ -153,95 +293,6 @@ impl<'a> Draft<'a> {
         Ok(())
     }
 
-    /// Adds bytes to the draft of an object, at the end of its current section, if they are within
-    /// the limit.
-    #[inline(always)]
-    #[tactic(auto, unfolding(crate::specs::Drafts::with_bytes))]
-    pub(crate) fn add_bytes(&mut self, bytes: &[u8]) -> Result<(), AllocError>
-        ensures { OnOk result (self.new ≡ with_bytes self.old bytes.now) }
-    {
-        if self.has_section() && self.has_room(bytes.len()) {
-            extend_part(&mut self.parts, self.section, bytes)?;
-            self.total += bytes.len();
-        }
-        Ok(())
-    }
-
-    /// Notes a relocation for the next bytes, of which there are `size`, if they are four and there
-    /// is room for it.
-    #[inline(always)]
-    #[tactic(auto, unfolding(crate::specs::Drafts::with_use))]
-    pub(crate) fn add_use(&mut self, size: usize, r: Reference<'a>) -> Result<(), AllocError>
-        ensures { OnOk result (self.new ≡ with_use self.old size (reference_of r.entry)) }
-    {
-        if self.has_section()
-            && self.has_room(size)
-            && size == 4
-            && is_reloc(r.kind)
-            && self.count < MOST_RELOCS
-        {
-            let offset = self.place();
-            use_part(&mut self.parts, self.section, offset, r)?;
-            self.count += 1;
-        }
-        Ok(())
-    }
-
-    /// Notes in the draft of an object the symbol of its next bytes, of which there are `size`, and
-    /// a relocation if they need one.
-    #[inline(never)]
-    #[tactic(auto, unfolding(crate::specs::Drafts::with_reference))]
-    fn add_named(&mut self, size: usize, r: &Reference<'a>) -> Result<(), AllocError>
-        ensures { OnOk result
-            (self.new ≡ with_reference self.old size (Some (reference_of r.now))) }
-    {
-        if is_source_name(r.name) {
-            self.symbols.see(r.name)?;
-            self.add_use(size, *r)?;
-        }
-        Ok(())
-    }
-
-    /// Notes in the draft the symbol of the next bytes, of which there are `size`, if they have
-    /// one.
-    #[inline(always)]
-    #[tactic(auto, unfolding(crate::specs::Drafts::with_reference))]
-    fn add_reference(&mut self, size: usize, r: &Option<Reference<'a>>) -> Result<(), AllocError>
-        ensures { OnOk result
-            (self.new ≡ with_reference self.old size (option_map reference_of r.now)) }
-    {
-        match r {
-            None => Ok(()),
-            Some(r) => self.add_named(size, r),
-        }
-    }
-
-    /// Adds bytes at the end of the draft's current section, with their symbol if they have one.
-    pub(crate) fn add_content(
-        &mut self,
-        bytes: &[u8],
-        r: &Option<Reference<'a>>,
-    ) -> Result<(), AllocError>
-        ensures { OnOk result
-            (self.new ≡ with_content self.old bytes.now (option_map reference_of r.now)) }
-    {
-        self.add_reference(bytes.len(), r)?;
-        self.add_bytes(bytes)
-    }
-
-    /// Adds zeros at the end of the draft's current section, which are only counted.
-    #[inline(always)]
-    #[tactic(auto, unfolding(crate::specs::Drafts::with_bytes))]
-    fn add_zeros(&mut self, n: usize) -> Result<(), AllocError>
-        ensures { OnOk result (self.new ≡ with_bytes self.old (replicate n 0)) }
-    {
-        if self.has_section() && self.has_room(n) {
-            extend_zeros(&mut self.parts, self.section, n)?;
-            self.total += n;
-        }
-        Ok(())
-    }
-
     /// Extends the draft of an object by the bytes of an instruction, with its target resolved if
     /// it needs no relocation.
     #[inline(never)]
@@ -261,74 +312,17 @@ impl<'a> Draft<'a> {
         self.add_content(first_assembled_bytes(&code.bytes, code.len), r)
     }
 
-    /// Adds an item. `labels` are the symbols of the whole source.
-    #[tactic(auto, unfolding(crate::specs::Drafts::draft_after_item))]
-    pub fn step(
-        &mut self,
-        alloc: Global,
-        labels: &Symbols<'a>,
-        item: &Item<'a>,
-    ) -> Result<(), AllocError>
-        ensures { OnOk result (self.new ≡ draft_after_item labels.now self.old (item_of item.now)) }
+    /// Adds zeros at the end of the draft's current section, which are only counted.
+    #[inline(always)]
+    #[tactic(auto, unfolding(crate::specs::Drafts::with_bytes))]
+    fn add_zeros(&mut self, n: usize) -> Result<(), AllocError>
+        ensures { OnOk result (self.new ≡ with_bytes self.old (replicate n 0)) }
     {
-        match item {
-            Item::Label(name) => {
-                self.add_label(*name)?;
-                Ok(())
-            }
-            Item::Section(name) => self.enter(alloc, *name),
-            Item::Global(name) => self.make_global(*name),
-            Item::Code(row, fields) => self.add_code(labels, *row, fields, &None),
-            Item::Linked(row, kind, minus, fields, size, name) => {
-                let r = Some(reference_to(*kind, *name, *minus, *size));
-                self.add_code(labels, *row, fields, &r)
-            }
-            Item::Data(len, bytes) => self.add_content(first_assembled_bytes(bytes, *len), &None),
-            Item::Word(len, minus, size, name) => {
-                let r = Some(reference_to(WORD32, *name, *minus, *size));
-                self.add_content(first_assembled_bytes(&[0; 4], *len), &r)
-            }
-            Item::Zeros(n) => self.add_zeros(*n as usize),
+        if self.has_section() && self.has_room(n) {
+            extend_zeros(&mut self.parts, self.section, n)?;
+            self.total += n;
         }
-    }
-
-    /// Notes a name among the symbols of the draft.
-    #[inline(never)]
-    fn see_name(&mut self, name: &'a [u8]) -> Result<(), AllocError>
-        ensures { OnOk result
-            (self.new ≡ record self.old { symbols = seen self.old.symbols name.entry.now }) }
-    {
-        self.symbols.see(name)?;
         Ok(())
-    }
-
-    // Notes the symbol of an item of the first pass, which needs no use of it.
-    #[inline(always)]
-    #[tactic(auto, unfolding(crate::specs::Drafts::with_reference))]
-    fn see_reference(&mut self, r: &Option<Reference<'a>>) -> Result<(), AllocError>
-        requires { AddedSymbolIsNamed (option_map reference_of r.now) }
-        ensures { OnOk result
-            (self.new ≡ with_reference self.old 0 (option_map reference_of r.now)) }
-    {
-        match r {
-            None => Ok(()),
-            Some(r) => {
-                self.see_name(r.name)?;
-                Ok(())
-            }
-        }
-    }
-
-    // Adds `n` zeros instead of bytes, and notes their symbol. The first pass needs no more.
-    #[inline(always)]
-    fn count_bytes(&mut self, n: usize, r: &Option<Reference<'a>>) -> Result<(), AllocError>
-        requires { AddedSymbolIsNamed (option_map reference_of r.now) }
-        ensures { OnOk result
-            (self.new ≡ with_bytes (with_reference self.old 0 (option_map reference_of r.now))
-            (replicate n 0)) }
-    {
-        self.see_reference(r)?;
-        self.add_zeros(n)
     }
 
     /// Adds a label to the first pass's draft, and returns whether its name has no label before it.
@@ -386,36 +380,42 @@ impl<'a> Draft<'a> {
         Ok(())
     }
 
-    /// Adds an item to the first pass's draft as far as symbols depend on it, and returns whether
-    /// it defines no label twice. `none` is an empty table of labels.
-    pub fn count(
-        &mut self,
-        alloc: Global,
-        none: &Symbols<'a>,
-        item: &Item<'a>,
-    ) -> Result<bool, AllocError>
-        requires none { none.now ≡ [] }
-        requires added { IsAddedItem (item_of item.now) }
-        ensures alike { OnOk result ((d : DraftData) → Alike self.old d
-            → Alike self.new (draft_after_item [] d (item_of item.now))) }
-        ensures new { IfOk result (λ new. new ≡ is_new self.old.symbols (item_of item.now)) }
+    // Adds `n` zeros instead of bytes, and notes their symbol. The first pass needs no more.
+    #[inline(always)]
+    fn count_bytes(&mut self, n: usize, r: &Option<Reference<'a>>) -> Result<(), AllocError>
+        requires { AddedSymbolIsNamed (option_map reference_of r.now) }
+        ensures { OnOk result
+            (self.new ≡ with_bytes (with_reference self.old 0 (option_map reference_of r.now))
+            (replicate n 0)) }
     {
-        match item {
-            Item::Label(name) => return self.count_label(*name),
-            Item::Code(row, fields) => self.count_code(*row, fields, &None)?,
-            Item::Linked(row, kind, minus, fields, size, name) => {
-                let r = Some(reference_to(*kind, *name, *minus, *size));
-                self.count_code(*row, fields, &r)?
+        self.see_reference(r)?;
+        self.add_zeros(n)
+    }
+
+    // Notes the symbol of an item of the first pass, which needs no use of it.
+    #[inline(always)]
+    #[tactic(auto, unfolding(crate::specs::Drafts::with_reference))]
+    fn see_reference(&mut self, r: &Option<Reference<'a>>) -> Result<(), AllocError>
+        requires { AddedSymbolIsNamed (option_map reference_of r.now) }
+        ensures { OnOk result
+            (self.new ≡ with_reference self.old 0 (option_map reference_of r.now)) }
+    {
+        match r {
+            None => Ok(()),
+            Some(r) => {
+                self.see_name(r.name)?;
+                Ok(())
             }
-            Item::Data(len, bytes) => self.count_data(first_assembled_bytes(bytes, *len), &None)?,
-            Item::Word(len, minus, size, name) => {
-                let r = Some(reference_to(WORD32, *name, *minus, *size));
-                self.count_data(first_assembled_bytes(&[0; 4], *len), &r)?
-            }
-            Item::Section(_) => self.count_other(alloc, none, item)?,
-            Item::Global(_) => self.count_other(alloc, none, item)?,
-            Item::Zeros(_) => self.count_other(alloc, none, item)?,
         }
-        Ok(true)
+    }
+
+    /// Notes a name among the symbols of the draft.
+    #[inline(never)]
+    fn see_name(&mut self, name: &'a [u8]) -> Result<(), AllocError>
+        ensures { OnOk result
+            (self.new ≡ record self.old { symbols = seen self.old.symbols name.entry.now }) }
+    {
+        self.symbols.see(name)?;
+        Ok(())
     }
 }

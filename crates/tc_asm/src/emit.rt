@@ -16,74 +16,6 @@ use tc_object::{
 };
 use tc_stmt::Reference;
 
-// A name as an owned text.
-fn emit_name(alloc: Global, name: &[u8]) -> Result<String, AllocError>
-    requires { is_some (name_in name.now) ≡ true }
-    ensures { IfOk result (λ s. string_bytes s ≡ name.now) }
-{
-    String::from_str(alloc, object_name_of(name).unwrap())
-}
-
-/// The bytes that the object gets from a section of the draft, with the zeros that are only
-/// counted.
-fn emit_part_bytes(alloc: Global, part: &Part) -> Result<Vec<u8>, AllocError>
-    ensures { IfOk result (λ v. v.items ≡ (part_of part.now).bytes) }
-{
-    let mut bytes = Vec::from_slice(alloc, &part.bytes)?;
-    bytes.resize(part_len(part), 0)?;
-    Ok(bytes)
-}
-
-/// A section of the draft as one of the object.
-fn emit_section(alloc: Global, part: &Part) -> Result<Section, AllocError>
-    requires { is_some (name_in part.now.name.now) ≡ true }
-    ensures { IfOk result (λ s. s ≡ section_of (part_of part.now)) }
-{
-    let name = emit_name(alloc, part.name)?;
-    let bytes = emit_part_bytes(alloc, part)?;
-    Ok(Section { name, bytes })
-}
-
-/// The sections of the object, in the order of the draft.
-fn emit_sections(alloc: Global, parts: &[Part]) -> Result<Vec<Section>, AllocError>
-    requires { All (λ p. is_some (name_in p.name.now) ≡ true) parts.now }
-    ensures { IfOk result (λ v. v.items ≡ map section_of (map part_of parts.now)) }
-{
-    let mut out = Vec::new(alloc);
-    for i in 0..parts.len() {
-        let made = emit_section(alloc, &parts[i])?;
-        out.push(made)?;
-    }
-    Ok(out)
-}
-
-/// A symbol of the draft as one of the object.
-fn emit_symbol(alloc: Global, name: &[u8], entry: Entry) -> Result<Symbol, AllocError>
-    requires name { is_some (name_in name.now) ≡ true }
-    requires small { IsSmallLabelPlace entry.place }
-    ensures { IfOk result (λ s. s ≡ symbol_of (known_as name.now entry)) }
-{
-    let name = emit_name(alloc, name)?;
-    match entry.place {
-        None => Ok(Symbol {
-            name,
-            kind: UNDEFINED_SYMBOL,
-            section: 0,
-            offset: 0,
-        }),
-        Some(place) => Ok(Symbol {
-            name,
-            kind: if entry.is_global {
-                GLOBAL_SYMBOL
-            } else {
-                LOCAL_SYMBOL
-            },
-            section: place.section as u16,
-            offset: place.offset as u32,
-        }),
-    }
-}
-
 /// The symbols of the object, in the order of the draft.
 pub(crate) fn emit_symbols(alloc: Global, known: &Symbols) -> Result<Vec<Symbol>, AllocError>
     requires names { All (λ s. is_some (name_in s.name) ≡ true) known.now }
@@ -97,33 +29,6 @@ pub(crate) fn emit_symbols(alloc: Global, known: &Symbols) -> Result<Vec<Symbol>
         out.push(made)?;
     }
     Ok(out)
-}
-
-// The number that is added to a symbol, modulo 2^32.
-fn assembled_addend(r: Reference<'_>) -> u32
-    ensures { result ≡ assembled_addend (reference_of r.entry) }
-{
-    if r.minus {
-        r.size.wrapping_neg()
-    } else {
-        r.size
-    }
-}
-
-/// The relocation for a use of a symbol in the section of this number.
-fn emit_reloc(known: &Symbols, section: usize, u: Use<'_>) -> Reloc
-    requires symbols { length known.now < 2 ^ 16 }
-    requires section { section < 2 ^ 16 }
-    requires offset { u.offset < 2 ^ 32 }
-    ensures { result ≡ reloc_of known.now section (use_of u.entry) }
-{
-    Reloc {
-        section: section as u16,
-        offset: u.offset as u32,
-        kind: u.reference.kind,
-        symbol: known.number(u.reference.name) as u16,
-        addend: assembled_addend(u.reference),
-    }
 }
 
 /// Turns the uses in a draft's section into relocations of the object, and adds them to the list.
@@ -176,4 +81,99 @@ pub(crate) fn emit_relocs(
         emit_section_relocs(&mut out, known, i, &parts[i].uses)?;
     }
     Ok(out)
+}
+
+/// A symbol of the draft as one of the object.
+fn emit_symbol(alloc: Global, name: &[u8], entry: Entry) -> Result<Symbol, AllocError>
+    requires name { is_some (name_in name.now) ≡ true }
+    requires small { IsSmallLabelPlace entry.place }
+    ensures { IfOk result (λ s. s ≡ symbol_of (known_as name.now entry)) }
+{
+    let name = emit_name(alloc, name)?;
+    match entry.place {
+        None => Ok(Symbol {
+            name,
+            kind: UNDEFINED_SYMBOL,
+            section: 0,
+            offset: 0,
+        }),
+        Some(place) => Ok(Symbol {
+            name,
+            kind: if entry.is_global {
+                GLOBAL_SYMBOL
+            } else {
+                LOCAL_SYMBOL
+            },
+            section: place.section as u16,
+            offset: place.offset as u32,
+        }),
+    }
+}
+
+// A name as an owned text.
+fn emit_name(alloc: Global, name: &[u8]) -> Result<String, AllocError>
+    requires { is_some (name_in name.now) ≡ true }
+    ensures { IfOk result (λ s. string_bytes s ≡ name.now) }
+{
+    String::from_str(alloc, object_name_of(name).unwrap())
+}
+
+/// The relocation for a use of a symbol in the section of this number.
+fn emit_reloc(known: &Symbols, section: usize, u: Use<'_>) -> Reloc
+    requires symbols { length known.now < 2 ^ 16 }
+    requires section { section < 2 ^ 16 }
+    requires offset { u.offset < 2 ^ 32 }
+    ensures { result ≡ reloc_of known.now section (use_of u.entry) }
+{
+    Reloc {
+        section: section as u16,
+        offset: u.offset as u32,
+        kind: u.reference.kind,
+        symbol: known.number(u.reference.name) as u16,
+        addend: assembled_addend(u.reference),
+    }
+}
+
+// The number that is added to a symbol, modulo 2^32.
+fn assembled_addend(r: Reference<'_>) -> u32
+    ensures { result ≡ assembled_addend (reference_of r.entry) }
+{
+    if r.minus {
+        r.size.wrapping_neg()
+    } else {
+        r.size
+    }
+}
+
+/// The sections of the object, in the order of the draft.
+fn emit_sections(alloc: Global, parts: &[Part]) -> Result<Vec<Section>, AllocError>
+    requires { All (λ p. is_some (name_in p.name.now) ≡ true) parts.now }
+    ensures { IfOk result (λ v. v.items ≡ map section_of (map part_of parts.now)) }
+{
+    let mut out = Vec::new(alloc);
+    for i in 0..parts.len() {
+        let made = emit_section(alloc, &parts[i])?;
+        out.push(made)?;
+    }
+    Ok(out)
+}
+
+/// A section of the draft as one of the object.
+fn emit_section(alloc: Global, part: &Part) -> Result<Section, AllocError>
+    requires { is_some (name_in part.now.name.now) ≡ true }
+    ensures { IfOk result (λ s. s ≡ section_of (part_of part.now)) }
+{
+    let name = emit_name(alloc, part.name)?;
+    let bytes = emit_part_bytes(alloc, part)?;
+    Ok(Section { name, bytes })
+}
+
+/// The bytes that the object gets from a section of the draft, with the zeros that are only
+/// counted.
+fn emit_part_bytes(alloc: Global, part: &Part) -> Result<Vec<u8>, AllocError>
+    ensures { IfOk result (λ v. v.items ≡ (part_of part.now).bytes) }
+{
+    let mut bytes = Vec::from_slice(alloc, &part.bytes)?;
+    bytes.resize(part_len(part), 0)?;
+    Ok(bytes)
 }

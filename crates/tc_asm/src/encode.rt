@@ -34,13 +34,6 @@ pub(crate) fn first_assembled_bytes(bytes: &[u8; 4], len: u8) -> &[u8]
     &bytes[..len]
 }
 
-/// The size in bytes of instructions of this row.
-fn assembled_row_size(row: &Row) -> u8
-    ensures { result ≡ (if is_long (row_of row.now) then 4 else 2) }
-{
-    if row.op1 % 2 == 1 { 4 } else { 2 }
-}
-
 /// The size in bytes of instructions of the row with this number, and 0 if there is no such row.
 pub(crate) fn assembled_code_size(row: u8) -> u8
     ensures { result ≡ size_of_code row }
@@ -66,86 +59,18 @@ fn unbroken_fields<'a>(fields: Fields) -> RowFields<'a>
     }
 }
 
+/// The size in bytes of instructions of this row.
+fn assembled_row_size(row: &Row) -> u8
+    ensures { result ≡ (if is_long (row_of row.now) then 4 else 2) }
+{
+    if row.op1 % 2 == 1 { 4 } else { 2 }
+}
+
 impl<'a> Draft<'a> {
     ghost use Rattle.std.specs.Prelude.{option_map};
     ghost use Rattle.tc_isa.specs.Rows.{row_of};
     ghost use Rattle.tc_stmt.specs.Items.{reference_of};
     ghost use Rattle.tc_asm.specs.Drafts.{label_distance, fields_with_label_distance, fields_with_target, row_fields_with_target, code_bytes};
-
-    /// The distance in bytes from the draft's current place to the target of a jump, and whether
-    /// the target is before it. None if the symbol is no label of the current section.
-    #[tactic(auto, unfolding(crate::specs::Drafts::label_distance))]
-    fn label_distance(&self, labels: &Symbols<'a>, r: Reference<'a>) -> Option<(bool, u128)>
-        ensures { result ≡ label_distance labels.now self.now (reference_of r.entry) }
-    {
-        match labels.place(r.name) {
-            None => None,
-            Some(label) => {
-                if self.has_section() && label.section == self.section {
-                    let size = u128::from(r.size);
-                    let here = self.place() as u128 + if r.minus { size } else { 0 };
-                    let there = label.offset as u128 + if r.minus { 0 } else { size };
-                    if here <= there {
-                        Some((false, there - here))
-                    } else {
-                        Some((true, here - there))
-                    }
-                } else {
-                    None
-                }
-            }
-        }
-    }
-
-    /// The fields of a jump of 16 bits to a label, and the least rule that its target breaks.
-    #[inline(never)]
-    #[tactic(auto, unfolding(crate::specs::Drafts::fields_with_label_distance))]
-    fn resolve_jump(
-        &self,
-        labels: &Symbols<'a>,
-        row: &Row,
-        fields: &Fields,
-        r: Reference<'a>,
-    ) -> RowFields<'a>
-        ensures { row_fields_of result
-            ≡ fields_with_label_distance labels.now self.now (row_of row.now) fields.now
-            (reference_of r.entry) }
-    {
-        match self.label_distance(labels, r) {
-            None => RowFields {
-                fields: *fields,
-                rule: MISPLACED_SYMBOL,
-                reference: None,
-            },
-            Some((minus, size)) => with_displacement(row, minus, size, unbroken_fields(*fields)),
-        }
-    }
-
-    /// The fields to encode once the target is resolved, if it needs no relocation. `item_rule`
-    /// calls this for each symbol, so symbols that need a relocation are handled here too.
-    #[inline(always)]
-    fn resolve_target(
-        &self,
-        labels: &Symbols<'a>,
-        row: &Row,
-        fields: &Fields,
-        r: &Option<Reference<'a>>,
-    ) -> RowFields<'a>
-        ensures { row_fields_of result
-            ≡ fields_with_target labels.now self.now (row_of row.now) fields.now
-            (option_map reference_of r.now) }
-    {
-        match r {
-            None => unbroken_fields(*fields),
-            Some(r) => {
-                if r.kind == NO_RELOC {
-                    self.resolve_jump(labels, row, fields, *r)
-                } else {
-                    unbroken_fields(*fields)
-                }
-            }
-        }
-    }
 
     /// The fields of the row with this number, once its target is resolved.
     #[inline(always)]
@@ -183,6 +108,81 @@ impl<'a> Draft<'a> {
     {
         let found = self.resolve(labels, row, fields, r);
         assembled_code(row, &found.fields)
+    }
+
+    /// The fields to encode once the target is resolved, if it needs no relocation. `item_rule`
+    /// calls this for each symbol, so symbols that need a relocation are handled here too.
+    #[inline(always)]
+    fn resolve_target(
+        &self,
+        labels: &Symbols<'a>,
+        row: &Row,
+        fields: &Fields,
+        r: &Option<Reference<'a>>,
+    ) -> RowFields<'a>
+        ensures { row_fields_of result
+            ≡ fields_with_target labels.now self.now (row_of row.now) fields.now
+            (option_map reference_of r.now) }
+    {
+        match r {
+            None => unbroken_fields(*fields),
+            Some(r) => {
+                if r.kind == NO_RELOC {
+                    self.resolve_jump(labels, row, fields, *r)
+                } else {
+                    unbroken_fields(*fields)
+                }
+            }
+        }
+    }
+
+    /// The fields of a jump of 16 bits to a label, and the least rule that its target breaks.
+    #[inline(never)]
+    #[tactic(auto, unfolding(crate::specs::Drafts::fields_with_label_distance))]
+    fn resolve_jump(
+        &self,
+        labels: &Symbols<'a>,
+        row: &Row,
+        fields: &Fields,
+        r: Reference<'a>,
+    ) -> RowFields<'a>
+        ensures { row_fields_of result
+            ≡ fields_with_label_distance labels.now self.now (row_of row.now) fields.now
+            (reference_of r.entry) }
+    {
+        match self.label_distance(labels, r) {
+            None => RowFields {
+                fields: *fields,
+                rule: MISPLACED_SYMBOL,
+                reference: None,
+            },
+            Some((minus, size)) => with_displacement(row, minus, size, unbroken_fields(*fields)),
+        }
+    }
+
+    /// The distance in bytes from the draft's current place to the target of a jump, and whether
+    /// the target is before it. None if the symbol is no label of the current section.
+    #[tactic(auto, unfolding(crate::specs::Drafts::label_distance))]
+    fn label_distance(&self, labels: &Symbols<'a>, r: Reference<'a>) -> Option<(bool, u128)>
+        ensures { result ≡ label_distance labels.now self.now (reference_of r.entry) }
+    {
+        match labels.place(r.name) {
+            None => None,
+            Some(label) => {
+                if self.has_section() && label.section == self.section {
+                    let size = u128::from(r.size);
+                    let here = self.place() as u128 + if r.minus { size } else { 0 };
+                    let there = label.offset as u128 + if r.minus { 0 } else { size };
+                    if here <= there {
+                        Some((false, there - here))
+                    } else {
+                        Some((true, here - there))
+                    }
+                } else {
+                    None
+                }
+            }
+        }
     }
 }
 

@@ -19,127 +19,57 @@ impl<'a> Draft<'a> {
     ghost use Rattle.tc_asm.specs.Rules.{content_rule, item_rule};
     ghost use Rattle.tc_asm.specs.KnownSymbols.{nameless, kept};
 
-    // Adds bytes without a symbol, and returns the least rule that they break.
-    #[inline(never)]
-    #[tactic(auto, unfolding(crate::specs::Drafts::with_bytes))]
-    fn put_plain(&mut self, bytes: &[u8]) -> Result<u8, AllocError>
-        ensures draft { OnOk result (self.new ≡ with_bytes self.old bytes.now) }
-        ensures rule { IfOk result
-            (λ rule. rule ≡ content_rule self.old (length bytes.now) None) }
-    {
-        if self.has_section() && self.has_room(bytes.len()) {
-            extend_part(&mut self.parts, self.section, bytes)?;
-            self.total += bytes.len();
-            return Ok(NO_RULE);
-        }
-        Ok(self.content_rule(bytes.len(), &None))
-    }
-
-    // Adds bytes with a symbol, and returns the least rule that they break.
-    #[inline(never)]
-    fn put_named(&mut self, bytes: &[u8], r: &Option<Reference<'a>>) -> Result<u8, AllocError>
-        ensures draft { OnOk result
-            (self.new ≡ with_content self.old bytes.now (option_map reference_of r.now)) }
-        ensures rule { IfOk result
-            (λ rule. rule
-            ≡ content_rule self.old (length bytes.now) (option_map reference_of r.now)) }
-    {
-        let rule = self.content_rule(bytes.len(), r);
-        self.add_content(bytes, r)?;
-        Ok(rule)
-    }
-
-    // Adds bytes with their symbol, if they have one, and returns the least rule that they break.
-    #[inline(always)]
-    #[tactic(auto, unfolding(crate::specs::Drafts::with_reference))]
-    fn put_bytes(&mut self, bytes: &[u8], r: &Option<Reference<'a>>) -> Result<u8, AllocError>
-        ensures draft { OnOk result
-            (self.new ≡ with_content self.old bytes.now (option_map reference_of r.now)) }
-        ensures rule { IfOk result
-            (λ rule. rule
-            ≡ content_rule self.old (length bytes.now) (option_map reference_of r.now)) }
-    {
-        if r.is_none() {
-            return self.put_plain(bytes);
-        }
-        self.put_named(bytes, r)
-    }
-
-    // Adds an instruction whose target is resolved at once, and returns the least rule that it
-    // breaks.
-    #[inline(never)]
-    #[tactic(auto, unfolding(crate::specs::Rules::item_rule, crate::specs::Drafts::draft_after_item, crate::specs::Drafts::code_bytes))]
-    fn put_jump(
+    /// Adds an item, and returns the least rule that it breaks, or no rule. `labels` are the
+    /// symbols of the whole source. If they are `known`, the draft is kept without symbols.
+    pub(crate) fn put_item(
         &mut self,
+        alloc: Global,
         labels: &Symbols<'a>,
-        row: u8,
-        fields: &Fields,
-        r: &Option<Reference<'a>>,
+        known: bool,
+        item: &Item<'a>,
     ) -> Result<u8, AllocError>
-        ensures draft { OnOk result
-            (self.new ≡ draft_after_item labels.now self.old
-            (code row fields.now (option_map reference_of r.now))) }
+        ensures draft { OnOk result (kept known self.new
+            ≡ kept known (draft_after_item labels.now self.old (item_of item.now))) }
         ensures rule { IfOk result
-            (λ rule. rule
-            ≡ item_rule labels.now self.old (code row fields.now (option_map reference_of r.now))) }
+            (λ rule. rule ≡ item_rule labels.now (kept known self.old) (item_of item.now)) }
     {
-        let found = self.resolve(labels, row, fields, r);
-        let code = assembled_code(row, &found.fields);
-        let rule = self.put_bytes(first_assembled_bytes(&code.bytes, code.len), r)?;
-        Ok(found.rule.min(rule))
-    }
-
-    // Adds an instruction, and returns the least rule that it breaks.
-    #[inline(always)]
-    #[tactic(auto, unfolding(crate::specs::Rules::item_rule, crate::specs::Drafts::draft_after_item, crate::specs::Drafts::code_bytes), using(crate::proofs::CodeLaws::found_far))]
-    fn put_code(
-        &mut self,
-        labels: &Symbols<'a>,
-        row: u8,
-        fields: &Fields,
-        r: &Option<Reference<'a>>,
-    ) -> Result<u8, AllocError>
-        ensures draft { OnOk result
-            (self.new ≡ draft_after_item labels.now self.old
-            (code row fields.now (option_map reference_of r.now))) }
-        ensures rule { IfOk result
-            (λ rule. rule
-            ≡ item_rule labels.now self.old (code row fields.now (option_map reference_of r.now))) }
-    {
-        if has_near_target(r) {
-            return self.put_jump(labels, row, fields, r);
-        }
-        let code = assembled_code(row, fields);
-        let rule = self.put_bytes(first_assembled_bytes(&code.bytes, code.len), r)?;
-        // The target breaks no rule.
-        Ok(NO_RULE.min(rule))
-    }
-
-    // Adds a label, and returns the least rule that it breaks. The name is looked up once.
-    #[inline(never)]
-    #[tactic(auto, unfolding(crate::specs::Rules::item_rule, crate::specs::Drafts::draft_after_item, crate::specs::Drafts::with_label))]
-    fn put_label(&mut self, labels: &Symbols<'a>, name: &'a [u8]) -> Result<u8, AllocError>
-        ensures draft { OnOk result
-            (self.new ≡ draft_after_item labels.now self.old (label name.entry.now)) }
-        ensures rule { IfOk result
-            (λ rule. rule ≡ item_rule labels.now self.old (label name.entry.now)) }
-    {
-        if !is_source_name(name) {
-            return Ok(self.item_rule(labels, &Item::Label(name)));
-        }
-        let section = self.section_rule();
-        let room = self.symbol_room(name);
-        let place = Place {
-            section: self.section,
-            offset: self.place(),
-        };
-        let before = self.symbols.define(name, place)?;
-        let twice = if before.is_some() {
-            LABEL_TWICE
+        if known {
+            self.put_nameless(alloc, labels, item)
         } else {
-            NO_RULE
-        };
-        Ok(twice.min(section).min(NO_RULE.min(room)))
+            self.put(alloc, labels, item)
+        }
+    }
+
+    // Adds an item but no symbol, and returns the least rule that it breaks after a draft without
+    // symbols.
+    fn put_nameless(
+        &mut self,
+        alloc: Global,
+        labels: &Symbols<'a>,
+        item: &Item<'a>,
+    ) -> Result<u8, AllocError>
+        ensures draft { OnOk result
+            (nameless self.new ≡ nameless
+            (draft_after_item labels.now self.old (item_of item.now))) }
+        ensures rule { IfOk result
+            (λ rule. rule ≡ item_rule labels.now (nameless self.old) (item_of item.now)) }
+    {
+        match item {
+            Item::Label(name) => Ok(self.known_label_rule(labels, *name)),
+            Item::Global(name) => Ok(self.known_global_rule(labels, *name)),
+            Item::Code(row, fields) => self.put_alone(labels, *row, fields),
+            Item::Linked(row, kind, minus, fields, size, name) => {
+                let r = reference_to(*kind, *name, *minus, *size);
+                self.put_linked(labels, *row, fields, r)
+            }
+            Item::Data(len, bytes) => self.put_bytes(first_assembled_bytes(bytes, *len), &None),
+            Item::Word(len, minus, size, name) => {
+                let r = reference_to(WORD32, *name, *minus, *size);
+                self.put_use(first_assembled_bytes(&[0; 4], *len), r)
+            }
+            Item::Section(_) => self.put_other(alloc, labels, item),
+            Item::Zeros(_) => self.put_other(alloc, labels, item),
+        }
     }
 
     // Adds an item, and returns the least rule that it breaks, or no rule. `labels` are the symbols
@@ -170,73 +100,6 @@ impl<'a> Draft<'a> {
             }
             _ => self.put_other(alloc, labels, item),
         }
-    }
-
-    // Adds an item in the ordinary way, and returns the least rule that it breaks.
-    fn put_other(
-        &mut self,
-        alloc: Global,
-        labels: &Symbols<'a>,
-        item: &Item<'a>,
-    ) -> Result<u8, AllocError>
-        ensures draft { OnOk result
-            (self.new ≡ draft_after_item labels.now self.old (item_of item.now)) }
-        ensures rule { IfOk result
-            (λ rule. rule ≡ item_rule labels.now self.old (item_of item.now)) }
-    {
-        let rule = self.item_rule(labels, item);
-        self.step(alloc, labels, item)?;
-        Ok(rule)
-    }
-
-    /// Notes the use of a symbol that is known, as an item is put into the draft.
-    #[inline(always)]
-    fn use_known(&mut self, size: usize, r: Reference<'a>) -> Result<(), AllocError>
-        ensures { OnOk result (nameless self.new
-            ≡ nameless (with_reference self.old size (Some (reference_of r.entry)))) }
-    {
-        if is_source_name(r.name) {
-            self.add_use(size, r)?;
-        }
-        Ok(())
-    }
-
-    // Adds bytes with a symbol that is known, and returns the least rule that they break.
-    #[inline(never)]
-    fn put_use(&mut self, bytes: &[u8], r: Reference<'a>) -> Result<u8, AllocError>
-        ensures draft { OnOk result (nameless self.new
-            ≡ nameless (with_content self.old bytes.now (Some (reference_of r.entry)))) }
-        ensures rule { IfOk result (λ rule. rule ≡ content_rule (nameless self.old)
-            (length bytes.now) (Some (reference_of r.entry))) }
-    {
-        let room = self
-            .bytes_room(bytes.len())
-            .min(NO_RULE.min(self.reloc_room(r)));
-        let rule = self.section_rule().min(room);
-        self.use_known(bytes.len(), r)?;
-        self.add_bytes(bytes)?;
-        Ok(rule)
-    }
-
-    // Adds an instruction with a symbol that is known, and returns the least rule that it breaks.
-    #[tactic(auto, unfolding(crate::specs::Rules::item_rule, crate::specs::Drafts::draft_after_item, crate::specs::Drafts::code_bytes))]
-    fn put_linked(
-        &mut self,
-        labels: &Symbols<'a>,
-        row: u8,
-        fields: &Fields,
-        r: Reference<'a>,
-    ) -> Result<u8, AllocError>
-        ensures draft { OnOk result (nameless self.new ≡ nameless
-            (draft_after_item labels.now self.old
-            (code row fields.now (Some (reference_of r.entry))))) }
-        ensures rule { IfOk result (λ rule. rule ≡ item_rule labels.now (nameless self.old)
-            (code row fields.now (Some (reference_of r.entry)))) }
-    {
-        let found = self.resolve(labels, row, fields, &Some(r));
-        let code = assembled_code(row, &found.fields);
-        let rule = self.put_use(first_assembled_bytes(&code.bytes, code.len), r)?;
-        Ok(found.rule.min(rule))
     }
 
     /// Puts the item of a label into a draft whose symbols are known: adds nothing, and returns the
@@ -276,57 +139,194 @@ impl<'a> Draft<'a> {
         Ok(NO_RULE.min(rule))
     }
 
-    // Adds an item but no symbol, and returns the least rule that it breaks after a draft without
-    // symbols.
-    fn put_nameless(
+    // Adds an instruction with a symbol that is known, and returns the least rule that it breaks.
+    #[tactic(auto, unfolding(crate::specs::Rules::item_rule, crate::specs::Drafts::draft_after_item, crate::specs::Drafts::code_bytes))]
+    fn put_linked(
+        &mut self,
+        labels: &Symbols<'a>,
+        row: u8,
+        fields: &Fields,
+        r: Reference<'a>,
+    ) -> Result<u8, AllocError>
+        ensures draft { OnOk result (nameless self.new ≡ nameless
+            (draft_after_item labels.now self.old
+            (code row fields.now (Some (reference_of r.entry))))) }
+        ensures rule { IfOk result (λ rule. rule ≡ item_rule labels.now (nameless self.old)
+            (code row fields.now (Some (reference_of r.entry)))) }
+    {
+        let found = self.resolve(labels, row, fields, &Some(r));
+        let code = assembled_code(row, &found.fields);
+        let rule = self.put_use(first_assembled_bytes(&code.bytes, code.len), r)?;
+        Ok(found.rule.min(rule))
+    }
+
+    // Adds bytes with their symbol, if they have one, and returns the least rule that they break.
+    #[inline(always)]
+    #[tactic(auto, unfolding(crate::specs::Drafts::with_reference))]
+    fn put_bytes(&mut self, bytes: &[u8], r: &Option<Reference<'a>>) -> Result<u8, AllocError>
+        ensures draft { OnOk result
+            (self.new ≡ with_content self.old bytes.now (option_map reference_of r.now)) }
+        ensures rule { IfOk result
+            (λ rule. rule
+            ≡ content_rule self.old (length bytes.now) (option_map reference_of r.now)) }
+    {
+        if r.is_none() {
+            return self.put_plain(bytes);
+        }
+        self.put_named(bytes, r)
+    }
+
+    // Adds bytes with a symbol that is known, and returns the least rule that they break.
+    #[inline(never)]
+    fn put_use(&mut self, bytes: &[u8], r: Reference<'a>) -> Result<u8, AllocError>
+        ensures draft { OnOk result (nameless self.new
+            ≡ nameless (with_content self.old bytes.now (Some (reference_of r.entry)))) }
+        ensures rule { IfOk result (λ rule. rule ≡ content_rule (nameless self.old)
+            (length bytes.now) (Some (reference_of r.entry))) }
+    {
+        let room = self
+            .bytes_room(bytes.len())
+            .min(NO_RULE.min(self.reloc_room(r)));
+        let rule = self.section_rule().min(room);
+        self.use_known(bytes.len(), r)?;
+        self.add_bytes(bytes)?;
+        Ok(rule)
+    }
+
+    // Adds an item in the ordinary way, and returns the least rule that it breaks.
+    fn put_other(
         &mut self,
         alloc: Global,
         labels: &Symbols<'a>,
         item: &Item<'a>,
     ) -> Result<u8, AllocError>
         ensures draft { OnOk result
-            (nameless self.new ≡ nameless
-            (draft_after_item labels.now self.old (item_of item.now))) }
+            (self.new ≡ draft_after_item labels.now self.old (item_of item.now)) }
         ensures rule { IfOk result
-            (λ rule. rule ≡ item_rule labels.now (nameless self.old) (item_of item.now)) }
+            (λ rule. rule ≡ item_rule labels.now self.old (item_of item.now)) }
     {
-        match item {
-            Item::Label(name) => Ok(self.known_label_rule(labels, *name)),
-            Item::Global(name) => Ok(self.known_global_rule(labels, *name)),
-            Item::Code(row, fields) => self.put_alone(labels, *row, fields),
-            Item::Linked(row, kind, minus, fields, size, name) => {
-                let r = reference_to(*kind, *name, *minus, *size);
-                self.put_linked(labels, *row, fields, r)
-            }
-            Item::Data(len, bytes) => self.put_bytes(first_assembled_bytes(bytes, *len), &None),
-            Item::Word(len, minus, size, name) => {
-                let r = reference_to(WORD32, *name, *minus, *size);
-                self.put_use(first_assembled_bytes(&[0; 4], *len), r)
-            }
-            Item::Section(_) => self.put_other(alloc, labels, item),
-            Item::Zeros(_) => self.put_other(alloc, labels, item),
-        }
+        let rule = self.item_rule(labels, item);
+        self.step(alloc, labels, item)?;
+        Ok(rule)
     }
 
-    /// Adds an item, and returns the least rule that it breaks, or no rule. `labels` are the
-    /// symbols of the whole source. If they are `known`, the draft is kept without symbols.
-    pub(crate) fn put_item(
-        &mut self,
-        alloc: Global,
-        labels: &Symbols<'a>,
-        known: bool,
-        item: &Item<'a>,
-    ) -> Result<u8, AllocError>
-        ensures draft { OnOk result (kept known self.new
-            ≡ kept known (draft_after_item labels.now self.old (item_of item.now))) }
+    // Adds bytes without a symbol, and returns the least rule that they break.
+    #[inline(never)]
+    #[tactic(auto, unfolding(crate::specs::Drafts::with_bytes))]
+    fn put_plain(&mut self, bytes: &[u8]) -> Result<u8, AllocError>
+        ensures draft { OnOk result (self.new ≡ with_bytes self.old bytes.now) }
         ensures rule { IfOk result
-            (λ rule. rule ≡ item_rule labels.now (kept known self.old) (item_of item.now)) }
+            (λ rule. rule ≡ content_rule self.old (length bytes.now) None) }
     {
-        if known {
-            self.put_nameless(alloc, labels, item)
-        } else {
-            self.put(alloc, labels, item)
+        if self.has_section() && self.has_room(bytes.len()) {
+            extend_part(&mut self.parts, self.section, bytes)?;
+            self.total += bytes.len();
+            return Ok(NO_RULE);
         }
+        Ok(self.content_rule(bytes.len(), &None))
+    }
+
+    /// Notes the use of a symbol that is known, as an item is put into the draft.
+    #[inline(always)]
+    fn use_known(&mut self, size: usize, r: Reference<'a>) -> Result<(), AllocError>
+        ensures { OnOk result (nameless self.new
+            ≡ nameless (with_reference self.old size (Some (reference_of r.entry)))) }
+    {
+        if is_source_name(r.name) {
+            self.add_use(size, r)?;
+        }
+        Ok(())
+    }
+
+    // Adds bytes with a symbol, and returns the least rule that they break.
+    #[inline(never)]
+    fn put_named(&mut self, bytes: &[u8], r: &Option<Reference<'a>>) -> Result<u8, AllocError>
+        ensures draft { OnOk result
+            (self.new ≡ with_content self.old bytes.now (option_map reference_of r.now)) }
+        ensures rule { IfOk result
+            (λ rule. rule
+            ≡ content_rule self.old (length bytes.now) (option_map reference_of r.now)) }
+    {
+        let rule = self.content_rule(bytes.len(), r);
+        self.add_content(bytes, r)?;
+        Ok(rule)
+    }
+
+    // Adds a label, and returns the least rule that it breaks. The name is looked up once.
+    #[inline(never)]
+    #[tactic(auto, unfolding(crate::specs::Rules::item_rule, crate::specs::Drafts::draft_after_item, crate::specs::Drafts::with_label))]
+    fn put_label(&mut self, labels: &Symbols<'a>, name: &'a [u8]) -> Result<u8, AllocError>
+        ensures draft { OnOk result
+            (self.new ≡ draft_after_item labels.now self.old (label name.entry.now)) }
+        ensures rule { IfOk result
+            (λ rule. rule ≡ item_rule labels.now self.old (label name.entry.now)) }
+    {
+        if !is_source_name(name) {
+            return Ok(self.item_rule(labels, &Item::Label(name)));
+        }
+        let section = self.section_rule();
+        let room = self.symbol_room(name);
+        let place = Place {
+            section: self.section,
+            offset: self.place(),
+        };
+        let before = self.symbols.define(name, place)?;
+        let twice = if before.is_some() {
+            LABEL_TWICE
+        } else {
+            NO_RULE
+        };
+        Ok(twice.min(section).min(NO_RULE.min(room)))
+    }
+
+    // Adds an instruction, and returns the least rule that it breaks.
+    #[inline(always)]
+    #[tactic(auto, unfolding(crate::specs::Rules::item_rule, crate::specs::Drafts::draft_after_item, crate::specs::Drafts::code_bytes), using(crate::proofs::CodeLaws::found_far))]
+    fn put_code(
+        &mut self,
+        labels: &Symbols<'a>,
+        row: u8,
+        fields: &Fields,
+        r: &Option<Reference<'a>>,
+    ) -> Result<u8, AllocError>
+        ensures draft { OnOk result
+            (self.new ≡ draft_after_item labels.now self.old
+            (code row fields.now (option_map reference_of r.now))) }
+        ensures rule { IfOk result
+            (λ rule. rule
+            ≡ item_rule labels.now self.old (code row fields.now (option_map reference_of r.now))) }
+    {
+        if has_near_target(r) {
+            return self.put_jump(labels, row, fields, r);
+        }
+        let code = assembled_code(row, fields);
+        let rule = self.put_bytes(first_assembled_bytes(&code.bytes, code.len), r)?;
+        // The target breaks no rule.
+        Ok(NO_RULE.min(rule))
+    }
+
+    // Adds an instruction whose target is resolved at once, and returns the least rule that it
+    // breaks.
+    #[inline(never)]
+    #[tactic(auto, unfolding(crate::specs::Rules::item_rule, crate::specs::Drafts::draft_after_item, crate::specs::Drafts::code_bytes))]
+    fn put_jump(
+        &mut self,
+        labels: &Symbols<'a>,
+        row: u8,
+        fields: &Fields,
+        r: &Option<Reference<'a>>,
+    ) -> Result<u8, AllocError>
+        ensures draft { OnOk result
+            (self.new ≡ draft_after_item labels.now self.old
+            (code row fields.now (option_map reference_of r.now))) }
+        ensures rule { IfOk result
+            (λ rule. rule
+            ≡ item_rule labels.now self.old (code row fields.now (option_map reference_of r.now))) }
+    {
+        let found = self.resolve(labels, row, fields, r);
+        let code = assembled_code(row, &found.fields);
+        let rule = self.put_bytes(first_assembled_bytes(&code.bytes, code.len), r)?;
+        Ok(found.rule.min(rule))
     }
 }
 

@@ -28,17 +28,6 @@ impl<'a> Draft<'a> {
     ghost use Rattle.tc_asm.specs.Rules.{has_symbol_room};
     ghost use Rattle.tc_asm.specs.Rules.{label_rule, section_rule, name_rule, section_room, symbol_room, reloc_room, bytes_room, defined_rule, reference_rule, content_rule, item_rule};
 
-    // Rule 7: a label that is defined already.
-    fn label_rule(&self, name: &[u8]) -> u8
-        ensures { result ≡ label_rule self.now name.now }
-    {
-        if self.symbols.place(name).is_some() {
-            LABEL_TWICE
-        } else {
-            NO_RULE
-        }
-    }
-
     /// Rule 8: no current section.
     pub(crate) fn section_rule(&self) -> u8
         ensures { result ≡ section_rule self.now }
@@ -47,18 +36,6 @@ impl<'a> Draft<'a> {
             NO_RULE
         } else {
             NO_SECTION
-        }
-    }
-
-    // Rule 13: a 65th section.
-    fn section_room(&self, name: &[u8]) -> u8
-        ensures { result ≡ section_room self.now name.now }
-    {
-        let known = number_of_part(&self.parts, name) < self.parts.len();
-        if known || self.parts.len() < MOST_SECTIONS {
-            NO_RULE
-        } else {
-            PAST_LIMITS
         }
     }
 
@@ -102,16 +79,6 @@ impl<'a> Draft<'a> {
         }
     }
 
-    // Rule 13: a 65,536th symbol or relocation, for a reference if there is one.
-    fn reference_rule(&self, r: &Option<Reference<'a>>) -> u8
-        ensures { result ≡ reference_rule self.now (option_map reference_of r.now) }
-    {
-        match r {
-            None => NO_RULE,
-            Some(r) => self.symbol_room(r.name).min(self.reloc_room(*r)),
-        }
-    }
-
     /// The least rule that `size` bytes and their symbol break.
     pub(crate) fn content_rule(&self, size: usize, r: &Option<Reference<'a>>) -> u8
         ensures { result ≡ content_rule self.now size (option_map reference_of r.now) }
@@ -140,25 +107,6 @@ impl<'a> Draft<'a> {
         } else {
             UNDEFINED_GLOBAL
         }
-    }
-
-    // The least rule that an instruction breaks.
-    #[inline(never)]
-    #[tactic(auto, unfolding(crate::specs::Rules::item_rule))]
-    fn code_rule(
-        &self,
-        labels: &Symbols<'a>,
-        row: u8,
-        fields: &Fields,
-        r: &Option<Reference<'a>>,
-    ) -> u8
-        ensures { result
-            ≡ item_rule labels.now self.now (code row fields.now (option_map reference_of r.now)) }
-    {
-        let target = self.resolve(labels, row, fields, r).rule;
-        let code = self.code(labels, row, fields, r);
-        let len = first_assembled_bytes(&code.bytes, code.len).len();
-        target.min(self.content_rule(len, r))
     }
 
     /// The least rule that an item breaks after this draft, or no rule. `labels` are the symbols of
@@ -194,5 +142,57 @@ impl<'a> Draft<'a> {
             }
             Item::Zeros(n) => self.section_rule().min(self.bytes_room(*n as usize)),
         }
+    }
+
+    // Rule 13: a 65,536th symbol or relocation, for a reference if there is one.
+    fn reference_rule(&self, r: &Option<Reference<'a>>) -> u8
+        ensures { result ≡ reference_rule self.now (option_map reference_of r.now) }
+    {
+        match r {
+            None => NO_RULE,
+            Some(r) => self.symbol_room(r.name).min(self.reloc_room(*r)),
+        }
+    }
+
+    // Rule 7: a label that is defined already.
+    fn label_rule(&self, name: &[u8]) -> u8
+        ensures { result ≡ label_rule self.now name.now }
+    {
+        if self.symbols.place(name).is_some() {
+            LABEL_TWICE
+        } else {
+            NO_RULE
+        }
+    }
+
+    // Rule 13: a 65th section.
+    fn section_room(&self, name: &[u8]) -> u8
+        ensures { result ≡ section_room self.now name.now }
+    {
+        let known = number_of_part(&self.parts, name) < self.parts.len();
+        if known || self.parts.len() < MOST_SECTIONS {
+            NO_RULE
+        } else {
+            PAST_LIMITS
+        }
+    }
+
+    // The least rule that an instruction breaks.
+    #[inline(never)]
+    #[tactic(auto, unfolding(crate::specs::Rules::item_rule))]
+    fn code_rule(
+        &self,
+        labels: &Symbols<'a>,
+        row: u8,
+        fields: &Fields,
+        r: &Option<Reference<'a>>,
+    ) -> u8
+        ensures { result
+            ≡ item_rule labels.now self.now (code row fields.now (option_map reference_of r.now)) }
+    {
+        let target = self.resolve(labels, row, fields, r).rule;
+        let code = self.code(labels, row, fields, r);
+        let len = first_assembled_bytes(&code.bytes, code.len).len();
+        target.min(self.content_rule(len, r))
     }
 }

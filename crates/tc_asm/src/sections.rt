@@ -32,13 +32,6 @@ pub struct Part<'a> {
     pub uses: Vec<Use<'a>>,
 }
 
-/// The number of the section with this name, if one has it.
-fn find_part(parts: &[Part], name: &[u8]) -> Option<usize>
-    ensures { result ≡ position (λ p. bytes_eq name.now p.name.now) parts.now }
-{
-    parts.iter().position(|p| are_same_bytes(name, p.name))
-}
-
 /// The number of the section with this name, or the number of sections if none has it.
 pub(crate) fn number_of_part(parts: &[Part], name: &[u8]) -> usize
     ensures value { result ≡ number_of_part (map part_of parts.now) name.now }
@@ -55,30 +48,6 @@ pub(crate) fn part_len(part: &Part) -> usize
     ensures { result ≡ length (part_of part.now).bytes }
 {
     part.bytes.len() + part.zeros as usize
-}
-
-// Leaves no zeros that are only counted.
-#[inline(always)]
-fn write_zeros(part: &mut Part) -> Result<(), AllocError>
-    ensures same { OnOk result (part_of part.new ≡ part_of part.old) }
-    ensures none { OnOk result (part.new.zeros ≡ 0) }
-{
-    if part.zeros == 0 {
-        return Ok(());
-    }
-    put_zeros(part)
-}
-
-// Leaves at most `MOST_BYTES` zeros that are only counted.
-fn limit_zeros(part: &mut Part) -> Result<(), AllocError>
-    ensures same { OnOk result (part_of part.new ≡ part_of part.old) }
-    ensures few { OnOk result (part.new.zeros ≤ 2 ^ 24) }
-{
-    if part.zeros as usize <= MOST_BYTES {
-        return Ok(());
-    }
-    put_zeros(part)?;
-    Ok(())
 }
 
 /// Adds bytes at the end of a section.
@@ -134,5 +103,36 @@ pub(crate) fn put_zeros(part: &mut Part) -> Result<(), AllocError>
     let len = part_len(part);
     part.bytes.resize(len, 0)?;
     part.zeros = 0;
+    Ok(())
+}
+
+/// The number of the section with this name, if one has it.
+fn find_part(parts: &[Part], name: &[u8]) -> Option<usize>
+    ensures { result ≡ position (λ p. bytes_eq name.now p.name.now) parts.now }
+{
+    parts.iter().position(|p| are_same_bytes(name, p.name))
+}
+
+// Leaves no zeros that are only counted.
+#[inline(always)]
+fn write_zeros(part: &mut Part) -> Result<(), AllocError>
+    ensures same { OnOk result (part_of part.new ≡ part_of part.old) }
+    ensures none { OnOk result (part.new.zeros ≡ 0) }
+{
+    if part.zeros == 0 {
+        return Ok(());
+    }
+    put_zeros(part)
+}
+
+// Leaves at most `MOST_BYTES` zeros that are only counted.
+fn limit_zeros(part: &mut Part) -> Result<(), AllocError>
+    ensures same { OnOk result (part_of part.new ≡ part_of part.old) }
+    ensures few { OnOk result (part.new.zeros ≤ 2 ^ 24) }
+{
+    if part.zeros as usize <= MOST_BYTES {
+        return Ok(());
+    }
+    put_zeros(part)?;
     Ok(())
 }

@@ -115,27 +115,11 @@ impl<'a> Symbols<'a> {
         self.known.get(&name).copied()
     }
 
-    /// The entry of a name in the assembler's table of symbols, or `UNSEEN` if it isn't in the
-    /// table.
-    fn entry_of(&self, name: &[u8]) -> Entry
-        ensures { result ≡ entry_of self.now name.now }
-    {
-        self.get(name).unwrap_or(UNSEEN)
-    }
-
     /// The place of the label that a name has in the assembler's table of symbols, if it has one.
     pub fn place(&self, name: &[u8]) -> Option<Place>
         ensures { result ≡ place_in self.now name.now }
     {
         self.entry_of(name).place
-    }
-
-    // Sets the entry of a name, and returns its earlier entry.
-    fn put(&mut self, name: &'a [u8], entry: Entry) -> Result<Option<Entry>, AllocError>
-        ensures put { OnOk result (self.new ≡ put_entry self.old name.entry.now entry) }
-        ensures old { IfOk result (λ old. old ≡ entry_in self.old name.entry.now) }
-    {
-        Ok(self.known.insert(name, entry)?)
     }
 
     /// Adds a name that is used to the assembler's table of symbols, if it isn't there.
@@ -179,5 +163,21 @@ impl<'a> Symbols<'a> {
         entry.is_global = true;
         self.put(name, entry)?;
         Ok(())
+    }
+
+    /// The entry of a name in the assembler's table of symbols, or `UNSEEN` if it isn't in the
+    /// table.
+    fn entry_of(&self, name: &[u8]) -> Entry
+        ensures { result ≡ entry_of self.now name.now }
+    {
+        self.get(name).unwrap_or(UNSEEN)
+    }
+
+    // Sets the entry of a name, and returns its earlier entry.
+    fn put(&mut self, name: &'a [u8], entry: Entry) -> Result<Option<Entry>, AllocError>
+        ensures put { OnOk result (self.new ≡ put_entry self.old name.entry.now entry) }
+        ensures old { IfOk result (λ old. old ≡ entry_in self.old name.entry.now) }
+    {
+        Ok(self.known.insert(name, entry)?)
     }
 }

@@ -10,6 +10,17 @@ use tc_disasm::listing;
 use tcd_base::NoMemory;
 use tcd_plan::Plan;
 
+/// The boot sequence of a plan and an entry at an address, as a source: the listing of the image
+/// whose one segment it is.
+pub fn boot_source(alloc: Global, plan: &Plan, entry: u32, at: u32) -> Result<String, NoMemory>
+    requires { at + 224 ≤ 2 ^ 32 }
+    ensures { IfOk result (λ text. string_bytes text
+        ≡ listing_of (boot_image_of plan.now entry at)) }
+{
+    let image = boot_image(alloc, plan, entry, at)?;
+    listing(alloc, &image)
+}
+
 /// Returns the image that the source of a boot sequence is listed from: its one segment is the
 /// sequence of a plan and an entry, at an address.
 fn boot_image(alloc: Global, plan: &Plan, entry: u32, at: u32) -> Result<Image, NoMemory>
@@ -24,15 +35,4 @@ fn boot_image(alloc: Global, plan: &Plan, entry: u32, at: u32) -> Result<Image, 
         entry: at,
         segments,
     })
-}
-
-/// The boot sequence of a plan and an entry at an address, as a source: the listing of the image
-/// whose one segment it is.
-pub fn boot_source(alloc: Global, plan: &Plan, entry: u32, at: u32) -> Result<String, NoMemory>
-    requires { at + 224 ≤ 2 ^ 32 }
-    ensures { IfOk result (λ text. string_bytes text
-        ≡ listing_of (boot_image_of plan.now entry at)) }
-{
-    let image = boot_image(alloc, plan, entry, at)?;
-    listing(alloc, &image)
 }

@@ -13,45 +13,6 @@ use std::alloc::Global;
 use tcd_base::NoMemory;
 use tcd_text::append_hex_word;
 
-// Appends the line that begins a section.
-#[tactic(auto, unfolding(crate::specs::Listing::section_line))]
-fn append_section_line(text: &mut String, number: u32, address: u32) -> Result<(), NoMemory>
-    ensures { OnOk result
-        (string_bytes text.new ≡ string_bytes text.old ++ section_line number address) }
-{
-    append_listing_text(text, ".section s")?;
-    append_listing_decimal(text, number)?;
-    append_listing_text(text, " # ")?;
-    append_hex_word(text, address)?;
-    append_listing_text(text, "\n")
-}
-
-/// Appends a section of the listing: its first line, and the lines of the segment's bytes.
-#[tactic(auto, unfolding(crate::specs::Listing::section_text))]
-fn append_section(text: &mut String, number: u32, segment: &Segment) -> Result<(), NoMemory>
-    requires { segment.now.at + length segment.now.bytes.items ≤ 2 ^ 32 }
-    ensures { OnOk result
-        (string_bytes text.new
-        ≡ string_bytes text.old ++ section_text number (segment_data segment.now)) }
-{
-    append_section_line(text, number, segment.at)?;
-    append_lines(text, segment.at, &segment.bytes)
-}
-
-// Appends the sections, numbered from 0.
-fn append_sections(text: &mut String, segments: &[&Segment]) -> Result<(), NoMemory>
-    requires few { length segments.now ≤ 64 }
-    requires segments { IsTrue (list_all is_segment (map lent_segment_data segments.now)) }
-    ensures { OnOk result
-        (string_bytes text.new
-        ≡ string_bytes text.old ++ listing_sections_from 0 (map lent_segment_data segments.now)) }
-{
-    for i in 0..segments.len() {
-        append_section(text, i as u32, segments[i])?;
-    }
-    Ok(())
-}
-
 /// The listing of an image.
 ///
 /// For each segment, in ascending order of addresses, it has a line `.section` with the section's
@@ -68,4 +29,43 @@ pub fn listing(alloc: Global, image: &Image) -> Result<String, NoMemory>
     let sorted = segments_in_listing_order(alloc, &image.segments)?;
     append_sections(&mut text, &sorted)?;
     Ok(text)
+}
+
+// Appends the sections, numbered from 0.
+fn append_sections(text: &mut String, segments: &[&Segment]) -> Result<(), NoMemory>
+    requires few { length segments.now ≤ 64 }
+    requires segments { IsTrue (list_all is_segment (map lent_segment_data segments.now)) }
+    ensures { OnOk result
+        (string_bytes text.new
+        ≡ string_bytes text.old ++ listing_sections_from 0 (map lent_segment_data segments.now)) }
+{
+    for i in 0..segments.len() {
+        append_section(text, i as u32, segments[i])?;
+    }
+    Ok(())
+}
+
+/// Appends a section of the listing: its first line, and the lines of the segment's bytes.
+#[tactic(auto, unfolding(crate::specs::Listing::section_text))]
+fn append_section(text: &mut String, number: u32, segment: &Segment) -> Result<(), NoMemory>
+    requires { segment.now.at + length segment.now.bytes.items ≤ 2 ^ 32 }
+    ensures { OnOk result
+        (string_bytes text.new
+        ≡ string_bytes text.old ++ section_text number (segment_data segment.now)) }
+{
+    append_section_line(text, number, segment.at)?;
+    append_lines(text, segment.at, &segment.bytes)
+}
+
+// Appends the line that begins a section.
+#[tactic(auto, unfolding(crate::specs::Listing::section_line))]
+fn append_section_line(text: &mut String, number: u32, address: u32) -> Result<(), NoMemory>
+    ensures { OnOk result
+        (string_bytes text.new ≡ string_bytes text.old ++ section_line number address) }
+{
+    append_listing_text(text, ".section s")?;
+    append_listing_decimal(text, number)?;
+    append_listing_text(text, " # ")?;
+    append_hex_word(text, address)?;
+    append_listing_text(text, "\n")
 }

@@ -12,18 +12,6 @@ use tc_isa::{Fields, Form, Inst, Row, rows};
 use tc_stmt::{Want, wants};
 use tcd_base::NoMemory;
 
-/// Appends the text of an instruction of this row: its name, and its operands.
-#[tactic(auto, unfolding(crate::specs::Texts::row_text))]
-fn append_row(text: &mut String, row: &Row, wants: &[Want], f: &Fields) -> Result<(), NoMemory>
-    requires wants { wants.now ≡ wants_of (row_of row.now) }
-    requires fits { IsBelow f.now (bounds row.now.form) }
-    ensures { OnOk result
-        (string_bytes text.new ≡ string_bytes text.old ++ row_text (row_of row.now) f.now) }
-{
-    append_listing_text(text, row.name)?;
-    append_operands(text, row.form, f, wants)
-}
-
 /// Appends the text of an instruction.
 pub(crate) fn append_instruction(text: &mut String, inst: &Inst) -> Result<(), NoMemory>
     ensures { OnOk result (string_bytes text.new ≡ string_bytes text.old
@@ -38,4 +26,16 @@ pub(crate) fn append_instruction(text: &mut String, inst: &Inst) -> Result<(), N
         k: inst.k,
     };
     append_row(text, &rows()[place], wants()[place], &fields)
+}
+
+/// Appends the text of an instruction of this row: its name, and its operands.
+#[tactic(auto, unfolding(crate::specs::Texts::row_text))]
+fn append_row(text: &mut String, row: &Row, wants: &[Want], f: &Fields) -> Result<(), NoMemory>
+    requires wants { wants.now ≡ wants_of (row_of row.now) }
+    requires fits { IsBelow f.now (bounds row.now.form) }
+    ensures { OnOk result
+        (string_bytes text.new ≡ string_bytes text.old ++ row_text (row_of row.now) f.now) }
+{
+    append_listing_text(text, row.name)?;
+    append_operands(text, row.form, f, wants)
 }

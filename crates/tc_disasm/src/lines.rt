@@ -11,22 +11,52 @@ use tc_encode::decode;
 use tcd_base::NoMemory;
 use tcd_text::{append_ascii, append_hex_byte, hex_byte, hex_word};
 
-/// Appends the first one or two bytes to a listing as data, `.byte` or `.half`.
-fn append_data(text: &mut String, bytes: &[u8]) -> Result<(), NoMemory>
-    ensures { OnOk result (string_bytes text.new ≡ string_bytes text.old ++ data_text bytes.now) }
+/// Appends the lines of bytes that begin at an address. The time is linear in their number.
+pub(crate) fn append_lines(text: &mut String, address: u32, bytes: &[u8]) -> Result<(), NoMemory>
+    requires { address + length bytes.now ≤ 2 ^ 32 }
+    ensures { OnOk result
+        (string_bytes text.new ≡ string_bytes text.old ++ lines_from address bytes.now 0) }
 {
-    match bytes {
-        [] => Ok(()),
-        [last] => {
-            append_listing_text(text, ".byte 0x")?;
-            append_hex_byte(text, u32::from(*last))
-        }
-        [low, high, ..] => {
-            append_listing_text(text, ".half 0x")?;
-            append_hex_byte(text, u32::from(*high))?;
-            append_hex_byte(text, u32::from(*low))
-        }
+    let mut at = 0;
+    'lines: while at < bytes.len() {
+        let size = append_line_at(text, address, bytes, at)?;
+        at += size;
     }
+    Ok(())
+}
+
+// Appends the line of the instruction or data at the offset `at`, and returns its size in bytes.
+fn append_line_at(
+    text: &mut String,
+    address: u32,
+    bytes: &[u8],
+    at: usize,
+) -> Result<usize, NoMemory>
+    requires within { at < length bytes.now }
+    requires fits { address + length bytes.now ≤ 2 ^ 32 }
+    ensures text { OnOk result
+        (string_bytes text.new
+        ≡ string_bytes text.old ++ line_at (address + at) (drop at bytes.now)) }
+    ensures size { IfOk result (λ n. n ≡ listed_size_at (drop at bytes.now)) }
+    ensures some { IfOk result (λ n. 0 < n) }
+    ensures within { IfOk result (λ n. at + n ≤ length bytes.now) }
+{
+    append_line(text, address + at as u32, &bytes[at..])
+}
+
+// Appends the line of the first instruction or data, and returns its size in bytes.
+#[tactic(auto, unfolding(crate::specs::Listing::line_at))]
+fn append_line(text: &mut String, address: u32, bytes: &[u8]) -> Result<usize, NoMemory>
+    requires { 0 < length bytes.now }
+    ensures text { OnOk result
+        (string_bytes text.new ≡ string_bytes text.old ++ line_at address bytes.now) }
+    ensures size { IfOk result (λ n. n ≡ listed_size_at bytes.now) }
+    ensures some { IfOk result (λ n. 0 < n) }
+    ensures within { IfOk result (λ n. n ≤ length bytes.now) }
+{
+    let size = append_text(text, bytes)?;
+    append_remark(text, address, &bytes[..size])?;
+    Ok(size)
 }
 
 // Appends the first instruction, or data if there is none, and returns its size in bytes.
@@ -47,6 +77,37 @@ fn append_text(text: &mut String, bytes: &[u8]) -> Result<usize, NoMemory>
         Err(_) => {
             append_data(text, bytes)?;
             Ok(bytes.len().min(2))
+        }
+    }
+}
+
+/// Appends the comment of a line: an address, its bytes and a line feed.
+#[tactic(auto, unfolding(crate::specs::Listing::listing_remark))]
+fn append_remark(text: &mut String, address: u32, bytes: &[u8]) -> Result<(), NoMemory>
+    ensures { OnOk result
+        (string_bytes text.new ≡ string_bytes text.old ++ listing_remark address bytes.now) }
+{
+    match bytes {
+        [a, b] => append_half_remark(text, address, *a, *b),
+        [a, b, c, d] => append_four_remark(text, address, *a, *b, *c, *d),
+        _ => append_long_remark(text, address, bytes),
+    }
+}
+
+/// Appends the first one or two bytes to a listing as data, `.byte` or `.half`.
+fn append_data(text: &mut String, bytes: &[u8]) -> Result<(), NoMemory>
+    ensures { OnOk result (string_bytes text.new ≡ string_bytes text.old ++ data_text bytes.now) }
+{
+    match bytes {
+        [] => Ok(()),
+        [last] => {
+            append_listing_text(text, ".byte 0x")?;
+            append_hex_byte(text, u32::from(*last))
+        }
+        [low, high, ..] => {
+            append_listing_text(text, ".half 0x")?;
+            append_hex_byte(text, u32::from(*high))?;
+            append_hex_byte(text, u32::from(*low))
         }
     }
 }
@@ -91,17 +152,6 @@ fn append_four_remark(
     append_ascii(text, &line)
 }
 
-// Appends bytes in hex digits.
-fn append_remark_bytes(text: &mut String, bytes: &[u8]) -> Result<(), NoMemory>
-    ensures { OnOk result (string_bytes text.new
-        ≡ string_bytes text.old ++ flat_map hex_byte bytes.now) }
-{
-    for byte in bytes {
-        append_hex_byte(text, u32::from(*byte))?;
-    }
-    Ok(())
-}
-
 /// Appends the comment of a line: an address, any number of bytes and a line feed.
 #[tactic(auto, unfolding(crate::specs::Listing::listing_remark))]
 fn append_long_remark(text: &mut String, address: u32, bytes: &[u8]) -> Result<(), NoMemory>
@@ -113,63 +163,13 @@ fn append_long_remark(text: &mut String, address: u32, bytes: &[u8]) -> Result<(
     append_listing_text(text, "\n")
 }
 
-/// Appends the comment of a line: an address, its bytes and a line feed.
-#[tactic(auto, unfolding(crate::specs::Listing::listing_remark))]
-fn append_remark(text: &mut String, address: u32, bytes: &[u8]) -> Result<(), NoMemory>
-    ensures { OnOk result
-        (string_bytes text.new ≡ string_bytes text.old ++ listing_remark address bytes.now) }
+// Appends bytes in hex digits.
+fn append_remark_bytes(text: &mut String, bytes: &[u8]) -> Result<(), NoMemory>
+    ensures { OnOk result (string_bytes text.new
+        ≡ string_bytes text.old ++ flat_map hex_byte bytes.now) }
 {
-    match bytes {
-        [a, b] => append_half_remark(text, address, *a, *b),
-        [a, b, c, d] => append_four_remark(text, address, *a, *b, *c, *d),
-        _ => append_long_remark(text, address, bytes),
-    }
-}
-
-// Appends the line of the first instruction or data, and returns its size in bytes.
-#[tactic(auto, unfolding(crate::specs::Listing::line_at))]
-fn append_line(text: &mut String, address: u32, bytes: &[u8]) -> Result<usize, NoMemory>
-    requires { 0 < length bytes.now }
-    ensures text { OnOk result
-        (string_bytes text.new ≡ string_bytes text.old ++ line_at address bytes.now) }
-    ensures size { IfOk result (λ n. n ≡ listed_size_at bytes.now) }
-    ensures some { IfOk result (λ n. 0 < n) }
-    ensures within { IfOk result (λ n. n ≤ length bytes.now) }
-{
-    let size = append_text(text, bytes)?;
-    append_remark(text, address, &bytes[..size])?;
-    Ok(size)
-}
-
-// Appends the line of the instruction or data at the offset `at`, and returns its size in bytes.
-fn append_line_at(
-    text: &mut String,
-    address: u32,
-    bytes: &[u8],
-    at: usize,
-) -> Result<usize, NoMemory>
-    requires within { at < length bytes.now }
-    requires fits { address + length bytes.now ≤ 2 ^ 32 }
-    ensures text { OnOk result
-        (string_bytes text.new
-        ≡ string_bytes text.old ++ line_at (address + at) (drop at bytes.now)) }
-    ensures size { IfOk result (λ n. n ≡ listed_size_at (drop at bytes.now)) }
-    ensures some { IfOk result (λ n. 0 < n) }
-    ensures within { IfOk result (λ n. at + n ≤ length bytes.now) }
-{
-    append_line(text, address + at as u32, &bytes[at..])
-}
-
-/// Appends the lines of bytes that begin at an address. The time is linear in their number.
-pub(crate) fn append_lines(text: &mut String, address: u32, bytes: &[u8]) -> Result<(), NoMemory>
-    requires { address + length bytes.now ≤ 2 ^ 32 }
-    ensures { OnOk result
-        (string_bytes text.new ≡ string_bytes text.old ++ lines_from address bytes.now 0) }
-{
-    let mut at = 0;
-    'lines: while at < bytes.len() {
-        let size = append_line_at(text, address, bytes, at)?;
-        at += size;
+    for byte in bytes {
+        append_hex_byte(text, u32::from(*byte))?;
     }
     Ok(())
 }

@@ -15,6 +15,48 @@ use tc_stmt::{Field, Want, field_of, wants};
 use tcd_base::NoMemory;
 use tcd_text::append_hex_word;
 
+/// Appends the operand that the row wants here.
+#[tactic(auto, unfolding(crate::specs::Texts::operand_text))]
+pub(crate) fn append_operand(
+    text: &mut String,
+    form: Form,
+    f: &Fields,
+    want: Want,
+) -> Result<(), NoMemory>
+    requires { IsBelow f.now (bounds form) }
+    ensures { OnOk result
+        (string_bytes text.new ≡ string_bytes text.old ++ operand_text form f.now want) }
+{
+    match want {
+        Want::Reg(bank, field) => append_register(text, bank, field_of(field, f)),
+        Want::A10 => append_listing_text(text, "a10"),
+        Want::Number(signed, field) => append_field(text, signed, field, form, f),
+        Want::Target => append_target(text, is_two_way(form), bounds_of(form).k, f.k),
+        Want::Absolute => append_absolute(text, form, f),
+        Want::Memory(plus, offset) => append_memory(text, form, f, plus, offset),
+    }
+}
+
+/// Appends the operands of a row after a blank, separated by a comma and a blank.
+#[tactic(auto, unfolding(crate::specs::Texts::operands_text))]
+pub(crate) fn append_operands(
+    text: &mut String,
+    form: Form,
+    f: &Fields,
+    wants: &[Want],
+) -> Result<(), NoMemory>
+    requires { IsBelow f.now (bounds form) }
+    ensures { OnOk result
+        (string_bytes text.new ≡ string_bytes text.old ++ operands_text form f.now wants.now) }
+{
+    if let Some((first, others)) = wants.split_first() {
+        append_listing_text(text, " ")?;
+        append_operand(text, form, f, *first)?;
+        append_other_operands(text, form, f, others)?;
+    }
+    Ok(())
+}
+
 /// Appends a register: `d0` to `d15`, or `a0` to `a15` if it is an address register.
 #[tactic(auto, unfolding(crate::specs::Texts::register_text))]
 fn append_register(text: &mut String, is_address: bool, n: u32) -> Result<(), NoMemory>
@@ -25,18 +67,42 @@ fn append_register(text: &mut String, is_address: bool, n: u32) -> Result<(), No
     append_listing_decimal(text, n)
 }
 
-/// Appends the constant of an operand in decimal, with its sign.
-#[tactic(auto, unfolding(crate::specs::Texts::number_text))]
-fn append_number(text: &mut String, signed: bool, bound: u32, value: u32) -> Result<(), NoMemory>
-    requires { value ≤ bound }
+/// Appends the field of an operand as a constant in decimal.
+fn append_field(
+    text: &mut String,
+    signed: bool,
+    field: Field,
+    form: Form,
+    f: &Fields,
+) -> Result<(), NoMemory>
+    requires { IsBelow f.now (bounds form) }
     ensures { OnOk result
-        (string_bytes text.new ≡ string_bytes text.old ++ number_text signed bound value) }
+        (string_bytes text.new
+        ≡ string_bytes text.old
+        ++ number_text signed (field_of field (bounds form)) (field_of field f.now)) }
 {
-    if signed && value >= bound / 2 {
-        append_listing_text(text, "-")?;
-        append_listing_decimal(text, bound - value)
+    append_number(
+        text,
+        signed,
+        field_of(field, &bounds_of(form)),
+        field_of(field, f),
+    )
+}
+
+/// Appends the target of a jump: `.+` or `.-`, and a number of bytes.
+#[tactic(auto, unfolding(crate::specs::Texts::target_text))]
+fn append_target(text: &mut String, both: bool, bound: u32, k: u32) -> Result<(), NoMemory>
+    requires within { k ≤ bound }
+    requires small { bound ≤ 2 ^ 24 }
+    ensures { OnOk result
+        (string_bytes text.new ≡ string_bytes text.old ++ target_text both bound k) }
+{
+    if both && k >= bound / 2 {
+        append_listing_text(text, ".-")?;
+        append_listing_decimal(text, 2 * (bound - k))
     } else {
-        append_listing_decimal(text, value)
+        append_listing_text(text, ".+")?;
+        append_listing_decimal(text, 2 * k)
     }
 }
 
@@ -55,20 +121,49 @@ fn is_two_way(form: Form) -> bool
     }
 }
 
-/// Appends the target of a jump: `.+` or `.-`, and a number of bytes.
-#[tactic(auto, unfolding(crate::specs::Texts::target_text))]
-fn append_target(text: &mut String, both: bool, bound: u32, k: u32) -> Result<(), NoMemory>
-    requires within { k ≤ bound }
-    requires small { bound ≤ 2 ^ 24 }
+/// Appends an absolute address as an operand: `0x` and eight hex digits.
+#[tactic(auto, unfolding(crate::specs::Texts::absolute_text))]
+fn append_absolute(text: &mut String, form: Form, f: &Fields) -> Result<(), NoMemory>
     ensures { OnOk result
-        (string_bytes text.new ≡ string_bytes text.old ++ target_text both bound k) }
+        (string_bytes text.new ≡ string_bytes text.old ++ absolute_text form f.now) }
 {
-    if both && k >= bound / 2 {
-        append_listing_text(text, ".-")?;
-        append_listing_decimal(text, 2 * (bound - k))
+    append_listing_text(text, "0x")?;
+    append_hex_word(text, absolute_operand_address(form, f))
+}
+
+/// Appends a memory operand: its base register, and its offset if the row has one.
+#[tactic(auto, unfolding(crate::specs::Texts::operand_text))]
+fn append_memory(
+    text: &mut String,
+    form: Form,
+    f: &Fields,
+    plus: bool,
+    offset: bool,
+) -> Result<(), NoMemory>
+    requires { IsBelow f.now (bounds form) }
+    ensures { OnOk result
+        (string_bytes text.new
+        ≡ string_bytes text.old ++ operand_text form f.now (Memory plus offset)) }
+{
+    append_base(text, plus, u32::from(f.s2))?;
+    if offset {
+        append_number(text, true, bounds_of(form).k, f.k)?;
+    }
+    Ok(())
+}
+
+/// Appends the constant of an operand in decimal, with its sign.
+#[tactic(auto, unfolding(crate::specs::Texts::number_text))]
+fn append_number(text: &mut String, signed: bool, bound: u32, value: u32) -> Result<(), NoMemory>
+    requires { value ≤ bound }
+    ensures { OnOk result
+        (string_bytes text.new ≡ string_bytes text.old ++ number_text signed bound value) }
+{
+    if signed && value >= bound / 2 {
+        append_listing_text(text, "-")?;
+        append_listing_decimal(text, bound - value)
     } else {
-        append_listing_text(text, ".+")?;
-        append_listing_decimal(text, 2 * k)
+        append_listing_decimal(text, value)
     }
 }
 
@@ -95,16 +190,6 @@ fn code_address(f: &Fields) -> u32
     f.k / 1_048_576 % 16 * 268_435_456 + f.k % 1_048_576 * 2
 }
 
-/// Appends an absolute address as an operand: `0x` and eight hex digits.
-#[tactic(auto, unfolding(crate::specs::Texts::absolute_text))]
-fn append_absolute(text: &mut String, form: Form, f: &Fields) -> Result<(), NoMemory>
-    ensures { OnOk result
-        (string_bytes text.new ≡ string_bytes text.old ++ absolute_text form f.now) }
-{
-    append_listing_text(text, "0x")?;
-    append_hex_word(text, absolute_operand_address(form, f))
-}
-
 /// Appends the base register of a memory operand: `[aN]` or `[aN+]`.
 #[tactic(auto, unfolding(crate::specs::Texts::base_text))]
 fn append_base(text: &mut String, plus: bool, n: u32) -> Result<(), NoMemory>
@@ -113,82 +198,6 @@ fn append_base(text: &mut String, plus: bool, n: u32) -> Result<(), NoMemory>
     append_listing_text(text, "[")?;
     append_register(text, true, n)?;
     append_listing_text(text, if plus { "+]" } else { "]" })
-}
-
-/// Appends a memory operand: its base register, and its offset if the row has one.
-#[tactic(auto, unfolding(crate::specs::Texts::operand_text))]
-fn append_memory(
-    text: &mut String,
-    form: Form,
-    f: &Fields,
-    plus: bool,
-    offset: bool,
-) -> Result<(), NoMemory>
-    requires { IsBelow f.now (bounds form) }
-    ensures { OnOk result
-        (string_bytes text.new
-        ≡ string_bytes text.old ++ operand_text form f.now (Memory plus offset)) }
-{
-    append_base(text, plus, u32::from(f.s2))?;
-    if offset {
-        append_number(text, true, bounds_of(form).k, f.k)?;
-    }
-    Ok(())
-}
-
-/// Appends the operand that the row wants here.
-#[tactic(auto, unfolding(crate::specs::Texts::operand_text))]
-pub(crate) fn append_operand(
-    text: &mut String,
-    form: Form,
-    f: &Fields,
-    want: Want,
-) -> Result<(), NoMemory>
-    requires { IsBelow f.now (bounds form) }
-    ensures { OnOk result
-        (string_bytes text.new ≡ string_bytes text.old ++ operand_text form f.now want) }
-{
-    match want {
-        Want::Reg(bank, field) => append_register(text, bank, field_of(field, f)),
-        Want::A10 => append_listing_text(text, "a10"),
-        Want::Number(signed, field) => append_field(text, signed, field, form, f),
-        Want::Target => append_target(text, is_two_way(form), bounds_of(form).k, f.k),
-        Want::Absolute => append_absolute(text, form, f),
-        Want::Memory(plus, offset) => append_memory(text, form, f, plus, offset),
-    }
-}
-
-/// Appends the field of an operand as a constant in decimal.
-fn append_field(
-    text: &mut String,
-    signed: bool,
-    field: Field,
-    form: Form,
-    f: &Fields,
-) -> Result<(), NoMemory>
-    requires { IsBelow f.now (bounds form) }
-    ensures { OnOk result
-        (string_bytes text.new
-        ≡ string_bytes text.old
-        ++ number_text signed (field_of field (bounds form)) (field_of field f.now)) }
-{
-    append_number(
-        text,
-        signed,
-        field_of(field, &bounds_of(form)),
-        field_of(field, f),
-    )
-}
-
-// Appends a comma and an operand.
-fn append_next(text: &mut String, form: Form, f: &Fields, want: Want) -> Result<(), NoMemory>
-    requires { IsBelow f.now (bounds form) }
-    ensures { OnOk result
-        (string_bytes text.new
-        ≡ string_bytes text.old ++ (codes ", " ++ operand_text form f.now want)) }
-{
-    append_listing_text(text, ", ")?;
-    append_operand(text, form, f, want)
 }
 
 /// Appends the text of each operand after the first one, with a comma before it.
@@ -210,22 +219,13 @@ fn append_other_operands(
     Ok(())
 }
 
-/// Appends the operands of a row after a blank, separated by a comma and a blank.
-#[tactic(auto, unfolding(crate::specs::Texts::operands_text))]
-pub(crate) fn append_operands(
-    text: &mut String,
-    form: Form,
-    f: &Fields,
-    wants: &[Want],
-) -> Result<(), NoMemory>
+// Appends a comma and an operand.
+fn append_next(text: &mut String, form: Form, f: &Fields, want: Want) -> Result<(), NoMemory>
     requires { IsBelow f.now (bounds form) }
     ensures { OnOk result
-        (string_bytes text.new ≡ string_bytes text.old ++ operands_text form f.now wants.now) }
+        (string_bytes text.new
+        ≡ string_bytes text.old ++ (codes ", " ++ operand_text form f.now want)) }
 {
-    if let Some((first, others)) = wants.split_first() {
-        append_listing_text(text, " ")?;
-        append_operand(text, form, f, *first)?;
-        append_other_operands(text, form, f, others)?;
-    }
-    Ok(())
+    append_listing_text(text, ", ")?;
+    append_operand(text, form, f, want)
 }

@@ -36,19 +36,6 @@ pub(crate) fn append_listing_address(text: &mut String, address: u32) -> Result<
     append_ascii(text, &line)
 }
 
-// Appends a number below 100, digit by digit.
-#[tactic(auto, using(crate::proofs::SmallNumbers::one_digit))]
-fn append_small_listing_number(text: &mut String, n: u32) -> Result<(), NoMemory>
-    requires { n < 100 }
-    ensures { OnOk result (string_bytes text.new ≡ string_bytes text.old ++ decimal n) }
-{
-    if n < 10 {
-        return append_listing_digit(text, n);
-    }
-    append_listing_digit(text, n / 10)?;
-    append_listing_digit(text, n % 10)
-}
-
 /// Appends a number in decimal.
 pub(crate) fn append_listing_decimal(text: &mut String, n: u32) -> Result<(), NoMemory>
     ensures { OnOk result (string_bytes text.new ≡ string_bytes text.old ++ decimal n) }
@@ -62,4 +49,17 @@ pub(crate) fn append_listing_decimal(text: &mut String, n: u32) -> Result<(), No
     }
     write!(text, "{n}")?;
     Ok(())
+}
+
+// Appends a number below 100, digit by digit.
+#[tactic(auto, using(crate::proofs::SmallNumbers::one_digit))]
+fn append_small_listing_number(text: &mut String, n: u32) -> Result<(), NoMemory>
+    requires { n < 100 }
+    ensures { OnOk result (string_bytes text.new ≡ string_bytes text.old ++ decimal n) }
+{
+    if n < 10 {
+        return append_listing_digit(text, n);
+    }
+    append_listing_digit(text, n / 10)?;
+    append_listing_digit(text, n % 10)
 }

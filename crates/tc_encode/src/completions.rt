@@ -11,6 +11,72 @@ use crate::forms::word_of_fields;
 use crate::index::index_by_first_byte;
 use tc_isa::{Fields, Inst, ROW_COUNT, Row, rows};
 
+/// Returns an instruction that has more than these `n` bytes and begins with them, if there is one.
+pub fn completion(first: u8, n: u8, part: u32) -> Option<Inst>
+    requires low { 1 ≤ n }
+    requires high { n < decoded_length first }
+    requires part { part < word_part_span n }
+    requires first { first ≡ part % 256 }
+    ensures some { IfSome result (GoesOn n part) }
+    ensures none { IfNone result ((i : InstData) → GoesOn n part i → ⊥) }
+{
+    let (starts, ends) = index_by_first_byte();
+    let place = usize::from(first);
+    completion_between(starts[place], ends[place], first, n, part)
+}
+
+/// Returns an instruction with these `n` low bytes, of a row from one place up to before another.
+fn completion_between(from: u8, to: u8, first: u8, n: u8, part: u32) -> Option<Inst>
+    requires places { to ≤ ROW_COUNT }
+    requires low { 1 ≤ n }
+    requires high { n < decoded_length first }
+    requires part { part < word_part_span n }
+    requires first { first ≡ part % 256 }
+    ensures some { IfSome result (GoesOn n part) }
+    ensures none { IfNone result
+        ((i : InstData) → GoesOn n part i → from ≤ i.row → i.row < to → ⊥) }
+{
+    for place in from..to {
+        if let Some(found) = completion_at(place, first, n, part) {
+            return Some(found);
+        }
+    }
+    None
+}
+
+/// Returns an instruction of the row at this place with these `n` low bytes, if the row's first
+/// code is the lowest of them.
+fn completion_at(place: u8, first: u8, n: u8, part: u32) -> Option<Inst>
+    requires place { place < ROW_COUNT }
+    requires low { 1 ≤ n }
+    requires high { n < decoded_length first }
+    requires part { part < word_part_span n }
+    requires first { first ≡ part % 256 }
+    ensures some { IfSome result (GoesOn n part) }
+    ensures none { IfNone result ((i : InstData) → GoesOn n part i → i.row ≡ place → ⊥) }
+{
+    let row = &rows()[usize::from(place)];
+    if row.op1 != first {
+        return None;
+    }
+    completion_by(place, row, n, part)
+}
+
+/// Returns an instruction of this row with these `n` low bytes, if there is one.
+fn completion_by(place: u8, row: &Row, n: u8, part: u32) -> Option<Inst>
+    requires place { slice_get listed place ≡ Some (row_of row.now) }
+    requires low { 1 ≤ n }
+    requires high { n ≤ 3 }
+    requires part { part < word_part_span n }
+    requires longer { n < decoded_row_length (row_of row.now) }
+    ensures some { IfSome result (GoesOn n part) }
+    ensures none { IfNone result ((i : InstData) → GoesOn n part i → i.row ≡ place → ⊥) }
+{
+    let rest = word_of_fields(row.form, row.op1, row.op2, &least_completion_fields(row));
+    let span = word_part_span(n);
+    decode_row_word(place, row, part + rest / span * span)
+}
+
 /// Returns the least fields that fit the row, which complete the low bytes of a word.
 fn least_completion_fields(row: &Row) -> Fields
     ensures { result ≡ least_fields (row_of row.now) }
@@ -42,70 +108,4 @@ fn word_part_span(n: u8) -> u32
         2 => 65536,
         _ => 16_777_216,
     }
-}
-
-/// Returns an instruction of this row with these `n` low bytes, if there is one.
-fn completion_by(place: u8, row: &Row, n: u8, part: u32) -> Option<Inst>
-    requires place { slice_get listed place ≡ Some (row_of row.now) }
-    requires low { 1 ≤ n }
-    requires high { n ≤ 3 }
-    requires part { part < word_part_span n }
-    requires longer { n < decoded_row_length (row_of row.now) }
-    ensures some { IfSome result (GoesOn n part) }
-    ensures none { IfNone result ((i : InstData) → GoesOn n part i → i.row ≡ place → ⊥) }
-{
-    let rest = word_of_fields(row.form, row.op1, row.op2, &least_completion_fields(row));
-    let span = word_part_span(n);
-    decode_row_word(place, row, part + rest / span * span)
-}
-
-/// Returns an instruction of the row at this place with these `n` low bytes, if the row's first
-/// code is the lowest of them.
-fn completion_at(place: u8, first: u8, n: u8, part: u32) -> Option<Inst>
-    requires place { place < ROW_COUNT }
-    requires low { 1 ≤ n }
-    requires high { n < decoded_length first }
-    requires part { part < word_part_span n }
-    requires first { first ≡ part % 256 }
-    ensures some { IfSome result (GoesOn n part) }
-    ensures none { IfNone result ((i : InstData) → GoesOn n part i → i.row ≡ place → ⊥) }
-{
-    let row = &rows()[usize::from(place)];
-    if row.op1 != first {
-        return None;
-    }
-    completion_by(place, row, n, part)
-}
-
-/// Returns an instruction with these `n` low bytes, of a row from one place up to before another.
-fn completion_between(from: u8, to: u8, first: u8, n: u8, part: u32) -> Option<Inst>
-    requires places { to ≤ ROW_COUNT }
-    requires low { 1 ≤ n }
-    requires high { n < decoded_length first }
-    requires part { part < word_part_span n }
-    requires first { first ≡ part % 256 }
-    ensures some { IfSome result (GoesOn n part) }
-    ensures none { IfNone result
-        ((i : InstData) → GoesOn n part i → from ≤ i.row → i.row < to → ⊥) }
-{
-    for place in from..to {
-        if let Some(found) = completion_at(place, first, n, part) {
-            return Some(found);
-        }
-    }
-    None
-}
-
-/// Returns an instruction that has more than these `n` bytes and begins with them, if there is one.
-pub fn completion(first: u8, n: u8, part: u32) -> Option<Inst>
-    requires low { 1 ≤ n }
-    requires high { n < decoded_length first }
-    requires part { part < word_part_span n }
-    requires first { first ≡ part % 256 }
-    ensures some { IfSome result (GoesOn n part) }
-    ensures none { IfNone result ((i : InstData) → GoesOn n part i → ⊥) }
-{
-    let (starts, ends) = index_by_first_byte();
-    let place = usize::from(first);
-    completion_between(starts[place], ends[place], first, n, part)
 }

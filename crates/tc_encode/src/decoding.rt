@@ -12,44 +12,6 @@ use crate::forms::{fields_of_word, word_of_fields};
 use crate::word_search::find_by_word;
 use tc_isa::{Form, Inst, Row, inst};
 
-/// Decodes four bytes, the first of which is odd.
-fn long_word(a: u8, b: u8, c: u8, d: u8) -> Result<(Inst, usize), DecodeErr>
-    requires { a % 2 ≡ 1 }
-    ensures { (rest : List ℕ) → decoded_of (a ∷ b ∷ c ∷ d ∷ rest) ≡ result }
-{
-    match find_by_word(u32::from_le_bytes([a, b, c, d])) {
-        Some(found) => Ok((found, 4)),
-        None => Err(DecodeErr::NotListed),
-    }
-}
-
-/// Decodes two bytes, the first of which is even.
-fn short_word(a: u8, b: u8) -> Result<(Inst, usize), DecodeErr>
-    requires { a % 2 ≡ 0 }
-    ensures { (rest : List ℕ) → decoded_of (a ∷ b ∷ rest) ≡ result }
-{
-    match find_by_word(u32::from(a) + u32::from(b) * 256) {
-        Some(found) => Ok((found, 2)),
-        None => Err(DecodeErr::NotListed),
-    }
-}
-
-/// Returns why these `n` bytes, as the number `part`, are no instruction: too few, or not listed.
-fn decode_refusal(first: u8, n: u8, part: u32) -> DecodeErr
-    requires low { 1 ≤ n }
-    requires high { n < decoded_length first }
-    requires first { first ≡ part % 256 }
-    requires part { part < 256 ^ n }
-    ensures { (bytes : List ℕ) → length bytes ≡ n → All (λ b. b < 256) bytes
-        → number_of_bytes bytes ≡ part
-        → decoded_of bytes ≡ Err result }
-{
-    match completion(first, n, part) {
-        Some(_) => DecodeErr::Short,
-        None => DecodeErr::NotListed,
-    }
-}
-
 /// Returns the instruction that the bytes begin with, and its length in bytes. If there is none,
 /// the answer is `Short` exactly if the bytes are the beginning of a listed instruction, and else
 /// `NotListed`.
@@ -65,6 +27,30 @@ pub fn decode(bytes: &[u8]) -> Result<(Inst, usize), DecodeErr>
         ↔ ((IsFront bytes.now → ⊥) × ((i : InstData) (n : ℕ) → Begins bytes.now i n → ⊥)) }
 {
     decode_by_first(bytes)
+}
+
+/// Returns the instruction of this row if the word is one.
+pub(crate) fn decode_row_word(place: u8, row: &Row, w: u32) -> Option<Inst>
+    requires { slice_get listed place ≡ Some (row_of row.now) }
+    ensures some { IfSome result (Makes w) }
+    ensures place { IfSome result (λ i. i.row ≡ place) }
+    ensures none { IfNone result ((i : InstData) → Makes w i → i.row ≡ place → ⊥) }
+{
+    let f = fields_of_word(row.form, w);
+    let Some(found) = inst(place, f.c, f.s1, f.s2, f.n, f.k) else {
+        return None;
+    };
+    if word_of_fields(row.form, row.op1, row.op2, &f) != w {
+        return None;
+    }
+    Some(found)
+}
+
+/// Returns the length of an instruction whose first byte is this one: 4 bytes if it is odd, else 2.
+pub(crate) fn decoded_length(first: u8) -> u8
+    ensures { result ≡ decoded_length first }
+{
+    if first % 2 == 1 { 4 } else { 2 }
 }
 
 /// Decodes by the first byte: bit 0 of it gives the length.
@@ -111,26 +97,40 @@ fn decode_short(bytes: &[u8]) -> Result<(Inst, usize), DecodeErr>
     }
 }
 
-/// Returns the instruction of this row if the word is one.
-pub(crate) fn decode_row_word(place: u8, row: &Row, w: u32) -> Option<Inst>
-    requires { slice_get listed place ≡ Some (row_of row.now) }
-    ensures some { IfSome result (Makes w) }
-    ensures place { IfSome result (λ i. i.row ≡ place) }
-    ensures none { IfNone result ((i : InstData) → Makes w i → i.row ≡ place → ⊥) }
+/// Returns why these `n` bytes, as the number `part`, are no instruction: too few, or not listed.
+fn decode_refusal(first: u8, n: u8, part: u32) -> DecodeErr
+    requires low { 1 ≤ n }
+    requires high { n < decoded_length first }
+    requires first { first ≡ part % 256 }
+    requires part { part < 256 ^ n }
+    ensures { (bytes : List ℕ) → length bytes ≡ n → All (λ b. b < 256) bytes
+        → number_of_bytes bytes ≡ part
+        → decoded_of bytes ≡ Err result }
 {
-    let f = fields_of_word(row.form, w);
-    let Some(found) = inst(place, f.c, f.s1, f.s2, f.n, f.k) else {
-        return None;
-    };
-    if word_of_fields(row.form, row.op1, row.op2, &f) != w {
-        return None;
+    match completion(first, n, part) {
+        Some(_) => DecodeErr::Short,
+        None => DecodeErr::NotListed,
     }
-    Some(found)
 }
 
-/// Returns the length of an instruction whose first byte is this one: 4 bytes if it is odd, else 2.
-pub(crate) fn decoded_length(first: u8) -> u8
-    ensures { result ≡ decoded_length first }
+/// Decodes four bytes, the first of which is odd.
+fn long_word(a: u8, b: u8, c: u8, d: u8) -> Result<(Inst, usize), DecodeErr>
+    requires { a % 2 ≡ 1 }
+    ensures { (rest : List ℕ) → decoded_of (a ∷ b ∷ c ∷ d ∷ rest) ≡ result }
 {
-    if first % 2 == 1 { 4 } else { 2 }
+    match find_by_word(u32::from_le_bytes([a, b, c, d])) {
+        Some(found) => Ok((found, 4)),
+        None => Err(DecodeErr::NotListed),
+    }
+}
+
+/// Decodes two bytes, the first of which is even.
+fn short_word(a: u8, b: u8) -> Result<(Inst, usize), DecodeErr>
+    requires { a % 2 ≡ 0 }
+    ensures { (rest : List ℕ) → decoded_of (a ∷ b ∷ rest) ≡ result }
+{
+    match find_by_word(u32::from(a) + u32::from(b) * 256) {
+        Some(found) => Ok((found, 2)),
+        None => Err(DecodeErr::NotListed),
+    }
 }

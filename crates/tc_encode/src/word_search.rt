@@ -27,14 +27,6 @@ pub fn find_by_word(w: u32) -> Option<Inst>
     find_word_at(place, first, second, w)
 }
 
-/// Returns the second code of the word, in the form of the rows that begin with this byte.
-fn second_by(first: u8, w: u32) -> u8
-    ensures { (place : ℕ) (r : RowData) → slice_get listed place ≡ Some r → r.op1 ≡ first
-        → result ≡ second_code_by_form r.form w }
-{
-    second_code(form_by(first), w)
-}
-
 /// Returns the instruction of this row, which has the word's codes, if the rest of the word is its
 /// spelling.
 pub(crate) fn find_word_in_row(place: u8, row: &Row, w: u32) -> Option<Inst>
@@ -66,6 +58,35 @@ pub(crate) fn find_word_in_row(place: u8, row: &Row, w: u32) -> Option<Inst>
     })
 }
 
+/// Returns the instruction of the row at this place if it has these codes and the word.
+pub(crate) fn find_word_at(place: u8, first: u8, second: u8, w: u32) -> Option<Inst>
+    requires place { place < ROW_COUNT }
+    requires first { first ≡ w % 256 }
+    requires second { (r : RowData) → slice_get listed place ≡ Some r → r.op1 ≡ first
+        → second ≡ second_code_by_form r.form w }
+    requires short { w % 2 ≡ 0 → w < 2 ^ 16 }
+    ensures some { IfSome result (Makes w) }
+    ensures none { IfNone result ((i : InstData) → Makes w i → i.row ≡ place → ⊥) }
+{
+    let at = usize::from(place);
+    let row = &rows()[at];
+    if row.op1 != first {
+        return None;
+    }
+    if row.op2 != second {
+        return None;
+    }
+    find_word_in_row(place, row, w)
+}
+
+/// Returns the second code of the word, in the form of the rows that begin with this byte.
+fn second_by(first: u8, w: u32) -> u8
+    ensures { (place : ℕ) (r : RowData) → slice_get listed place ≡ Some r → r.op1 ≡ first
+        → result ≡ second_code_by_form r.form w }
+{
+    second_code(form_by(first), w)
+}
+
 /// Returns true if all bits of a word that its form has for no field are 0.
 #[tactic(auto, unfolding(crate::specs::WordSearch::has_zero_word_gaps))]
 fn has_zero_word_gaps(form: Form, w: u32) -> bool
@@ -87,25 +108,4 @@ fn has_zero_other_fields(place: u8, row: &Row, f: &Fields) -> bool
 {
     let at = usize::from(place);
     plain_rows()[at] || is_zero_elsewhere(&uses()[at], f)
-}
-
-/// Returns the instruction of the row at this place if it has these codes and the word.
-pub(crate) fn find_word_at(place: u8, first: u8, second: u8, w: u32) -> Option<Inst>
-    requires place { place < ROW_COUNT }
-    requires first { first ≡ w % 256 }
-    requires second { (r : RowData) → slice_get listed place ≡ Some r → r.op1 ≡ first
-        → second ≡ second_code_by_form r.form w }
-    requires short { w % 2 ≡ 0 → w < 2 ^ 16 }
-    ensures some { IfSome result (Makes w) }
-    ensures none { IfNone result ((i : InstData) → Makes w i → i.row ≡ place → ⊥) }
-{
-    let at = usize::from(place);
-    let row = &rows()[at];
-    if row.op1 != first {
-        return None;
-    }
-    if row.op2 != second {
-        return None;
-    }
-    find_word_in_row(place, row, w)
 }

@@ -45,6 +45,15 @@ pub fn inst(row: u8, c: u8, s1: u8, s2: u8, n: u8, k: u32) -> Option<Inst>
     })
 }
 
+/// Returns true if the row allows these registers: an address register that is loaded or stored
+/// with post-increment can't be the base too.
+#[inline(always)]
+pub fn are_registers_apart(row: &Row, f: &Fields) -> bool
+    ensures { result ≡ are_registers_apart (row_of row.now) f.now }
+{
+    !((row.op1 == LOAD_AFTER || row.op1 == STORE_AFTER) && row.op2 == OF_ADDRESS) || f.s1 != f.s2
+}
+
 /// Returns true if the fields fit the row, so that an instruction can be built from them.
 fn are_fitting_fields(row: &Row, uses: &Uses, fields: &Fields) -> bool
     requires { uses.now ≡ uses_of (row_of row.now) }
@@ -53,13 +62,4 @@ fn are_fitting_fields(row: &Row, uses: &Uses, fields: &Fields) -> bool
     are_below_bounds(fields, &bounds_of(row.form))
         && is_zero_elsewhere(uses, fields)
         && are_registers_apart(row, fields)
-}
-
-/// Returns true if the row allows these registers: an address register that is loaded or stored
-/// with post-increment can't be the base too.
-#[inline(always)]
-pub fn are_registers_apart(row: &Row, f: &Fields) -> bool
-    ensures { result ≡ are_registers_apart (row_of row.now) f.now }
-{
-    !((row.op1 == LOAD_AFTER || row.op1 == STORE_AFTER) && row.op2 == OF_ADDRESS) || f.s1 != f.s2
 }

@@ -26,6 +26,32 @@ pub fn shape(inst: &Inst) -> Shape
     shape_from_fields(&row_meanings()[usize::from(inst.row)], &fields)
 }
 
+/// A law of `shape`, what an instruction does: registers are below 32, words below 2^32, and sizes
+/// 1, 2 or 4; and the table of meanings has the names of the rows.
+pub fn shape_laws()
+    ensures bounded { (i : InstData) → IsInst i → IsShape (shape_of i) }
+    ensures names { map (λ l. l.name) meanings ≡ map (λ r. r.name) listed }
+{}
+
+/// Returns the word that a constant has in what an instruction does (its shape), by the meaning of
+/// its row.
+pub(crate) fn shape_constant(constant: Immediate, f: &Fields) -> u32
+    ensures { result ≡ shape_constant constant f.now }
+{
+    match constant {
+        Immediate::Zero => 0,
+        Immediate::Signed4 => sext(f.k % 16, 4),
+        Immediate::Signed9 => sext(f.k % 512, 9),
+        Immediate::Signed10 => sext(f.k % 1024, 10),
+        Immediate::Signed16 => sext(f.k % 65536, 16),
+        Immediate::Unsigned => f.k,
+        Immediate::High => f.k.wrapping_mul(65536),
+        Immediate::Address => f.k / 16384 % 16 * 268_435_456 + f.k % 16384,
+        Immediate::SignedS2 => sext(u32::from(f.s2 % 16), 4),
+        Immediate::UnsignedS2 => u32::from(f.s2),
+    }
+}
+
 /// Returns what an instruction of this meaning does with these fields.
 fn shape_from_fields(meaning: &Meaning, f: &Fields) -> Shape
     requires { AreSmall f.now }
@@ -140,31 +166,5 @@ fn shape_target(goal: Destination, f: &Fields) -> Target
         Destination::By(by) => Target::Rel(shape_distance(by, f)),
         Destination::Code => Target::Abs(f.k / 1_048_576 % 16 * 268_435_456 + f.k % 1_048_576 * 2),
         Destination::In(place) => Target::Reg(shape_register(place, f)),
-    }
-}
-
-/// A law of `shape`, what an instruction does: registers are below 32, words below 2^32, and sizes
-/// 1, 2 or 4; and the table of meanings has the names of the rows.
-pub fn shape_laws()
-    ensures bounded { (i : InstData) → IsInst i → IsShape (shape_of i) }
-    ensures names { map (λ l. l.name) meanings ≡ map (λ r. r.name) listed }
-{}
-
-/// Returns the word that a constant has in what an instruction does (its shape), by the meaning of
-/// its row.
-pub(crate) fn shape_constant(constant: Immediate, f: &Fields) -> u32
-    ensures { result ≡ shape_constant constant f.now }
-{
-    match constant {
-        Immediate::Zero => 0,
-        Immediate::Signed4 => sext(f.k % 16, 4),
-        Immediate::Signed9 => sext(f.k % 512, 9),
-        Immediate::Signed10 => sext(f.k % 1024, 10),
-        Immediate::Signed16 => sext(f.k % 65536, 16),
-        Immediate::Unsigned => f.k,
-        Immediate::High => f.k.wrapping_mul(65536),
-        Immediate::Address => f.k / 16384 % 16 * 268_435_456 + f.k % 16384,
-        Immediate::SignedS2 => sext(u32::from(f.s2 % 16), 4),
-        Immediate::UnsignedS2 => u32::from(f.s2),
     }
 }

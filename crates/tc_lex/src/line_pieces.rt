@@ -8,17 +8,6 @@ use crate::longest_token::longest_token_at;
 use crate::pieces::Piece;
 use crate::scratch::Scratch;
 
-// The token of this kind and length at the byte offset `at`, with its text.
-fn piece_at(line: &[u8], kind: TokenKind, at: usize, len: usize) -> Piece<'_>
-    requires { at + len ≤ length line.now }
-    ensures { piece_of result ≡ piece_in line.now (token kind at len) }
-{
-    Piece {
-        kind,
-        text: &line[at..at + len],
-    }
-}
-
 /// Cuts a line into tokens with their texts, which replace the contents of `out`. The error is the
 /// offset of the first byte that begins no token, or a 65th one.
 pub fn cut_pieces<'a>(line: &'a [u8], out: &mut Scratch<Piece<'a>, 64>) -> Result<(), usize>
@@ -43,4 +32,15 @@ pub fn cut_pieces<'a>(line: &'a [u8], out: &mut Scratch<Piece<'a>, 64>) -> Resul
         }
     }
     Ok(())
+}
+
+// The token of this kind and length at the byte offset `at`, with its text.
+fn piece_at(line: &[u8], kind: TokenKind, at: usize, len: usize) -> Piece<'_>
+    requires { at + len ≤ length line.now }
+    ensures { piece_of result ≡ piece_in line.now (token kind at len) }
+{
+    Piece {
+        kind,
+        text: &line[at..at + len],
+    }
 }

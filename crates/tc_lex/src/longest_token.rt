@@ -10,42 +10,13 @@ use crate::kinds::{Front, TokenKind};
 use crate::numbers::has_hex_front;
 use tcd_base::{is_name_byte, is_name_first};
 
-/// The number of decimal digits that the text begins with.
-fn digits_len(rest: &[u8]) -> usize
-    ensures value { result ≡ prefix_len is_digit rest.now }
-    ensures within { result ≤ length rest.now }
+/// The longest token at byte `at` of a line, or the blank, end or bad byte there.
+pub(crate) fn longest_token_at(line: &[u8], at: usize) -> Front
+    requires { at < length line.now }
+    ensures value { result ≡ token_front_of (drop at line.now) }
+    ensures within { IsTokenWithin result (length line.now - at) }
 {
-    rest.iter().take_while(|c| is_digit(**c)).count()
-}
-
-/// The number of hex digits that the text begins with.
-fn hex_len(rest: &[u8]) -> usize
-    ensures value { result ≡ prefix_len is_hex rest.now }
-    ensures within { result ≤ length rest.now }
-{
-    rest.iter().take_while(|c| is_hex(**c)).count()
-}
-
-/// The length of the word token that the text begins with.
-fn word_len(rest: &[u8]) -> usize
-    ensures value { result ≡ prefix_len is_name_byte rest.now }
-    ensures within { result ≤ length rest.now }
-{
-    rest.iter().take_while(|c| is_name_byte(**c)).count()
-}
-
-/// The length of the number token that the text begins with.
-#[tactic(auto, unfolding(crate::specs::Cut::number_len))]
-fn number_len(rest: &[u8]) -> usize
-    ensures value { result ≡ number_len rest.now }
-    ensures within { result ≤ length rest.now }
-    ensures some { 0 < length rest.now → is_digit (slice_index rest.now 0) ≡ true → 0 < result }
-{
-    if has_hex_front(rest) {
-        2 + hex_len(&rest[2..])
-    } else {
-        digits_len(rest)
-    }
+    token_front_by_byte(line[at], &line[at..])
 }
 
 // What the text begins with; `c` is its first byte.
@@ -83,11 +54,40 @@ fn token_front_by_byte(c: u8, text: &[u8]) -> Front
     }
 }
 
-/// The longest token at byte `at` of a line, or the blank, end or bad byte there.
-pub(crate) fn longest_token_at(line: &[u8], at: usize) -> Front
-    requires { at < length line.now }
-    ensures value { result ≡ token_front_of (drop at line.now) }
-    ensures within { IsTokenWithin result (length line.now - at) }
+/// The length of the word token that the text begins with.
+fn word_len(rest: &[u8]) -> usize
+    ensures value { result ≡ prefix_len is_name_byte rest.now }
+    ensures within { result ≤ length rest.now }
 {
-    token_front_by_byte(line[at], &line[at..])
+    rest.iter().take_while(|c| is_name_byte(**c)).count()
+}
+
+/// The length of the number token that the text begins with.
+#[tactic(auto, unfolding(crate::specs::Cut::number_len))]
+fn number_len(rest: &[u8]) -> usize
+    ensures value { result ≡ number_len rest.now }
+    ensures within { result ≤ length rest.now }
+    ensures some { 0 < length rest.now → is_digit (slice_index rest.now 0) ≡ true → 0 < result }
+{
+    if has_hex_front(rest) {
+        2 + hex_len(&rest[2..])
+    } else {
+        digits_len(rest)
+    }
+}
+
+/// The number of hex digits that the text begins with.
+fn hex_len(rest: &[u8]) -> usize
+    ensures value { result ≡ prefix_len is_hex rest.now }
+    ensures within { result ≤ length rest.now }
+{
+    rest.iter().take_while(|c| is_hex(**c)).count()
+}
+
+/// The number of decimal digits that the text begins with.
+fn digits_len(rest: &[u8]) -> usize
+    ensures value { result ≡ prefix_len is_digit rest.now }
+    ensures within { result ≤ length rest.now }
+{
+    rest.iter().take_while(|c| is_digit(**c)).count()
 }

@@ -6,60 +6,6 @@ ghost use Rattle.tc_lex.specs.Cut.{has_hex_front};
 
 use crate::bytes::is_hex;
 
-// The value of a digit of base 10 or 16.
-#[tactic(auto, unfolding(crate::specs::Numbers::token_digit_value, crate::specs::Bytes::is_digit))]
-fn token_digit_value(c: u8) -> u8
-    ensures { result ≡ token_digit_value c }
-{
-    if b'0' <= c && c <= b'9' {
-        c - b'0'
-    } else if b'a' <= c {
-        c - (b'a' - 10)
-    } else {
-        c.saturating_sub(b'A' - 10)
-    }
-}
-
-/// The number of a token with one more digit, if it is below 2^128.
-#[tactic(auto, unfolding(crate::specs::Numbers::add_digit), using(crate::proofs::SmallTimes::small_times))]
-fn add_digit(base: u8, so_far: Option<u128>, c: u8) -> Option<u128>
-    ensures { result ≡ add_digit base so_far c }
-{
-    match so_far {
-        None => None,
-        Some(n) => {
-            if n < 0x1_0000_0000_0000_0000 {
-                Some(n * u128::from(base) + u128::from(token_digit_value(c)))
-            } else {
-                add_far_digit(base, n, c)
-            }
-        }
-    }
-}
-
-// Adds a digit to a number of 2^64 or more, for which the product may not fit 128 bits.
-#[inline(never)]
-#[tactic(auto, unfolding(crate::specs::Numbers::add_digit))]
-fn add_far_digit(base: u8, n: u128, c: u8) -> Option<u128>
-    ensures { result ≡ add_digit base (Some n) c }
-{
-    match n.checked_mul(u128::from(base)) {
-        None => None,
-        Some(shifted) => shifted.checked_add(u128::from(token_digit_value(c))),
-    }
-}
-
-/// The number that these digits of a token spell, if it is below 2^128.
-fn number_by_digits(base: u8, text: &[u8]) -> Option<u128>
-    ensures { result ≡ number_by_digits base text.now }
-{
-    let mut so_far = Some(0);
-    for c in text {
-        so_far = add_digit(base, so_far, *c);
-    }
-    so_far
-}
-
 /// The number that a token spells, if it is below 2^128.
 #[tactic(auto, unfolding(crate::specs::Numbers::token_number))]
 pub(crate) fn token_number(text: &[u8]) -> Option<u128>
@@ -79,4 +25,58 @@ pub(crate) fn has_hex_front(rest: &[u8]) -> bool
     ensures long { IsTrue result → 2 < length rest.now }
 {
     rest.len() > 2 && rest[0] == b'0' && rest[1] == b'x' && is_hex(rest[2])
+}
+
+/// The number that these digits of a token spell, if it is below 2^128.
+fn number_by_digits(base: u8, text: &[u8]) -> Option<u128>
+    ensures { result ≡ number_by_digits base text.now }
+{
+    let mut so_far = Some(0);
+    for c in text {
+        so_far = add_digit(base, so_far, *c);
+    }
+    so_far
+}
+
+/// The number of a token with one more digit, if it is below 2^128.
+#[tactic(auto, unfolding(crate::specs::Numbers::add_digit), using(crate::proofs::SmallTimes::small_times))]
+fn add_digit(base: u8, so_far: Option<u128>, c: u8) -> Option<u128>
+    ensures { result ≡ add_digit base so_far c }
+{
+    match so_far {
+        None => None,
+        Some(n) => {
+            if n < 0x1_0000_0000_0000_0000 {
+                Some(n * u128::from(base) + u128::from(token_digit_value(c)))
+            } else {
+                add_far_digit(base, n, c)
+            }
+        }
+    }
+}
+
+// The value of a digit of base 10 or 16.
+#[tactic(auto, unfolding(crate::specs::Numbers::token_digit_value, crate::specs::Bytes::is_digit))]
+fn token_digit_value(c: u8) -> u8
+    ensures { result ≡ token_digit_value c }
+{
+    if b'0' <= c && c <= b'9' {
+        c - b'0'
+    } else if b'a' <= c {
+        c - (b'a' - 10)
+    } else {
+        c.saturating_sub(b'A' - 10)
+    }
+}
+
+// Adds a digit to a number of 2^64 or more, for which the product may not fit 128 bits.
+#[inline(never)]
+#[tactic(auto, unfolding(crate::specs::Numbers::add_digit))]
+fn add_far_digit(base: u8, n: u128, c: u8) -> Option<u128>
+    ensures { result ≡ add_digit base (Some n) c }
+{
+    match n.checked_mul(u128::from(base)) {
+        None => None,
+        Some(shifted) => shifted.checked_add(u128::from(token_digit_value(c))),
+    }
 }

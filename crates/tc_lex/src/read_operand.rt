@@ -12,192 +12,33 @@ use crate::same_bytes::is_same_text;
 use crate::scratch::Scratch;
 use crate::split_operands::operands;
 
-/// The value of an operand with this form, name, sign and number.
-fn make_operand_value(shape: Shape, name: &[u8], minus: bool, size: u128) -> Value<'_>
-    ensures { value_of result ≡ data_of shape name.now minus size }
+/// Adds the operand that these tokens spell to the list. Each arm of one token builds the operand
+/// in the list, so that its 80 bytes aren't copied.
+pub(crate) fn put_operand<'a>(ps: &[Piece<'a>], out: &mut Scratch<Operand<'a>, 65>)
+    requires { length out.old.items < 65 }
+    ensures operands { map operand_of out.new.items
+        ≡ map operand_of out.old.items ++ operand (map piece_of ps.now) ∷ [] }
+    ensures one_more { length out.new.items ≡ length out.old.items + 1 }
 {
-    Value {
-        shape,
-        name,
-        minus,
-        size,
-        wide: false,
-    }
-}
-
-/// Returns the value that is read from a number alone; `None` is a number of 2^128 or more.
-fn plain_number<'a>(minus: bool, n: Option<u128>) -> Value<'a>
-    ensures { value_of result ≡ number_value minus n }
-{
-    match n {
-        Some(size) => make_operand_value(Shape::Number, &[], minus, size),
-        None => make_operand_value(Shape::Huge, &[], minus, 0),
-    }
-}
-
-// The value that is a name plus a number; `None` is a number of 2^128 or more.
-fn add_number(shape: Shape, name: &[u8], minus: bool, n: Option<u128>) -> Value<'_>
-    ensures { value_of result ≡ sum_value shape name.now minus n }
-{
-    match n {
-        Some(size) => make_operand_value(shape, name, minus, size),
-        None => Value {
-            wide: true,
-            ..make_operand_value(shape, name, minus, 0)
-        },
-    }
-}
-
-/// Reads a number with an optional `-` that ends the operand: the sign, and the number.
-#[tactic(auto, unfolding(crate::specs::Operands::operand_number_at))]
-fn operand_number_at(ps: &[Piece], at: usize) -> Option<(bool, Option<u128>)>
-    requires { at ≤ length ps.now }
-    ensures { result ≡ operand_number_at (map piece_of ps.now) at }
-{
-    if is_kind(ps, at, TokenKind::Number) && ps.len() - at == 1 {
-        Some((false, token_number(text_at(ps, at))))
-    } else if is_kind(ps, at, TokenKind::Minus)
-        && ps.len() - at == 2
-        && is_kind(ps, at + 1, TokenKind::Number)
-    {
-        Some((true, token_number(text_at(ps, at + 1))))
+    if ps.len() != 1 {
+        put_longer(ps, out);
+    } else if is_kind(ps, 0, TokenKind::Word) {
+        push_operand(lone_word(ps), out);
+    } else if is_kind(ps, 0, TokenKind::Number) {
+        push_operand(lone_number(ps), out);
     } else {
-        None
+        put_longer(ps, out);
     }
 }
 
-// Reads the name at this token, with the number that is added to it.
-#[inline(never)]
-#[tactic(auto, unfolding(crate::specs::Operands::sum_at))]
-fn name_plus_number_at<'a>(ps: &[Piece<'a>], at: usize, plain: Shape, summed: Shape) -> Value<'a>
-    requires place { at ≤ length ps.now }
-    requires word { is_kind_at (map piece_of ps.now) at Word ≡ true }
-    requires more { length ps.now ≢ at + 1 }
-    ensures { value_of result ≡ sum_at (map piece_of ps.now) at plain summed }
+/// Adds an operand, once it is read from its tokens, to the list.
+pub(crate) fn push_operand<'a>(operand: Operand<'a>, out: &mut Scratch<Operand<'a>, 65>)
+    requires { length out.old.items < 65 }
+    ensures operands { map operand_of out.new.items
+        ≡ map operand_of out.old.items ++ operand_of operand.entry ∷ [] }
+    ensures one_more { length out.new.items ≡ length out.old.items + 1 }
 {
-    if is_kind(ps, at + 1, TokenKind::Plus) {
-        match operand_number_at(ps, at + 2) {
-            Some((minus, n)) => add_number(summed, text_at(ps, at), minus, n),
-            None => make_operand_value(Shape::Bad, &[], false, 0),
-        }
-    } else if is_kind(ps, at + 1, TokenKind::Minus) {
-        match operand_number_at(ps, at + 2) {
-            Some((minus, n)) => add_number(summed, text_at(ps, at), !minus, n),
-            None => make_operand_value(Shape::Bad, &[], false, 0),
-        }
-    } else {
-        make_operand_value(Shape::Bad, &[], false, 0)
-    }
-}
-
-/// Reads the name at this token, with or without a number added, as a value.
-#[tactic(auto, unfolding(crate::specs::Operands::sum_at))]
-fn sum_at<'a>(ps: &[Piece<'a>], at: usize, plain: Shape, summed: Shape) -> Value<'a>
-    requires { at ≤ length ps.now }
-    ensures { value_of result ≡ sum_at (map piece_of ps.now) at plain summed }
-{
-    if is_kind(ps, at, TokenKind::Word) {
-        if ps.len() - at == 1 {
-            make_operand_value(plain, text_at(ps, at), false, 0)
-        } else {
-            name_plus_number_at(ps, at, plain, summed)
-        }
-    } else {
-        make_operand_value(Shape::Bad, &[], false, 0)
-    }
-}
-
-// Reads the upper or lower half of a symbol, as in `hi:NAME`.
-#[inline(never)]
-#[tactic(auto, unfolding(crate::specs::Operands::named_at))]
-fn half_at<'a>(ps: &[Piece<'a>], at: usize) -> Value<'a>
-    requires place { at + 1 < length ps.now }
-    requires colon { is_kind_at (map piece_of ps.now) (at + 1) Colon ≡ true }
-    ensures { value_of result ≡ named_at (map piece_of ps.now) at }
-{
-    let name = text_at(ps, at);
-    if is_same_text(name, "hi") {
-        sum_at(ps, at + 2, Shape::High, Shape::High)
-    } else if is_same_text(name, "lo") {
-        sum_at(ps, at + 2, Shape::Low, Shape::Low)
-    } else {
-        make_operand_value(Shape::Bad, &[], false, 0)
-    }
-}
-
-/// Reads a symbol, or its upper or lower half, at this token as a value.
-#[tactic(auto, unfolding(crate::specs::Operands::named_at))]
-fn named_at<'a>(ps: &[Piece<'a>], at: usize) -> Value<'a>
-    requires { at ≤ length ps.now }
-    ensures { value_of result ≡ named_at (map piece_of ps.now) at }
-{
-    if is_kind(ps, at + 1, TokenKind::Colon) {
-        half_at(ps, at)
-    } else {
-        sum_at(ps, at, Shape::Word, Shape::Sum)
-    }
-}
-
-/// Reads the value of an operand from this token to the end.
-#[tactic(auto, unfolding(crate::specs::Operands::operand_value_at), using(crate::proofs::NumberTokens::word_no_number))]
-fn operand_value_at<'a>(ps: &[Piece<'a>], at: usize) -> Value<'a>
-    requires { at ≤ length ps.now }
-    ensures { value_of result ≡ operand_value_at (map piece_of ps.now) at }
-{
-    if ps.len() == at {
-        make_operand_value(Shape::Absent, &[], false, 0)
-    } else if is_kind(ps, at, TokenKind::Word) {
-        named_at(ps, at)
-    } else {
-        match operand_number_at(ps, at) {
-            Some((minus, n)) => plain_number(minus, n),
-            None => named_at(ps, at),
-        }
-    }
-}
-
-/// Returns the operand that is read from a value alone, without brackets.
-fn plain_operand(value: Value<'_>) -> Operand<'_>
-    ensures { operand_of result ≡ plain_of (value_of value.entry) }
-{
-    Operand {
-        is_memory: false,
-        plus: false,
-        base: &[],
-        value,
-    }
-}
-
-/// The operand `[BASE]` or `[BASE+]`, followed by a value.
-fn bracketed_operand<'a>(plus: bool, base: &'a [u8], value: Value<'a>) -> Operand<'a>
-    ensures { operand_of result ≡ memory_of plus base.now (value_of value.entry) }
-{
-    Operand {
-        is_memory: true,
-        plus,
-        base,
-        value,
-    }
-}
-
-// Reads an operand that begins with a `[`.
-#[inline(never)]
-#[tactic(auto, unfolding(crate::specs::Operands::operand))]
-fn memory_operand<'a>(ps: &[Piece<'a>]) -> Operand<'a>
-    requires { is_kind_at (map piece_of ps.now) 0 Open ≡ true }
-    ensures { operand_of result ≡ operand (map piece_of ps.now) }
-{
-    if is_kind(ps, 1, TokenKind::Word) {
-        if is_kind(ps, 2, TokenKind::Close) {
-            bracketed_operand(false, text_at(ps, 1), operand_value_at(ps, 3))
-        } else if is_kind(ps, 2, TokenKind::Plus) && is_kind(ps, 3, TokenKind::Close) {
-            bracketed_operand(true, text_at(ps, 1), operand_value_at(ps, 4))
-        } else {
-            plain_operand(make_operand_value(Shape::Bad, &[], false, 0))
-        }
-    } else {
-        plain_operand(make_operand_value(Shape::Bad, &[], false, 0))
-    }
+    out.push(operand);
 }
 
 /// Reads an operand that isn't a single word or number, and adds it to the list. Its locals are
@@ -235,31 +76,190 @@ fn lone_number<'a>(ps: &[Piece<'a>]) -> Operand<'a>
     plain_operand(plain_number(false, token_number(text_at(ps, 0))))
 }
 
-/// Adds the operand that these tokens spell to the list. Each arm of one token builds the operand
-/// in the list, so that its 80 bytes aren't copied.
-pub(crate) fn put_operand<'a>(ps: &[Piece<'a>], out: &mut Scratch<Operand<'a>, 65>)
-    requires { length out.old.items < 65 }
-    ensures operands { map operand_of out.new.items
-        ≡ map operand_of out.old.items ++ operand (map piece_of ps.now) ∷ [] }
-    ensures one_more { length out.new.items ≡ length out.old.items + 1 }
+// Reads an operand that begins with a `[`.
+#[inline(never)]
+#[tactic(auto, unfolding(crate::specs::Operands::operand))]
+fn memory_operand<'a>(ps: &[Piece<'a>]) -> Operand<'a>
+    requires { is_kind_at (map piece_of ps.now) 0 Open ≡ true }
+    ensures { operand_of result ≡ operand (map piece_of ps.now) }
 {
-    if ps.len() != 1 {
-        put_longer(ps, out);
-    } else if is_kind(ps, 0, TokenKind::Word) {
-        push_operand(lone_word(ps), out);
-    } else if is_kind(ps, 0, TokenKind::Number) {
-        push_operand(lone_number(ps), out);
+    if is_kind(ps, 1, TokenKind::Word) {
+        if is_kind(ps, 2, TokenKind::Close) {
+            bracketed_operand(false, text_at(ps, 1), operand_value_at(ps, 3))
+        } else if is_kind(ps, 2, TokenKind::Plus) && is_kind(ps, 3, TokenKind::Close) {
+            bracketed_operand(true, text_at(ps, 1), operand_value_at(ps, 4))
+        } else {
+            plain_operand(make_operand_value(Shape::Bad, &[], false, 0))
+        }
     } else {
-        put_longer(ps, out);
+        plain_operand(make_operand_value(Shape::Bad, &[], false, 0))
     }
 }
 
-/// Adds an operand, once it is read from its tokens, to the list.
-pub(crate) fn push_operand<'a>(operand: Operand<'a>, out: &mut Scratch<Operand<'a>, 65>)
-    requires { length out.old.items < 65 }
-    ensures operands { map operand_of out.new.items
-        ≡ map operand_of out.old.items ++ operand_of operand.entry ∷ [] }
-    ensures one_more { length out.new.items ≡ length out.old.items + 1 }
+/// Returns the operand that is read from a value alone, without brackets.
+fn plain_operand(value: Value<'_>) -> Operand<'_>
+    ensures { operand_of result ≡ plain_of (value_of value.entry) }
 {
-    out.push(operand);
+    Operand {
+        is_memory: false,
+        plus: false,
+        base: &[],
+        value,
+    }
+}
+
+/// Reads the value of an operand from this token to the end.
+#[tactic(auto, unfolding(crate::specs::Operands::operand_value_at), using(crate::proofs::NumberTokens::word_no_number))]
+fn operand_value_at<'a>(ps: &[Piece<'a>], at: usize) -> Value<'a>
+    requires { at ≤ length ps.now }
+    ensures { value_of result ≡ operand_value_at (map piece_of ps.now) at }
+{
+    if ps.len() == at {
+        make_operand_value(Shape::Absent, &[], false, 0)
+    } else if is_kind(ps, at, TokenKind::Word) {
+        named_at(ps, at)
+    } else {
+        match operand_number_at(ps, at) {
+            Some((minus, n)) => plain_number(minus, n),
+            None => named_at(ps, at),
+        }
+    }
+}
+
+/// The operand `[BASE]` or `[BASE+]`, followed by a value.
+fn bracketed_operand<'a>(plus: bool, base: &'a [u8], value: Value<'a>) -> Operand<'a>
+    ensures { operand_of result ≡ memory_of plus base.now (value_of value.entry) }
+{
+    Operand {
+        is_memory: true,
+        plus,
+        base,
+        value,
+    }
+}
+
+/// The value of an operand with this form, name, sign and number.
+fn make_operand_value(shape: Shape, name: &[u8], minus: bool, size: u128) -> Value<'_>
+    ensures { value_of result ≡ data_of shape name.now minus size }
+{
+    Value {
+        shape,
+        name,
+        minus,
+        size,
+        wide: false,
+    }
+}
+
+/// Reads a symbol, or its upper or lower half, at this token as a value.
+#[tactic(auto, unfolding(crate::specs::Operands::named_at))]
+fn named_at<'a>(ps: &[Piece<'a>], at: usize) -> Value<'a>
+    requires { at ≤ length ps.now }
+    ensures { value_of result ≡ named_at (map piece_of ps.now) at }
+{
+    if is_kind(ps, at + 1, TokenKind::Colon) {
+        half_at(ps, at)
+    } else {
+        sum_at(ps, at, Shape::Word, Shape::Sum)
+    }
+}
+
+/// Reads a number with an optional `-` that ends the operand: the sign, and the number.
+#[tactic(auto, unfolding(crate::specs::Operands::operand_number_at))]
+fn operand_number_at(ps: &[Piece], at: usize) -> Option<(bool, Option<u128>)>
+    requires { at ≤ length ps.now }
+    ensures { result ≡ operand_number_at (map piece_of ps.now) at }
+{
+    if is_kind(ps, at, TokenKind::Number) && ps.len() - at == 1 {
+        Some((false, token_number(text_at(ps, at))))
+    } else if is_kind(ps, at, TokenKind::Minus)
+        && ps.len() - at == 2
+        && is_kind(ps, at + 1, TokenKind::Number)
+    {
+        Some((true, token_number(text_at(ps, at + 1))))
+    } else {
+        None
+    }
+}
+
+/// Returns the value that is read from a number alone; `None` is a number of 2^128 or more.
+fn plain_number<'a>(minus: bool, n: Option<u128>) -> Value<'a>
+    ensures { value_of result ≡ number_value minus n }
+{
+    match n {
+        Some(size) => make_operand_value(Shape::Number, &[], minus, size),
+        None => make_operand_value(Shape::Huge, &[], minus, 0),
+    }
+}
+
+// Reads the upper or lower half of a symbol, as in `hi:NAME`.
+#[inline(never)]
+#[tactic(auto, unfolding(crate::specs::Operands::named_at))]
+fn half_at<'a>(ps: &[Piece<'a>], at: usize) -> Value<'a>
+    requires place { at + 1 < length ps.now }
+    requires colon { is_kind_at (map piece_of ps.now) (at + 1) Colon ≡ true }
+    ensures { value_of result ≡ named_at (map piece_of ps.now) at }
+{
+    let name = text_at(ps, at);
+    if is_same_text(name, "hi") {
+        sum_at(ps, at + 2, Shape::High, Shape::High)
+    } else if is_same_text(name, "lo") {
+        sum_at(ps, at + 2, Shape::Low, Shape::Low)
+    } else {
+        make_operand_value(Shape::Bad, &[], false, 0)
+    }
+}
+
+/// Reads the name at this token, with or without a number added, as a value.
+#[tactic(auto, unfolding(crate::specs::Operands::sum_at))]
+fn sum_at<'a>(ps: &[Piece<'a>], at: usize, plain: Shape, summed: Shape) -> Value<'a>
+    requires { at ≤ length ps.now }
+    ensures { value_of result ≡ sum_at (map piece_of ps.now) at plain summed }
+{
+    if is_kind(ps, at, TokenKind::Word) {
+        if ps.len() - at == 1 {
+            make_operand_value(plain, text_at(ps, at), false, 0)
+        } else {
+            name_plus_number_at(ps, at, plain, summed)
+        }
+    } else {
+        make_operand_value(Shape::Bad, &[], false, 0)
+    }
+}
+
+// Reads the name at this token, with the number that is added to it.
+#[inline(never)]
+#[tactic(auto, unfolding(crate::specs::Operands::sum_at))]
+fn name_plus_number_at<'a>(ps: &[Piece<'a>], at: usize, plain: Shape, summed: Shape) -> Value<'a>
+    requires place { at ≤ length ps.now }
+    requires word { is_kind_at (map piece_of ps.now) at Word ≡ true }
+    requires more { length ps.now ≢ at + 1 }
+    ensures { value_of result ≡ sum_at (map piece_of ps.now) at plain summed }
+{
+    if is_kind(ps, at + 1, TokenKind::Plus) {
+        match operand_number_at(ps, at + 2) {
+            Some((minus, n)) => add_number(summed, text_at(ps, at), minus, n),
+            None => make_operand_value(Shape::Bad, &[], false, 0),
+        }
+    } else if is_kind(ps, at + 1, TokenKind::Minus) {
+        match operand_number_at(ps, at + 2) {
+            Some((minus, n)) => add_number(summed, text_at(ps, at), !minus, n),
+            None => make_operand_value(Shape::Bad, &[], false, 0),
+        }
+    } else {
+        make_operand_value(Shape::Bad, &[], false, 0)
+    }
+}
+
+// The value that is a name plus a number; `None` is a number of 2^128 or more.
+fn add_number(shape: Shape, name: &[u8], minus: bool, n: Option<u128>) -> Value<'_>
+    ensures { value_of result ≡ sum_value shape name.now minus n }
+{
+    match n {
+        Some(size) => make_operand_value(shape, name, minus, size),
+        None => Value {
+            wide: true,
+            ..make_operand_value(shape, name, minus, 0)
+        },
+    }
 }

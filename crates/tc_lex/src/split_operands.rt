@@ -9,6 +9,23 @@ use crate::pieces::Piece;
 use crate::read_operand::put_operand;
 use crate::scratch::Scratch;
 
+/// Replaces the contents of `out` by the operands that these tokens spell.
+pub fn operands<'a>(ps: &[Piece<'a>], out: &mut Scratch<Operand<'a>, 65>)
+    requires { length ps.now ≤ 64 }
+    ensures { map operand_of out.new.items ≡ operands (map piece_of ps.now) }
+{
+    out.clear();
+    if ps.is_empty() {
+        return;
+    }
+    let mut rest = ps;
+    'parts: while let Some(i) = find_comma(rest) {
+        put_before(rest, i, out);
+        rest = tokens_after(rest, i);
+    }
+    put_operand(rest, out);
+}
+
 /// The place of the first comma among these tokens.
 fn find_comma(ps: &[Piece]) -> Option<usize>
     ensures value { result ≡ position (λ p. is_comma (piece_of p)) ps.now }
@@ -34,21 +51,4 @@ fn tokens_after<'b, 'a>(ps: &'b [Piece<'a>], i: usize) -> &'b [Piece<'a>]
     ensures { result.now ≡ drop (i + 1) ps.now }
 {
     &ps[i + 1..]
-}
-
-/// Replaces the contents of `out` by the operands that these tokens spell.
-pub fn operands<'a>(ps: &[Piece<'a>], out: &mut Scratch<Operand<'a>, 65>)
-    requires { length ps.now ≤ 64 }
-    ensures { map operand_of out.new.items ≡ operands (map piece_of ps.now) }
-{
-    out.clear();
-    if ps.is_empty() {
-        return;
-    }
-    let mut rest = ps;
-    'parts: while let Some(i) = find_comma(rest) {
-        put_before(rest, i, out);
-        rest = tokens_after(rest, i);
-    }
-    put_operand(rest, out);
 }

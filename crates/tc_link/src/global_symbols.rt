@@ -11,67 +11,6 @@ use std::alloc::Global;
 use std::collections::HashMap;
 use tc_object::{GLOBAL_SYMBOL, ObjectRef, SymbolRef};
 
-// Adds a symbol of object number `object`, if it is global.
-fn add_symbol<'a>(
-    names: &mut HashMap<&'a str, Definition>,
-    object: usize,
-    symbol: &SymbolRef<'a>,
-) -> Result<(), LinkErr>
-    ensures counts { OnOk result ((q : List ℕ) (n : ℕ) → twice_at names.old q ≡ twice_of_count n
-        → twice_at names.new q
-        ≡ twice_of_count (n + (if has_global_name q symbol.now then 1 else 0))) }
-    ensures globals { OnOk result ((placed : List PlacedData) (p : PlacedData)
-        (before : List GlobalData) → slice_get placed object ≡ Some p
-        → AreGlobals names.old placed before → AreGlobals names.new placed
-        (before ++ map (global_data p.bases) (filter is_global (symbol.now ∷ [])))) }
-    ensures err { IfErr result (λ e. e ≡ NoMemory) }
-{
-    let is_global = symbol.kind == GLOBAL_SYMBOL;
-    if !is_global {
-        return Ok(());
-    }
-    let definition = Definition {
-        object,
-        section: symbol.section,
-        offset: symbol.offset,
-        is_twice: false,
-    };
-    add_definition(names, symbol.name, definition)
-}
-
-// Adds the global symbols of object number `object`.
-fn add_symbols<'a>(
-    names: &mut HashMap<&'a str, Definition>,
-    object: usize,
-    symbols: &[SymbolRef<'a>],
-) -> Result<(), LinkErr>
-    ensures counts { OnOk result ((q : List ℕ) (n : ℕ) → twice_at names.old q ≡ twice_of_count n
-        → twice_at names.new q ≡ twice_of_count (n + count_by (has_global_name q) symbols.now)) }
-    ensures globals { OnOk result ((placed : List PlacedData) (p : PlacedData)
-        (before : List GlobalData) → slice_get placed object ≡ Some p
-        → AreGlobals names.old placed before → AreGlobals names.new placed
-        (before ++ map (global_data p.bases) (filter is_global symbols.now))) }
-    ensures err { IfErr result (λ e. e ≡ NoMemory) }
-{
-    for symbol in symbols {
-        add_symbol(names, object, symbol)?;
-    }
-    Ok(())
-}
-
-// The number of global symbols of all objects, which bounds the number of names.
-fn count_globals(objects: &[ObjectRef<'_>]) -> usize {
-    let mut count = 0usize;
-    for object in objects {
-        for symbol in &object.symbols {
-            if symbol.kind == GLOBAL_SYMBOL {
-                count = count.saturating_add(1);
-            }
-        }
-    }
-    count
-}
-
 /// The map of the global symbols of objects by name.
 pub(crate) fn globals_by_name<'a>(
     alloc: Global,
@@ -111,4 +50,65 @@ pub(crate) fn is_defined_twice(names: &HashMap<&str, Definition>, name: &str) ->
         Some(definition) => definition.is_twice,
         None => false,
     }
+}
+
+// The number of global symbols of all objects, which bounds the number of names.
+fn count_globals(objects: &[ObjectRef<'_>]) -> usize {
+    let mut count = 0usize;
+    for object in objects {
+        for symbol in &object.symbols {
+            if symbol.kind == GLOBAL_SYMBOL {
+                count = count.saturating_add(1);
+            }
+        }
+    }
+    count
+}
+
+// Adds the global symbols of object number `object`.
+fn add_symbols<'a>(
+    names: &mut HashMap<&'a str, Definition>,
+    object: usize,
+    symbols: &[SymbolRef<'a>],
+) -> Result<(), LinkErr>
+    ensures counts { OnOk result ((q : List ℕ) (n : ℕ) → twice_at names.old q ≡ twice_of_count n
+        → twice_at names.new q ≡ twice_of_count (n + count_by (has_global_name q) symbols.now)) }
+    ensures globals { OnOk result ((placed : List PlacedData) (p : PlacedData)
+        (before : List GlobalData) → slice_get placed object ≡ Some p
+        → AreGlobals names.old placed before → AreGlobals names.new placed
+        (before ++ map (global_data p.bases) (filter is_global symbols.now))) }
+    ensures err { IfErr result (λ e. e ≡ NoMemory) }
+{
+    for symbol in symbols {
+        add_symbol(names, object, symbol)?;
+    }
+    Ok(())
+}
+
+// Adds a symbol of object number `object`, if it is global.
+fn add_symbol<'a>(
+    names: &mut HashMap<&'a str, Definition>,
+    object: usize,
+    symbol: &SymbolRef<'a>,
+) -> Result<(), LinkErr>
+    ensures counts { OnOk result ((q : List ℕ) (n : ℕ) → twice_at names.old q ≡ twice_of_count n
+        → twice_at names.new q
+        ≡ twice_of_count (n + (if has_global_name q symbol.now then 1 else 0))) }
+    ensures globals { OnOk result ((placed : List PlacedData) (p : PlacedData)
+        (before : List GlobalData) → slice_get placed object ≡ Some p
+        → AreGlobals names.old placed before → AreGlobals names.new placed
+        (before ++ map (global_data p.bases) (filter is_global (symbol.now ∷ [])))) }
+    ensures err { IfErr result (λ e. e ≡ NoMemory) }
+{
+    let is_global = symbol.kind == GLOBAL_SYMBOL;
+    if !is_global {
+        return Ok(());
+    }
+    let definition = Definition {
+        object,
+        section: symbol.section,
+        offset: symbol.offset,
+        is_twice: false,
+    };
+    add_definition(names, symbol.name, definition)
 }

@@ -24,12 +24,32 @@ pub(crate) enum Line<'a> {
     },
 }
 
-// A word as a name, if it is one.
-fn layout_word_name(word: &[u8]) -> Option<&str>
-    ensures value { option_copied result ≡ object_name_of word.now }
-    ensures good { IfSome result (λ name. object_name_of name.now ≡ Some name.now) }
+/// The contents of a line; None if it has none of the forms.
+#[tactic(auto, using(crate::proofs::LineLaws::more), unfolding(crate::specs::LayoutLines::layout_line_contents))]
+pub(crate) fn layout_line_contents(line: &[u8]) -> Option<Line<'_>>
+    ensures line { option_map layout_line_data result ≡ layout_line_contents line.now }
+    ensures good { IfSome result (λ line. IsGoodLayoutLine (layout_line_data line)) }
 {
-    object_name_of(word)
+    match words_in(line) {
+        Words::One(word) => {
+            if word.is_empty() {
+                Some(Line::Blank)
+            } else {
+                None
+            }
+        }
+        Words::Two(word, name) => entry_line(word, name),
+        Words::Three(_, _, _) => None,
+        Words::Four(word, section, at, most) => region_line(word, section, at, most),
+        Words::More => None,
+    }
+}
+
+/// Whether a word of a layout is this text.
+pub(crate) fn is_layout_word(bytes: &[u8], text: &str) -> bool
+    ensures { result ≡ bytes_eq bytes.now text.now }
+{
+    bytes == text.as_bytes()
 }
 
 /// The line `entry NAME` of a layout, if these words are one.
@@ -45,20 +65,6 @@ fn entry_line<'a>(word: &[u8], name: &'a [u8]) -> Option<Line<'a>>
     match layout_word_name(name) {
         Some(name) => Some(Line::Entry(name)),
         None => None,
-    }
-}
-
-// The place for sections of this name, if it is aligned and ends by 2^32.
-fn layout_place_line<'a>(section: &'a str, at: u32, most: u32) -> Option<Line<'a>>
-    requires { object_name_of section.now ≡ Some section.now }
-    ensures line { option_map layout_line_data result
-        ≡ place_of_words (Some section.now) (Some at) (Some most) }
-    ensures good { IfSome result (λ line. IsGoodLayoutLine (layout_line_data line)) }
-{
-    if at % 4 == 0 && u64::from(at) + u64::from(most) <= ADDRESS_END {
-        Some(Line::Region { section, at, most })
-    } else {
-        None
     }
 }
 
@@ -86,30 +92,24 @@ fn region_line<'a>(word: &[u8], section: &'a [u8], at: &[u8], most: &[u8]) -> Op
     layout_place_line(section, at, most)
 }
 
-/// The contents of a line; None if it has none of the forms.
-#[tactic(auto, using(crate::proofs::LineLaws::more), unfolding(crate::specs::LayoutLines::layout_line_contents))]
-pub(crate) fn layout_line_contents(line: &[u8]) -> Option<Line<'_>>
-    ensures line { option_map layout_line_data result ≡ layout_line_contents line.now }
-    ensures good { IfSome result (λ line. IsGoodLayoutLine (layout_line_data line)) }
+// A word as a name, if it is one.
+fn layout_word_name(word: &[u8]) -> Option<&str>
+    ensures value { option_copied result ≡ object_name_of word.now }
+    ensures good { IfSome result (λ name. object_name_of name.now ≡ Some name.now) }
 {
-    match words_in(line) {
-        Words::One(word) => {
-            if word.is_empty() {
-                Some(Line::Blank)
-            } else {
-                None
-            }
-        }
-        Words::Two(word, name) => entry_line(word, name),
-        Words::Three(_, _, _) => None,
-        Words::Four(word, section, at, most) => region_line(word, section, at, most),
-        Words::More => None,
-    }
+    object_name_of(word)
 }
 
-/// Whether a word of a layout is this text.
-pub(crate) fn is_layout_word(bytes: &[u8], text: &str) -> bool
-    ensures { result ≡ bytes_eq bytes.now text.now }
+// The place for sections of this name, if it is aligned and ends by 2^32.
+fn layout_place_line<'a>(section: &'a str, at: u32, most: u32) -> Option<Line<'a>>
+    requires { object_name_of section.now ≡ Some section.now }
+    ensures line { option_map layout_line_data result
+        ≡ place_of_words (Some section.now) (Some at) (Some most) }
+    ensures good { IfSome result (λ line. IsGoodLayoutLine (layout_line_data line)) }
 {
-    bytes == text.as_bytes()
+    if at % 4 == 0 && u64::from(at) + u64::from(most) <= ADDRESS_END {
+        Some(Line::Region { section, at, most })
+    } else {
+        None
+    }
 }

@@ -26,6 +26,37 @@ use std::collections::HashMap;
 use tc_object::{Object, ObjectRef};
 use tcd_base::NoMemory;
 
+/// The image of borrowed objects, or the first refusal, as for `link`.
+pub fn link_borrowed(
+    alloc: Global,
+    objects: &[ObjectRef<'_>],
+    layout: &Layout,
+) -> Result<Image, LinkErr>
+    requires { length objects.now ≤ 65535 }
+    ensures ok { IfOk result (λ image. image_of_objects objects.now layout.now ≡ Ok image) }
+    ensures err { IfErr result (λ e. IfSome (refusal_of e)
+        (λ r. image_of_objects objects.now layout.now ≡ Err r)) }
+{
+    let names = globals_by_name(alloc, objects)?;
+    let placed = place_all(alloc, &names, objects, layout)?;
+    make_linked_image(alloc, &names, &placed, layout)
+}
+
+/// The image of objects in this layout, or the first refusal.
+///
+/// The sections of one name are in their place one after another, in the order of the objects. Each
+/// begins at a multiple of 4, and the gaps are zero. Each place with bytes becomes one segment, in
+/// the order of the layout.
+pub fn link(alloc: Global, objects: &[Object], layout: &Layout) -> Result<Image, LinkErr>
+    requires { length objects.now ≤ 65535 }
+    ensures ok { IfOk result (λ image. image_of_objects objects.now layout.now ≡ Ok image) }
+    ensures err { IfErr result (λ e. IfSome (refusal_of e)
+        (λ r. image_of_objects objects.now layout.now ≡ Err r)) }
+{
+    let parts = borrow_objects(alloc, objects)?;
+    link_borrowed(alloc, &parts, layout)
+}
+
 // The objects with the addresses of their sections, or the first refusal before relocations are
 // written.
 fn place_all<'a, 'b>(
@@ -72,22 +103,6 @@ fn make_linked_image(
     Ok(Image { entry, segments })
 }
 
-/// The image of borrowed objects, or the first refusal, as for `link`.
-pub fn link_borrowed(
-    alloc: Global,
-    objects: &[ObjectRef<'_>],
-    layout: &Layout,
-) -> Result<Image, LinkErr>
-    requires { length objects.now ≤ 65535 }
-    ensures ok { IfOk result (λ image. image_of_objects objects.now layout.now ≡ Ok image) }
-    ensures err { IfErr result (λ e. IfSome (refusal_of e)
-        (λ r. image_of_objects objects.now layout.now ≡ Err r)) }
-{
-    let names = globals_by_name(alloc, objects)?;
-    let placed = place_all(alloc, &names, objects, layout)?;
-    make_linked_image(alloc, &names, &placed, layout)
-}
-
 /// Borrows each object that is to be linked, for `link_borrowed`.
 fn borrow_objects(alloc: Global, objects: &[Object]) -> Result<Vec<ObjectRef<'_>>, NoMemory>
     ensures { IfOk result (λ parts. parts.items ≡ objects.now) }
@@ -98,19 +113,4 @@ fn borrow_objects(alloc: Global, objects: &[Object]) -> Result<Vec<ObjectRef<'_>
         parts.push(part)?;
     }
     Ok(parts)
-}
-
-/// The image of objects in this layout, or the first refusal.
-///
-/// The sections of one name are in their place one after another, in the order of the objects. Each
-/// begins at a multiple of 4, and the gaps are zero. Each place with bytes becomes one segment, in
-/// the order of the layout.
-pub fn link(alloc: Global, objects: &[Object], layout: &Layout) -> Result<Image, LinkErr>
-    requires { length objects.now ≤ 65535 }
-    ensures ok { IfOk result (λ image. image_of_objects objects.now layout.now ≡ Ok image) }
-    ensures err { IfErr result (λ e. IfSome (refusal_of e)
-        (λ r. image_of_objects objects.now layout.now ≡ Err r)) }
-{
-    let parts = borrow_objects(alloc, objects)?;
-    link_borrowed(alloc, &parts, layout)
 }

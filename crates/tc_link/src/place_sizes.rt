@@ -20,18 +20,6 @@ pub(crate) fn round_up_place_size(size: u64) -> u64
     (size + 3) / 4 * 4
 }
 
-/// The number of used bytes of a place after a further section.
-fn place_size_with_section(place: &Place, size: u64, section: &SectionRef<'_>) -> u64
-    requires { size ≤ 2 ^ 32 }
-    ensures { result ≡ place_size_with_section place.now.section size section.now }
-{
-    if place.section.as_str() == section.name {
-        round_up_place_size(size) + section.bytes.len() as u64
-    } else {
-        size
-    }
-}
-
 // Adds a section to the number of used bytes of its place.
 pub(crate) fn add_size(places: &[Place], sizes: &mut [u64], section: &SectionRef<'_>)
     requires count { length sizes.old ≡ length places.now }
@@ -71,4 +59,16 @@ pub(crate) fn empty_sizes(alloc: Global, places: &[Place]) -> Result<Vec<u64>, L
 {
     let sizes = vec![in alloc; 0u64; places.len()]?;
     Ok(sizes)
+}
+
+/// The number of used bytes of a place after a further section.
+fn place_size_with_section(place: &Place, size: u64, section: &SectionRef<'_>) -> u64
+    requires { size ≤ 2 ^ 32 }
+    ensures { result ≡ place_size_with_section place.now.section size section.now }
+{
+    if place.section.as_str() == section.name {
+        round_up_place_size(size) + section.bytes.len() as u64
+    } else {
+        size
+    }
 }

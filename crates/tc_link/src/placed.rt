@@ -28,34 +28,6 @@ impl<'a, 'b> Model for Placed<'a, 'b> {
     ghost view = { λ p. record { object = p.object.now; bases = p.bases.items } };
 }
 
-// The objects with the addresses of their sections, or the first section without room. `sizes` are
-// the numbers of used bytes of the places, all zero at first.
-fn place_objects<'a, 'b>(
-    alloc: Global,
-    places: &[Place],
-    sizes: &mut [u64],
-    objects: &'a [ObjectRef<'b>],
-) -> Result<Vec<Placed<'a, 'b>>, LinkErr>
-    requires few { length places.now ≤ 64 }
-    requires count { length sizes.old ≡ length places.now }
-    requires none { AreTaken places.now [] sizes.old }
-    requires small { AreSmallPlaceSizes sizes.old }
-    ensures placed { IfOk result (λ placed. placed.items ≡ placed_after places.now [] objects.now) }
-    ensures good { IfOk result (λ _. (k : ℕ) (d : ObjectData) → k < length objects.now
-        → IsObject (slice_index_or objects.now k d)) }
-    ensures room { IfOk result
-        (λ _. no_room_after places.now [] (sections_to_link objects.now) ≡ None) }
-    ensures err { IfErr result
-        (IsRefusal (no_room_after places.now [] (sections_to_link objects.now))) }
-{
-    let mut placed = Vec::new(alloc);
-    for object in objects {
-        let bases = bases_of(alloc, places, sizes, &object.sections)?;
-        placed.push(Placed { object, bases })?;
-    }
-    Ok(placed)
-}
-
 /// The objects with the addresses of their sections, or the first section without room.
 pub(crate) fn placed_of<'a, 'b>(
     alloc: Global,
@@ -124,4 +96,32 @@ pub(crate) fn bases_of(
         }
     }
     Ok(bases)
+}
+
+// The objects with the addresses of their sections, or the first section without room. `sizes` are
+// the numbers of used bytes of the places, all zero at first.
+fn place_objects<'a, 'b>(
+    alloc: Global,
+    places: &[Place],
+    sizes: &mut [u64],
+    objects: &'a [ObjectRef<'b>],
+) -> Result<Vec<Placed<'a, 'b>>, LinkErr>
+    requires few { length places.now ≤ 64 }
+    requires count { length sizes.old ≡ length places.now }
+    requires none { AreTaken places.now [] sizes.old }
+    requires small { AreSmallPlaceSizes sizes.old }
+    ensures placed { IfOk result (λ placed. placed.items ≡ placed_after places.now [] objects.now) }
+    ensures good { IfOk result (λ _. (k : ℕ) (d : ObjectData) → k < length objects.now
+        → IsObject (slice_index_or objects.now k d)) }
+    ensures room { IfOk result
+        (λ _. no_room_after places.now [] (sections_to_link objects.now) ≡ None) }
+    ensures err { IfErr result
+        (IsRefusal (no_room_after places.now [] (sections_to_link objects.now))) }
+{
+    let mut placed = Vec::new(alloc);
+    for object in objects {
+        let bases = bases_of(alloc, places, sizes, &object.sections)?;
+        placed.push(Placed { object, bases })?;
+    }
+    Ok(placed)
 }

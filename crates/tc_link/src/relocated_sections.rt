@@ -19,66 +19,57 @@ use std::collections::HashMap;
 use tc_object::Reloc;
 use tc_reloc::{RelocErr, apply};
 
-/// Returns the four bytes at an offset of a section into which the linker writes a relocation.
-fn reloc_field_at(bytes: &[u8], at: usize) -> [u8; 4]
-    requires { at + 4 ≤ length bytes.now }
-    ensures { result ≡ reloc_field_at bytes.now at }
+/// All sections with their relocations written, or the first relocation that is refused.
+#[tactic(auto, unfolding(crate::specs::Relocated::contents_of, crate::specs::Refusals::reloc_in))]
+pub(crate) fn contents_of<'a>(
+    alloc: Global,
+    names: &HashMap<&str, Definition>,
+    placed: &[Placed<'_, 'a>],
+) -> Result<Vec<WrittenSection<'a>>, LinkErr>
+    requires few { length placed.now ≤ 65535 }
+    requires globals { AreGlobals names.now placed.now (globals_of placed.now) }
+    ensures sections { IfOk result (λ ss. ss.items ≡ contents_of placed.now) }
+    ensures none { OnOk result (reloc_in (globals_of placed.now) placed.now ≡ None) }
+    ensures err { IfErr result (IsRefusal (reloc_in (globals_of placed.now) placed.now)) }
 {
-    [bytes[at], bytes[at + 1], bytes[at + 2], bytes[at + 3]]
+    let mut contents = Vec::new(alloc);
+    for (number, each) in placed.iter().enumerate() {
+        let sections = relocate(alloc, names, placed, number as u32, each)?;
+        append_written_sections(&mut contents, sections)?;
+    }
+    Ok(contents)
 }
 
-/// Writes the four bytes of a relocation's field at an offset of the section that is relocated.
-fn put_reloc_field(bytes: &mut [u8], at: usize, field: [u8; 4])
-    requires { at + 4 ≤ length bytes.old }
-    ensures { bytes.new ≡ with_relocated_field bytes.old at field }
+/// Returns the value that the linker writes into a section for a relocation: the address of its
+/// symbol plus the addend.
+pub(crate) fn reloc_value(addresses: &[u32], reloc: &Reloc) -> u32
+    ensures { (all : List GlobalData) (p : PlacedData) → addresses.now ≡ symbol_addresses all p
+        → result ≡ reloc_value all p reloc.now }
 {
-    bytes[at..at + 4].copy_from_slice(&field);
+    symbol_address_at(addresses, reloc.symbol).wrapping_add(reloc.addend)
 }
 
-// Writes a relocation into its section.
-fn write_reloc(
-    section: &mut WrittenSection<'_>,
-    reloc: &Reloc,
-    place: u32,
-    value: u32,
-) -> Result<(), RelocErr>
-    requires some { 1 ≤ reloc.now.kind }
-    requires most { reloc.now.kind ≤ 7 }
-    requires room { reloc.now.offset + 4 ≤ length section.old.bytes }
-    ensures refusal { MatchResult result
-        (λ _. reloc_value_refusal reloc.now.kind place value ≡ None)
-        (λ err. reloc_value_refusal reloc.now.kind place value ≡ Some err) }
-    ensures written { OnOk result
-        (section.new ≡ with_filled_field reloc.now place value section.old) }
+// The sections of an object with its relocations written, or the first relocation that is refused.
+fn relocate<'a>(
+    alloc: Global,
+    names: &HashMap<&str, Definition>,
+    placed: &[Placed<'_, '_>],
+    number: u32,
+    each: &Placed<'_, 'a>,
+) -> Result<Vec<WrittenSection<'a>>, LinkErr>
+    ensures sections { IfOk result (λ ss. (all : List GlobalData)
+        → AreGlobals names.now placed.now all → ss.items ≡ relocated_sections all each.now) }
+    ensures none { OnOk result ((all : List GlobalData) → AreGlobals names.now placed.now all
+        → first_refusal_over (refusal_at all number each.now) each.now.object.relocs ≡ None) }
+    ensures err { IfErr result (λ e. (all : List GlobalData) → AreGlobals names.now placed.now all
+        → IsRefusal (first_refusal_over (refusal_at all number each.now) each.now.object.relocs)
+        e) }
 {
-    let at = reloc.offset as usize;
-    let field = apply(reloc.kind, reloc_field_at(&section.bytes, at), place, value)?;
-    put_reloc_field(&mut section.bytes, at, field);
-    Ok(())
-}
-
-// Writes a relocation into the sections of its object.
-fn write_in(
-    addresses: &[u32],
-    placed: &Placed<'_, '_>,
-    reloc: &Reloc,
-    sections: &mut [WrittenSection<'_>],
-) -> Result<(), RelocErr>
-    requires some { 1 ≤ reloc.now.kind }
-    requires most { reloc.now.kind ≤ 7 }
-    requires within { reloc.now.section < length sections.old }
-    requires room { reloc.now.offset + 4 ≤ section_size_at sections.old reloc.now.section }
-    ensures refusal { (all : List GlobalData) → addresses.now ≡ symbol_addresses all placed.now
-        → MatchResult result (λ _. reloc_refusal all placed.now reloc.now ≡ None)
-        (λ err. reloc_refusal all placed.now reloc.now ≡ Some err) }
-    ensures written { OnOk result ((all : List GlobalData)
-        → addresses.now ≡ symbol_addresses all placed.now
-        → sections.new ≡ with_reloc all placed.now sections.old reloc.now) }
-    ensures shapes { OnOk result (map section_shape sections.new ≡ map section_shape sections.old) }
-{
-    let place = address_in_section(&placed.bases, reloc.section, reloc.offset);
-    let value = reloc_value(addresses, reloc);
-    write_reloc(&mut sections[reloc.section as usize], reloc, place, value)
+    let object = each.object;
+    let addresses = symbol_addresses(alloc, names, placed, each)?;
+    let mut sections = copies_of(alloc, &object.sections)?;
+    write_all_relocs(&addresses, number, each, &mut sections)?;
+    Ok(sections)
 }
 
 // Writes the relocations of an object into its sections, or returns the first that is refused.
@@ -115,55 +106,64 @@ fn write_all_relocs(
     Ok(())
 }
 
-// The sections of an object with its relocations written, or the first relocation that is refused.
-fn relocate<'a>(
-    alloc: Global,
-    names: &HashMap<&str, Definition>,
-    placed: &[Placed<'_, '_>],
-    number: u32,
-    each: &Placed<'_, 'a>,
-) -> Result<Vec<WrittenSection<'a>>, LinkErr>
-    ensures sections { IfOk result (λ ss. (all : List GlobalData)
-        → AreGlobals names.now placed.now all → ss.items ≡ relocated_sections all each.now) }
-    ensures none { OnOk result ((all : List GlobalData) → AreGlobals names.now placed.now all
-        → first_refusal_over (refusal_at all number each.now) each.now.object.relocs ≡ None) }
-    ensures err { IfErr result (λ e. (all : List GlobalData) → AreGlobals names.now placed.now all
-        → IsRefusal (first_refusal_over (refusal_at all number each.now) each.now.object.relocs)
-        e) }
+// Writes a relocation into the sections of its object.
+fn write_in(
+    addresses: &[u32],
+    placed: &Placed<'_, '_>,
+    reloc: &Reloc,
+    sections: &mut [WrittenSection<'_>],
+) -> Result<(), RelocErr>
+    requires some { 1 ≤ reloc.now.kind }
+    requires most { reloc.now.kind ≤ 7 }
+    requires within { reloc.now.section < length sections.old }
+    requires room { reloc.now.offset + 4 ≤ section_size_at sections.old reloc.now.section }
+    ensures refusal { (all : List GlobalData) → addresses.now ≡ symbol_addresses all placed.now
+        → MatchResult result (λ _. reloc_refusal all placed.now reloc.now ≡ None)
+        (λ err. reloc_refusal all placed.now reloc.now ≡ Some err) }
+    ensures written { OnOk result ((all : List GlobalData)
+        → addresses.now ≡ symbol_addresses all placed.now
+        → sections.new ≡ with_reloc all placed.now sections.old reloc.now) }
+    ensures shapes { OnOk result (map section_shape sections.new ≡ map section_shape sections.old) }
 {
-    let object = each.object;
-    let addresses = symbol_addresses(alloc, names, placed, each)?;
-    let mut sections = copies_of(alloc, &object.sections)?;
-    write_all_relocs(&addresses, number, each, &mut sections)?;
-    Ok(sections)
+    let place = address_in_section(&placed.bases, reloc.section, reloc.offset);
+    let value = reloc_value(addresses, reloc);
+    write_reloc(&mut sections[reloc.section as usize], reloc, place, value)
 }
 
-/// All sections with their relocations written, or the first relocation that is refused.
-#[tactic(auto, unfolding(crate::specs::Relocated::contents_of, crate::specs::Refusals::reloc_in))]
-pub(crate) fn contents_of<'a>(
-    alloc: Global,
-    names: &HashMap<&str, Definition>,
-    placed: &[Placed<'_, 'a>],
-) -> Result<Vec<WrittenSection<'a>>, LinkErr>
-    requires few { length placed.now ≤ 65535 }
-    requires globals { AreGlobals names.now placed.now (globals_of placed.now) }
-    ensures sections { IfOk result (λ ss. ss.items ≡ contents_of placed.now) }
-    ensures none { OnOk result (reloc_in (globals_of placed.now) placed.now ≡ None) }
-    ensures err { IfErr result (IsRefusal (reloc_in (globals_of placed.now) placed.now)) }
+// Writes a relocation into its section.
+fn write_reloc(
+    section: &mut WrittenSection<'_>,
+    reloc: &Reloc,
+    place: u32,
+    value: u32,
+) -> Result<(), RelocErr>
+    requires some { 1 ≤ reloc.now.kind }
+    requires most { reloc.now.kind ≤ 7 }
+    requires room { reloc.now.offset + 4 ≤ length section.old.bytes }
+    ensures refusal { MatchResult result
+        (λ _. reloc_value_refusal reloc.now.kind place value ≡ None)
+        (λ err. reloc_value_refusal reloc.now.kind place value ≡ Some err) }
+    ensures written { OnOk result
+        (section.new ≡ with_filled_field reloc.now place value section.old) }
 {
-    let mut contents = Vec::new(alloc);
-    for (number, each) in placed.iter().enumerate() {
-        let sections = relocate(alloc, names, placed, number as u32, each)?;
-        append_written_sections(&mut contents, sections)?;
-    }
-    Ok(contents)
+    let at = reloc.offset as usize;
+    let field = apply(reloc.kind, reloc_field_at(&section.bytes, at), place, value)?;
+    put_reloc_field(&mut section.bytes, at, field);
+    Ok(())
 }
 
-/// Returns the value that the linker writes into a section for a relocation: the address of its
-/// symbol plus the addend.
-pub(crate) fn reloc_value(addresses: &[u32], reloc: &Reloc) -> u32
-    ensures { (all : List GlobalData) (p : PlacedData) → addresses.now ≡ symbol_addresses all p
-        → result ≡ reloc_value all p reloc.now }
+/// Returns the four bytes at an offset of a section into which the linker writes a relocation.
+fn reloc_field_at(bytes: &[u8], at: usize) -> [u8; 4]
+    requires { at + 4 ≤ length bytes.now }
+    ensures { result ≡ reloc_field_at bytes.now at }
 {
-    symbol_address_at(addresses, reloc.symbol).wrapping_add(reloc.addend)
+    [bytes[at], bytes[at + 1], bytes[at + 2], bytes[at + 3]]
+}
+
+/// Writes the four bytes of a relocation's field at an offset of the section that is relocated.
+fn put_reloc_field(bytes: &mut [u8], at: usize, field: [u8; 4])
+    requires { at + 4 ≤ length bytes.old }
+    ensures { bytes.new ≡ with_relocated_field bytes.old at field }
+{
+    bytes[at..at + 4].copy_from_slice(&field);
 }

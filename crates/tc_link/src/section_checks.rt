@@ -13,6 +13,24 @@ use crate::{LinkErr, Place};
 use std::alloc::Global;
 use tc_object::{ObjectRef, SectionRef, UNDEFINED_SYMBOL};
 
+/// Checks that each section with bytes, or with a symbol, has a place.
+pub(crate) fn check_places(
+    alloc: Global,
+    places: &[Place],
+    objects: &[ObjectRef<'_>],
+) -> Result<(), LinkErr>
+    ensures ok { OnOk result (no_place_in places.now objects.now ≡ None) }
+    ensures err { IfErr result (IsRefusal (no_place_in places.now objects.now)) }
+{
+    for object in objects {
+        let held = sections_with_symbols(alloc, object)?;
+        if let Some(name) = first_unplaced(places, &held, &object.sections) {
+            return Err(LinkErr::NoPlace(String::from_str(alloc, name)?));
+        }
+    }
+    Ok(())
+}
+
 // For each section of an object, whether a symbol is defined in it.
 fn sections_with_symbols(alloc: Global, object: &ObjectRef<'_>) -> Result<Vec<bool>, LinkErr>
     ensures held { IfOk result (λ held. (k : ℕ) (d : Bool) → k < length object.now.sections
@@ -27,15 +45,6 @@ fn sections_with_symbols(alloc: Global, object: &ObjectRef<'_>) -> Result<Vec<bo
         }
     }
     Ok(held)
-}
-
-// Whether a section needs a place and has none. `held` says whether a symbol is defined in it.
-fn is_unplaced(places: &[Place], held: bool, section: &SectionRef<'_>) -> bool
-    ensures { result
-        ≡ ((nat_lt 0 (length section.now.bytes) || held)
-        && not (is_placed places.now section.now.name)) }
-{
-    (!section.bytes.is_empty() || held) && !is_placed(places, section.name)
 }
 
 // The name of the first of these sections that needs a place and has none.
@@ -59,20 +68,11 @@ fn first_unplaced<'a>(
     None
 }
 
-/// Checks that each section with bytes, or with a symbol, has a place.
-pub(crate) fn check_places(
-    alloc: Global,
-    places: &[Place],
-    objects: &[ObjectRef<'_>],
-) -> Result<(), LinkErr>
-    ensures ok { OnOk result (no_place_in places.now objects.now ≡ None) }
-    ensures err { IfErr result (IsRefusal (no_place_in places.now objects.now)) }
+// Whether a section needs a place and has none. `held` says whether a symbol is defined in it.
+fn is_unplaced(places: &[Place], held: bool, section: &SectionRef<'_>) -> bool
+    ensures { result
+        ≡ ((nat_lt 0 (length section.now.bytes) || held)
+        && not (is_placed places.now section.now.name)) }
 {
-    for object in objects {
-        let held = sections_with_symbols(alloc, object)?;
-        if let Some(name) = first_unplaced(places, &held, &object.sections) {
-            return Err(LinkErr::NoPlace(String::from_str(alloc, name)?));
-        }
-    }
-    Ok(())
+    (!section.bytes.is_empty() || held) && !is_placed(places, section.name)
 }

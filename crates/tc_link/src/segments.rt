@@ -12,35 +12,23 @@ use std::alloc::Global;
 
 static ZEROS: [u8; 4] = [0, 0, 0, 0];
 
-// This number of zeros, at most 4.
-fn segment_padding(count: usize) -> &'static [u8]
-    requires { count ≤ 4 }
-    ensures { result.now ≡ replicate count 0 }
-{
-    &ZEROS[..count]
-}
-
-// Adds zeros up to a multiple of 4.
-fn pad_segment_bytes(bytes: &mut Vec<u8>) -> Result<(), LinkErr>
-    ensures ok { OnOk result (bytes.new.items ≡ with_segment_padding bytes.old.items) }
+/// The segments of an image: one for each place with bytes.
+#[tactic(auto, unfolding(crate::specs::Segments::segments_of))]
+pub(crate) fn segments_of(
+    alloc: Global,
+    places: &[Place],
+    sections: &[WrittenSection<'_>],
+) -> Result<Vec<Segment>, LinkErr>
+    ensures ok { IfOk result (λ segments. map segment_data segments.items
+        ≡ segments_of places.now sections.now) }
     ensures err { IfErr result (λ e. e ≡ NoMemory) }
 {
-    let gap = (4 - bytes.len() % 4) % 4;
-    bytes.extend_from_slice(segment_padding(gap))?;
-    Ok(())
-}
-
-/// Joins a section to the bytes of a segment, at a multiple of 4, if it has the name of the
-/// segment's place.
-fn add_section(bytes: &mut Vec<u8>, name: &str, section: &WrittenSection<'_>) -> Result<(), LinkErr>
-    ensures ok { OnOk result (bytes.new.items ≡ with_section name.now bytes.old.items section.now) }
-    ensures err { IfErr result (λ e. e ≡ NoMemory) }
-{
-    if name == section.name {
-        pad_segment_bytes(bytes)?;
-        bytes.extend_from_slice(&section.bytes)?;
+    let mut segments = Vec::new(alloc);
+    for place in places {
+        let bytes = join_sections(alloc, place.section.as_str(), sections)?;
+        add_segment(&mut segments, place.at, bytes)?;
     }
-    Ok(())
+    Ok(segments)
 }
 
 // The sections of one name, each at a multiple of 4.
@@ -75,21 +63,33 @@ fn add_segment(segments: &mut Vec<Segment>, at: u32, bytes: Vec<u8>) -> Result<(
     Ok(())
 }
 
-/// The segments of an image: one for each place with bytes.
-#[tactic(auto, unfolding(crate::specs::Segments::segments_of))]
-pub(crate) fn segments_of(
-    alloc: Global,
-    places: &[Place],
-    sections: &[WrittenSection<'_>],
-) -> Result<Vec<Segment>, LinkErr>
-    ensures ok { IfOk result (λ segments. map segment_data segments.items
-        ≡ segments_of places.now sections.now) }
+/// Joins a section to the bytes of a segment, at a multiple of 4, if it has the name of the
+/// segment's place.
+fn add_section(bytes: &mut Vec<u8>, name: &str, section: &WrittenSection<'_>) -> Result<(), LinkErr>
+    ensures ok { OnOk result (bytes.new.items ≡ with_section name.now bytes.old.items section.now) }
     ensures err { IfErr result (λ e. e ≡ NoMemory) }
 {
-    let mut segments = Vec::new(alloc);
-    for place in places {
-        let bytes = join_sections(alloc, place.section.as_str(), sections)?;
-        add_segment(&mut segments, place.at, bytes)?;
+    if name == section.name {
+        pad_segment_bytes(bytes)?;
+        bytes.extend_from_slice(&section.bytes)?;
     }
-    Ok(segments)
+    Ok(())
+}
+
+// Adds zeros up to a multiple of 4.
+fn pad_segment_bytes(bytes: &mut Vec<u8>) -> Result<(), LinkErr>
+    ensures ok { OnOk result (bytes.new.items ≡ with_segment_padding bytes.old.items) }
+    ensures err { IfErr result (λ e. e ≡ NoMemory) }
+{
+    let gap = (4 - bytes.len() % 4) % 4;
+    bytes.extend_from_slice(segment_padding(gap))?;
+    Ok(())
+}
+
+// This number of zeros, at most 4.
+fn segment_padding(count: usize) -> &'static [u8]
+    requires { count ≤ 4 }
+    ensures { result.now ≡ replicate count 0 }
+{
+    &ZEROS[..count]
 }

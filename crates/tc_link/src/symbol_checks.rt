@@ -15,31 +15,6 @@ use std::alloc::Global;
 use std::collections::HashMap;
 use tc_object::{GLOBAL_SYMBOL, ObjectRef, SymbolRef, UNDEFINED_SYMBOL};
 
-// Whether a symbol is global and several objects define its name.
-fn is_repeated(names: &HashMap<&str, Definition>, symbol: &SymbolRef<'_>) -> bool
-    ensures { (objects : List ObjectData) → CountsGlobals names.now objects
-        → result ≡ (is_global symbol.now && nat_lt 1 (globals_named objects symbol.now.name)) }
-{
-    symbol.kind == GLOBAL_SYMBOL && is_defined_twice(names, symbol.name)
-}
-
-// The name of the first of these symbols that several objects define.
-fn first_repeated<'a>(
-    names: &HashMap<&str, Definition>,
-    symbols: &[SymbolRef<'a>],
-) -> Option<&'a str>
-    ensures { (objects : List ObjectData) → CountsGlobals names.now objects
-        → first_refusal_over (twice_of objects) symbols.now
-        ≡ option_map (λ name. twice name.now) result }
-{
-    for symbol in symbols {
-        if is_repeated(names, symbol) {
-            return Some(symbol.name);
-        }
-    }
-    None
-}
-
 /// Checks that no two objects define the same global symbol.
 pub(crate) fn check_repeated(
     alloc: Global,
@@ -71,6 +46,50 @@ pub(crate) fn set_check_mark(marks: &mut Vec<bool>, number: usize)
     }
 }
 
+/// Checks that each symbol that a relocation uses is defined.
+pub(crate) fn check_missing(
+    alloc: Global,
+    names: &HashMap<&str, Definition>,
+    objects: &[ObjectRef<'_>],
+) -> Result<(), LinkErr>
+    requires { CountsGlobals names.now objects.now }
+    ensures ok { OnOk result (missing_in objects.now ≡ None) }
+    ensures err { IfErr result (IsRefusal (missing_in objects.now)) }
+{
+    for object in objects {
+        let used = used_symbols(alloc, object)?;
+        if let Some(name) = first_missing(names, &used, &object.symbols) {
+            return Err(LinkErr::Missing(String::from_str(alloc, name)?));
+        }
+    }
+    Ok(())
+}
+
+// The name of the first of these symbols that several objects define.
+fn first_repeated<'a>(
+    names: &HashMap<&str, Definition>,
+    symbols: &[SymbolRef<'a>],
+) -> Option<&'a str>
+    ensures { (objects : List ObjectData) → CountsGlobals names.now objects
+        → first_refusal_over (twice_of objects) symbols.now
+        ≡ option_map (λ name. twice name.now) result }
+{
+    for symbol in symbols {
+        if is_repeated(names, symbol) {
+            return Some(symbol.name);
+        }
+    }
+    None
+}
+
+// Whether a symbol is global and several objects define its name.
+fn is_repeated(names: &HashMap<&str, Definition>, symbol: &SymbolRef<'_>) -> bool
+    ensures { (objects : List ObjectData) → CountsGlobals names.now objects
+        → result ≡ (is_global symbol.now && nat_lt 1 (globals_named objects symbol.now.name)) }
+{
+    symbol.kind == GLOBAL_SYMBOL && is_defined_twice(names, symbol.name)
+}
+
 // For each symbol of an object, whether a relocation uses it.
 fn used_symbols(alloc: Global, object: &ObjectRef<'_>) -> Result<Vec<bool>, LinkErr>
     ensures used { IfOk result (λ used. (k : ℕ) (d : Bool) → k < length object.now.symbols
@@ -83,15 +102,6 @@ fn used_symbols(alloc: Global, object: &ObjectRef<'_>) -> Result<Vec<bool>, Link
         set_check_mark(&mut used, reloc.symbol as usize);
     }
     Ok(used)
-}
-
-// Whether a symbol is used, and undefined in its object and all others. `used` says whether a
-// relocation uses it.
-fn is_lost(names: &HashMap<&str, Definition>, used: bool, symbol: &SymbolRef<'_>) -> bool
-    ensures { (objects : List ObjectData) → CountsGlobals names.now objects
-        → result ≡ (symbol.now.kind == 0 && used && globals_named objects symbol.now.name == 0) }
-{
-    symbol.kind == UNDEFINED_SYMBOL && used && is_missing(names, symbol.name)
 }
 
 // The name of the first of these symbols that is used, and undefined in all objects.
@@ -116,21 +126,11 @@ fn first_missing<'a>(
     None
 }
 
-/// Checks that each symbol that a relocation uses is defined.
-pub(crate) fn check_missing(
-    alloc: Global,
-    names: &HashMap<&str, Definition>,
-    objects: &[ObjectRef<'_>],
-) -> Result<(), LinkErr>
-    requires { CountsGlobals names.now objects.now }
-    ensures ok { OnOk result (missing_in objects.now ≡ None) }
-    ensures err { IfErr result (IsRefusal (missing_in objects.now)) }
+// Whether a symbol is used, and undefined in its object and all others. `used` says whether a
+// relocation uses it.
+fn is_lost(names: &HashMap<&str, Definition>, used: bool, symbol: &SymbolRef<'_>) -> bool
+    ensures { (objects : List ObjectData) → CountsGlobals names.now objects
+        → result ≡ (symbol.now.kind == 0 && used && globals_named objects symbol.now.name == 0) }
 {
-    for object in objects {
-        let used = used_symbols(alloc, object)?;
-        if let Some(name) = first_missing(names, &used, &object.symbols) {
-            return Err(LinkErr::Missing(String::from_str(alloc, name)?));
-        }
-    }
-    Ok(())
+    symbol.kind == UNDEFINED_SYMBOL && used && is_missing(names, symbol.name)
 }

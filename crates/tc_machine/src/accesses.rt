@@ -11,66 +11,6 @@ use crate::operand_addresses::machine_address_ahead;
 use tc_mem::Mem;
 use tcd_base::sext;
 
-/// Returns the byte that a load reads at an address: the input's low byte if none is mapped.
-fn load_byte_or_input(mem: &Mem, input: u32, addr: u32) -> u8
-    ensures { result ≡ unwrap_or (map.get mem.now addr) (input % 2 ^ 8) }
-{
-    mem.get(addr).unwrap_or((input % 256) as u8)
-}
-
-/// Returns the halfword at an address, byte by byte.
-#[tactic(auto, unfolding(csa_chain::specs::MemoryBytes::load_number))]
-fn load_half_by_bytes(mem: &Mem, input: u32, addr: u32) -> u16
-    ensures { result ≡ load_number mem.now input addr 2 }
-{
-    let low = load_byte_or_input(mem, input, addr);
-    let high = load_byte_or_input(mem, input / 256, machine_address_ahead(addr, 1));
-    u16::from(low) + 256 * u16::from(high)
-}
-
-/// Returns the halfword at an address.
-fn load_half_or_input(mem: &Mem, input: u32, addr: u32) -> u16
-    ensures { result ≡ load_number mem.now input addr 2 }
-{
-    match mem.half(addr) {
-        Some(half) => half,
-        None => load_half_by_bytes(mem, input, addr),
-    }
-}
-
-/// Returns the word at an address, byte by byte.
-#[tactic(auto, unfolding(csa_chain::specs::MemoryBytes::load_number))]
-fn load_word_by_bytes(mem: &Mem, input: u32, addr: u32) -> u32
-    ensures { result ≡ load_number mem.now input addr 4 }
-{
-    let low = load_byte_or_input(mem, input, addr);
-    let second = load_byte_or_input(mem, input / 256, machine_address_ahead(addr, 1));
-    let high = load_half_by_bytes(
-        mem,
-        input / 256 / 256,
-        machine_address_ahead(machine_address_ahead(addr, 1), 1),
-    );
-    u32::from(low) + 256 * (u32::from(second) + 256 * u32::from(high))
-}
-
-/// Returns the word at an address.
-fn load_word_or_input(mem: &Mem, input: u32, addr: u32) -> u32
-    ensures { result ≡ load_number mem.now input addr 4 }
-{
-    match mem.word(addr) {
-        Some(word) => word,
-        None => load_word_by_bytes(mem, input, addr),
-    }
-}
-
-/// Returns the byte at an address, for a load.
-#[tactic(auto, unfolding(csa_chain::specs::MemoryBytes::load_number))]
-fn load_single_byte(mem: &Mem, input: u32, addr: u32) -> u8
-    ensures { result ≡ load_number mem.now input addr 1 }
-{
-    load_byte_or_input(mem, input, addr)
-}
-
 /// Returns the value of a load of `size` bytes from an address, extended to a word.
 pub(crate) fn load(mem: &Mem, input: u32, addr: u32, size: u8, signed: bool) -> u32
     requires { IsShapeAccessSize size }
@@ -91,29 +31,6 @@ pub(crate) fn load(mem: &Mem, input: u32, addr: u32, size: u8, signed: bool) -> 
     }
 }
 
-/// Stores the low `n` bytes of a word from an address on, byte by byte.
-#[tactic(auto, unfolding(csa_chain::specs::MemoryBytes::with_bytes))]
-fn store_bytes(mem: &mut Mem, addr: u32, word: u32, n: u8)
-    ensures { mem.new ≡ with_bytes mem.old addr word n }
-{
-    if n > 0 {
-        mem.set(addr, (word % 256) as u8);
-        store_bytes(mem, machine_address_ahead(addr, 1), word / 256, n - 1);
-    }
-}
-
-/// Stores a word, or its low half, in one step if its bytes are in one block of the memory. Returns
-/// whether it did.
-fn store_whole(mem: &mut Mem, addr: u32, word: u32, n: u8) -> bool
-    ensures { MatchBool result (mem.new ≡ with_bytes mem.old addr word n) (mem.new ≡ mem.old) }
-{
-    match n {
-        4 => mem.set_word(addr, word),
-        2 => mem.set_half(addr, (word % 0x1_0000) as u16),
-        _ => false,
-    }
-}
-
 /// Stores the low `n` bytes of a word from an address on.
 pub(crate) fn store(mem: &mut Mem, addr: u32, word: u32, n: u8)
     ensures { mem.new ≡ with_bytes mem.old addr word n }
@@ -131,4 +48,87 @@ pub fn is_trapping_access(event: &Event, addr: u32, size: u8) -> bool
     ensures { result ≡ is_trapping_access event.now addr size }
 {
     event.aln && addr % u32::from(size) != 0
+}
+
+/// Returns the word at an address.
+fn load_word_or_input(mem: &Mem, input: u32, addr: u32) -> u32
+    ensures { result ≡ load_number mem.now input addr 4 }
+{
+    match mem.word(addr) {
+        Some(word) => word,
+        None => load_word_by_bytes(mem, input, addr),
+    }
+}
+
+/// Returns the halfword at an address.
+fn load_half_or_input(mem: &Mem, input: u32, addr: u32) -> u16
+    ensures { result ≡ load_number mem.now input addr 2 }
+{
+    match mem.half(addr) {
+        Some(half) => half,
+        None => load_half_by_bytes(mem, input, addr),
+    }
+}
+
+/// Returns the byte at an address, for a load.
+#[tactic(auto, unfolding(csa_chain::specs::MemoryBytes::load_number))]
+fn load_single_byte(mem: &Mem, input: u32, addr: u32) -> u8
+    ensures { result ≡ load_number mem.now input addr 1 }
+{
+    load_byte_or_input(mem, input, addr)
+}
+
+/// Returns the word at an address, byte by byte.
+#[tactic(auto, unfolding(csa_chain::specs::MemoryBytes::load_number))]
+fn load_word_by_bytes(mem: &Mem, input: u32, addr: u32) -> u32
+    ensures { result ≡ load_number mem.now input addr 4 }
+{
+    let low = load_byte_or_input(mem, input, addr);
+    let second = load_byte_or_input(mem, input / 256, machine_address_ahead(addr, 1));
+    let high = load_half_by_bytes(
+        mem,
+        input / 256 / 256,
+        machine_address_ahead(machine_address_ahead(addr, 1), 1),
+    );
+    u32::from(low) + 256 * (u32::from(second) + 256 * u32::from(high))
+}
+
+/// Returns the byte that a load reads at an address: the input's low byte if none is mapped.
+fn load_byte_or_input(mem: &Mem, input: u32, addr: u32) -> u8
+    ensures { result ≡ unwrap_or (map.get mem.now addr) (input % 2 ^ 8) }
+{
+    mem.get(addr).unwrap_or((input % 256) as u8)
+}
+
+/// Returns the halfword at an address, byte by byte.
+#[tactic(auto, unfolding(csa_chain::specs::MemoryBytes::load_number))]
+fn load_half_by_bytes(mem: &Mem, input: u32, addr: u32) -> u16
+    ensures { result ≡ load_number mem.now input addr 2 }
+{
+    let low = load_byte_or_input(mem, input, addr);
+    let high = load_byte_or_input(mem, input / 256, machine_address_ahead(addr, 1));
+    u16::from(low) + 256 * u16::from(high)
+}
+
+/// Stores a word, or its low half, in one step if its bytes are in one block of the memory. Returns
+/// whether it did.
+fn store_whole(mem: &mut Mem, addr: u32, word: u32, n: u8) -> bool
+    ensures { MatchBool result (mem.new ≡ with_bytes mem.old addr word n) (mem.new ≡ mem.old) }
+{
+    match n {
+        4 => mem.set_word(addr, word),
+        2 => mem.set_half(addr, (word % 0x1_0000) as u16),
+        _ => false,
+    }
+}
+
+/// Stores the low `n` bytes of a word from an address on, byte by byte.
+#[tactic(auto, unfolding(csa_chain::specs::MemoryBytes::with_bytes))]
+fn store_bytes(mem: &mut Mem, addr: u32, word: u32, n: u8)
+    ensures { mem.new ≡ with_bytes mem.old addr word n }
+{
+    if n > 0 {
+        mem.set(addr, (word % 256) as u8);
+        store_bytes(mem, machine_address_ahead(addr, 1), word / 256, n - 1);
+    }
 }

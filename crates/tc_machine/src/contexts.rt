@@ -20,6 +20,17 @@ pub(crate) fn context_link(word: u32) -> u32
     word % 0x10_0000
 }
 
+/// Writes a word to the four bytes from an address on, in a save area.
+pub(crate) fn put_area_word(mem: &mut Mem, addr: u32, word: u32)
+    requires { addr + 3 < 2 ^ 32 }
+    ensures { mem.new ≡ with_word mem.old addr word }
+{
+    if mem.set_word(addr, word) {
+        return;
+    }
+    put_area_word_bytes(mem, addr, word);
+}
+
 /// Writes a word to the four bytes from an address on, in a save area, byte by byte.
 #[tactic(auto, unfolding(csa_chain::specs::MemoryBytes::with_word))]
 fn put_area_word_bytes(mem: &mut Mem, addr: u32, word: u32)
@@ -30,17 +41,6 @@ fn put_area_word_bytes(mem: &mut Mem, addr: u32, word: u32)
     mem.set(addr + 1, (word / 256 % 256) as u8);
     mem.set(addr + 2, (word / 65536 % 256) as u8);
     mem.set(addr + 3, (word / 16777216 % 256) as u8);
-}
-
-/// Writes a word to the four bytes from an address on, in a save area.
-pub(crate) fn put_area_word(mem: &mut Mem, addr: u32, word: u32)
-    requires { addr + 3 < 2 ^ 32 }
-    ensures { mem.new ≡ with_word mem.old addr word }
-{
-    if mem.set_word(addr, word) {
-        return;
-    }
-    put_area_word_bytes(mem, addr, word);
 }
 
 impl Machine {
@@ -82,19 +82,6 @@ impl Machine {
         self.mem.area(address_of(named))
     }
 
-    /// Saves the context to the first free area. Its word 0 was the link of the next one.
-    fn save_to(&mut self, free: u32, next: u32, upper: bool)
-        requires free { free ≡ link_in self.old.fcx }
-        requires mapped { is_area self.old.mem free ≡ true }
-        requires next { next ≡ area_word self.old.mem free 0 }
-        ensures { self.new ≡ saved self.old upper }
-    {
-        let words = self.context(upper);
-        self.mem.set_area(address_of(free), &words);
-        self.pcxi = self.pcxi_after(upper, free);
-        self.fcx = self.fcx / 0x10_0000 * 0x10_0000 + context_link(next);
-    }
-
     /// Saves a context. The machine dies if the free list is empty or its first area isn't mapped.
     /// After the save it dies if the limit of the list is reached.
     /// (TriCore 1 architecture manual, volume 1, context management)
@@ -116,40 +103,6 @@ impl Machine {
         if free == limit {
             self.die(Cause::Fcd);
         }
-    }
-
-    /// Moves the area that PCXI names to the front of the free list. Its old word 0 is the new
-    /// PCXI.
-    #[tactic(auto, unfolding(csa_chain::specs::MemoryBytes::with_words))]
-    fn release(&mut self, used: u32, before: u32)
-        requires used { used ≡ link_in self.old.pcxi }
-        requires before { before ≡ area_word self.old.mem used 0 }
-        ensures { self.new ≡ released self.old }
-    {
-        put_area_word(&mut self.mem, address_of(used), self.fcx);
-        self.pcxi = before;
-        self.fcx = self.fcx / 0x10_0000 * 0x10_0000 + used;
-    }
-
-    /// Restores the upper registers from the words of the area that PCXI names, and frees the area.
-    fn restore_upper(&mut self, used: u32, words: &[u32; 16])
-        requires used { used ≡ link_in self.old.pcxi }
-        requires words { words.now ≡ last_context self.old }
-        ensures { self.new ≡ restored_upper self.old }
-    {
-        let (before, psw) = load_upper(words, &mut self.d, &mut self.a);
-        self.psw = psw;
-        self.release(used, before);
-    }
-
-    /// Restores the lower registers from the words of the area that PCXI names, and frees the area.
-    fn restore_lower(&mut self, used: u32, words: &[u32; 16])
-        requires used { used ≡ link_in self.old.pcxi }
-        requires words { words.now ≡ last_context self.old }
-        ensures { self.new ≡ restored_lower self.old }
-    {
-        let before = load_lower(words, &mut self.d, &mut self.a);
-        self.release(used, before);
     }
 
     /// Restores a context. The machine dies if there is none, if it is of the other kind, or if its
@@ -177,5 +130,52 @@ impl Machine {
         } else {
             self.restore_lower(parts.link, &words);
         }
+    }
+
+    /// Saves the context to the first free area. Its word 0 was the link of the next one.
+    fn save_to(&mut self, free: u32, next: u32, upper: bool)
+        requires free { free ≡ link_in self.old.fcx }
+        requires mapped { is_area self.old.mem free ≡ true }
+        requires next { next ≡ area_word self.old.mem free 0 }
+        ensures { self.new ≡ saved self.old upper }
+    {
+        let words = self.context(upper);
+        self.mem.set_area(address_of(free), &words);
+        self.pcxi = self.pcxi_after(upper, free);
+        self.fcx = self.fcx / 0x10_0000 * 0x10_0000 + context_link(next);
+    }
+
+    /// Restores the upper registers from the words of the area that PCXI names, and frees the area.
+    fn restore_upper(&mut self, used: u32, words: &[u32; 16])
+        requires used { used ≡ link_in self.old.pcxi }
+        requires words { words.now ≡ last_context self.old }
+        ensures { self.new ≡ restored_upper self.old }
+    {
+        let (before, psw) = load_upper(words, &mut self.d, &mut self.a);
+        self.psw = psw;
+        self.release(used, before);
+    }
+
+    /// Restores the lower registers from the words of the area that PCXI names, and frees the area.
+    fn restore_lower(&mut self, used: u32, words: &[u32; 16])
+        requires used { used ≡ link_in self.old.pcxi }
+        requires words { words.now ≡ last_context self.old }
+        ensures { self.new ≡ restored_lower self.old }
+    {
+        let before = load_lower(words, &mut self.d, &mut self.a);
+        self.release(used, before);
+    }
+
+    /// Moves the area that PCXI names to the front of the free list. Its old word 0 is the new
+    /// PCXI.
+    #[tactic(auto, unfolding(csa_chain::specs::MemoryBytes::with_words))]
+    fn release(&mut self, used: u32, before: u32)
+        requires used { used ≡ link_in self.old.pcxi }
+        requires before { before ≡ area_word self.old.mem used 0 }
+        ensures { self.new ≡ released self.old }
+    {
+        put_area_word(&mut self.mem, address_of(used), self.fcx);
+        self.pcxi = before;
+        self.fcx = self.fcx / 0x10_0000 * 0x10_0000 + used;
     }
 }

@@ -11,6 +11,28 @@ use tc_encode::{DecodeErr, decode};
 use tc_isa::{Inst, Shape, shape};
 use tc_mem::Mem;
 
+/// Decodes the instruction that at most four mapped bytes from an address on begin with. Returns
+/// its length in bytes too.
+fn fetch_at_address(mem: &Mem, addr: u32) -> Result<(Inst, usize), DecodeErr>
+    ensures decoded { result ≡ decoded_of (mapped_bytes 4 mem.now addr) }
+    ensures small { IfOk result (λ found. found.1 ≤ 4) }
+{
+    match mem.word(addr) {
+        Some(word) => decode_fetched_bytes(&fetched_word_bytes(word)),
+        None => fetch_by_bytes(mem, addr),
+    }
+}
+
+/// Returns why a machine dies if the bytes at pc decode to no instruction.
+fn fetch_failure_cause(e: DecodeErr) -> Cause
+    ensures { result ≡ fetch_failure_cause e }
+{
+    match e {
+        DecodeErr::Short => Cause::NoCode,
+        DecodeErr::NotListed => Cause::NotListed,
+    }
+}
+
 /// Returns the instruction that the bytes begin with, and its length in bytes.
 fn decode_fetched_bytes(bytes: &[u8]) -> Result<(Inst, usize), DecodeErr>
     ensures decoded { result ≡ decoded_of bytes.now }
@@ -48,28 +70,6 @@ fn fetch_by_bytes(mem: &Mem, addr: u32) -> Result<(Inst, usize), DecodeErr>
         return decode_fetched_bytes(&[a, b, c]);
     };
     decode_fetched_bytes(&[a, b, c, d])
-}
-
-/// Decodes the instruction that at most four mapped bytes from an address on begin with. Returns
-/// its length in bytes too.
-fn fetch_at_address(mem: &Mem, addr: u32) -> Result<(Inst, usize), DecodeErr>
-    ensures decoded { result ≡ decoded_of (mapped_bytes 4 mem.now addr) }
-    ensures small { IfOk result (λ found. found.1 ≤ 4) }
-{
-    match mem.word(addr) {
-        Some(word) => decode_fetched_bytes(&fetched_word_bytes(word)),
-        None => fetch_by_bytes(mem, addr),
-    }
-}
-
-/// Returns why a machine dies if the bytes at pc decode to no instruction.
-fn fetch_failure_cause(e: DecodeErr) -> Cause
-    ensures { result ≡ fetch_failure_cause e }
-{
-    match e {
-        DecodeErr::Short => Cause::NoCode,
-        DecodeErr::NotListed => Cause::NotListed,
-    }
 }
 
 impl Machine {

@@ -14,34 +14,6 @@ fn psw_of_handler(psw: u32) -> u32
 }
 
 impl Machine {
-    /// Returns the stack pointer of a handler: the interrupt stack's, or A10 if that stack is in
-    /// use already.
-    fn stack_of_handler(&self) -> u32
-        ensures { result ≡ handler_stack self.now }
-    {
-        if self.psw / 0x200 % 2 == 1 {
-            self.a[10]
-        } else {
-            self.isp
-        }
-    }
-
-    /// Enters a handler that returns to the address `back`.
-    fn enter(&mut self, back: u32, entry: u32, stack: u32, psw: u32)
-        ensures { self.new ≡ record self.old {
-          a = slice_set (slice_set self.old.a 11 back) 10 stack;
-          psw = handler_psw psw;
-          ie = false;
-          pc = entry;
-        } }
-    {
-        self.a[11] = back;
-        self.a[10] = stack;
-        self.psw = psw_of_handler(psw);
-        self.ie = false;
-        self.pc = entry;
-    }
-
     /// Takes an interrupt (TriCore 1 architecture manual, volume 1, interrupts).
     pub(crate) fn interrupt(&mut self, irq: u8)
         ensures { self.new ≡ interrupt self.old irq }
@@ -76,5 +48,33 @@ impl Machine {
             }
             End::Dead(_) => {}
         }
+    }
+
+    /// Returns the stack pointer of a handler: the interrupt stack's, or A10 if that stack is in
+    /// use already.
+    fn stack_of_handler(&self) -> u32
+        ensures { result ≡ handler_stack self.now }
+    {
+        if self.psw / 0x200 % 2 == 1 {
+            self.a[10]
+        } else {
+            self.isp
+        }
+    }
+
+    /// Enters a handler that returns to the address `back`.
+    fn enter(&mut self, back: u32, entry: u32, stack: u32, psw: u32)
+        ensures { self.new ≡ record self.old {
+          a = slice_set (slice_set self.old.a 11 back) 10 stack;
+          psw = handler_psw psw;
+          ie = false;
+          pc = entry;
+        } }
+    {
+        self.a[11] = back;
+        self.a[10] = stack;
+        self.psw = psw_of_handler(psw);
+        self.ie = false;
+        self.pc = entry;
     }
 }

@@ -202,6 +202,41 @@ impl Machine {
 }
 
 impl Machine {
+    /// Executes an instruction of `n` bytes (TriCore 1 architecture manual, volume 2, instruction
+    /// set).
+    #[tactic(auto, unfolding(crate::specs::Instructions::does))]
+    pub(crate) fn execute(&mut self, event: &Event, shape: Shape, n: u32)
+        requires { IsShape shape }
+        ensures { self.new ≡ does self.old event.now shape n }
+    {
+        match shape {
+            Shape::Compute { op, dst, x, y } => self.compute(op, dst, x, y, n),
+            Shape::Scaled {
+                dst,
+                base,
+                index,
+                n: k,
+            } => self.compute_scaled(dst, base, index, k, n),
+            Shape::Load { .. } | Shape::Store { .. } => self.execute_access(event, shape, n),
+            Shape::Branch {
+                cond,
+                x,
+                y,
+                by,
+                lowers,
+            } => self.branch(Comparison { cond, x, y }, by, lowers, n),
+            Shape::Jump { to } => self.pc = self.target(to),
+            Shape::Call { .. } | Shape::Ret | Shape::Rfe | Shape::Svlcx | Shape::Rslcx => {
+                self.execute_context(event, shape, n)
+            }
+            Shape::Bisr { .. } | Shape::Syscall { .. } => self.execute_context(event, shape, n),
+            Shape::Enable | Shape::Disable | Shape::Mfcr { .. } | Shape::Mtcr { .. } => {
+                self.execute_system(event, shape, n)
+            }
+            Shape::Nothing => self.advance(n),
+        }
+    }
+
     /// Executes a load or a store.
     #[tactic(auto, unfolding(crate::specs::Instructions::does))]
     fn execute_access(&mut self, event: &Event, shape: Shape, n: u32)
@@ -291,41 +326,6 @@ impl Machine {
                 self.advance(n);
             }
             _ => {}
-        }
-    }
-
-    /// Executes an instruction of `n` bytes (TriCore 1 architecture manual, volume 2, instruction
-    /// set).
-    #[tactic(auto, unfolding(crate::specs::Instructions::does))]
-    pub(crate) fn execute(&mut self, event: &Event, shape: Shape, n: u32)
-        requires { IsShape shape }
-        ensures { self.new ≡ does self.old event.now shape n }
-    {
-        match shape {
-            Shape::Compute { op, dst, x, y } => self.compute(op, dst, x, y, n),
-            Shape::Scaled {
-                dst,
-                base,
-                index,
-                n: k,
-            } => self.compute_scaled(dst, base, index, k, n),
-            Shape::Load { .. } | Shape::Store { .. } => self.execute_access(event, shape, n),
-            Shape::Branch {
-                cond,
-                x,
-                y,
-                by,
-                lowers,
-            } => self.branch(Comparison { cond, x, y }, by, lowers, n),
-            Shape::Jump { to } => self.pc = self.target(to),
-            Shape::Call { .. } | Shape::Ret | Shape::Rfe | Shape::Svlcx | Shape::Rslcx => {
-                self.execute_context(event, shape, n)
-            }
-            Shape::Bisr { .. } | Shape::Syscall { .. } => self.execute_context(event, shape, n),
-            Shape::Enable | Shape::Disable | Shape::Mfcr { .. } | Shape::Mtcr { .. } => {
-                self.execute_system(event, shape, n)
-            }
-            Shape::Nothing => self.advance(n),
         }
     }
 }

@@ -28,24 +28,6 @@ fn is_area_keeping_shape(event: &Event, shape: Shape) -> bool
 }
 
 impl Machine {
-    /// Returns the next load, address and size in bytes, if an instruction of this shape is at pc,
-    /// or `None` if it is no load.
-    fn load_of(&self, shape: Shape) -> Option<(u32, u8)>
-        requires { IsShape shape }
-        ensures { result ≡ load_in self.now (Ok (shape, 0)) }
-    {
-        match shape {
-            Shape::Load {
-                base,
-                offset,
-                size,
-                after,
-                ..
-            } => Some((self.access(base, offset, after), size)),
-            _ => None,
-        }
-    }
-
     /// Returns the machine's next load as `next_load` does, for a caller that has decoded the bytes
     /// at pc already: `found` is what they do.
     pub fn load_by(&self, found: &Result<(Shape, u32), Cause>) -> Option<(u32, u8)>
@@ -69,17 +51,6 @@ impl Machine {
         ensures { result ≡ next_load_of self.now }
     {
         self.load_by(&self.shape_at_pc())
-    }
-
-    /// Returns word 0 of the area that a word of a chain names. The search in memory begins near
-    /// the last area's place.
-    #[tactic(auto, using(crate::proofs::WholeAccesses::first_of_area))]
-    fn word_after(&self, word: u32, near: &mut usize) -> Option<u32>
-        ensures { result ≡
-            (if is_area self.now.mem (link_in word)
-            then Some (area_word self.now.mem (link_in word) 0) else None) }
-    {
-        self.mem.first_word(address_of(context_link(word)), near)
     }
 
     /// Returns true if an event never changes the memory or PCXI, so that the areas in use stay. No
@@ -117,5 +88,34 @@ impl Machine {
             count += 1;
         }
         Some(count)
+    }
+
+    /// Returns the next load, address and size in bytes, if an instruction of this shape is at pc,
+    /// or `None` if it is no load.
+    fn load_of(&self, shape: Shape) -> Option<(u32, u8)>
+        requires { IsShape shape }
+        ensures { result ≡ load_in self.now (Ok (shape, 0)) }
+    {
+        match shape {
+            Shape::Load {
+                base,
+                offset,
+                size,
+                after,
+                ..
+            } => Some((self.access(base, offset, after), size)),
+            _ => None,
+        }
+    }
+
+    /// Returns word 0 of the area that a word of a chain names. The search in memory begins near
+    /// the last area's place.
+    #[tactic(auto, using(crate::proofs::WholeAccesses::first_of_area))]
+    fn word_after(&self, word: u32, near: &mut usize) -> Option<u32>
+        ensures { result ≡
+            (if is_area self.now.mem (link_in word)
+            then Some (area_word self.now.mem (link_in word) 0) else None) }
+    {
+        self.mem.first_word(address_of(context_link(word)), near)
     }
 }

@@ -12,94 +12,6 @@ use std::alloc::Global;
 use tc_mem::Mem;
 use tcd_base::{NoMemory, Range};
 
-/// Returns the mapped ranges: rom, ram and the save areas.
-fn start_memory_ranges(
-    alloc: Global,
-    rom: &[Range],
-    ram: &[Range],
-    areas: Range,
-) -> Result<Vec<Range>, NoMemory>
-    ensures { IfOk result (λ v. v.items ≡ rom.now ++ ram.now ++ areas ∷ []) }
-{
-    let mut ranges = Vec::new(alloc);
-    ranges.extend_from_slice(rom)?;
-    ranges.extend_from_slice(ram)?;
-    ranges.push(areas)?;
-    Ok(ranges)
-}
-
-/// Copies the bytes of a segment that are in a range.
-fn copy_segment(mem: &mut Mem, segment: &Segment, range: &Range)
-    requires segment { segment.now.at + length segment.now.bytes.items ≤ 2 ^ 32 }
-    requires range { range.now.at + range.now.len ≤ 2 ^ 32 }
-    ensures copied { IsCopiedToMemory (segment_data segment.now ∷ []) range.now mem.old mem.new }
-    ensures bytes { HasBytes mem.old → HasBytes mem.new }
-{
-    let from = segment.at.max(range.at);
-    let end = u64::from(segment.at) + segment.bytes.len() as u64;
-    let to = end.min(u64::from(range.at) + u64::from(range.len));
-    if u64::from(from) < to {
-        let first = (from - segment.at) as usize;
-        let last = (to - u64::from(segment.at)) as usize;
-        mem.set_bytes(from, &segment.bytes[first..last]);
-    }
-}
-
-/// Copies the bytes of segments that are in a range, those of the first segment last.
-fn copy_segments(mem: &mut Mem, segments: &[Segment], range: &Range)
-    requires segments { IsTrue (list_all is_segment (map segment_data segments.now)) }
-    requires range { range.now.at + range.now.len ≤ 2 ^ 32 }
-    ensures copied { IsCopiedToMemory (map segment_data segments.now) range.now mem.old mem.new }
-    ensures bytes { HasBytes mem.old → HasBytes mem.new }
-{
-    let mut rest = segments.len();
-    while rest > 0 {
-        rest -= 1;
-        copy_segment(mem, &segments[rest], range);
-    }
-}
-
-/// Copies the image's bytes into a range.
-fn copy_range(mem: &mut Mem, image: &Image, range: &Range)
-    requires { range.now.at + range.now.len ≤ 2 ^ 32 }
-    ensures copied { mem.new ≡ with_image image.now mem.old range.now.at range.now.len }
-    ensures bytes { HasBytes mem.old → HasBytes mem.new }
-{
-    copy_segments(mem, &image.segments, range);
-}
-
-/// Copies the image's bytes into the ranges.
-fn copy_image(mem: &mut Mem, image: &Image, ranges: &[Range])
-    requires { All (λ r. r.at + r.len ≤ 2 ^ 32) ranges.now }
-    ensures copied { mem.new ≡ with_images image.now mem.old ranges.now }
-    ensures bytes { HasBytes mem.old → HasBytes mem.new }
-{
-    for range in ranges {
-        copy_range(mem, image, range);
-    }
-}
-
-/// Returns the link of the area after area `i` of `n`, or 0 after the last one.
-fn next_start_link(first: u32, n: u32, i: u32) -> u32
-    requires i { i < n }
-    requires first { first + n < 2 ^ 32 }
-    ensures { result ≡ next_start_link first n i }
-{
-    if i + 1 < n { first + (i + 1) } else { 0 }
-}
-
-/// Links `n` areas from the address `at` on; `first` is the link of the first.
-#[tactic(auto, unfolding(crate::specs::Starting::with_area_links, csa_chain::specs::MemoryBytes::with_words))]
-fn link_start_areas(mem: &mut Mem, at: u32, first: u32, n: u32)
-    requires areas { at + 64 * n ≤ 2 ^ 32 }
-    requires links { first + n < 2 ^ 32 }
-    ensures { mem.new ≡ with_area_links at first n mem.old n }
-{
-    for i in 0..n {
-        put_area_word(mem, at + 64 * i, next_start_link(first, n, i));
-    }
-}
-
 /// Returns the link of the area at an address.
 pub(crate) fn start_area_link(at: u32) -> u32
     ensures { result ≡ link_at at }
@@ -129,4 +41,92 @@ pub(crate) fn start_memory(
     copy_image(&mut mem, image, rom);
     link_start_areas(&mut mem, at, start_area_link(at), n);
     Ok(mem)
+}
+
+/// Returns the mapped ranges: rom, ram and the save areas.
+fn start_memory_ranges(
+    alloc: Global,
+    rom: &[Range],
+    ram: &[Range],
+    areas: Range,
+) -> Result<Vec<Range>, NoMemory>
+    ensures { IfOk result (λ v. v.items ≡ rom.now ++ ram.now ++ areas ∷ []) }
+{
+    let mut ranges = Vec::new(alloc);
+    ranges.extend_from_slice(rom)?;
+    ranges.extend_from_slice(ram)?;
+    ranges.push(areas)?;
+    Ok(ranges)
+}
+
+/// Copies the image's bytes into the ranges.
+fn copy_image(mem: &mut Mem, image: &Image, ranges: &[Range])
+    requires { All (λ r. r.at + r.len ≤ 2 ^ 32) ranges.now }
+    ensures copied { mem.new ≡ with_images image.now mem.old ranges.now }
+    ensures bytes { HasBytes mem.old → HasBytes mem.new }
+{
+    for range in ranges {
+        copy_range(mem, image, range);
+    }
+}
+
+/// Links `n` areas from the address `at` on; `first` is the link of the first.
+#[tactic(auto, unfolding(crate::specs::Starting::with_area_links, csa_chain::specs::MemoryBytes::with_words))]
+fn link_start_areas(mem: &mut Mem, at: u32, first: u32, n: u32)
+    requires areas { at + 64 * n ≤ 2 ^ 32 }
+    requires links { first + n < 2 ^ 32 }
+    ensures { mem.new ≡ with_area_links at first n mem.old n }
+{
+    for i in 0..n {
+        put_area_word(mem, at + 64 * i, next_start_link(first, n, i));
+    }
+}
+
+/// Copies the image's bytes into a range.
+fn copy_range(mem: &mut Mem, image: &Image, range: &Range)
+    requires { range.now.at + range.now.len ≤ 2 ^ 32 }
+    ensures copied { mem.new ≡ with_image image.now mem.old range.now.at range.now.len }
+    ensures bytes { HasBytes mem.old → HasBytes mem.new }
+{
+    copy_segments(mem, &image.segments, range);
+}
+
+/// Copies the bytes of segments that are in a range, those of the first segment last.
+fn copy_segments(mem: &mut Mem, segments: &[Segment], range: &Range)
+    requires segments { IsTrue (list_all is_segment (map segment_data segments.now)) }
+    requires range { range.now.at + range.now.len ≤ 2 ^ 32 }
+    ensures copied { IsCopiedToMemory (map segment_data segments.now) range.now mem.old mem.new }
+    ensures bytes { HasBytes mem.old → HasBytes mem.new }
+{
+    let mut rest = segments.len();
+    while rest > 0 {
+        rest -= 1;
+        copy_segment(mem, &segments[rest], range);
+    }
+}
+
+/// Copies the bytes of a segment that are in a range.
+fn copy_segment(mem: &mut Mem, segment: &Segment, range: &Range)
+    requires segment { segment.now.at + length segment.now.bytes.items ≤ 2 ^ 32 }
+    requires range { range.now.at + range.now.len ≤ 2 ^ 32 }
+    ensures copied { IsCopiedToMemory (segment_data segment.now ∷ []) range.now mem.old mem.new }
+    ensures bytes { HasBytes mem.old → HasBytes mem.new }
+{
+    let from = segment.at.max(range.at);
+    let end = u64::from(segment.at) + segment.bytes.len() as u64;
+    let to = end.min(u64::from(range.at) + u64::from(range.len));
+    if u64::from(from) < to {
+        let first = (from - segment.at) as usize;
+        let last = (to - u64::from(segment.at)) as usize;
+        mem.set_bytes(from, &segment.bytes[first..last]);
+    }
+}
+
+/// Returns the link of the area after area `i` of `n`, or 0 after the last one.
+fn next_start_link(first: u32, n: u32, i: u32) -> u32
+    requires i { i < n }
+    requires first { first + n < 2 ^ 32 }
+    ensures { result ≡ next_start_link first n i }
+{
+    if i + 1 < n { first + (i + 1) } else { 0 }
 }

@@ -9,24 +9,6 @@ use crate::{Cause, End, Event, Machine};
 use tc_isa::Shape;
 
 impl Machine {
-    /// Performs an event of a machine that runs. Its interrupt is taken if interrupts are enabled
-    /// and its priority is above the current one; otherwise the instruction at pc is executed.
-    fn perform(&mut self, event: &Event, found: Result<(Shape, u32), Cause>)
-        requires found { found ≡ fetched_shape
-            (decoded_of (mapped_bytes 4 self.old.mem self.old.pc)) }
-        requires bounded { IfOk found (λ it. IsShape it.0) }
-        ensures { self.new ≡ machine_after_event self.old event.now }
-    {
-        if self.ie && self.ccpn < event.irq {
-            self.interrupt(event.irq);
-            return;
-        }
-        match self.fetch(found) {
-            Ok((shape, n)) => self.execute(event, shape, n),
-            Err(cause) => self.die(cause),
-        }
-    }
-
     /// Performs one event as `step` does; `found` is what the bytes at pc do.
     #[tactic(auto, unfolding(crate::specs::Stepping::step))]
     pub fn step_by(&mut self, event: &Event, found: Result<(Shape, u32), Cause>)
@@ -62,6 +44,24 @@ impl Machine {
     {
         for event in events {
             self.step(event);
+        }
+    }
+
+    /// Performs an event of a machine that runs. Its interrupt is taken if interrupts are enabled
+    /// and its priority is above the current one; otherwise the instruction at pc is executed.
+    fn perform(&mut self, event: &Event, found: Result<(Shape, u32), Cause>)
+        requires found { found ≡ fetched_shape
+            (decoded_of (mapped_bytes 4 self.old.mem self.old.pc)) }
+        requires bounded { IfOk found (λ it. IsShape it.0) }
+        ensures { self.new ≡ machine_after_event self.old event.now }
+    {
+        if self.ie && self.ccpn < event.irq {
+            self.interrupt(event.irq);
+            return;
+        }
+        match self.fetch(found) {
+            Ok((shape, n)) => self.execute(event, shape, n),
+            Err(cause) => self.die(cause),
         }
     }
 }

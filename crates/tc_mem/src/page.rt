@@ -16,14 +16,6 @@ pub(crate) struct Page {
     pub bytes: [u8; 4096],
 }
 
-// Returns true if the byte at an offset is mapped.
-fn is_mapped(page: &Page, offset: usize) -> bool
-    requires { offset < 4096 }
-    ensures { result ≡ is_page_bit_set page.now.mapped offset }
-{
-    (page.mapped[offset / 64] >> (offset % 64)) % 2 == 1
-}
-
 // Returns the byte at an address of the page, or `None` if it isn't mapped.
 pub(crate) fn byte(page: &Page, addr: u32) -> Option<u8>
     requires { page.now.number ≡ addr / 4096 }
@@ -90,20 +82,6 @@ pub(crate) fn put_page_word(bytes: &mut [u8; 4096], offset: usize, word: u32)
     bytes[offset + 3] = parts[3];
 }
 
-// Returns the 16 words from an offset on, each with its lowest byte first.
-fn page_area_words(bytes: &[u8; 4096], offset: usize) -> [u32; 16]
-    requires { offset + 64 ≤ 4096 }
-    ensures size { length result ≡ 16 }
-    ensures words { (k : ℕ) → k < 16 → slice_index result k
-        ≡ word_in_bytes bytes.now (offset + 4 * k) }
-{
-    let mut words = [0; 16];
-    for i in 0..16 {
-        words[i] = page_word(bytes, offset + 4 * i);
-    }
-    words
-}
-
 // Returns the 16 words from an offset on if all are mapped. Their 64 bits are one word.
 pub(crate) fn area_in(page: &Page, offset: usize) -> Option<[u32; 16]>
     requires aligned { offset % 64 ≡ 0 }
@@ -119,18 +97,6 @@ pub(crate) fn area_in(page: &Page, offset: usize) -> Option<[u32; 16]>
         return None;
     }
     Some(page_area_words(&page.bytes, offset))
-}
-
-// Writes 16 words from an offset on, each with its lowest byte first.
-fn put_page_area_words(bytes: &mut [u8; 4096], offset: usize, words: &[u32; 16])
-    requires { offset + 64 ≤ 4096 }
-    ensures { bytes.new ≡ page_bytes_with_words bytes.old offset words.now }
-{
-    let mut i = 16;
-    while i > 0 {
-        i -= 1;
-        put_page_word(bytes, offset + 4 * i, words[i]);
-    }
 }
 
 // Writes 16 words from an offset on if all are mapped, and returns whether they are. Their 64 bits
@@ -170,22 +136,6 @@ pub(crate) fn first_in(page: &Page, offset: usize) -> Option<u32>
     }
 }
 
-// Returns true if the four bytes from an offset on are mapped.
-fn is_word_mapped(page: &Page, offset: usize) -> bool
-    requires { offset < 4096 }
-    ensures { result ≡ are_page_bits_set 4 page.now.mapped offset }
-{
-    (page.mapped[offset / 64] >> (offset % 64)) % 16 == 15
-}
-
-// Returns true if the two bytes from an offset on are mapped.
-fn is_half_mapped(page: &Page, offset: usize) -> bool
-    requires { offset < 4096 }
-    ensures { result ≡ are_page_bits_set 2 page.now.mapped offset }
-{
-    (page.mapped[offset / 64] >> (offset % 64)) % 4 == 3
-}
-
 // Returns the word at an offset if it is mapped.
 pub(crate) fn mapped_word(page: &Page, offset: usize) -> Option<u32>
     requires { offset + 4 ≤ 4096 }
@@ -197,14 +147,6 @@ pub(crate) fn mapped_word(page: &Page, offset: usize) -> Option<u32>
     } else {
         None
     }
-}
-
-// Returns the halfword of the two bytes from an offset on, the lower byte first.
-fn page_half(bytes: &[u8; 4096], offset: usize) -> u16
-    requires { offset + 2 ≤ 4096 }
-    ensures { result ≡ half_in_bytes bytes.now offset }
-{
-    u16::from_le_bytes([bytes[offset], bytes[offset + 1]])
 }
 
 // Returns the halfword at an offset if it is mapped.
@@ -237,18 +179,6 @@ pub(crate) fn put_mapped_word(page: &mut Page, offset: usize, word: u32) -> bool
     mapped
 }
 
-// Writes a halfword to the two bytes from an offset on, the lower byte first.
-fn put_page_half(bytes: &mut [u8; 4096], offset: usize, half: u16)
-    requires { offset + 2 ≤ 4096 }
-    ensures { bytes.new
-        ≡ slice_set (slice_set bytes.old offset (half % 2 ^ 8)) (offset + 1)
-        (half / 2 ^ 8 % 2 ^ 8) }
-{
-    let parts = half.to_le_bytes();
-    bytes[offset] = parts[0];
-    bytes[offset + 1] = parts[1];
-}
-
 // Writes a halfword at an offset if it is mapped, and returns whether it is.
 pub(crate) fn put_mapped_half(page: &mut Page, offset: usize, half: u16) -> bool
     requires { offset + 2 ≤ 4096 }
@@ -265,58 +195,6 @@ pub(crate) fn put_mapped_half(page: &mut Page, offset: usize, half: u16) -> bool
         put_page_half(&mut page.bytes, offset, half);
     }
     mapped
-}
-
-/// Sets the bit of an offset, by which the byte there is mapped.
-fn mark_page_byte(mapped: &mut [u64; 64], offset: usize)
-    requires { offset < 4096 }
-    ensures { (k : ℕ) → k < 4096 → is_page_bit_set mapped.new k
-        ≡ (is_page_bit_set mapped.old k || (k == offset)) }
-{
-    mapped[offset / 64] |= 1u64 << (offset % 64);
-}
-
-// Sets the 64 bits from an offset on, which are one word of the list.
-fn mark_page_block(mapped: &mut [u64; 64], offset: usize)
-    requires aligned { offset % 64 ≡ 0 }
-    requires within { offset < 4096 }
-    ensures { (k : ℕ) → k < 4096 → is_page_bit_set mapped.new k
-        ≡ (is_page_bit_set mapped.old k || (nat_le offset k && nat_lt k (offset + 64))) }
-{
-    mapped[offset / 64] = u64::MAX;
-}
-
-// Returns the bits of a page that is wholly mapped.
-fn all_bits() -> [u64; 64]
-    ensures size { length result ≡ 64 }
-    ensures set { (k : ℕ) → k < 4096 → is_page_bit_set result k ≡ true }
-{
-    [u64::MAX; 64]
-}
-
-/// Sets the bits of a page from one offset up to before another. Those of a whole page are set at
-/// once.
-fn mark_page_between(mapped: &mut [u64; 64], from: usize, to: usize)
-    requires ordered { from ≤ to }
-    requires within { to ≤ 4096 }
-    ensures { (k : ℕ) → k < 4096
-        → is_page_bit_set mapped.new k
-        ≡ (is_page_bit_set mapped.old k || (nat_le from k && nat_lt k to)) }
-{
-    if to - from == 4096 {
-        *mapped = all_bits();
-        return;
-    }
-    let mut offset = from;
-    while offset < to {
-        if offset % 64 == 0 && to - offset >= 64 {
-            mark_page_block(mapped, offset);
-            offset += 64;
-        } else {
-            mark_page_byte(mapped, offset);
-            offset += 1;
-        }
-    }
 }
 
 // Sets the bits of the bytes that a range has in the page.
@@ -369,4 +247,126 @@ pub(crate) fn page_of(number: u32, ranges: &[Range]) -> Page
         mapped,
         bytes: page_zeros(),
     }
+}
+
+// Returns true if the byte at an offset is mapped.
+fn is_mapped(page: &Page, offset: usize) -> bool
+    requires { offset < 4096 }
+    ensures { result ≡ is_page_bit_set page.now.mapped offset }
+{
+    (page.mapped[offset / 64] >> (offset % 64)) % 2 == 1
+}
+
+// Returns the 16 words from an offset on, each with its lowest byte first.
+fn page_area_words(bytes: &[u8; 4096], offset: usize) -> [u32; 16]
+    requires { offset + 64 ≤ 4096 }
+    ensures size { length result ≡ 16 }
+    ensures words { (k : ℕ) → k < 16 → slice_index result k
+        ≡ word_in_bytes bytes.now (offset + 4 * k) }
+{
+    let mut words = [0; 16];
+    for i in 0..16 {
+        words[i] = page_word(bytes, offset + 4 * i);
+    }
+    words
+}
+
+// Writes 16 words from an offset on, each with its lowest byte first.
+fn put_page_area_words(bytes: &mut [u8; 4096], offset: usize, words: &[u32; 16])
+    requires { offset + 64 ≤ 4096 }
+    ensures { bytes.new ≡ page_bytes_with_words bytes.old offset words.now }
+{
+    let mut i = 16;
+    while i > 0 {
+        i -= 1;
+        put_page_word(bytes, offset + 4 * i, words[i]);
+    }
+}
+
+// Returns true if the four bytes from an offset on are mapped.
+fn is_word_mapped(page: &Page, offset: usize) -> bool
+    requires { offset < 4096 }
+    ensures { result ≡ are_page_bits_set 4 page.now.mapped offset }
+{
+    (page.mapped[offset / 64] >> (offset % 64)) % 16 == 15
+}
+
+// Returns true if the two bytes from an offset on are mapped.
+fn is_half_mapped(page: &Page, offset: usize) -> bool
+    requires { offset < 4096 }
+    ensures { result ≡ are_page_bits_set 2 page.now.mapped offset }
+{
+    (page.mapped[offset / 64] >> (offset % 64)) % 4 == 3
+}
+
+// Returns the halfword of the two bytes from an offset on, the lower byte first.
+fn page_half(bytes: &[u8; 4096], offset: usize) -> u16
+    requires { offset + 2 ≤ 4096 }
+    ensures { result ≡ half_in_bytes bytes.now offset }
+{
+    u16::from_le_bytes([bytes[offset], bytes[offset + 1]])
+}
+
+// Writes a halfword to the two bytes from an offset on, the lower byte first.
+fn put_page_half(bytes: &mut [u8; 4096], offset: usize, half: u16)
+    requires { offset + 2 ≤ 4096 }
+    ensures { bytes.new
+        ≡ slice_set (slice_set bytes.old offset (half % 2 ^ 8)) (offset + 1)
+        (half / 2 ^ 8 % 2 ^ 8) }
+{
+    let parts = half.to_le_bytes();
+    bytes[offset] = parts[0];
+    bytes[offset + 1] = parts[1];
+}
+
+/// Sets the bits of a page from one offset up to before another. Those of a whole page are set at
+/// once.
+fn mark_page_between(mapped: &mut [u64; 64], from: usize, to: usize)
+    requires ordered { from ≤ to }
+    requires within { to ≤ 4096 }
+    ensures { (k : ℕ) → k < 4096
+        → is_page_bit_set mapped.new k
+        ≡ (is_page_bit_set mapped.old k || (nat_le from k && nat_lt k to)) }
+{
+    if to - from == 4096 {
+        *mapped = all_bits();
+        return;
+    }
+    let mut offset = from;
+    while offset < to {
+        if offset % 64 == 0 && to - offset >= 64 {
+            mark_page_block(mapped, offset);
+            offset += 64;
+        } else {
+            mark_page_byte(mapped, offset);
+            offset += 1;
+        }
+    }
+}
+
+// Returns the bits of a page that is wholly mapped.
+fn all_bits() -> [u64; 64]
+    ensures size { length result ≡ 64 }
+    ensures set { (k : ℕ) → k < 4096 → is_page_bit_set result k ≡ true }
+{
+    [u64::MAX; 64]
+}
+
+// Sets the 64 bits from an offset on, which are one word of the list.
+fn mark_page_block(mapped: &mut [u64; 64], offset: usize)
+    requires aligned { offset % 64 ≡ 0 }
+    requires within { offset < 4096 }
+    ensures { (k : ℕ) → k < 4096 → is_page_bit_set mapped.new k
+        ≡ (is_page_bit_set mapped.old k || (nat_le offset k && nat_lt k (offset + 64))) }
+{
+    mapped[offset / 64] = u64::MAX;
+}
+
+/// Sets the bit of an offset, by which the byte there is mapped.
+fn mark_page_byte(mapped: &mut [u64; 64], offset: usize)
+    requires { offset < 4096 }
+    ensures { (k : ℕ) → k < 4096 → is_page_bit_set mapped.new k
+        ≡ (is_page_bit_set mapped.old k || (k == offset)) }
+{
+    mapped[offset / 64] |= 1u64 << (offset % 64);
 }

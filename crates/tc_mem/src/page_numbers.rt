@@ -8,6 +8,45 @@ use crate::page::Page;
 use std::alloc::Global;
 use tcd_base::{NoMemory, Range};
 
+// Returns the place of the page with this number, which is looked for at `near` first.
+pub(crate) fn find_near(pages: &[Page], number: u32, near: usize) -> Option<usize>
+    requires { IsStrictlyIncreasing (map number_of pages.now) }
+    ensures within { IfSome result (λ i. i < length pages.now) }
+    ensures found { IfSome result (λ i. slice_index (map number_of pages.now) i ≡ number) }
+    ensures none { IfNone result (All (λ p. number_of p ≢ number) pages.now) }
+{
+    if near < pages.len() && pages[near].number == number {
+        return Some(near);
+    }
+    search_page(pages, number)
+}
+
+/// Returns the place of the page with this number. `near` is a hint for pages that are neither in
+/// sequence with the first one nor with the last one.
+pub(crate) fn find_page(pages: &[Page], number: u32, near: usize) -> Option<usize>
+    requires { IsStrictlyIncreasing (map number_of pages.now) }
+    ensures within { IfSome result (λ i. i < length pages.now) }
+    ensures found { IfSome result (λ i. slice_index (map number_of pages.now) i ≡ number) }
+    ensures none { IfNone result (All (λ p. number_of p ≢ number) pages.now) }
+{
+    find_near(pages, number, likely_place(pages, number, near))
+}
+
+// Returns the numbers of the pages in which the ranges have bytes, ascending.
+pub(crate) fn page_numbers(alloc: Global, ranges: &[Range]) -> Result<Vec<u32>, NoMemory>
+    ensures rising { IfOk result (λ v. IsStrictlyIncreasing v.items) }
+    ensures all { IfOk result
+        (λ v. (q : ℕ) → IsTrue (is_address_in_ranges ranges.now q) → Contains v.items (q / 4096)) }
+{
+    let mut numbers = Vec::new(alloc);
+    for range in ranges {
+        add_page_numbers(&mut numbers, range)?;
+    }
+    numbers.sort_unstable();
+    numbers.dedup();
+    Ok(numbers)
+}
+
 // Returns the place of the page with this number, by binary search.
 fn search_page(pages: &[Page], number: u32) -> Option<usize>
     requires { IsStrictlyIncreasing (map number_of pages.now) }
@@ -32,19 +71,6 @@ fn search_page(pages: &[Page], number: u32) -> Option<usize>
     None
 }
 
-// Returns the place of the page with this number, which is looked for at `near` first.
-pub(crate) fn find_near(pages: &[Page], number: u32, near: usize) -> Option<usize>
-    requires { IsStrictlyIncreasing (map number_of pages.now) }
-    ensures within { IfSome result (λ i. i < length pages.now) }
-    ensures found { IfSome result (λ i. slice_index (map number_of pages.now) i ≡ number) }
-    ensures none { IfNone result (All (λ p. number_of p ≢ number) pages.now) }
-{
-    if near < pages.len() && pages[near].number == number {
-        return Some(near);
-    }
-    search_page(pages, number)
-}
-
 // Returns a place at which the page with this number may be: its distance from the first page, or
 // from the last one if it is there, else `near`. A guess that saves the search.
 fn likely_place(pages: &[Page], number: u32, near: usize) -> usize {
@@ -63,17 +89,6 @@ fn likely_place(pages: &[Page], number: u32, near: usize) -> usize {
     near
 }
 
-/// Returns the place of the page with this number. `near` is a hint for pages that are neither in
-/// sequence with the first one nor with the last one.
-pub(crate) fn find_page(pages: &[Page], number: u32, near: usize) -> Option<usize>
-    requires { IsStrictlyIncreasing (map number_of pages.now) }
-    ensures within { IfSome result (λ i. i < length pages.now) }
-    ensures found { IfSome result (λ i. slice_index (map number_of pages.now) i ≡ number) }
-    ensures none { IfNone result (All (λ p. number_of p ≢ number) pages.now) }
-{
-    find_near(pages, number, likely_place(pages, number, near))
-}
-
 // Appends the numbers of the pages in which a range has bytes.
 fn add_page_numbers(numbers: &mut Vec<u32>, range: &Range) -> Result<(), NoMemory>
     ensures kept { OnOk result
@@ -87,19 +102,4 @@ fn add_page_numbers(numbers: &mut Vec<u32>, range: &Range) -> Result<(), NoMemor
         numbers.push(number as u32)?;
     }
     Ok(())
-}
-
-// Returns the numbers of the pages in which the ranges have bytes, ascending.
-pub(crate) fn page_numbers(alloc: Global, ranges: &[Range]) -> Result<Vec<u32>, NoMemory>
-    ensures rising { IfOk result (λ v. IsStrictlyIncreasing v.items) }
-    ensures all { IfOk result
-        (λ v. (q : ℕ) → IsTrue (is_address_in_ranges ranges.now q) → Contains v.items (q / 4096)) }
-{
-    let mut numbers = Vec::new(alloc);
-    for range in ranges {
-        add_page_numbers(&mut numbers, range)?;
-    }
-    numbers.sort_unstable();
-    numbers.dedup();
-    Ok(numbers)
 }

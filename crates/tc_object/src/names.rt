@@ -9,13 +9,6 @@ use tcd_base::{
     BAD_VALUE, Cursor, FormErr, are_name_bytes, form_err_at, is_name_first, read_bytes, read_u8,
 };
 
-/// Whether these bytes are the name of a section or symbol, apart from the bound on their number.
-fn is_object_name(bytes: &[u8]) -> bool
-    ensures { result ≡ is_object_name bytes.now }
-{
-    !bytes.is_empty() && is_name_first(bytes[0]) && are_name_bytes(bytes)
-}
-
 /// The bytes as a name: 1 to 64 letters, digits, `_`, `.` and `$`, of which the first is no digit.
 pub fn object_name_of(bytes: &[u8]) -> Option<&str>
     ensures { option_copied result ≡ object_name_of bytes.now }
@@ -57,6 +50,13 @@ pub(crate) fn read_name_bytes<'a>(c: &mut Cursor<'a>, count: u8) -> Result<&'a s
         return Err(form_err_at(BAD_VALUE, start));
     }
     Ok(object_name_text(bytes))
+}
+
+/// Whether these bytes are the name of a section or symbol, apart from the bound on their number.
+fn is_object_name(bytes: &[u8]) -> bool
+    ensures { result ≡ is_object_name bytes.now }
+{
+    !bytes.is_empty() && is_name_first(bytes[0]) && are_name_bytes(bytes)
 }
 
 // The bytes of a name are ASCII, so they are a text.

@@ -6,14 +6,37 @@ ghost use Rattle.tc_object.specs.Spelling.{bytes_of_name, bytes_of_section, byte
 use crate::{Reloc, Section, Symbol};
 use tcd_base::{NoMemory, put_u16, put_u32};
 
-/// Writes a name in a part of an object file: appends its length, and its bytes.
-#[tactic(auto, unfolding(crate::specs::Spelling::bytes_of_name))]
-fn write_name(out: &mut Vec<u8>, name: &str) -> Result<(), NoMemory>
-    requires { length name.now ≤ 64 }
-    ensures { OnOk result (out.new.items ≡ out.old.items ++ bytes_of_name name.now) }
+/// Writes all sections of an object, in their one spelling, as a part of an object file.
+pub(crate) fn write_sections(out: &mut Vec<u8>, sections: &[Section]) -> Result<(), NoMemory>
+    requires names { All (λ s. length s.name ≤ 64) sections.now }
+    requires small { All (λ s. length s.bytes < 2 ^ 32) sections.now }
+    ensures { OnOk result
+        (out.new.items ≡ out.old.items ++ flat_map bytes_of_section sections.now) }
 {
-    out.push(name.len() as u8)?;
-    out.extend_from_slice(name.as_bytes())?;
+    for section in sections {
+        write_section(out, section)?;
+    }
+    Ok(())
+}
+
+/// Writes all symbols of an object, in their one spelling, as a part of an object file.
+pub(crate) fn write_symbols(out: &mut Vec<u8>, symbols: &[Symbol]) -> Result<(), NoMemory>
+    requires { All (λ s. length s.name ≤ 64) symbols.now }
+    ensures { OnOk result (out.new.items ≡ out.old.items ++ flat_map bytes_of_symbol symbols.now) }
+{
+    for symbol in symbols {
+        write_symbol(out, symbol)?;
+    }
+    Ok(())
+}
+
+/// Writes all relocations of an object, in their one spelling, as a part of an object file.
+pub(crate) fn write_relocs(out: &mut Vec<u8>, relocs: &[Reloc]) -> Result<(), NoMemory>
+    ensures { OnOk result (out.new.items ≡ out.old.items ++ flat_map bytes_of_reloc relocs.now) }
+{
+    for reloc in relocs {
+        write_reloc(out, reloc)?;
+    }
     Ok(())
 }
 
@@ -30,16 +53,14 @@ fn write_section(out: &mut Vec<u8>, section: &Section) -> Result<(), NoMemory>
     Ok(())
 }
 
-/// Writes all sections of an object, in their one spelling, as a part of an object file.
-pub(crate) fn write_sections(out: &mut Vec<u8>, sections: &[Section]) -> Result<(), NoMemory>
-    requires names { All (λ s. length s.name ≤ 64) sections.now }
-    requires small { All (λ s. length s.bytes < 2 ^ 32) sections.now }
-    ensures { OnOk result
-        (out.new.items ≡ out.old.items ++ flat_map bytes_of_section sections.now) }
+/// Writes a name in a part of an object file: appends its length, and its bytes.
+#[tactic(auto, unfolding(crate::specs::Spelling::bytes_of_name))]
+fn write_name(out: &mut Vec<u8>, name: &str) -> Result<(), NoMemory>
+    requires { length name.now ≤ 64 }
+    ensures { OnOk result (out.new.items ≡ out.old.items ++ bytes_of_name name.now) }
 {
-    for section in sections {
-        write_section(out, section)?;
-    }
+    out.push(name.len() as u8)?;
+    out.extend_from_slice(name.as_bytes())?;
     Ok(())
 }
 
@@ -55,17 +76,6 @@ fn write_symbol(out: &mut Vec<u8>, symbol: &Symbol) -> Result<(), NoMemory>
     put_u32(out, symbol.offset)
 }
 
-/// Writes all symbols of an object, in their one spelling, as a part of an object file.
-pub(crate) fn write_symbols(out: &mut Vec<u8>, symbols: &[Symbol]) -> Result<(), NoMemory>
-    requires { All (λ s. length s.name ≤ 64) symbols.now }
-    ensures { OnOk result (out.new.items ≡ out.old.items ++ flat_map bytes_of_symbol symbols.now) }
-{
-    for symbol in symbols {
-        write_symbol(out, symbol)?;
-    }
-    Ok(())
-}
-
 /// Writes a relocation as a part of an object file: appends its section, offset, kind, symbol and
 /// addend.
 #[tactic(auto, unfolding(crate::specs::Spelling::bytes_of_reloc))]
@@ -77,14 +87,4 @@ fn write_reloc(out: &mut Vec<u8>, reloc: &Reloc) -> Result<(), NoMemory>
     out.push(reloc.kind)?;
     put_u16(out, reloc.symbol)?;
     put_u32(out, reloc.addend)
-}
-
-/// Writes all relocations of an object, in their one spelling, as a part of an object file.
-pub(crate) fn write_relocs(out: &mut Vec<u8>, relocs: &[Reloc]) -> Result<(), NoMemory>
-    ensures { OnOk result (out.new.items ≡ out.old.items ++ flat_map bytes_of_reloc relocs.now) }
-{
-    for reloc in relocs {
-        write_reloc(out, reloc)?;
-    }
-    Ok(())
 }

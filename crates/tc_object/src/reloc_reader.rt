@@ -21,89 +21,49 @@ const LAST_KIND: u8 = 7;
 // The size of a relocation in the file.
 const RELOC_BYTES: usize = 13;
 
-// Whether a section isn't below the section of the last relocation.
-fn is_reloc_section_ordered(before: &[Reloc], section: u16) -> bool
-    ensures { result ≡ is_reloc_section_ordered (last_reloc before.now) section }
-{
-    match before.last() {
-        None => true,
-        Some(last) => last.section <= section,
-    }
-}
-
-// Whether an offset of a section comes after the place of the last relocation.
-fn is_behind(before: &[Reloc], section: u16, offset: u32) -> bool
-    ensures { result ≡ is_behind (last_reloc before.now) section offset }
-{
-    match before.last() {
-        None => true,
-        Some(last) => last.section < section || (last.section == section && last.offset < offset),
-    }
-}
-
-/// Reads the section of the relocation after these.
-#[tactic(auto, unfolding(crate::specs::Grammar::reloc_section_at))]
-fn read_reloc_section(
+/// Reads `count` relocations.
+#[inline(never)]
+pub(crate) fn read_relocs(
+    alloc: Global,
     c: &mut Cursor<'_>,
     sections: &[SectionRef<'_>],
-    before: &[Reloc],
-) -> Result<u16, FormErr>
+    symbols: u16,
+    count: u16,
+) -> Result<Vec<Reloc>, ObjErr>
     requires { length c.old.bytes ≤ 2 ^ 30 }
-    ensures read { ReadsField result c.new (reloc_section_at sections.now before.now c.old) }
+    ensures ok { IfOk result
+        (λ rs. many_fields_at (reloc_after sections.now symbols) count [] c.old
+        ≡ Ok (rs.items, c.new)) }
+    ensures err { IfErr result
+        (IsFaultOf (many_fields_at (reloc_after sections.now symbols) count [] c.old)) }
     ensures bytes { c.new.bytes ≡ c.old.bytes }
 {
-    let start = c.place();
-    let section = read_u16(c)?;
-    if !is_reloc_section_ordered(before, section) {
-        return Err(form_err_at(BAD_ORDER, start));
+    let mut relocs = Vec::with_capacity(alloc, count as usize)?;
+    for _i in 0..count {
+        let reloc = read_reloc(c, sections, symbols, &relocs)?;
+        relocs.push(reloc)?;
     }
-    if section as usize >= sections.len() {
-        return Err(form_err_at(BAD_VALUE, start));
-    }
-    Ok(section)
+    Ok(relocs)
 }
 
-/// Reads the offset of the relocation after these. The fault of a wrong order is at `section_at`,
-/// the byte offset of the relocation's section field.
-#[tactic(auto, unfolding(crate::specs::Grammar::reloc_offset_at))]
-fn read_reloc_offset(
+/// Reads the relocation after these from its 13 bytes at once, if the file holds all of them.
+fn read_reloc(
     c: &mut Cursor<'_>,
     sections: &[SectionRef<'_>],
+    symbols: u16,
     before: &[Reloc],
-    section: u16,
-    section_at: usize,
-) -> Result<u32, FormErr>
-    requires short { length c.old.bytes ≤ 2 ^ 30 }
-    requires start { section_at ≤ length c.old.bytes }
-    ensures read { ReadsField result c.new
-        (reloc_offset_at sections.now before.now section
-        (record { bytes = c.old.bytes; place = section_at }) c.old) }
-    ensures bytes { c.new.bytes ≡ c.old.bytes }
-{
-    let start = c.place();
-    let offset = read_u32(c)?;
-    if !is_behind(before, section, offset) {
-        return Err(form_err_at(BAD_ORDER, section_at));
-    }
-    if offset as usize + 4 > section_size_at(sections, section) {
-        return Err(form_err_at(BAD_VALUE, start));
-    }
-    Ok(offset)
-}
-
-/// Reads the number of a symbol, which must be below `symbols`.
-#[tactic(auto, unfolding(crate::specs::Grammar::reloc_symbol_at))]
-fn read_reloc_symbol(c: &mut Cursor<'_>, symbols: u16) -> Result<u16, FormErr>
+) -> Result<Reloc, FormErr>
     requires { length c.old.bytes ≤ 2 ^ 30 }
-    ensures read { ReadsField result c.new (reloc_symbol_at symbols c.old) }
+    ensures read { ReadsField result c.new (reloc_after sections.now symbols before.now c.old) }
     ensures bytes { c.new.bytes ≡ c.old.bytes }
 {
     let start = c.place();
-    let symbol = read_u16(c)?;
-    if symbol >= symbols {
-        return Err(form_err_at(BAD_VALUE, start));
-    }
-    Ok(symbol)
+    let Some(bytes) = c.take(RELOC_BYTES) else {
+        return read_reloc_fields(c, sections, symbols, before);
+    };
+    let reloc = reloc_of(bytes);
+    check_reloc(sections, symbols, before, &reloc, start)?;
+    Ok(reloc)
 }
 
 /// Reads the relocation after these field by field. `read_reloc` calls it if the file ends within
@@ -190,47 +150,87 @@ fn check_reloc(
     Ok(())
 }
 
-/// Reads the relocation after these from its 13 bytes at once, if the file holds all of them.
-fn read_reloc(
+/// Reads the section of the relocation after these.
+#[tactic(auto, unfolding(crate::specs::Grammar::reloc_section_at))]
+fn read_reloc_section(
     c: &mut Cursor<'_>,
     sections: &[SectionRef<'_>],
-    symbols: u16,
     before: &[Reloc],
-) -> Result<Reloc, FormErr>
+) -> Result<u16, FormErr>
     requires { length c.old.bytes ≤ 2 ^ 30 }
-    ensures read { ReadsField result c.new (reloc_after sections.now symbols before.now c.old) }
+    ensures read { ReadsField result c.new (reloc_section_at sections.now before.now c.old) }
     ensures bytes { c.new.bytes ≡ c.old.bytes }
 {
     let start = c.place();
-    let Some(bytes) = c.take(RELOC_BYTES) else {
-        return read_reloc_fields(c, sections, symbols, before);
-    };
-    let reloc = reloc_of(bytes);
-    check_reloc(sections, symbols, before, &reloc, start)?;
-    Ok(reloc)
+    let section = read_u16(c)?;
+    if !is_reloc_section_ordered(before, section) {
+        return Err(form_err_at(BAD_ORDER, start));
+    }
+    if section as usize >= sections.len() {
+        return Err(form_err_at(BAD_VALUE, start));
+    }
+    Ok(section)
 }
 
-/// Reads `count` relocations.
-#[inline(never)]
-pub(crate) fn read_relocs(
-    alloc: Global,
+/// Reads the offset of the relocation after these. The fault of a wrong order is at `section_at`,
+/// the byte offset of the relocation's section field.
+#[tactic(auto, unfolding(crate::specs::Grammar::reloc_offset_at))]
+fn read_reloc_offset(
     c: &mut Cursor<'_>,
     sections: &[SectionRef<'_>],
-    symbols: u16,
-    count: u16,
-) -> Result<Vec<Reloc>, ObjErr>
-    requires { length c.old.bytes ≤ 2 ^ 30 }
-    ensures ok { IfOk result
-        (λ rs. many_fields_at (reloc_after sections.now symbols) count [] c.old
-        ≡ Ok (rs.items, c.new)) }
-    ensures err { IfErr result
-        (IsFaultOf (many_fields_at (reloc_after sections.now symbols) count [] c.old)) }
+    before: &[Reloc],
+    section: u16,
+    section_at: usize,
+) -> Result<u32, FormErr>
+    requires short { length c.old.bytes ≤ 2 ^ 30 }
+    requires start { section_at ≤ length c.old.bytes }
+    ensures read { ReadsField result c.new
+        (reloc_offset_at sections.now before.now section
+        (record { bytes = c.old.bytes; place = section_at }) c.old) }
     ensures bytes { c.new.bytes ≡ c.old.bytes }
 {
-    let mut relocs = Vec::with_capacity(alloc, count as usize)?;
-    for _i in 0..count {
-        let reloc = read_reloc(c, sections, symbols, &relocs)?;
-        relocs.push(reloc)?;
+    let start = c.place();
+    let offset = read_u32(c)?;
+    if !is_behind(before, section, offset) {
+        return Err(form_err_at(BAD_ORDER, section_at));
     }
-    Ok(relocs)
+    if offset as usize + 4 > section_size_at(sections, section) {
+        return Err(form_err_at(BAD_VALUE, start));
+    }
+    Ok(offset)
+}
+
+/// Reads the number of a symbol, which must be below `symbols`.
+#[tactic(auto, unfolding(crate::specs::Grammar::reloc_symbol_at))]
+fn read_reloc_symbol(c: &mut Cursor<'_>, symbols: u16) -> Result<u16, FormErr>
+    requires { length c.old.bytes ≤ 2 ^ 30 }
+    ensures read { ReadsField result c.new (reloc_symbol_at symbols c.old) }
+    ensures bytes { c.new.bytes ≡ c.old.bytes }
+{
+    let start = c.place();
+    let symbol = read_u16(c)?;
+    if symbol >= symbols {
+        return Err(form_err_at(BAD_VALUE, start));
+    }
+    Ok(symbol)
+}
+
+// Whether a section isn't below the section of the last relocation.
+fn is_reloc_section_ordered(before: &[Reloc], section: u16) -> bool
+    ensures { result ≡ is_reloc_section_ordered (last_reloc before.now) section }
+{
+    match before.last() {
+        None => true,
+        Some(last) => last.section <= section,
+    }
+}
+
+// Whether an offset of a section comes after the place of the last relocation.
+fn is_behind(before: &[Reloc], section: u16, offset: u32) -> bool
+    ensures { result ≡ is_behind (last_reloc before.now) section offset }
+{
+    match before.last() {
+        None => true,
+        Some(last) => last.section < section || (last.section == section && last.offset < offset),
+    }
 }

@@ -13,47 +13,6 @@ use tcd_base::{
     ABOVE_LIMIT, BAD_VALUE, Cursor, FormErr, form_err_at, read_bytes, read_u16, read_u32,
 };
 
-// Whether one of these sections has the name. A search by hand is enough: there are at most 64.
-fn is_section_name(sections: &[SectionRef<'_>], name: &str) -> bool
-    ensures { result ≡ is_section_name sections.now name.now }
-{
-    sections.iter().any(|section| name == section.name)
-}
-
-/// Reads a name that none of these sections has.
-#[tactic(auto, unfolding(crate::specs::Grammar::new_object_name_at))]
-fn read_section_name<'a>(c: &mut Cursor<'a>, before: &[SectionRef<'_>]) -> Result<&'a str, FormErr>
-    requires { length c.old.bytes ≤ 2 ^ 30 }
-    ensures read { MatchResult result
-        (λ name. new_object_name_at (is_section_name before.now) c.old ≡ Ok (name.now, c.new))
-        (λ e. new_object_name_at (is_section_name before.now) c.old ≡ Err e) }
-    ensures bytes { c.new.bytes ≡ c.old.bytes }
-{
-    let count = read_name_length(c)?;
-    let start = c.place();
-    let name = read_name_bytes(c, count)?;
-    if is_section_name(before, name) {
-        return Err(form_err_at(BAD_VALUE, start));
-    }
-    Ok(name)
-}
-
-/// Reads the section after these.
-#[tactic(auto, unfolding(crate::specs::Grammar::section_after, crate::specs::Grammar::section_with))]
-fn read_section<'a>(
-    c: &mut Cursor<'a>,
-    before: &[SectionRef<'_>],
-) -> Result<SectionRef<'a>, FormErr>
-    requires { length c.old.bytes ≤ 2 ^ 30 }
-    ensures read { ReadsField result c.new (section_after before.now c.old) }
-    ensures bytes { c.new.bytes ≡ c.old.bytes }
-{
-    let name = read_section_name(c, before)?;
-    let size = read_u32(c)?;
-    let bytes = read_bytes(c, size as usize)?;
-    Ok(SectionRef { name, bytes })
-}
-
 /// Reads `count` sections.
 pub(crate) fn read_sections<'a>(
     alloc: Global,
@@ -98,4 +57,45 @@ pub(crate) fn section_size_at(sections: &[SectionRef<'_>], number: u16) -> usize
         Some(section) => section.bytes.len(),
         None => 0,
     }
+}
+
+/// Reads the section after these.
+#[tactic(auto, unfolding(crate::specs::Grammar::section_after, crate::specs::Grammar::section_with))]
+fn read_section<'a>(
+    c: &mut Cursor<'a>,
+    before: &[SectionRef<'_>],
+) -> Result<SectionRef<'a>, FormErr>
+    requires { length c.old.bytes ≤ 2 ^ 30 }
+    ensures read { ReadsField result c.new (section_after before.now c.old) }
+    ensures bytes { c.new.bytes ≡ c.old.bytes }
+{
+    let name = read_section_name(c, before)?;
+    let size = read_u32(c)?;
+    let bytes = read_bytes(c, size as usize)?;
+    Ok(SectionRef { name, bytes })
+}
+
+/// Reads a name that none of these sections has.
+#[tactic(auto, unfolding(crate::specs::Grammar::new_object_name_at))]
+fn read_section_name<'a>(c: &mut Cursor<'a>, before: &[SectionRef<'_>]) -> Result<&'a str, FormErr>
+    requires { length c.old.bytes ≤ 2 ^ 30 }
+    ensures read { MatchResult result
+        (λ name. new_object_name_at (is_section_name before.now) c.old ≡ Ok (name.now, c.new))
+        (λ e. new_object_name_at (is_section_name before.now) c.old ≡ Err e) }
+    ensures bytes { c.new.bytes ≡ c.old.bytes }
+{
+    let count = read_name_length(c)?;
+    let start = c.place();
+    let name = read_name_bytes(c, count)?;
+    if is_section_name(before, name) {
+        return Err(form_err_at(BAD_VALUE, start));
+    }
+    Ok(name)
+}
+
+// Whether one of these sections has the name. A search by hand is enough: there are at most 64.
+fn is_section_name(sections: &[SectionRef<'_>], name: &str) -> bool
+    ensures { result ≡ is_section_name sections.now name.now }
+{
+    sections.iter().any(|section| name == section.name)
 }

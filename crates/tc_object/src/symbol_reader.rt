@@ -19,63 +19,70 @@ use tcd_base::{BAD_VALUE, Cursor, FormErr, form_err_at, read_u16, read_u32};
 // The size of a symbol's kind, section and offset in the file.
 const SYMBOL_BYTES: usize = 7;
 
-// Whether a symbol of this kind may have this section number.
-fn is_symbol_section(sections: &[SectionRef<'_>], kind: u8, section: u16) -> bool
-    ensures { result ≡ is_symbol_section sections.now kind section }
+/// Reads `count` symbols.
+#[inline(never)]
+pub(crate) fn read_symbols<'a>(
+    alloc: Global,
+    c: &mut Cursor<'a>,
+    sections: &[SectionRef<'_>],
+    count: u16,
+) -> Result<Vec<SymbolRef<'a>>, ObjErr>
+    requires { length c.old.bytes ≤ 2 ^ 30 }
+    ensures ok { IfOk result
+        (λ ss. many_fields_at (symbol_after sections.now) count [] c.old ≡ Ok (ss.items, c.new)) }
+    ensures err { IfErr result
+        (IsFaultOf (many_fields_at (symbol_after sections.now) count [] c.old)) }
+    ensures bytes { c.new.bytes ≡ c.old.bytes }
 {
-    match kind {
-        UNDEFINED_SYMBOL => section == 0,
-        _ => (section as usize) < sections.len(),
+    let mut names = no_used_names(alloc, count)?;
+    let mut symbols = Vec::with_capacity(alloc, count as usize)?;
+    for _i in 0..count {
+        let symbol = read_symbol(c, sections, &mut names)?;
+        symbols.push(symbol)?;
     }
+    Ok(symbols)
 }
 
-// Whether a symbol of this kind may have this offset in the section.
-fn is_symbol_offset(sections: &[SectionRef<'_>], kind: u8, section: u16, offset: u32) -> bool
-    ensures { result ≡ is_symbol_offset sections.now kind section offset }
+/// Reads a symbol whose name isn't used yet.
+#[tactic(auto, unfolding(crate::specs::Grammar::symbol_with))]
+fn read_symbol<'a>(
+    c: &mut Cursor<'a>,
+    sections: &[SectionRef<'_>],
+    names: &mut HashMap<&'a str, ()>,
+) -> Result<SymbolRef<'a>, ObjErr>
+    requires { length c.old.bytes ≤ 2 ^ 30 }
+    ensures ok { IfOk result
+        (λ s. symbol_with sections.now (is_used_name names.old) c.old ≡ Ok (s, c.new)) }
+    ensures err { IfErr result
+        (IsFaultOf (symbol_with sections.now (is_used_name names.old) c.old)) }
+    ensures bytes { c.new.bytes ≡ c.old.bytes }
+    ensures names { IfOk result (λ s. (q : List ℕ) → is_used_name names.new q
+        ≡ (bytes_eq s.name q || is_used_name names.old q)) }
 {
-    match kind {
-        UNDEFINED_SYMBOL => offset == 0,
-        _ => offset as usize <= section_size_at(sections, section),
-    }
+    let name = read_new_name(c, names)?;
+    let symbol = read_named(c, sections, name)?;
+    Ok(symbol)
 }
 
-/// Reads the section number of a symbol of this kind.
-#[tactic(auto, unfolding(crate::specs::Grammar::symbol_section_at))]
-fn read_symbol_section(
+/// Reads the kind, section and offset of the symbol of this name from 7 bytes at once, if the file
+/// holds all of them.
+fn read_named<'a>(
     c: &mut Cursor<'_>,
     sections: &[SectionRef<'_>],
-    kind: u8,
-) -> Result<u16, FormErr>
+    name: &'a str,
+) -> Result<SymbolRef<'a>, FormErr>
     requires { length c.old.bytes ≤ 2 ^ 30 }
-    ensures read { ReadsField result c.new (symbol_section_at sections.now kind c.old) }
+    ensures read { ReadsField result c.new (symbol_named sections.now name.now c.old) }
+    ensures name { IfOk result (λ s. s.name ≡ name.now) }
     ensures bytes { c.new.bytes ≡ c.old.bytes }
 {
     let start = c.place();
-    let section = read_u16(c)?;
-    if !is_symbol_section(sections, kind, section) {
-        return Err(form_err_at(BAD_VALUE, start));
-    }
-    Ok(section)
-}
-
-/// Reads the offset of a symbol of this kind in a section.
-#[tactic(auto, unfolding(crate::specs::Grammar::symbol_offset_at))]
-fn read_symbol_offset(
-    c: &mut Cursor<'_>,
-    sections: &[SectionRef<'_>],
-    kind: u8,
-    section: u16,
-) -> Result<u32, FormErr>
-    requires { length c.old.bytes ≤ 2 ^ 30 }
-    ensures read { ReadsField result c.new (symbol_offset_at sections.now kind section c.old) }
-    ensures bytes { c.new.bytes ≡ c.old.bytes }
-{
-    let start = c.place();
-    let offset = read_u32(c)?;
-    if !is_symbol_offset(sections, kind, section, offset) {
-        return Err(form_err_at(BAD_VALUE, start));
-    }
-    Ok(offset)
+    let Some(bytes) = c.take(SYMBOL_BYTES) else {
+        return read_named_fields(c, sections, name);
+    };
+    let symbol = symbol_of(bytes, name);
+    check_symbol(sections, &symbol, start)?;
+    Ok(symbol)
 }
 
 /// Reads the symbol of this name field by field. `read_named` calls it if the file ends within the
@@ -144,68 +151,61 @@ fn check_symbol(
     Ok(())
 }
 
-/// Reads the kind, section and offset of the symbol of this name from 7 bytes at once, if the file
-/// holds all of them.
-fn read_named<'a>(
+/// Reads the section number of a symbol of this kind.
+#[tactic(auto, unfolding(crate::specs::Grammar::symbol_section_at))]
+fn read_symbol_section(
     c: &mut Cursor<'_>,
     sections: &[SectionRef<'_>],
-    name: &'a str,
-) -> Result<SymbolRef<'a>, FormErr>
+    kind: u8,
+) -> Result<u16, FormErr>
     requires { length c.old.bytes ≤ 2 ^ 30 }
-    ensures read { ReadsField result c.new (symbol_named sections.now name.now c.old) }
-    ensures name { IfOk result (λ s. s.name ≡ name.now) }
+    ensures read { ReadsField result c.new (symbol_section_at sections.now kind c.old) }
     ensures bytes { c.new.bytes ≡ c.old.bytes }
 {
     let start = c.place();
-    let Some(bytes) = c.take(SYMBOL_BYTES) else {
-        return read_named_fields(c, sections, name);
-    };
-    let symbol = symbol_of(bytes, name);
-    check_symbol(sections, &symbol, start)?;
-    Ok(symbol)
-}
-
-/// Reads a symbol whose name isn't used yet.
-#[tactic(auto, unfolding(crate::specs::Grammar::symbol_with))]
-fn read_symbol<'a>(
-    c: &mut Cursor<'a>,
-    sections: &[SectionRef<'_>],
-    names: &mut HashMap<&'a str, ()>,
-) -> Result<SymbolRef<'a>, ObjErr>
-    requires { length c.old.bytes ≤ 2 ^ 30 }
-    ensures ok { IfOk result
-        (λ s. symbol_with sections.now (is_used_name names.old) c.old ≡ Ok (s, c.new)) }
-    ensures err { IfErr result
-        (IsFaultOf (symbol_with sections.now (is_used_name names.old) c.old)) }
-    ensures bytes { c.new.bytes ≡ c.old.bytes }
-    ensures names { IfOk result (λ s. (q : List ℕ) → is_used_name names.new q
-        ≡ (bytes_eq s.name q || is_used_name names.old q)) }
-{
-    let name = read_new_name(c, names)?;
-    let symbol = read_named(c, sections, name)?;
-    Ok(symbol)
-}
-
-/// Reads `count` symbols.
-#[inline(never)]
-pub(crate) fn read_symbols<'a>(
-    alloc: Global,
-    c: &mut Cursor<'a>,
-    sections: &[SectionRef<'_>],
-    count: u16,
-) -> Result<Vec<SymbolRef<'a>>, ObjErr>
-    requires { length c.old.bytes ≤ 2 ^ 30 }
-    ensures ok { IfOk result
-        (λ ss. many_fields_at (symbol_after sections.now) count [] c.old ≡ Ok (ss.items, c.new)) }
-    ensures err { IfErr result
-        (IsFaultOf (many_fields_at (symbol_after sections.now) count [] c.old)) }
-    ensures bytes { c.new.bytes ≡ c.old.bytes }
-{
-    let mut names = no_used_names(alloc, count)?;
-    let mut symbols = Vec::with_capacity(alloc, count as usize)?;
-    for _i in 0..count {
-        let symbol = read_symbol(c, sections, &mut names)?;
-        symbols.push(symbol)?;
+    let section = read_u16(c)?;
+    if !is_symbol_section(sections, kind, section) {
+        return Err(form_err_at(BAD_VALUE, start));
     }
-    Ok(symbols)
+    Ok(section)
+}
+
+/// Reads the offset of a symbol of this kind in a section.
+#[tactic(auto, unfolding(crate::specs::Grammar::symbol_offset_at))]
+fn read_symbol_offset(
+    c: &mut Cursor<'_>,
+    sections: &[SectionRef<'_>],
+    kind: u8,
+    section: u16,
+) -> Result<u32, FormErr>
+    requires { length c.old.bytes ≤ 2 ^ 30 }
+    ensures read { ReadsField result c.new (symbol_offset_at sections.now kind section c.old) }
+    ensures bytes { c.new.bytes ≡ c.old.bytes }
+{
+    let start = c.place();
+    let offset = read_u32(c)?;
+    if !is_symbol_offset(sections, kind, section, offset) {
+        return Err(form_err_at(BAD_VALUE, start));
+    }
+    Ok(offset)
+}
+
+// Whether a symbol of this kind may have this section number.
+fn is_symbol_section(sections: &[SectionRef<'_>], kind: u8, section: u16) -> bool
+    ensures { result ≡ is_symbol_section sections.now kind section }
+{
+    match kind {
+        UNDEFINED_SYMBOL => section == 0,
+        _ => (section as usize) < sections.len(),
+    }
+}
+
+// Whether a symbol of this kind may have this offset in the section.
+fn is_symbol_offset(sections: &[SectionRef<'_>], kind: u8, section: u16, offset: u32) -> bool
+    ensures { result ≡ is_symbol_offset sections.now kind section offset }
+{
+    match kind {
+        UNDEFINED_SYMBOL => offset == 0,
+        _ => offset as usize <= section_size_at(sections, section),
+    }
 }

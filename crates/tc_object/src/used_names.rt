@@ -22,19 +22,6 @@ pub(crate) fn no_used_names<'a>(
     Ok(names)
 }
 
-/// Adds a name, and returns whether it is new.
-fn add_used_name<'a>(
-    names: &mut HashMap<&'a str, ()>,
-    name: &'a str,
-) -> Result<bool, AllocFailed<(&'a str, ())>>
-    ensures added { IfOk result (λ added. added ≡ not (is_used_name names.old name.now)) }
-    ensures names { OnOk result ((q : List ℕ) → is_used_name names.new q
-        ≡ (bytes_eq name.now q || is_used_name names.old q)) }
-{
-    let old = names.insert(name, ())?;
-    Ok(old.is_none())
-}
-
 /// Reads a name that isn't used yet, and adds it to the used ones.
 #[tactic(auto, unfolding(crate::specs::Grammar::new_object_name_at))]
 pub(crate) fn read_new_name<'a>(
@@ -57,4 +44,17 @@ pub(crate) fn read_new_name<'a>(
         return Err(ObjErr::Bad(form_err_at(BAD_VALUE, start)));
     }
     Ok(name)
+}
+
+/// Adds a name, and returns whether it is new.
+fn add_used_name<'a>(
+    names: &mut HashMap<&'a str, ()>,
+    name: &'a str,
+) -> Result<bool, AllocFailed<(&'a str, ())>>
+    ensures added { IfOk result (λ added. added ≡ not (is_used_name names.old name.now)) }
+    ensures names { OnOk result ((q : List ℕ) → is_used_name names.new q
+        ≡ (bytes_eq name.now q || is_used_name names.old q)) }
+{
+    let old = names.insert(name, ())?;
+    Ok(old.is_none())
 }

@@ -17,15 +17,6 @@ pub enum RelocErr {
     Segment,
 }
 
-// Whether half of a distance is a signed number of `bits` bits.
-fn is_reloc_in_reach(bits: u8, distance: u32) -> bool
-    requires { bits ≤ 31 }
-    ensures { result ≡ is_reloc_in_reach bits distance }
-{
-    let reach = 1u64 << bits;
-    u64::from(distance) < reach || 4_294_967_296 - reach <= u64::from(distance)
-}
-
 /// The first reason why this kind can't take the value at the place, if there is one.
 #[tactic(auto, unfolding(crate::specs::Refusals::reloc_value_refusal))]
 pub(crate) fn reloc_value_refusal(kind: u8, place: u32, value: u32) -> Option<RelocErr>
@@ -40,4 +31,13 @@ pub(crate) fn reloc_value_refusal(kind: u8, place: u32, value: u32) -> Option<Re
         ABS24 if value / 0x20_0000 % 0x80 != 0 => Some(RelocErr::Segment),
         _ => None,
     }
+}
+
+// Whether half of a distance is a signed number of `bits` bits.
+fn is_reloc_in_reach(bits: u8, distance: u32) -> bool
+    requires { bits ≤ 31 }
+    ensures { result ≡ is_reloc_in_reach bits distance }
+{
+    let reach = 1u64 << bits;
+    u64::from(distance) < reach || 4_294_967_296 - reach <= u64::from(distance)
 }

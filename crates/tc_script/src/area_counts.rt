@@ -31,13 +31,6 @@ pub(crate) enum Effect {
     Unknown,
 }
 
-/// Returns the number of areas in use, or 0 if it isn't known.
-fn areas_used_or_zero(m: &Machine) -> u32
-    ensures { result ≡ unwrap_or (used_area_count m.now) 0 }
-{
-    m.used().unwrap_or(0)
-}
-
 /// Counts the areas in use anew along their chain. If there are none, consecutive areas begin at
 /// the first free one.
 pub(crate) fn count_areas(m: &Machine) -> AreasUsed
@@ -49,6 +42,80 @@ pub(crate) fn count_areas(m: &Machine) -> AreasUsed
         in_row: m.pcxi % 0x10_0000 == 0,
         first: m.fcx % 0x10_0000,
     }
+}
+
+/// Returns the effect of an event on the areas in use. The machine runs before it and after it.
+pub(crate) fn effect_of_event(
+    m: &Machine,
+    event: &Event,
+    found: &Result<(Shape, u32), Cause>,
+    used: AreasUsed,
+) -> Effect
+    requires running { m.now.end ≡ End.Running }
+    requires found { found.now ≡ fetched_shape (decoded_of (mapped_bytes 4 m.now.mem m.now.pc)) }
+    requires bounded { IfOk found.now (λ it. IsShape it.0) }
+    requires counted { IsCounted used m.now }
+    ensures { (step m.now event.now).end ≡ End.Running
+        → AreaEffectHolds result used (step m.now event.now) }
+{
+    let in_row = used.in_row;
+    if in_row {
+        return effect_in_row(m, event, found, used);
+    }
+    if m.keeps_areas(event, found) {
+        Effect::Stays
+    } else {
+        Effect::Unknown
+    }
+}
+
+/// Updates the areas in use after an event that has this effect if the machine still runs.
+pub(crate) fn used_after(m: &Machine, used: &mut AreasUsed, effect: Effect)
+    requires { m.now.end ≡ End.Running → AreaEffectHolds effect used.old m.now }
+    ensures { IsCounted used.new m.now }
+{
+    match m.end {
+        End::Running => used_by_effect(m, used, effect),
+        End::Dead(_) => *used = count_areas(m),
+    }
+}
+
+/// Returns the number of areas in use, or 0 if it isn't known.
+fn areas_used_or_zero(m: &Machine) -> u32
+    ensures { result ≡ unwrap_or (used_area_count m.now) 0 }
+{
+    m.used().unwrap_or(0)
+}
+
+/// Returns the effect of an event on the count of the areas in use, if these are consecutive.
+fn effect_in_row(
+    m: &Machine,
+    event: &Event,
+    found: &Result<(Shape, u32), Cause>,
+    used: AreasUsed,
+) -> Effect
+    requires running { m.now.end ≡ End.Running }
+    requires found { found.now ≡ fetched_shape (decoded_of (mapped_bytes 4 m.now.mem m.now.pc)) }
+    requires bounded { IfOk found.now (λ it. IsShape it.0) }
+    requires counted { IsCounted used m.now }
+    requires row { used.in_row ≡ true }
+    ensures { (step m.now event.now).end ≡ End.Running
+        → AreaEffectHolds result used (step m.now event.now) }
+{
+    if is_event_irq_taken(m, event) {
+        return area_effect_of_save(m, used);
+    }
+    match found {
+        Ok((shape, _)) => area_effect_of_shape(m, event, *shape, used),
+        Err(_) => Effect::Unknown,
+    }
+}
+
+/// Returns true if the event's interrupt is taken, which saves a context to one more area.
+fn is_event_irq_taken(m: &Machine, event: &Event) -> bool
+    ensures { result ≡ is_taken m.now event.now }
+{
+    m.ie && m.ccpn < event.irq
 }
 
 /// Returns the effect of a save on the count of the areas in use, kept from event to event: one
@@ -71,44 +138,44 @@ fn area_effect_of_save(m: &Machine, used: AreasUsed) -> Effect
     Effect::Saves
 }
 
-/// Returns the effect of a restore: one area less.
-fn area_effect_of_restore(m: &Machine, used: AreasUsed) -> Effect
+/// Returns how the script's count of areas changes by an instruction. The machine runs after it.
+fn area_effect_of_shape(m: &Machine, event: &Event, shape: Shape, used: AreasUsed) -> Effect
     requires counted { IsCounted used m.now }
     requires row { used.in_row ≡ true }
-    ensures { (after : Machine) → HasRestored m.now after → AreaEffectHolds result used after }
+    requires bounded { IsShape shape }
+    ensures { IsAreaEffectOf result used m.now event.now shape }
 {
-    let count = used.count;
-    if count == 0 {
-        return Effect::Unknown;
+    match shape {
+        Shape::Load {
+            base,
+            offset,
+            size,
+            after,
+            ..
+        } => {
+            let addr = m.access(base, offset, after);
+            area_effect_of_load(m, event, used, addr, size)
+        }
+        Shape::Store {
+            base,
+            offset,
+            size,
+            after,
+            ..
+        } => {
+            let addr = m.access(base, offset, after);
+            area_effect_of_trapping_store(m, event, used, addr, size)
+        }
+        Shape::Compute { .. } => Effect::Stays,
+        Shape::Scaled { .. } => Effect::Stays,
+        Shape::Branch { .. } => Effect::Stays,
+        Shape::Jump { .. } => Effect::Stays,
+        Shape::Mfcr { .. } => Effect::Stays,
+        Shape::Enable => Effect::Stays,
+        Shape::Disable => Effect::Stays,
+        Shape::Nothing => Effect::Stays,
+        _ => area_effect_of_other(m, event, shape, used),
     }
-    Effect::Restores
-}
-
-/// Returns the effect of a store: none, if it misses all areas in use.
-fn area_effect_of_store(m: &Machine, used: AreasUsed, addr: u32, size: u8) -> Effect
-    requires counted { IsCounted used m.now }
-    requires row { used.in_row ≡ true }
-    ensures { (after : Machine) → HasStored addr size m.now after
-        → AreaEffectHolds result used after }
-{
-    let count = used.count;
-    if addr > 0xFFFF_F000 {
-        return Effect::Unknown;
-    }
-    if count == 0 {
-        return Effect::Stays;
-    }
-    let end = addr + u32::from(size);
-    let low = address_of(used.first);
-    if end <= low {
-        return Effect::Stays;
-    }
-    let last = address_of(m.pcxi % 0x10_0000);
-    let high = last + 64;
-    if high <= addr {
-        return Effect::Stays;
-    }
-    Effect::Unknown
 }
 
 /// Returns the effect of a load on the count of the areas in use, kept from event to event: none,
@@ -171,100 +238,44 @@ fn area_effect_of_other(m: &Machine, event: &Event, shape: Shape, used: AreasUse
     }
 }
 
-/// Returns how the script's count of areas changes by an instruction. The machine runs after it.
-fn area_effect_of_shape(m: &Machine, event: &Event, shape: Shape, used: AreasUsed) -> Effect
+/// Returns the effect of a store: none, if it misses all areas in use.
+fn area_effect_of_store(m: &Machine, used: AreasUsed, addr: u32, size: u8) -> Effect
     requires counted { IsCounted used m.now }
     requires row { used.in_row ≡ true }
-    requires bounded { IsShape shape }
-    ensures { IsAreaEffectOf result used m.now event.now shape }
+    ensures { (after : Machine) → HasStored addr size m.now after
+        → AreaEffectHolds result used after }
 {
-    match shape {
-        Shape::Load {
-            base,
-            offset,
-            size,
-            after,
-            ..
-        } => {
-            let addr = m.access(base, offset, after);
-            area_effect_of_load(m, event, used, addr, size)
-        }
-        Shape::Store {
-            base,
-            offset,
-            size,
-            after,
-            ..
-        } => {
-            let addr = m.access(base, offset, after);
-            area_effect_of_trapping_store(m, event, used, addr, size)
-        }
-        Shape::Compute { .. } => Effect::Stays,
-        Shape::Scaled { .. } => Effect::Stays,
-        Shape::Branch { .. } => Effect::Stays,
-        Shape::Jump { .. } => Effect::Stays,
-        Shape::Mfcr { .. } => Effect::Stays,
-        Shape::Enable => Effect::Stays,
-        Shape::Disable => Effect::Stays,
-        Shape::Nothing => Effect::Stays,
-        _ => area_effect_of_other(m, event, shape, used),
+    let count = used.count;
+    if addr > 0xFFFF_F000 {
+        return Effect::Unknown;
     }
+    if count == 0 {
+        return Effect::Stays;
+    }
+    let end = addr + u32::from(size);
+    let low = address_of(used.first);
+    if end <= low {
+        return Effect::Stays;
+    }
+    let last = address_of(m.pcxi % 0x10_0000);
+    let high = last + 64;
+    if high <= addr {
+        return Effect::Stays;
+    }
+    Effect::Unknown
 }
 
-/// Returns true if the event's interrupt is taken, which saves a context to one more area.
-fn is_event_irq_taken(m: &Machine, event: &Event) -> bool
-    ensures { result ≡ is_taken m.now event.now }
-{
-    m.ie && m.ccpn < event.irq
-}
-
-/// Returns the effect of an event on the count of the areas in use, if these are consecutive.
-fn effect_in_row(
-    m: &Machine,
-    event: &Event,
-    found: &Result<(Shape, u32), Cause>,
-    used: AreasUsed,
-) -> Effect
-    requires running { m.now.end ≡ End.Running }
-    requires found { found.now ≡ fetched_shape (decoded_of (mapped_bytes 4 m.now.mem m.now.pc)) }
-    requires bounded { IfOk found.now (λ it. IsShape it.0) }
+/// Returns the effect of a restore: one area less.
+fn area_effect_of_restore(m: &Machine, used: AreasUsed) -> Effect
     requires counted { IsCounted used m.now }
     requires row { used.in_row ≡ true }
-    ensures { (step m.now event.now).end ≡ End.Running
-        → AreaEffectHolds result used (step m.now event.now) }
+    ensures { (after : Machine) → HasRestored m.now after → AreaEffectHolds result used after }
 {
-    if is_event_irq_taken(m, event) {
-        return area_effect_of_save(m, used);
+    let count = used.count;
+    if count == 0 {
+        return Effect::Unknown;
     }
-    match found {
-        Ok((shape, _)) => area_effect_of_shape(m, event, *shape, used),
-        Err(_) => Effect::Unknown,
-    }
-}
-
-/// Returns the effect of an event on the areas in use. The machine runs before it and after it.
-pub(crate) fn effect_of_event(
-    m: &Machine,
-    event: &Event,
-    found: &Result<(Shape, u32), Cause>,
-    used: AreasUsed,
-) -> Effect
-    requires running { m.now.end ≡ End.Running }
-    requires found { found.now ≡ fetched_shape (decoded_of (mapped_bytes 4 m.now.mem m.now.pc)) }
-    requires bounded { IfOk found.now (λ it. IsShape it.0) }
-    requires counted { IsCounted used m.now }
-    ensures { (step m.now event.now).end ≡ End.Running
-        → AreaEffectHolds result used (step m.now event.now) }
-{
-    let in_row = used.in_row;
-    if in_row {
-        return effect_in_row(m, event, found, used);
-    }
-    if m.keeps_areas(event, found) {
-        Effect::Stays
-    } else {
-        Effect::Unknown
-    }
+    Effect::Restores
 }
 
 /// Updates the script's count of areas after an event with this effect. If the effect isn't known,
@@ -278,16 +289,5 @@ fn used_by_effect(m: &Machine, used: &mut AreasUsed, effect: Effect)
         Effect::Saves => used.count += 1,
         Effect::Restores => used.count -= 1,
         Effect::Unknown => *used = count_areas(m),
-    }
-}
-
-/// Updates the areas in use after an event that has this effect if the machine still runs.
-pub(crate) fn used_after(m: &Machine, used: &mut AreasUsed, effect: Effect)
-    requires { m.now.end ≡ End.Running → AreaEffectHolds effect used.old m.now }
-    ensures { IsCounted used.new m.now }
-{
-    match m.end {
-        End::Running => used_by_effect(m, used, effect),
-        End::Dead(_) => *used = count_areas(m),
     }
 }

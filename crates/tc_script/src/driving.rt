@@ -24,39 +24,6 @@ pub struct Peak {
     pub peak: u32,
 }
 
-/// Returns true if the machine runs, so that the script can drive it on.
-fn is_machine_drivable(m: &Machine) -> bool
-    ensures { MatchBool result (m.now.end ≡ End.Running) (IsDead m.now.end) }
-{
-    match m.end {
-        End::Running => true,
-        End::Dead(_) => false,
-    }
-}
-
-/// Returns the event of a turn; `found` is what the bytes at pc do.
-fn event_of_turn<F: Fn(u32, u32) -> u32>(
-    ports: &Ports<F>,
-    m: &Machine,
-    found: &Result<(Shape, u32), Cause>,
-    turn: Turn,
-    t: u32,
-) -> Event
-    requires askable { ArePortsAskable (F.pre ports.now.answer) ports.now.devices }
-    requires found { found.now ≡ fetched_shape (decoded_of (mapped_bytes 4 m.now.mem m.now.pc)) }
-    requires bounded { IfOk found.now (λ it. IsShape it.0) }
-    ensures event { IsEventOfTurn ports.now.devices (F.post ports.now.answer) t turn m.now result }
-    ensures word { result.input < 2 ^ 32 }
-{
-    let input = port_input(ports, m.load_by(found), t);
-    Event {
-        irq: turn.irq,
-        input,
-        status: 0,
-        aln: turn.aln,
-    }
-}
-
 /// Performs one event for each turn of the script, until the machine is dead or the turns end.
 /// An event has the turn's `irq` and `aln`, and status 0. Its input is the answer of the ports if
 /// the load at pc is wholly inside one device range, else 0.
@@ -94,4 +61,37 @@ pub fn drive<F: Fn(u32, u32) -> u32>(
         };
     }
     done
+}
+
+/// Returns true if the machine runs, so that the script can drive it on.
+fn is_machine_drivable(m: &Machine) -> bool
+    ensures { MatchBool result (m.now.end ≡ End.Running) (IsDead m.now.end) }
+{
+    match m.end {
+        End::Running => true,
+        End::Dead(_) => false,
+    }
+}
+
+/// Returns the event of a turn; `found` is what the bytes at pc do.
+fn event_of_turn<F: Fn(u32, u32) -> u32>(
+    ports: &Ports<F>,
+    m: &Machine,
+    found: &Result<(Shape, u32), Cause>,
+    turn: Turn,
+    t: u32,
+) -> Event
+    requires askable { ArePortsAskable (F.pre ports.now.answer) ports.now.devices }
+    requires found { found.now ≡ fetched_shape (decoded_of (mapped_bytes 4 m.now.mem m.now.pc)) }
+    requires bounded { IfOk found.now (λ it. IsShape it.0) }
+    ensures event { IsEventOfTurn ports.now.devices (F.post ports.now.answer) t turn m.now result }
+    ensures word { result.input < 2 ^ 32 }
+{
+    let input = port_input(ports, m.load_by(found), t);
+    Event {
+        irq: turn.irq,
+        input,
+        status: 0,
+        aln: turn.aln,
+    }
 }

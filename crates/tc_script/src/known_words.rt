@@ -56,20 +56,6 @@ impl KnownWords {
         }
     }
 
-    /// Decodes the bytes at pc into a place of the table, for the word that they are, or for none.
-    #[inline(never)]
-    fn learn(&mut self, m: &Machine, place: usize, word: Option<u32>)
-        requires place { place < 1024 }
-        requires known { All IsKnownWord self.old.words }
-        requires word { IfSome word (λ w. bytes_of_word w ≡ mapped_bytes 4 m.now.mem m.now.pc) }
-        ensures known { All IsKnownWord self.new.words }
-        ensures stands { KnownWordStandsAt self.new.words place
-            (mapped_bytes 4 m.now.mem m.now.pc) }
-    {
-        let found = m.shape_at_pc();
-        self.words[place] = KnownWord { word, found };
-    }
-
     /// Returns the place of the table that holds what the bytes at pc do. If none does yet, the
     /// bytes are decoded into it.
     pub(crate) fn place_at_pc(&mut self, m: &Machine) -> usize
@@ -89,5 +75,19 @@ impl KnownWords {
         }
         self.learn(m, place, Some(word));
         place
+    }
+
+    /// Decodes the bytes at pc into a place of the table, for the word that they are, or for none.
+    #[inline(never)]
+    fn learn(&mut self, m: &Machine, place: usize, word: Option<u32>)
+        requires place { place < 1024 }
+        requires known { All IsKnownWord self.old.words }
+        requires word { IfSome word (λ w. bytes_of_word w ≡ mapped_bytes 4 m.now.mem m.now.pc) }
+        ensures known { All IsKnownWord self.new.words }
+        ensures stands { KnownWordStandsAt self.new.words place
+            (mapped_bytes 4 m.now.mem m.now.pc) }
+    {
+        let found = m.shape_at_pc();
+        self.words[place] = KnownWord { word, found };
     }
 }

@@ -5,11 +5,15 @@ ghost use Rattle.std.specs.List.{list_all};
 ghost use Rattle.std.specs.Str.Parse.{digits_value};
 ghost use Rattle.tc_script.specs.Numbers.{is_decimal, script_number};
 
-/// Returns true if all bytes of a script's word are decimal digits.
-fn all_digits(word: &[u8]) -> bool
-    ensures { result ≡ list_all is_ascii_digit word.now }
+/// Returns the number that a script's word spells: decimal, no leading zeros, below 2^32.
+#[tactic(auto, unfolding(crate::specs::Numbers::script_number))]
+pub(crate) fn script_number(word: &[u8]) -> Option<u32>
+    ensures { result ≡ script_number word.now }
 {
-    word.iter().all(|c| c.is_ascii_digit())
+    if !is_decimal(word) {
+        return None;
+    }
+    u32::try_from(script_digits_value(word)).ok()
 }
 
 /// Returns true if a script's word is decimal digits without leading zeros.
@@ -38,13 +42,9 @@ fn script_digits_value(word: &[u8]) -> u64
     value
 }
 
-/// Returns the number that a script's word spells: decimal, no leading zeros, below 2^32.
-#[tactic(auto, unfolding(crate::specs::Numbers::script_number))]
-pub(crate) fn script_number(word: &[u8]) -> Option<u32>
-    ensures { result ≡ script_number word.now }
+/// Returns true if all bytes of a script's word are decimal digits.
+fn all_digits(word: &[u8]) -> bool
+    ensures { result ≡ list_all is_ascii_digit word.now }
 {
-    if !is_decimal(word) {
-        return None;
-    }
-    u32::try_from(script_digits_value(word)).ok()
+    word.iter().all(|c| c.is_ascii_digit())
 }

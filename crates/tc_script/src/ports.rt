@@ -63,21 +63,6 @@ impl<F: Fn(u32, u32) -> u32> Ports<F> {
     }
 }
 
-/// Returns the input of an event with this load: the closure's answer if the load is wholly inside
-/// one device range, else 0.
-fn port_input_at<F: Fn(u32, u32) -> u32>(ports: &Ports<F>, addr: u32, size: u8, t: u32) -> u32
-    requires some { 1 ≤ size }
-    requires askable { ArePortsAskable (F.pre ports.now.answer) ports.now.devices }
-    ensures { IsDrivenInput ports.now.devices (F.post ports.now.answer) t
-        (Some (addr, size)) result }
-{
-    if ports.holds(addr, size) {
-        ports.ask(addr, t)
-    } else {
-        0
-    }
-}
-
 /// Returns the input of an event, 0 if it loads nothing.
 pub(crate) fn port_input<F: Fn(u32, u32) -> u32>(
     ports: &Ports<F>,
@@ -102,4 +87,19 @@ pub(crate) fn device_answer(bounds: AnswerRange, at: u32) -> u32
 {
     let count = u64::from(bounds.hi - bounds.lo) + 1;
     (u64::from(bounds.lo) + u64::from(at) % count) as u32
+}
+
+/// Returns the input of an event with this load: the closure's answer if the load is wholly inside
+/// one device range, else 0.
+fn port_input_at<F: Fn(u32, u32) -> u32>(ports: &Ports<F>, addr: u32, size: u8, t: u32) -> u32
+    requires some { 1 ≤ size }
+    requires askable { ArePortsAskable (F.pre ports.now.answer) ports.now.devices }
+    ensures { IsDrivenInput ports.now.devices (F.post ports.now.answer) t
+        (Some (addr, size)) result }
+{
+    if ports.holds(addr, size) {
+        ports.ask(addr, t)
+    } else {
+        0
+    }
 }

@@ -69,29 +69,17 @@ impl Draft {
         }
     }
 
-    /// Adds `count` turns with this interrupt.
-    fn add_turns(&mut self, line: u32, count: u32, irq: u8) -> Result<(), ScriptErr>
-        ensures turns { TakesScriptDraft result self.new (with_turns line count irq self.old) }
+    /// Reads a line and applies its statement.
+    fn read_line(&mut self, plan: &Plan, number: u32, line: &[u8]) -> Result<(), ScriptErr>
+        requires { length self.old.script.bounds ≡ length plan.now.devices }
+        ensures read { TakesScriptDraft result self.new
+            (line_read plan.now number line.now self.old) }
         ensures devices { length self.new.script.bounds ≡ length self.old.script.bounds }
     {
-        let before = self.script.turns.len();
-        let after = before + count as usize;
-        if after > 100_000 {
-            return Err(ScriptErr::TooMany(line));
+        match script_statement_in(line) {
+            Some(said) => self.state(plan, number, said),
+            None => Err(ScriptErr::BadLine(number)),
         }
-        self.script
-            .turns
-            .resize(after, Turn { irq, aln: self.aln })?;
-        Ok(())
-    }
-
-    /// Sets the bounds of a device's answers in the script that is read.
-    fn set_bounds(&mut self, device: usize, lo: u32, hi: u32)
-        requires there { device < length self.old.script.bounds }
-        requires ordered { lo ≤ hi }
-        ensures { self.new ≡ with_bounds device lo hi self.old }
-    {
-        self.script.bounds[device] = AnswerRange { lo, hi };
     }
 
     /// Applies a statement.
@@ -127,17 +115,29 @@ impl Draft {
         }
     }
 
-    /// Reads a line and applies its statement.
-    fn read_line(&mut self, plan: &Plan, number: u32, line: &[u8]) -> Result<(), ScriptErr>
-        requires { length self.old.script.bounds ≡ length plan.now.devices }
-        ensures read { TakesScriptDraft result self.new
-            (line_read plan.now number line.now self.old) }
+    /// Adds `count` turns with this interrupt.
+    fn add_turns(&mut self, line: u32, count: u32, irq: u8) -> Result<(), ScriptErr>
+        ensures turns { TakesScriptDraft result self.new (with_turns line count irq self.old) }
         ensures devices { length self.new.script.bounds ≡ length self.old.script.bounds }
     {
-        match script_statement_in(line) {
-            Some(said) => self.state(plan, number, said),
-            None => Err(ScriptErr::BadLine(number)),
+        let before = self.script.turns.len();
+        let after = before + count as usize;
+        if after > 100_000 {
+            return Err(ScriptErr::TooMany(line));
         }
+        self.script
+            .turns
+            .resize(after, Turn { irq, aln: self.aln })?;
+        Ok(())
+    }
+
+    /// Sets the bounds of a device's answers in the script that is read.
+    fn set_bounds(&mut self, device: usize, lo: u32, hi: u32)
+        requires there { device < length self.old.script.bounds }
+        requires ordered { lo ≤ hi }
+        ensures { self.new ≡ with_bounds device lo hi self.old }
+    {
+        self.script.bounds[device] = AnswerRange { lo, hi };
     }
 }
 

@@ -8,20 +8,6 @@ use crate::{Peak, Ports, Script, drive};
 use tc_machine::Machine;
 use tcd_plan::{Device, Plan};
 
-/// Returns what a script answers for the device at an address at an event, or 0 if no device is
-/// there.
-fn device_answer_at(devices: &[Device], script: &Script, addr: u32, t: u32) -> u32
-    requires { length script.now.bounds ≡ length devices.now }
-    ensures { result ≡ device_answer_at devices.now script.now.bounds addr t }
-{
-    for (i, device) in devices.iter().enumerate() {
-        if device.range.holds(addr, 1) {
-            return script.answer(i, t);
-        }
-    }
-    0
-}
-
 /// Performs one event for each turn of the script, until the machine is dead or the turns end. The
 /// devices answer as the script says.
 pub fn drive_by_script(m: &mut Machine, plan: &Plan, script: &Script) -> Peak
@@ -37,4 +23,18 @@ pub fn drive_by_script(m: &mut Machine, plan: &Plan, script: &Script) -> Peak
         { device_answer_at(devices, script, addr, t) },
     );
     drive(m, plan, script, &ports)
+}
+
+/// Returns what a script answers for the device at an address at an event, or 0 if no device is
+/// there.
+fn device_answer_at(devices: &[Device], script: &Script, addr: u32, t: u32) -> u32
+    requires { length script.now.bounds ≡ length devices.now }
+    ensures { result ≡ device_answer_at devices.now script.now.bounds addr t }
+{
+    for (i, device) in devices.iter().enumerate() {
+        if device.range.holds(addr, 1) {
+            return script.answer(i, t);
+        }
+    }
+    0
 }

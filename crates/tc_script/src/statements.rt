@@ -18,26 +18,20 @@ pub(crate) enum Statement {
     In { device: u32, lo: u32, hi: u32 },
 }
 
-/// Returns a script's statement `step N`, `irq P`, `aln 0` or `aln 1`, if its number is within its
-/// bounds.
-fn statement_of_one_number(verb: &[u8], n: u32) -> Option<Statement>
-    ensures { result ≡ statement_of_one_number verb.now n }
+/// Returns the statement of a script's line.
+#[tactic(auto, using(crate::proofs::Inside::more_words_say_nothing), unfolding(crate::specs::Statements::script_statement_of))]
+pub(crate) fn script_statement_in(line: &[u8]) -> Option<Statement>
+    ensures said { result ≡ script_statement_of (line_words line.now) }
+    ensures ordered { IfSome result HasOrderedBounds }
 {
-    match verb {
-        b"step" if 1 <= n && n <= 100_000 => Some(Statement::Step(n)),
-        b"irq" if n <= 255 => Some(Statement::Irq(n as u8)),
-        b"aln" if n <= 1 => Some(Statement::Aln(n == 1)),
-        _ => None,
-    }
-}
-
-/// Returns a script's statement `in DEVICE LO HI`, with LO at most HI.
-fn statement_of_three_numbers(verb: &[u8], device: u32, lo: u32, hi: u32) -> Option<Statement>
-    ensures { result ≡ statement_of_three_numbers verb.now device lo hi }
-{
-    match verb {
-        b"in" if lo <= hi => Some(Statement::In { device, lo, hi }),
-        _ => None,
+    match words_in(line) {
+        Words::One(word) => statement_of_one_word(word),
+        Words::Two(verb, word) => statement_of_two_words(verb, word),
+        Words::Three(_, _, _) => None,
+        Words::Four(verb, first, second, third) => statement_of_four_words(
+            verb, first, second, third,
+        ),
+        Words::More => None,
     }
 }
 
@@ -81,19 +75,25 @@ fn statement_of_four_words(
     statement_of_three_numbers(verb, device, lo, hi)
 }
 
-/// Returns the statement of a script's line.
-#[tactic(auto, using(crate::proofs::Inside::more_words_say_nothing), unfolding(crate::specs::Statements::script_statement_of))]
-pub(crate) fn script_statement_in(line: &[u8]) -> Option<Statement>
-    ensures said { result ≡ script_statement_of (line_words line.now) }
-    ensures ordered { IfSome result HasOrderedBounds }
+/// Returns a script's statement `step N`, `irq P`, `aln 0` or `aln 1`, if its number is within its
+/// bounds.
+fn statement_of_one_number(verb: &[u8], n: u32) -> Option<Statement>
+    ensures { result ≡ statement_of_one_number verb.now n }
 {
-    match words_in(line) {
-        Words::One(word) => statement_of_one_word(word),
-        Words::Two(verb, word) => statement_of_two_words(verb, word),
-        Words::Three(_, _, _) => None,
-        Words::Four(verb, first, second, third) => statement_of_four_words(
-            verb, first, second, third,
-        ),
-        Words::More => None,
+    match verb {
+        b"step" if 1 <= n && n <= 100_000 => Some(Statement::Step(n)),
+        b"irq" if n <= 255 => Some(Statement::Irq(n as u8)),
+        b"aln" if n <= 1 => Some(Statement::Aln(n == 1)),
+        _ => None,
+    }
+}
+
+/// Returns a script's statement `in DEVICE LO HI`, with LO at most HI.
+fn statement_of_three_numbers(verb: &[u8], device: u32, lo: u32, hi: u32) -> Option<Statement>
+    ensures { result ≡ statement_of_three_numbers verb.now device lo hi }
+{
+    match verb {
+        b"in" if lo <= hi => Some(Statement::In { device, lo, hi }),
+        _ => None,
     }
 }

@@ -15,34 +15,6 @@ use crate::{shape_index, symbol_rule};
 use std::alloc::AllocError;
 use tc_lex::Operand;
 
-// A number of at most 32 bits, modulo 2^32, as little-endian bytes.
-fn data_word_bytes(minus: bool, size: u32) -> [u8; 4]
-    ensures { result ≡ four_bytes (operand_number_modulo (2 ^ 32) minus size) }
-{
-    let word = if minus { size.wrapping_neg() } else { size };
-    word.to_le_bytes()
-}
-
-// Whether a number fits `width` bytes, signed or unsigned.
-fn is_value_within_width(width: u8, minus: bool, size: u128) -> bool
-    requires { (width ≡ 1) ⊎ ((width ≡ 2) ⊎ (width ≡ 4)) }
-    ensures value { result ≡ is_value_within_width (8 * width) minus size }
-    ensures small { result ≡ true → size < 2 ^ 32 }
-{
-    let bound: u128 = if width == 1 {
-        0x100
-    } else if width == 2 {
-        0x1_0000
-    } else {
-        0x1_0000_0000
-    };
-    if minus {
-        size <= bound / 2
-    } else {
-        size < bound
-    }
-}
-
 /// The least rule that a value of `width` bytes breaks, or no rule.
 #[tactic(auto, unfolding(crate::specs::DataDirectives::value_rule))]
 pub(crate) fn value_rule(width: u8, o: &Operand<'_>) -> u8
@@ -163,4 +135,32 @@ pub(crate) fn add_values<'a>(
         rule = rule.min(broken);
     }
     Ok(rule)
+}
+
+// Whether a number fits `width` bytes, signed or unsigned.
+fn is_value_within_width(width: u8, minus: bool, size: u128) -> bool
+    requires { (width ≡ 1) ⊎ ((width ≡ 2) ⊎ (width ≡ 4)) }
+    ensures value { result ≡ is_value_within_width (8 * width) minus size }
+    ensures small { result ≡ true → size < 2 ^ 32 }
+{
+    let bound: u128 = if width == 1 {
+        0x100
+    } else if width == 2 {
+        0x1_0000
+    } else {
+        0x1_0000_0000
+    };
+    if minus {
+        size <= bound / 2
+    } else {
+        size < bound
+    }
+}
+
+// A number of at most 32 bits, modulo 2^32, as little-endian bytes.
+fn data_word_bytes(minus: bool, size: u32) -> [u8; 4]
+    ensures { result ≡ four_bytes (operand_number_modulo (2 ^ 32) minus size) }
+{
+    let word = if minus { size.wrapping_neg() } else { size };
+    word.to_le_bytes()
 }

@@ -23,272 +23,6 @@ use tc_lex::{Operand, Shape, Value, is_same_text};
 // The number of a name that is no register: above the numbers of all registers.
 const NO_REGISTER: u8 = 64;
 
-/// Returns the number of register 0 in the bank that an operand's first letter names, d or a, or
-/// `NO_REGISTER`.
-fn bank_first_register(c: u8) -> u8
-    ensures { result ≡ (if c == 100 then 0 else (if c == 97 then 16 else 64)) }
-{
-    if c == b'd' {
-        0
-    } else if c == b'a' {
-        16
-    } else {
-        NO_REGISTER
-    }
-}
-
-/// Returns the number of the register with which an operand fills a field: 0 to 15 for d0 to d15,
-/// 16 to 31 for a0 to a15, and `NO_REGISTER` or more for any other name.
-#[tactic(auto, unfolding(crate::specs::OperandForms::register_by_name, tc_lex::specs::Bytes::is_digit))]
-fn register_by_name(name: &[u8]) -> u8
-    ensures value { result ≡ register_by_name name.now }
-{
-    if name.len() == 2 && b'0' <= name[1] && name[1] <= b'9' {
-        bank_first_register(name[0]) + (name[1] - b'0')
-    } else if name.len() == 3 && name[1] == b'1' && b'0' <= name[2] && name[2] <= b'5' {
-        bank_first_register(name[0]) + (name[2] - (b'0' - 10))
-    } else if name.is_empty() {
-        NO_REGISTER + NO_REGISTER
-    } else {
-        bank_first_register(name[0]) + NO_REGISTER
-    }
-}
-
-/// Fills a field with the register of this name and bank, or breaks rule 4.
-#[tactic(auto, unfolding(crate::specs::Filling::put_register))]
-fn put_register(bank: bool, field: Field, name: &[u8], acc: &mut RowFields<'_>)
-    ensures { row_fields_of acc.new
-        ≡ put_register bank field name.now (row_fields_of acc.old) }
-{
-    let reg = register_by_name(name);
-    if reg / 16 == (if bank { 1 } else { 0 }) {
-        put_field_value(field, u32::from(reg % 16), acc);
-    } else {
-        break_rule(WRONG_REGISTER, acc);
-    }
-}
-
-/// Whether an operand's number fits a field with this bound.
-#[tactic(auto, unfolding(crate::specs::Filling::is_within_field_bound))]
-fn is_within_field_bound(signed: bool, bound: u32, minus: bool, size: u128) -> bool
-    ensures value { result ≡ is_within_field_bound signed bound minus size }
-    ensures within { result ≡ true → size ≤ bound }
-{
-    if signed {
-        if minus {
-            size <= u128::from(bound / 2)
-        } else {
-            size < u128::from(bound / 2)
-        }
-    } else if minus {
-        size == 0
-    } else {
-        size < u128::from(bound)
-    }
-}
-
-/// An operand's number modulo the bound of its field.
-fn operand_number_modulo(bound: u32, minus: bool, size: u32) -> u32
-    requires { size ≤ bound }
-    ensures { result ≡ operand_number_modulo bound minus size }
-{
-    if minus && size != 0 {
-        bound - size
-    } else {
-        size
-    }
-}
-
-/// Fills a field with an operand's number that fits it, or breaks rule 5.
-#[tactic(auto, unfolding(crate::specs::Filling::put_number))]
-fn put_number(
-    form: Form,
-    signed: bool,
-    field: Field,
-    minus: bool,
-    size: u128,
-    acc: &mut RowFields<'_>,
-)
-    ensures { row_fields_of acc.new
-        ≡ put_number form signed field minus size (row_fields_of acc.old) }
-{
-    let bound = field_of(field, &bounds_of(form));
-    if is_within_field_bound(signed, bound, minus, size) {
-        put_field_value(field, operand_number_modulo(bound, minus, size as u32), acc);
-    } else {
-        break_rule(WIDE_NUMBER, acc);
-    }
-}
-
-/// Returns true if this row, whose fields an operand is to fill, has this name.
-fn is_named_row(row: &Row, name: &str) -> bool
-    ensures { result ≡ named (row_of row.now) name.now }
-{
-    is_same_text(row.name.as_bytes(), name)
-}
-
-/// Returns the relocation by which an operand `hi:` or `lo:`, a half of an address, fills the
-/// constant of this row, or `NO_RELOC` if the row takes none.
-#[tactic(auto, unfolding(crate::specs::Filling::half_operand_relocation))]
-fn half_operand_relocation(row: &Row, shape: Shape) -> u8
-    ensures { result ≡ half_operand_relocation (row_of row.now) shape }
-{
-    if shape_index(shape) == HIGH {
-        if is_named_row(row, "movh")
-            || is_named_row(row, "movh.a")
-            || is_named_row(row, "addih")
-            || is_named_row(row, "addih.a")
-        {
-            HI16
-        } else {
-            NO_RELOC
-        }
-    } else if is_named_row(row, "addi") {
-        LO16
-    } else if form_index(row.form) == BOL {
-        OFFSET16
-    } else {
-        NO_RELOC
-    }
-}
-
-/// Fills a field with an operand's value as a constant, or breaks a rule. Returns false if the
-/// operand has another form.
-#[tactic(auto, unfolding(crate::specs::Filling::fill_value))]
-fn fill_value<'a>(
-    row: &Row,
-    signed: bool,
-    field: Field,
-    v: &Value<'a>,
-    acc: &mut RowFields<'a>,
-) -> bool
-    ensures { Fills result acc.new
-        (fill_value (row_of row.now) signed field (value_of v.now) (row_fields_of acc.old)) }
-{
-    let shape = shape_index(v.shape);
-    if shape == NUMBER {
-        put_number(row.form, signed, field, v.minus, v.size, acc);
-        true
-    } else if shape == HUGE {
-        break_rule(WIDE_NUMBER, acc);
-        true
-    } else if shape == WORD || shape == SUM {
-        note_misplaced_symbol(v, acc);
-        true
-    } else if shape == HIGH || shape == LOW {
-        let kind = half_operand_relocation(row, v.shape);
-        if kind == NO_RELOC {
-            note_misplaced_symbol(v, acc);
-        } else {
-            with_symbol(kind, v, acc);
-        }
-        true
-    } else {
-        false
-    }
-}
-
-/// Fills the fields of `[BASE]` or `[BASE+]`, with an offset if the row has one. Returns false if
-/// the operand has another form.
-#[tactic(auto, unfolding(crate::specs::Filling::fill_memory))]
-fn fill_memory<'a>(
-    row: &Row,
-    plus: bool,
-    offset: bool,
-    o: &Operand<'a>,
-    acc: &mut RowFields<'a>,
-) -> bool
-    ensures { Fills result acc.new
-        (fill_memory (row_of row.now) plus offset (operand_of o.now) (row_fields_of acc.old)) }
-{
-    if o.is_memory && (if o.plus { plus } else { !plus }) {
-        if shape_index(o.value.shape) == ABSENT {
-            put_register(true, Field::S2, o.base, acc);
-            true
-        } else if offset {
-            put_register(true, Field::S2, o.base, acc);
-            fill_value(row, true, Field::K, &o.value, acc)
-        } else {
-            false
-        }
-    } else {
-        false
-    }
-}
-
-/// Returns the number of constants with which a target's operand can fill its field, in rows of
-/// this form.
-#[tactic(auto, unfolding(tc_isa::specs::Forms::bounds))]
-fn target_operand_bound(form: Form) -> u32
-    ensures value { result ≡ (bounds form).k }
-    ensures small { result < 2 ^ 31 }
-    ensures some { 1 ≤ result }
-{
-    bounds_of(form).k
-}
-
-/// Whether a displacement of `size` bytes doesn't fit the form; SBR only reaches forwards.
-fn is_far_displacement(form: Form, bound: u32, minus: bool, size: u128) -> bool
-    requires { 1 ≤ bound }
-    ensures value { result ≡ is_far_displacement form bound minus size }
-    ensures near { result ≡ false → size ≤ 2 * bound }
-{
-    let bound = u128::from(bound);
-    if form_index(form) == SBR {
-        if minus {
-            size != 0
-        } else {
-            2 * (bound - 1) < size
-        }
-    } else if minus {
-        bound < size
-    } else {
-        bound.saturating_sub(2) < size
-    }
-}
-
-// The least rule that a displacement of `size` bytes breaks, or no rule.
-#[tactic(auto, unfolding(crate::specs::Displacements::displacement_rule))]
-fn displacement_rule(row: &Row, minus: bool, size: u128) -> u8
-    ensures value { result ≡ displacement_rule (row_of row.now) minus size }
-    ensures near { result ≡ no_rule → size ≤ 2 * (bounds row.now.form).k }
-{
-    let by_odd = if size % 2 == 1 {
-        ODD_DISPLACEMENT
-    } else {
-        NO_RULE
-    };
-    let too_far = if row.op1 % 2 == 1 {
-        WIDE_NUMBER
-    } else {
-        FAR_TARGET
-    };
-    let by_far: u8 = if is_far_displacement(row.form, target_operand_bound(row.form), minus, size) {
-        too_far
-    } else {
-        NO_RULE
-    };
-    by_far.min(by_odd)
-}
-
-/// Fills the field of a displacement of `size` bytes, or breaks a rule.
-#[tactic(auto, unfolding(crate::specs::Displacements::with_displacement))]
-fn fill_displacement(row: &Row, minus: bool, size: u128, acc: &mut RowFields<'_>)
-    ensures { row_fields_of acc.new
-        ≡ with_displacement (row_of row.now) minus size (row_fields_of acc.old) }
-{
-    let rule = displacement_rule(row, minus, size);
-    if rule == NO_RULE {
-        put_field_value(
-            Field::K,
-            operand_number_modulo(target_operand_bound(row.form), minus, (size / 2) as u32),
-            acc,
-        );
-    } else {
-        break_rule(rule, acc);
-    }
-}
-
 /// Returns the row's fields after a target fills them with a displacement of `size` bytes, and the
 /// least rule that is broken then.
 pub fn with_displacement<'a>(
@@ -303,137 +37,6 @@ pub fn with_displacement<'a>(
     let mut made = acc;
     fill_displacement(row, minus, size, &mut made);
     made
-}
-
-/// Returns the relocation of a symbol that an operand gives as the target of a jump or call,
-/// instead of filling the field, or `NO_RELOC` in rows of 16 bits.
-#[tactic(auto, unfolding(crate::specs::Displacements::target_operand_relocation))]
-fn target_operand_relocation(row: &Row) -> u8
-    ensures { result ≡ target_operand_relocation (row_of row.now) }
-{
-    if row.op1 % 2 == 1 {
-        if form_index(row.form) == B {
-            REL24
-        } else {
-            REL15
-        }
-    } else {
-        NO_RELOC
-    }
-}
-
-/// Fills the field of a target with a displacement, or notes its symbol. Returns false if the
-/// operand has another form.
-#[tactic(auto, unfolding(crate::specs::Filling::fill_target))]
-fn fill_target<'a>(row: &Row, v: &Value<'a>, acc: &mut RowFields<'a>) -> bool
-    ensures { Fills result acc.new
-        (fill_target (row_of row.now) (value_of v.now) (row_fields_of acc.old)) }
-{
-    let shape = shape_index(v.shape);
-    if shape == SUM && is_same_text(v.name, ".") {
-        if v.wide {
-            break_rule(WIDE_NUMBER, acc);
-        } else {
-            fill_displacement(row, v.minus, v.size, acc);
-        }
-        true
-    } else if shape == WORD || shape == SUM {
-        with_symbol(target_operand_relocation(row), v, acc);
-        true
-    } else if shape == HIGH || shape == LOW {
-        note_misplaced_symbol(v, acc);
-        true
-    } else {
-        false
-    }
-}
-
-/// Fills the field of an absolute address, or breaks rule 5.
-#[tactic(auto, unfolding(crate::specs::Filling::put_absolute))]
-fn put_absolute(form: Form, minus: bool, size: u128, acc: &mut RowFields<'_>)
-    ensures { row_fields_of acc.new ≡ put_absolute form minus size (row_fields_of acc.old) }
-{
-    if (minus && size != 0) || 0x1_0000_0000 <= size {
-        break_rule(WIDE_NUMBER, acc);
-    } else if form_index(form) == ABS {
-        if size / 16384 % 16384 == 0 {
-            put_field_value(
-                Field::K,
-                (size / 268435456 * 16384 + size % 16384) as u32,
-                acc,
-            );
-        } else {
-            break_rule(WIDE_NUMBER, acc);
-        }
-    } else if size / 2097152 % 128 == 0 && size % 2 == 0 {
-        put_field_value(
-            Field::K,
-            (size / 268435456 * 1048576 + size % 2097152 / 2) as u32,
-            acc,
-        );
-    } else {
-        break_rule(WIDE_NUMBER, acc);
-    }
-}
-
-/// Fills the field of an absolute address with a number, or notes its symbol. Returns false if the
-/// operand has another form.
-#[tactic(auto, unfolding(crate::specs::Filling::fill_absolute))]
-fn fill_absolute<'a>(row: &Row, v: &Value<'a>, acc: &mut RowFields<'a>) -> bool
-    ensures { Fills result acc.new
-        (fill_absolute (row_of row.now) (value_of v.now) (row_fields_of acc.old)) }
-{
-    let shape = shape_index(v.shape);
-    if shape == NUMBER {
-        put_absolute(row.form, v.minus, v.size, acc);
-        true
-    } else if shape == HUGE {
-        break_rule(WIDE_NUMBER, acc);
-        true
-    } else if shape == WORD || shape == SUM {
-        if form_index(row.form) == ABS {
-            note_misplaced_symbol(v, acc);
-        } else {
-            with_symbol(ABS24, v, acc);
-        }
-        true
-    } else if shape == HIGH || shape == LOW {
-        note_misplaced_symbol(v, acc);
-        true
-    } else {
-        false
-    }
-}
-
-/// Fills a field with the register that the operand names. Returns false if the operand has another
-/// form.
-#[tactic(auto, unfolding(crate::specs::Filling::fill_register))]
-fn fill_register(bank: bool, field: Field, v: &Value<'_>, acc: &mut RowFields<'_>) -> bool
-    ensures { Fills result acc.new
-        (fill_register bank field (value_of v.now) (row_fields_of acc.old)) }
-{
-    if shape_index(v.shape) == WORD {
-        put_register(bank, field, v.name, acc);
-        true
-    } else {
-        false
-    }
-}
-
-/// Takes the operand a10, which no field holds; another name breaks rule 4. Returns false if the
-/// operand has another form.
-#[tactic(auto, unfolding(crate::specs::Filling::fill_a10))]
-fn fill_a10(v: &Value<'_>, acc: &mut RowFields<'_>) -> bool
-    ensures { Fills result acc.new (fill_a10 (value_of v.now) (row_fields_of acc.old)) }
-{
-    if shape_index(v.shape) == WORD {
-        if !is_same_text(v.name, "a10") {
-            break_rule(WRONG_REGISTER, acc);
-        }
-        true
-    } else {
-        false
-    }
 }
 
 /// Fills the fields of an operand that the row wants here. Returns false if the operand has another
@@ -478,4 +81,401 @@ pub(crate) fn fill_all<'a>(
         }
     }
     true
+}
+
+/// Fills the field of a displacement of `size` bytes, or breaks a rule.
+#[tactic(auto, unfolding(crate::specs::Displacements::with_displacement))]
+fn fill_displacement(row: &Row, minus: bool, size: u128, acc: &mut RowFields<'_>)
+    ensures { row_fields_of acc.new
+        ≡ with_displacement (row_of row.now) minus size (row_fields_of acc.old) }
+{
+    let rule = displacement_rule(row, minus, size);
+    if rule == NO_RULE {
+        put_field_value(
+            Field::K,
+            operand_number_modulo(target_operand_bound(row.form), minus, (size / 2) as u32),
+            acc,
+        );
+    } else {
+        break_rule(rule, acc);
+    }
+}
+
+// The least rule that a displacement of `size` bytes breaks, or no rule.
+#[tactic(auto, unfolding(crate::specs::Displacements::displacement_rule))]
+fn displacement_rule(row: &Row, minus: bool, size: u128) -> u8
+    ensures value { result ≡ displacement_rule (row_of row.now) minus size }
+    ensures near { result ≡ no_rule → size ≤ 2 * (bounds row.now.form).k }
+{
+    let by_odd = if size % 2 == 1 {
+        ODD_DISPLACEMENT
+    } else {
+        NO_RULE
+    };
+    let too_far = if row.op1 % 2 == 1 {
+        WIDE_NUMBER
+    } else {
+        FAR_TARGET
+    };
+    let by_far: u8 = if is_far_displacement(row.form, target_operand_bound(row.form), minus, size) {
+        too_far
+    } else {
+        NO_RULE
+    };
+    by_far.min(by_odd)
+}
+
+/// An operand's number modulo the bound of its field.
+fn operand_number_modulo(bound: u32, minus: bool, size: u32) -> u32
+    requires { size ≤ bound }
+    ensures { result ≡ operand_number_modulo bound minus size }
+{
+    if minus && size != 0 {
+        bound - size
+    } else {
+        size
+    }
+}
+
+/// Returns the number of constants with which a target's operand can fill its field, in rows of
+/// this form.
+#[tactic(auto, unfolding(tc_isa::specs::Forms::bounds))]
+fn target_operand_bound(form: Form) -> u32
+    ensures value { result ≡ (bounds form).k }
+    ensures small { result < 2 ^ 31 }
+    ensures some { 1 ≤ result }
+{
+    bounds_of(form).k
+}
+
+/// Whether a displacement of `size` bytes doesn't fit the form; SBR only reaches forwards.
+fn is_far_displacement(form: Form, bound: u32, minus: bool, size: u128) -> bool
+    requires { 1 ≤ bound }
+    ensures value { result ≡ is_far_displacement form bound minus size }
+    ensures near { result ≡ false → size ≤ 2 * bound }
+{
+    let bound = u128::from(bound);
+    if form_index(form) == SBR {
+        if minus {
+            size != 0
+        } else {
+            2 * (bound - 1) < size
+        }
+    } else if minus {
+        bound < size
+    } else {
+        bound.saturating_sub(2) < size
+    }
+}
+
+/// Fills the fields of `[BASE]` or `[BASE+]`, with an offset if the row has one. Returns false if
+/// the operand has another form.
+#[tactic(auto, unfolding(crate::specs::Filling::fill_memory))]
+fn fill_memory<'a>(
+    row: &Row,
+    plus: bool,
+    offset: bool,
+    o: &Operand<'a>,
+    acc: &mut RowFields<'a>,
+) -> bool
+    ensures { Fills result acc.new
+        (fill_memory (row_of row.now) plus offset (operand_of o.now) (row_fields_of acc.old)) }
+{
+    if o.is_memory && (if o.plus { plus } else { !plus }) {
+        if shape_index(o.value.shape) == ABSENT {
+            put_register(true, Field::S2, o.base, acc);
+            true
+        } else if offset {
+            put_register(true, Field::S2, o.base, acc);
+            fill_value(row, true, Field::K, &o.value, acc)
+        } else {
+            false
+        }
+    } else {
+        false
+    }
+}
+
+/// Fills a field with the register that the operand names. Returns false if the operand has another
+/// form.
+#[tactic(auto, unfolding(crate::specs::Filling::fill_register))]
+fn fill_register(bank: bool, field: Field, v: &Value<'_>, acc: &mut RowFields<'_>) -> bool
+    ensures { Fills result acc.new
+        (fill_register bank field (value_of v.now) (row_fields_of acc.old)) }
+{
+    if shape_index(v.shape) == WORD {
+        put_register(bank, field, v.name, acc);
+        true
+    } else {
+        false
+    }
+}
+
+/// Takes the operand a10, which no field holds; another name breaks rule 4. Returns false if the
+/// operand has another form.
+#[tactic(auto, unfolding(crate::specs::Filling::fill_a10))]
+fn fill_a10(v: &Value<'_>, acc: &mut RowFields<'_>) -> bool
+    ensures { Fills result acc.new (fill_a10 (value_of v.now) (row_fields_of acc.old)) }
+{
+    if shape_index(v.shape) == WORD {
+        if !is_same_text(v.name, "a10") {
+            break_rule(WRONG_REGISTER, acc);
+        }
+        true
+    } else {
+        false
+    }
+}
+
+/// Fills a field with an operand's value as a constant, or breaks a rule. Returns false if the
+/// operand has another form.
+#[tactic(auto, unfolding(crate::specs::Filling::fill_value))]
+fn fill_value<'a>(
+    row: &Row,
+    signed: bool,
+    field: Field,
+    v: &Value<'a>,
+    acc: &mut RowFields<'a>,
+) -> bool
+    ensures { Fills result acc.new
+        (fill_value (row_of row.now) signed field (value_of v.now) (row_fields_of acc.old)) }
+{
+    let shape = shape_index(v.shape);
+    if shape == NUMBER {
+        put_number(row.form, signed, field, v.minus, v.size, acc);
+        true
+    } else if shape == HUGE {
+        break_rule(WIDE_NUMBER, acc);
+        true
+    } else if shape == WORD || shape == SUM {
+        note_misplaced_symbol(v, acc);
+        true
+    } else if shape == HIGH || shape == LOW {
+        let kind = half_operand_relocation(row, v.shape);
+        if kind == NO_RELOC {
+            note_misplaced_symbol(v, acc);
+        } else {
+            with_symbol(kind, v, acc);
+        }
+        true
+    } else {
+        false
+    }
+}
+
+/// Fills the field of a target with a displacement, or notes its symbol. Returns false if the
+/// operand has another form.
+#[tactic(auto, unfolding(crate::specs::Filling::fill_target))]
+fn fill_target<'a>(row: &Row, v: &Value<'a>, acc: &mut RowFields<'a>) -> bool
+    ensures { Fills result acc.new
+        (fill_target (row_of row.now) (value_of v.now) (row_fields_of acc.old)) }
+{
+    let shape = shape_index(v.shape);
+    if shape == SUM && is_same_text(v.name, ".") {
+        if v.wide {
+            break_rule(WIDE_NUMBER, acc);
+        } else {
+            fill_displacement(row, v.minus, v.size, acc);
+        }
+        true
+    } else if shape == WORD || shape == SUM {
+        with_symbol(target_operand_relocation(row), v, acc);
+        true
+    } else if shape == HIGH || shape == LOW {
+        note_misplaced_symbol(v, acc);
+        true
+    } else {
+        false
+    }
+}
+
+/// Fills the field of an absolute address with a number, or notes its symbol. Returns false if the
+/// operand has another form.
+#[tactic(auto, unfolding(crate::specs::Filling::fill_absolute))]
+fn fill_absolute<'a>(row: &Row, v: &Value<'a>, acc: &mut RowFields<'a>) -> bool
+    ensures { Fills result acc.new
+        (fill_absolute (row_of row.now) (value_of v.now) (row_fields_of acc.old)) }
+{
+    let shape = shape_index(v.shape);
+    if shape == NUMBER {
+        put_absolute(row.form, v.minus, v.size, acc);
+        true
+    } else if shape == HUGE {
+        break_rule(WIDE_NUMBER, acc);
+        true
+    } else if shape == WORD || shape == SUM {
+        if form_index(row.form) == ABS {
+            note_misplaced_symbol(v, acc);
+        } else {
+            with_symbol(ABS24, v, acc);
+        }
+        true
+    } else if shape == HIGH || shape == LOW {
+        note_misplaced_symbol(v, acc);
+        true
+    } else {
+        false
+    }
+}
+
+/// Fills a field with the register of this name and bank, or breaks rule 4.
+#[tactic(auto, unfolding(crate::specs::Filling::put_register))]
+fn put_register(bank: bool, field: Field, name: &[u8], acc: &mut RowFields<'_>)
+    ensures { row_fields_of acc.new
+        ≡ put_register bank field name.now (row_fields_of acc.old) }
+{
+    let reg = register_by_name(name);
+    if reg / 16 == (if bank { 1 } else { 0 }) {
+        put_field_value(field, u32::from(reg % 16), acc);
+    } else {
+        break_rule(WRONG_REGISTER, acc);
+    }
+}
+
+/// Returns the number of the register with which an operand fills a field: 0 to 15 for d0 to d15,
+/// 16 to 31 for a0 to a15, and `NO_REGISTER` or more for any other name.
+#[tactic(auto, unfolding(crate::specs::OperandForms::register_by_name, tc_lex::specs::Bytes::is_digit))]
+fn register_by_name(name: &[u8]) -> u8
+    ensures value { result ≡ register_by_name name.now }
+{
+    if name.len() == 2 && b'0' <= name[1] && name[1] <= b'9' {
+        bank_first_register(name[0]) + (name[1] - b'0')
+    } else if name.len() == 3 && name[1] == b'1' && b'0' <= name[2] && name[2] <= b'5' {
+        bank_first_register(name[0]) + (name[2] - (b'0' - 10))
+    } else if name.is_empty() {
+        NO_REGISTER + NO_REGISTER
+    } else {
+        bank_first_register(name[0]) + NO_REGISTER
+    }
+}
+
+/// Returns the number of register 0 in the bank that an operand's first letter names, d or a, or
+/// `NO_REGISTER`.
+fn bank_first_register(c: u8) -> u8
+    ensures { result ≡ (if c == 100 then 0 else (if c == 97 then 16 else 64)) }
+{
+    if c == b'd' {
+        0
+    } else if c == b'a' {
+        16
+    } else {
+        NO_REGISTER
+    }
+}
+
+/// Fills a field with an operand's number that fits it, or breaks rule 5.
+#[tactic(auto, unfolding(crate::specs::Filling::put_number))]
+fn put_number(
+    form: Form,
+    signed: bool,
+    field: Field,
+    minus: bool,
+    size: u128,
+    acc: &mut RowFields<'_>,
+)
+    ensures { row_fields_of acc.new
+        ≡ put_number form signed field minus size (row_fields_of acc.old) }
+{
+    let bound = field_of(field, &bounds_of(form));
+    if is_within_field_bound(signed, bound, minus, size) {
+        put_field_value(field, operand_number_modulo(bound, minus, size as u32), acc);
+    } else {
+        break_rule(WIDE_NUMBER, acc);
+    }
+}
+
+/// Returns the relocation by which an operand `hi:` or `lo:`, a half of an address, fills the
+/// constant of this row, or `NO_RELOC` if the row takes none.
+#[tactic(auto, unfolding(crate::specs::Filling::half_operand_relocation))]
+fn half_operand_relocation(row: &Row, shape: Shape) -> u8
+    ensures { result ≡ half_operand_relocation (row_of row.now) shape }
+{
+    if shape_index(shape) == HIGH {
+        if is_named_row(row, "movh")
+            || is_named_row(row, "movh.a")
+            || is_named_row(row, "addih")
+            || is_named_row(row, "addih.a")
+        {
+            HI16
+        } else {
+            NO_RELOC
+        }
+    } else if is_named_row(row, "addi") {
+        LO16
+    } else if form_index(row.form) == BOL {
+        OFFSET16
+    } else {
+        NO_RELOC
+    }
+}
+
+/// Whether an operand's number fits a field with this bound.
+#[tactic(auto, unfolding(crate::specs::Filling::is_within_field_bound))]
+fn is_within_field_bound(signed: bool, bound: u32, minus: bool, size: u128) -> bool
+    ensures value { result ≡ is_within_field_bound signed bound minus size }
+    ensures within { result ≡ true → size ≤ bound }
+{
+    if signed {
+        if minus {
+            size <= u128::from(bound / 2)
+        } else {
+            size < u128::from(bound / 2)
+        }
+    } else if minus {
+        size == 0
+    } else {
+        size < u128::from(bound)
+    }
+}
+
+/// Returns true if this row, whose fields an operand is to fill, has this name.
+fn is_named_row(row: &Row, name: &str) -> bool
+    ensures { result ≡ named (row_of row.now) name.now }
+{
+    is_same_text(row.name.as_bytes(), name)
+}
+
+/// Returns the relocation of a symbol that an operand gives as the target of a jump or call,
+/// instead of filling the field, or `NO_RELOC` in rows of 16 bits.
+#[tactic(auto, unfolding(crate::specs::Displacements::target_operand_relocation))]
+fn target_operand_relocation(row: &Row) -> u8
+    ensures { result ≡ target_operand_relocation (row_of row.now) }
+{
+    if row.op1 % 2 == 1 {
+        if form_index(row.form) == B {
+            REL24
+        } else {
+            REL15
+        }
+    } else {
+        NO_RELOC
+    }
+}
+
+/// Fills the field of an absolute address, or breaks rule 5.
+#[tactic(auto, unfolding(crate::specs::Filling::put_absolute))]
+fn put_absolute(form: Form, minus: bool, size: u128, acc: &mut RowFields<'_>)
+    ensures { row_fields_of acc.new ≡ put_absolute form minus size (row_fields_of acc.old) }
+{
+    if (minus && size != 0) || 0x1_0000_0000 <= size {
+        break_rule(WIDE_NUMBER, acc);
+    } else if form_index(form) == ABS {
+        if size / 16384 % 16384 == 0 {
+            put_field_value(
+                Field::K,
+                (size / 268435456 * 16384 + size % 16384) as u32,
+                acc,
+            );
+        } else {
+            break_rule(WIDE_NUMBER, acc);
+        }
+    } else if size / 2097152 % 128 == 0 && size % 2 == 0 {
+        put_field_value(
+            Field::K,
+            (size / 268435456 * 1048576 + size % 2097152 / 2) as u32,
+            acc,
+        );
+    } else {
+        break_rule(WIDE_NUMBER, acc);
+    }
 }

@@ -22,6 +22,136 @@ use tc_lex::{
     Operand, Piece, Scratch, TokenKind, cut_pieces, is_kind, is_same_text, operands, text_at,
 };
 
+/// Reads a line: adds its items, and returns the least rule that it breaks by itself. The two lists
+/// are scratch space, which each line uses again. An empty line needs neither.
+#[inline(always)]
+pub(crate) fn read_line<'a>(
+    line: &'a [u8],
+    pieces: &mut Scratch<Piece<'a>, 64>,
+    operands: &mut Scratch<Operand<'a>, 65>,
+    items: &mut Vec<Item<'a>>,
+) -> Result<Line, AllocError>
+    ensures rule { IfOk result (λ l. l.rule ≡ (line_in line.now).rule) }
+    ensures count { IfOk result (λ l. l.count ≡ length (line_in line.now).items) }
+    ensures items { OnOk result
+        (map item_of items.new.items ≡ map item_of items.old.items ++ (line_in line.now).items) }
+{
+    if line.is_empty() {
+        return Ok(Line {
+            rule: NO_RULE,
+            count: 0,
+        });
+    }
+    let before = items.len();
+    let rule = line_rule(line, pieces, operands, items)?;
+    let count = (items.len() - before) as u8;
+    Ok(Line { rule, count })
+}
+
+// Adds the items of a line, and returns the least rule that the line breaks by itself.
+#[inline(never)]
+#[tactic(auto, using(crate::proofs::PieceLines::line_pieces, crate::proofs::PieceLines::line_unread))]
+fn line_rule<'a>(
+    line: &'a [u8],
+    pieces: &mut Scratch<Piece<'a>, 64>,
+    operands: &mut Scratch<Operand<'a>, 65>,
+    items: &mut Vec<Item<'a>>,
+) -> Result<u8, AllocError>
+    ensures { Adds (line_in line.now) result items.old.items items.new.items }
+{
+    match cut_pieces(line, pieces) {
+        Ok(()) => pieces_line(pieces.as_slice(), operands, items),
+        Err(at) => uncut_line(&line[..at], pieces, items),
+    }
+}
+
+/// Reads a line from its tokens: a label, if there is one, and what follows.
+#[tactic(auto, unfolding(crate::specs::Lines::pieces_line))]
+fn pieces_line<'a>(
+    ps: &[Piece<'a>],
+    operands: &mut Scratch<Operand<'a>, 65>,
+    items: &mut Vec<Item<'a>>,
+) -> Result<u8, AllocError>
+    requires { length ps.now ≤ 64 }
+    ensures { Adds (pieces_line (map piece_of ps.now)) result items.old.items items.new.items }
+{
+    if has_label(ps) {
+        labelled_line(ps, operands, items)
+    } else {
+        line_from(ps, 0, operands, items)
+    }
+}
+
+// Reads a line that can't be cut into tokens; `front` is its text before the first bad byte.
+#[tactic(auto, using(crate::proofs::PieceLines::label_pieces, crate::proofs::PieceLines::label_unread))]
+fn uncut_line<'a>(
+    front: &'a [u8],
+    pieces: &mut Scratch<Piece<'a>, 64>,
+    items: &mut Vec<Item<'a>>,
+) -> Result<u8, AllocError>
+    ensures { Adds (line_data 1
+        (label_before front.now (tokens_of front.now))) result items.old.items items.new.items }
+{
+    match cut_pieces(front, pieces) {
+        Ok(()) => label_line(pieces.as_slice(), items),
+        Err(_) => add_nothing(BAD_TOKEN, items),
+    }
+}
+
+// Whether these tokens begin with a label.
+fn has_label(ps: &[Piece]) -> bool
+    ensures value { result ≡ has_label (map piece_of ps.now) }
+    ensures long { result ≡ true → 2 ≤ length ps.now }
+{
+    is_kind(ps, 0, TokenKind::Word) && is_kind(ps, 1, TokenKind::Colon)
+}
+
+// Reads a line that begins with a label.
+fn labelled_line<'a>(
+    ps: &[Piece<'a>],
+    operands: &mut Scratch<Operand<'a>, 65>,
+    items: &mut Vec<Item<'a>>,
+) -> Result<u8, AllocError>
+    requires few { length ps.now ≤ 64 }
+    requires label { 2 ≤ length ps.now }
+    ensures { Adds (line_with_label (text_in_pieces (map piece_of ps.now) 0)
+        (line_from (map piece_of ps.now) 2))
+        result items.old.items items.new.items }
+{
+    add_label(text_at(ps, 0), items)?;
+    line_from(ps, 2, operands, items)
+}
+
+/// Reads a line from token `at` on: nothing, or a statement.
+#[tactic(auto, unfolding(crate::specs::Lines::line_from))]
+fn line_from<'a>(
+    ps: &[Piece<'a>],
+    at: usize,
+    operands: &mut Scratch<Operand<'a>, 65>,
+    items: &mut Vec<Item<'a>>,
+) -> Result<u8, AllocError>
+    requires few { length ps.now ≤ 64 }
+    requires place { at ≤ length ps.now }
+    ensures { Adds (line_from (map piece_of ps.now) at) result items.old.items items.new.items }
+{
+    if ps.len() == at {
+        add_nothing(NO_RULE, items)
+    } else if is_kind(ps, at, TokenKind::Word) {
+        statement_at(ps, at, operands, items)
+    } else {
+        add_nothing(BAD_TOKEN, items)
+    }
+}
+
+/// Adds the item of a line's label.
+fn add_label<'a>(name: &'a [u8], items: &mut Vec<Item<'a>>) -> Result<(), AllocError>
+    ensures { OnOk result
+        (map item_of items.new.items ≡ map item_of items.old.items ++ label name.entry.now ∷ []) }
+{
+    items.push(Item::Label(name))?;
+    Ok(())
+}
+
 // Adds no item, and returns the rule.
 fn add_nothing(rule: u8, items: &mut Vec<Item<'_>>) -> Result<u8, AllocError>
     ensures { Adds (line_data rule []) result items.old.items items.new.items }
@@ -29,135 +159,30 @@ fn add_nothing(rule: u8, items: &mut Vec<Item<'_>>) -> Result<u8, AllocError>
     Ok(rule)
 }
 
-// Adds one item, and returns the rule.
-fn add_item<'a>(rule: u8, item: Item<'a>, items: &mut Vec<Item<'a>>) -> Result<u8, AllocError>
-    ensures { Adds (line_data rule
-        (item_of item.entry ∷ [])) result items.old.items items.new.items }
-{
-    items.push(item)?;
-    Ok(rule)
-}
-
-/// Whether the operand is a word, as `.section` and `.global` want.
-#[tactic(auto, unfolding(crate::specs::Lines::is_named_line_operand))]
-fn is_named_line_operand(o: &Operand<'_>) -> bool
-    ensures { result ≡ is_named_line_operand (operand_of o.now) }
-{
-    !o.is_memory && shape_index(o.value.shape) == WORD
-}
-
-// The name that is the only operand, if it is so.
-fn only_operand_name<'a>(os: &[Operand<'a>]) -> Option<&'a [u8]>
-    ensures { option_copied result ≡ only_operand_name (map operand_of os.now) }
-{
-    if os.len() != 1 {
-        return None;
-    }
-    let operand = &os[0];
-    if is_named_line_operand(operand) {
-        Some(operand.value.name)
-    } else {
-        None
-    }
-}
-
-/// Reads the line `.section NAME`: adds its item, and returns its rule.
-#[tactic(auto, unfolding(crate::specs::Lines::named_line))]
-fn section_line<'a>(os: &[Operand<'a>], items: &mut Vec<Item<'a>>) -> Result<u8, AllocError>
-    ensures { Adds (named_line section
-        (map operand_of os.now)) result items.old.items items.new.items }
-{
-    match only_operand_name(os) {
-        None => add_nothing(WRONG_OPERANDS, items),
-        Some(name) => add_item(NO_RULE, Item::Section(name), items),
-    }
-}
-
-/// Reads the line `.global NAME`: adds its item, and returns its rule.
-#[tactic(auto, unfolding(crate::specs::Lines::named_line))]
-fn global_line<'a>(os: &[Operand<'a>], items: &mut Vec<Item<'a>>) -> Result<u8, AllocError>
-    ensures { Adds (named_line global
-        (map operand_of os.now)) result items.old.items items.new.items }
-{
-    match only_operand_name(os) {
-        None => add_nothing(WRONG_OPERANDS, items),
-        Some(name) => add_item(NO_RULE, Item::Global(name), items),
-    }
-}
-
-/// Reads a whole line `.space N` with its one operand: adds its zeros to the items of the source,
-/// and returns the rule that the line breaks.
-fn space_operand_line<'a>(o: &Operand<'a>, items: &mut Vec<Item<'a>>) -> Result<u8, AllocError>
-    ensures { Adds (line_data (space_rule_of (operand_of o.now))
-        (space_item_of (operand_of o.now) ∷ []))
+// Reads the statement whose name is token `at`.
+fn statement_at<'a>(
+    ps: &[Piece<'a>],
+    at: usize,
+    operands: &mut Scratch<Operand<'a>, 65>,
+    items: &mut Vec<Item<'a>>,
+) -> Result<u8, AllocError>
+    requires few { length ps.now ≤ 64 }
+    requires place { at < length ps.now }
+    ensures { Adds (stated_line (text_in_pieces (map piece_of ps.now) at)
+        (operands_in (drop (at + 1) (map piece_of ps.now))))
         result items.old.items items.new.items }
 {
-    add_item(space_rule(o), space_item(o), items)
+    operands_behind(ps, at, operands);
+    stated_line(text_at(ps, at), operands.as_slice(), items)
 }
 
-/// Reads a whole line `.space N`: adds its zeros to the items of the source, and returns the rule
-/// that the line breaks.
-fn space_line<'a>(os: &[Operand<'a>], items: &mut Vec<Item<'a>>) -> Result<u8, AllocError>
-    ensures { Adds (space_line (map operand_of os.now)) result items.old.items items.new.items }
+/// Reads the operands of a line, which are after the statement's name at token `at`.
+fn operands_behind<'a>(ps: &[Piece<'a>], at: usize, out: &mut Scratch<Operand<'a>, 65>)
+    requires few { length ps.now ≤ 64 }
+    requires place { at < length ps.now }
+    ensures { map operand_of out.new.items ≡ operands_in (drop (at + 1) (map piece_of ps.now)) }
 {
-    if os.len() != 1 {
-        return add_item(WRONG_OPERANDS, Item::Zeros(0), items);
-    }
-    space_operand_line(&os[0], items)
-}
-
-/// Reads a whole line of `.byte`, `.half` or `.word`: adds its values of `width` bytes to the items
-/// of the source, and returns the rule that the line breaks.
-#[tactic(auto, unfolding(crate::specs::Lines::values_line))]
-fn values_line<'a>(
-    width: u8,
-    os: &[Operand<'a>],
-    items: &mut Vec<Item<'a>>,
-) -> Result<u8, AllocError>
-    requires { (width ≡ 1) ⊎ ((width ≡ 2) ⊎ (width ≡ 4)) }
-    ensures { Adds (values_line width
-        (map operand_of os.now)) result items.old.items items.new.items }
-{
-    let rule = add_values(width, os, items)?;
-    Ok(rule)
-}
-
-/// The number of zeros for a line whose instruction breaks a rule: the size in bytes of the
-/// instructions with this name, and 0 if there are none.
-#[tactic(auto, unfolding(crate::specs::Lines::size_of_name))]
-fn size_of_name(name: &[u8]) -> u32
-    ensures { result ≡ size_of_name name.now }
-{
-    match row_of_name(name) {
-        None => 0,
-        Some(row) => { if row.op1 % 2 == 1 { 4 } else { 2 } }
-    }
-}
-
-// The item of an instruction with these fields and their symbol.
-fn code_item<'a>(row: u8, found: &RowFields<'a>) -> Item<'a>
-    ensures { item_of result
-        ≡ code row found.now.fields (option_map reference_of found.now.reference) }
-{
-    match &found.reference {
-        None => Item::Code(row, found.fields),
-        Some(r) => Item::Linked(row, r.kind, r.minus, found.fields, r.size, r.name),
-    }
-}
-
-/// Reads the line of an instruction; if it breaks a rule, its item is zeros.
-fn code_line<'a>(
-    name: &[u8],
-    os: &[Operand<'a>],
-    items: &mut Vec<Item<'a>>,
-) -> Result<u8, AllocError>
-    ensures { Adds (code_line name.now
-        (statement_of name.now (map operand_of os.now))) result items.old.items items.new.items }
-{
-    match statement(name, os) {
-        Ok((row, found)) => add_item(NO_RULE, code_item(row, &found), items),
-        Err(rule) => add_item(rule, Item::Zeros(size_of_name(name)), items),
-    }
+    operands(pieces_behind(ps, at), out)
 }
 
 /// Reads the line of a statement: a directive or an instruction.
@@ -195,109 +220,135 @@ fn pieces_behind<'p, 'a>(ps: &'p [Piece<'a>], at: usize) -> &'p [Piece<'a>]
     &ps[at + 1..]
 }
 
-/// Reads the operands of a line, which are after the statement's name at token `at`.
-fn operands_behind<'a>(ps: &[Piece<'a>], at: usize, out: &mut Scratch<Operand<'a>, 65>)
-    requires few { length ps.now ≤ 64 }
-    requires place { at < length ps.now }
-    ensures { map operand_of out.new.items ≡ operands_in (drop (at + 1) (map piece_of ps.now)) }
+/// Reads the line `.section NAME`: adds its item, and returns its rule.
+#[tactic(auto, unfolding(crate::specs::Lines::named_line))]
+fn section_line<'a>(os: &[Operand<'a>], items: &mut Vec<Item<'a>>) -> Result<u8, AllocError>
+    ensures { Adds (named_line section
+        (map operand_of os.now)) result items.old.items items.new.items }
 {
-    operands(pieces_behind(ps, at), out)
-}
-
-// Reads the statement whose name is token `at`.
-fn statement_at<'a>(
-    ps: &[Piece<'a>],
-    at: usize,
-    operands: &mut Scratch<Operand<'a>, 65>,
-    items: &mut Vec<Item<'a>>,
-) -> Result<u8, AllocError>
-    requires few { length ps.now ≤ 64 }
-    requires place { at < length ps.now }
-    ensures { Adds (stated_line (text_in_pieces (map piece_of ps.now) at)
-        (operands_in (drop (at + 1) (map piece_of ps.now))))
-        result items.old.items items.new.items }
-{
-    operands_behind(ps, at, operands);
-    stated_line(text_at(ps, at), operands.as_slice(), items)
-}
-
-/// Reads a line from token `at` on: nothing, or a statement.
-#[tactic(auto, unfolding(crate::specs::Lines::line_from))]
-fn line_from<'a>(
-    ps: &[Piece<'a>],
-    at: usize,
-    operands: &mut Scratch<Operand<'a>, 65>,
-    items: &mut Vec<Item<'a>>,
-) -> Result<u8, AllocError>
-    requires few { length ps.now ≤ 64 }
-    requires place { at ≤ length ps.now }
-    ensures { Adds (line_from (map piece_of ps.now) at) result items.old.items items.new.items }
-{
-    if ps.len() == at {
-        add_nothing(NO_RULE, items)
-    } else if is_kind(ps, at, TokenKind::Word) {
-        statement_at(ps, at, operands, items)
-    } else {
-        add_nothing(BAD_TOKEN, items)
+    match only_operand_name(os) {
+        None => add_nothing(WRONG_OPERANDS, items),
+        Some(name) => add_item(NO_RULE, Item::Section(name), items),
     }
 }
 
-// Whether these tokens begin with a label.
-fn has_label(ps: &[Piece]) -> bool
-    ensures value { result ≡ has_label (map piece_of ps.now) }
-    ensures long { result ≡ true → 2 ≤ length ps.now }
+/// Reads the line `.global NAME`: adds its item, and returns its rule.
+#[tactic(auto, unfolding(crate::specs::Lines::named_line))]
+fn global_line<'a>(os: &[Operand<'a>], items: &mut Vec<Item<'a>>) -> Result<u8, AllocError>
+    ensures { Adds (named_line global
+        (map operand_of os.now)) result items.old.items items.new.items }
 {
-    is_kind(ps, 0, TokenKind::Word) && is_kind(ps, 1, TokenKind::Colon)
-}
-
-/// Adds the item of a line's label.
-fn add_label<'a>(name: &'a [u8], items: &mut Vec<Item<'a>>) -> Result<(), AllocError>
-    ensures { OnOk result
-        (map item_of items.new.items ≡ map item_of items.old.items ++ label name.entry.now ∷ []) }
-{
-    items.push(Item::Label(name))?;
-    Ok(())
-}
-
-// Reads a line that begins with a label.
-fn labelled_line<'a>(
-    ps: &[Piece<'a>],
-    operands: &mut Scratch<Operand<'a>, 65>,
-    items: &mut Vec<Item<'a>>,
-) -> Result<u8, AllocError>
-    requires few { length ps.now ≤ 64 }
-    requires label { 2 ≤ length ps.now }
-    ensures { Adds (line_with_label (text_in_pieces (map piece_of ps.now) 0)
-        (line_from (map piece_of ps.now) 2))
-        result items.old.items items.new.items }
-{
-    add_label(text_at(ps, 0), items)?;
-    line_from(ps, 2, operands, items)
-}
-
-/// Reads a line from its tokens: a label, if there is one, and what follows.
-#[tactic(auto, unfolding(crate::specs::Lines::pieces_line))]
-fn pieces_line<'a>(
-    ps: &[Piece<'a>],
-    operands: &mut Scratch<Operand<'a>, 65>,
-    items: &mut Vec<Item<'a>>,
-) -> Result<u8, AllocError>
-    requires { length ps.now ≤ 64 }
-    ensures { Adds (pieces_line (map piece_of ps.now)) result items.old.items items.new.items }
-{
-    if has_label(ps) {
-        labelled_line(ps, operands, items)
-    } else {
-        line_from(ps, 0, operands, items)
+    match only_operand_name(os) {
+        None => add_nothing(WRONG_OPERANDS, items),
+        Some(name) => add_item(NO_RULE, Item::Global(name), items),
     }
 }
 
-// Adds the label of a line that breaks rule 1.
-fn broken_label<'a>(name: &'a [u8], items: &mut Vec<Item<'a>>) -> Result<u8, AllocError>
-    ensures { Adds (line_data 1
-        (label name.entry.now ∷ [])) result items.old.items items.new.items }
+/// Reads a whole line of `.byte`, `.half` or `.word`: adds its values of `width` bytes to the items
+/// of the source, and returns the rule that the line breaks.
+#[tactic(auto, unfolding(crate::specs::Lines::values_line))]
+fn values_line<'a>(
+    width: u8,
+    os: &[Operand<'a>],
+    items: &mut Vec<Item<'a>>,
+) -> Result<u8, AllocError>
+    requires { (width ≡ 1) ⊎ ((width ≡ 2) ⊎ (width ≡ 4)) }
+    ensures { Adds (values_line width
+        (map operand_of os.now)) result items.old.items items.new.items }
 {
-    add_item(BAD_TOKEN, Item::Label(name), items)
+    let rule = add_values(width, os, items)?;
+    Ok(rule)
+}
+
+/// Reads a whole line `.space N`: adds its zeros to the items of the source, and returns the rule
+/// that the line breaks.
+fn space_line<'a>(os: &[Operand<'a>], items: &mut Vec<Item<'a>>) -> Result<u8, AllocError>
+    ensures { Adds (space_line (map operand_of os.now)) result items.old.items items.new.items }
+{
+    if os.len() != 1 {
+        return add_item(WRONG_OPERANDS, Item::Zeros(0), items);
+    }
+    space_operand_line(&os[0], items)
+}
+
+/// Reads the line of an instruction; if it breaks a rule, its item is zeros.
+fn code_line<'a>(
+    name: &[u8],
+    os: &[Operand<'a>],
+    items: &mut Vec<Item<'a>>,
+) -> Result<u8, AllocError>
+    ensures { Adds (code_line name.now
+        (statement_of name.now (map operand_of os.now))) result items.old.items items.new.items }
+{
+    match statement(name, os) {
+        Ok((row, found)) => add_item(NO_RULE, code_item(row, &found), items),
+        Err(rule) => add_item(rule, Item::Zeros(size_of_name(name)), items),
+    }
+}
+
+// The name that is the only operand, if it is so.
+fn only_operand_name<'a>(os: &[Operand<'a>]) -> Option<&'a [u8]>
+    ensures { option_copied result ≡ only_operand_name (map operand_of os.now) }
+{
+    if os.len() != 1 {
+        return None;
+    }
+    let operand = &os[0];
+    if is_named_line_operand(operand) {
+        Some(operand.value.name)
+    } else {
+        None
+    }
+}
+
+// Adds one item, and returns the rule.
+fn add_item<'a>(rule: u8, item: Item<'a>, items: &mut Vec<Item<'a>>) -> Result<u8, AllocError>
+    ensures { Adds (line_data rule
+        (item_of item.entry ∷ [])) result items.old.items items.new.items }
+{
+    items.push(item)?;
+    Ok(rule)
+}
+
+/// Whether the operand is a word, as `.section` and `.global` want.
+#[tactic(auto, unfolding(crate::specs::Lines::is_named_line_operand))]
+fn is_named_line_operand(o: &Operand<'_>) -> bool
+    ensures { result ≡ is_named_line_operand (operand_of o.now) }
+{
+    !o.is_memory && shape_index(o.value.shape) == WORD
+}
+
+/// Reads a whole line `.space N` with its one operand: adds its zeros to the items of the source,
+/// and returns the rule that the line breaks.
+fn space_operand_line<'a>(o: &Operand<'a>, items: &mut Vec<Item<'a>>) -> Result<u8, AllocError>
+    ensures { Adds (line_data (space_rule_of (operand_of o.now))
+        (space_item_of (operand_of o.now) ∷ []))
+        result items.old.items items.new.items }
+{
+    add_item(space_rule(o), space_item(o), items)
+}
+
+// The item of an instruction with these fields and their symbol.
+fn code_item<'a>(row: u8, found: &RowFields<'a>) -> Item<'a>
+    ensures { item_of result
+        ≡ code row found.now.fields (option_map reference_of found.now.reference) }
+{
+    match &found.reference {
+        None => Item::Code(row, found.fields),
+        Some(r) => Item::Linked(row, r.kind, r.minus, found.fields, r.size, r.name),
+    }
+}
+
+/// The number of zeros for a line whose instruction breaks a rule: the size in bytes of the
+/// instructions with this name, and 0 if there are none.
+#[tactic(auto, unfolding(crate::specs::Lines::size_of_name))]
+fn size_of_name(name: &[u8]) -> u32
+    ensures { result ≡ size_of_name name.now }
+{
+    match row_of_name(name) {
+        None => 0,
+        Some(row) => { if row.op1 % 2 == 1 { 4 } else { 2 } }
+    }
 }
 
 // Adds the label that these tokens begin with, if there is one. Their line breaks rule 1.
@@ -314,61 +365,10 @@ fn label_line<'a>(ps: &[Piece<'a>], items: &mut Vec<Item<'a>>) -> Result<u8, All
     }
 }
 
-// Reads a line that can't be cut into tokens; `front` is its text before the first bad byte.
-#[tactic(auto, using(crate::proofs::PieceLines::label_pieces, crate::proofs::PieceLines::label_unread))]
-fn uncut_line<'a>(
-    front: &'a [u8],
-    pieces: &mut Scratch<Piece<'a>, 64>,
-    items: &mut Vec<Item<'a>>,
-) -> Result<u8, AllocError>
+// Adds the label of a line that breaks rule 1.
+fn broken_label<'a>(name: &'a [u8], items: &mut Vec<Item<'a>>) -> Result<u8, AllocError>
     ensures { Adds (line_data 1
-        (label_before front.now (tokens_of front.now))) result items.old.items items.new.items }
+        (label name.entry.now ∷ [])) result items.old.items items.new.items }
 {
-    match cut_pieces(front, pieces) {
-        Ok(()) => label_line(pieces.as_slice(), items),
-        Err(_) => add_nothing(BAD_TOKEN, items),
-    }
-}
-
-// Adds the items of a line, and returns the least rule that the line breaks by itself.
-#[inline(never)]
-#[tactic(auto, using(crate::proofs::PieceLines::line_pieces, crate::proofs::PieceLines::line_unread))]
-fn line_rule<'a>(
-    line: &'a [u8],
-    pieces: &mut Scratch<Piece<'a>, 64>,
-    operands: &mut Scratch<Operand<'a>, 65>,
-    items: &mut Vec<Item<'a>>,
-) -> Result<u8, AllocError>
-    ensures { Adds (line_in line.now) result items.old.items items.new.items }
-{
-    match cut_pieces(line, pieces) {
-        Ok(()) => pieces_line(pieces.as_slice(), operands, items),
-        Err(at) => uncut_line(&line[..at], pieces, items),
-    }
-}
-
-/// Reads a line: adds its items, and returns the least rule that it breaks by itself. The two lists
-/// are scratch space, which each line uses again. An empty line needs neither.
-#[inline(always)]
-pub(crate) fn read_line<'a>(
-    line: &'a [u8],
-    pieces: &mut Scratch<Piece<'a>, 64>,
-    operands: &mut Scratch<Operand<'a>, 65>,
-    items: &mut Vec<Item<'a>>,
-) -> Result<Line, AllocError>
-    ensures rule { IfOk result (λ l. l.rule ≡ (line_in line.now).rule) }
-    ensures count { IfOk result (λ l. l.count ≡ length (line_in line.now).items) }
-    ensures items { OnOk result
-        (map item_of items.new.items ≡ map item_of items.old.items ++ (line_in line.now).items) }
-{
-    if line.is_empty() {
-        return Ok(Line {
-            rule: NO_RULE,
-            count: 0,
-        });
-    }
-    let before = items.len();
-    let rule = line_rule(line, pieces, operands, items)?;
-    let count = (items.len() - before) as u8;
-    Ok(Line { rule, count })
+    add_item(BAD_TOKEN, Item::Label(name), items)
 }

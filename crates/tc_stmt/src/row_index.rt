@@ -189,34 +189,6 @@ pub(crate) fn next_rows() -> &'static [u8]
     &NEXT
 }
 
-// The byte at this place, and 0 after the end.
-fn name_byte_at(text: &[u8], i: usize) -> usize
-    ensures value { result ≡ slice_index text.now i }
-    ensures small { result < 256 }
-{
-    if i < text.len() {
-        usize::from(text[i])
-    } else {
-        0
-    }
-}
-
-/// The key of a row's name, below 256: few names of rows share one.
-#[tactic(auto, unfolding(crate::specs::RowIndex::name_key))]
-fn name_key(name: &[u8]) -> usize
-    ensures { result ≡ name_key name.now }
-{
-    let front = name_byte_at(name, 0) + 2 * name_byte_at(name, 1);
-    (front + 9 * name_byte_at(name, 2) + 7 * name_byte_at(name, 3) + name.len()) % 256
-}
-
-/// Whether the row's name has the key of this name.
-fn has_name_key(row: &Row, name: &[u8]) -> bool
-    ensures { result ≡ (name_key (row_of row.now).name == name_key name.now) }
-{
-    name_key(row.name.as_bytes()) == name_key(name)
-}
-
 /// A row number such that no earlier row has the key of this name.
 pub(crate) fn first_row(first: &[u8], name: &[u8]) -> usize
     ensures { (rows : List RowData) → are_first_rows 0 rows first.now ≡ true
@@ -257,4 +229,32 @@ pub(crate) fn row_of_name(name: &[u8]) -> Option<&'static Row>
     ensures { option_map (λ r. row_of r.now) result ≡ find (λ r. bytes_eq r.name name.now) listed }
 {
     find_row(rows(), name)
+}
+
+/// The key of a row's name, below 256: few names of rows share one.
+#[tactic(auto, unfolding(crate::specs::RowIndex::name_key))]
+fn name_key(name: &[u8]) -> usize
+    ensures { result ≡ name_key name.now }
+{
+    let front = name_byte_at(name, 0) + 2 * name_byte_at(name, 1);
+    (front + 9 * name_byte_at(name, 2) + 7 * name_byte_at(name, 3) + name.len()) % 256
+}
+
+// The byte at this place, and 0 after the end.
+fn name_byte_at(text: &[u8], i: usize) -> usize
+    ensures value { result ≡ slice_index text.now i }
+    ensures small { result < 256 }
+{
+    if i < text.len() {
+        usize::from(text[i])
+    } else {
+        0
+    }
+}
+
+/// Whether the row's name has the key of this name.
+fn has_name_key(row: &Row, name: &[u8]) -> bool
+    ensures { result ≡ (name_key (row_of row.now).name == name_key name.now) }
+{
+    name_key(row.name.as_bytes()) == name_key(name)
 }

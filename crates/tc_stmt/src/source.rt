@@ -29,6 +29,25 @@ pub struct Source<'a> {
     pub items: Vec<Item<'a>>,
 }
 
+/// Reads each line of a source. Line feeds separate the lines.
+pub fn read_source<'a>(alloc: Global, source: &'a [u8]) -> Result<Source<'a>, AllocError>
+    ensures lines { IfOk result (λ s. lines_of s ≡ lines_in source.now) }
+    ensures items { IfOk result (λ s. map item_of s.items.items ≡ items_in (lines_in source.now)) }
+{
+    let mut pieces = Scratch::new();
+    let mut operands = Scratch::new();
+    let mut lines = Vec::new(alloc);
+    let mut items = Vec::new(alloc);
+    let mut rest = source;
+    'lines: while let Some(i) = source_line_feed(rest) {
+        let line = source_line_before(rest, i);
+        add_source_line(line, &mut pieces, &mut operands, &mut lines, &mut items)?;
+        rest = source_after_line(rest, i);
+    }
+    add_source_line(rest, &mut pieces, &mut operands, &mut lines, &mut items)?;
+    Ok(Source { lines, items })
+}
+
 // The place of the next line feed, which ends an empty line if it is the first byte.
 #[inline(always)]
 #[tactic(auto, using(crate::proofs::Feeds::first_byte))]
@@ -50,14 +69,6 @@ fn source_line_before(rest: &[u8], i: usize) -> &[u8]
     &rest[..i]
 }
 
-/// The rest of the source after the line feed at `i`.
-fn source_after_line(rest: &[u8], i: usize) -> &[u8]
-    requires { i < length rest.now }
-    ensures { result.now ≡ drop (i + 1) rest.now }
-{
-    &rest[i + 1..]
-}
-
 // Reads the next line, with two lists as scratch space.
 #[inline(always)]
 fn add_source_line<'a>(
@@ -74,21 +85,10 @@ fn add_source_line<'a>(
     Ok(())
 }
 
-/// Reads each line of a source. Line feeds separate the lines.
-pub fn read_source<'a>(alloc: Global, source: &'a [u8]) -> Result<Source<'a>, AllocError>
-    ensures lines { IfOk result (λ s. lines_of s ≡ lines_in source.now) }
-    ensures items { IfOk result (λ s. map item_of s.items.items ≡ items_in (lines_in source.now)) }
+/// The rest of the source after the line feed at `i`.
+fn source_after_line(rest: &[u8], i: usize) -> &[u8]
+    requires { i < length rest.now }
+    ensures { result.now ≡ drop (i + 1) rest.now }
 {
-    let mut pieces = Scratch::new();
-    let mut operands = Scratch::new();
-    let mut lines = Vec::new(alloc);
-    let mut items = Vec::new(alloc);
-    let mut rest = source;
-    'lines: while let Some(i) = source_line_feed(rest) {
-        let line = source_line_before(rest, i);
-        add_source_line(line, &mut pieces, &mut operands, &mut lines, &mut items)?;
-        rest = source_after_line(rest, i);
-    }
-    add_source_line(rest, &mut pieces, &mut operands, &mut lines, &mut items)?;
-    Ok(Source { lines, items })
+    &rest[i + 1..]
 }

@@ -19,78 +19,12 @@ use crate::want::Want;
 use tc_isa::{Row, rows};
 use tc_lex::{Operand, are_same_bytes};
 
-// Fills the fields of a row. Returns false if the operands have other forms than the row wants.
-#[tactic(auto, unfolding(crate::specs::Filling::fields_of_row))]
-fn fill_statement_row<'a>(
-    row: &Row,
-    wants: &[Want],
-    os: &[Operand<'a>],
-    found: &mut RowFields<'a>,
-) -> bool
-    ensures { Fills result found.new
-        (fields_of_row (row_of row.now) wants.now (map operand_of os.now)) }
+/// The row of a statement in the instruction table with its fields, or the least rule that the
+/// statement breaks.
+pub fn statement<'a>(name: &[u8], os: &[Operand<'a>]) -> Result<(u8, RowFields<'a>), u8>
+    ensures { JudgesStatement result (statement name.now (map operand_of os.now)) }
 {
-    *found = no_fields();
-    if !fill_all(row, wants, os, found) {
-        return false;
-    }
-    check_registers_apart(row, found);
-    true
-}
-
-// Tries a row with this name: fills its fields if the statement fits, else returns the tally after
-// it.
-#[inline(never)]
-#[tactic(auto, unfolding(crate::specs::StatementRow::after_row))]
-fn try_row_of_name<'a>(
-    row: &Row,
-    wants: &[Want],
-    name: &[u8],
-    os: &[Operand<'a>],
-    so_far: Tally,
-    found: &mut RowFields<'a>,
-) -> Result<(), Tally>
-    requires wants { wants.now ≡ wants_of (row_of row.now) }
-    requires named { bytes_eq (row_of row.now).name name.now ≡ true }
-    ensures { JudgesRow result found.new
-        (after_row name.now (map operand_of os.now) (row_of row.now) so_far) }
-{
-    if !fill_statement_row(row, wants, os, found) {
-        return Err(Tally {
-            named: true,
-            ..so_far
-        });
-    }
-    if found.rule == NO_RULE {
-        Ok(())
-    } else {
-        Err(Tally {
-            named: true,
-            fits: true,
-            least: so_far.least.min(found.rule),
-        })
-    }
-}
-
-/// Tries a row: fills its fields if the statement fits it, else returns the tally after it.
-#[tactic(auto, unfolding(crate::specs::StatementRow::after_row))]
-fn try_statement_row<'a>(
-    row: &Row,
-    wants: &[Want],
-    name: &[u8],
-    os: &[Operand<'a>],
-    so_far: Tally,
-    found: &mut RowFields<'a>,
-) -> Result<(), Tally>
-    requires { wants.now ≡ wants_of (row_of row.now) }
-    ensures { JudgesRow result found.new
-        (after_row name.now (map operand_of os.now) (row_of row.now) so_far) }
-{
-    if are_same_bytes(row.name.as_bytes(), name) {
-        try_row_of_name(row, wants, name, os, so_far, found)
-    } else {
-        Err(so_far)
-    }
+    judge_statement(rows(), wants(), first_rows(), next_rows(), name, os)
 }
 
 /// The row of a statement with its fields, or the least rule that the statement breaks. The search
@@ -127,10 +61,76 @@ fn judge_statement<'a>(
     Err(tally_rule(so_far))
 }
 
-/// The row of a statement in the instruction table with its fields, or the least rule that the
-/// statement breaks.
-pub fn statement<'a>(name: &[u8], os: &[Operand<'a>]) -> Result<(u8, RowFields<'a>), u8>
-    ensures { JudgesStatement result (statement name.now (map operand_of os.now)) }
+/// Tries a row: fills its fields if the statement fits it, else returns the tally after it.
+#[tactic(auto, unfolding(crate::specs::StatementRow::after_row))]
+fn try_statement_row<'a>(
+    row: &Row,
+    wants: &[Want],
+    name: &[u8],
+    os: &[Operand<'a>],
+    so_far: Tally,
+    found: &mut RowFields<'a>,
+) -> Result<(), Tally>
+    requires { wants.now ≡ wants_of (row_of row.now) }
+    ensures { JudgesRow result found.new
+        (after_row name.now (map operand_of os.now) (row_of row.now) so_far) }
 {
-    judge_statement(rows(), wants(), first_rows(), next_rows(), name, os)
+    if are_same_bytes(row.name.as_bytes(), name) {
+        try_row_of_name(row, wants, name, os, so_far, found)
+    } else {
+        Err(so_far)
+    }
+}
+
+// Tries a row with this name: fills its fields if the statement fits, else returns the tally after
+// it.
+#[inline(never)]
+#[tactic(auto, unfolding(crate::specs::StatementRow::after_row))]
+fn try_row_of_name<'a>(
+    row: &Row,
+    wants: &[Want],
+    name: &[u8],
+    os: &[Operand<'a>],
+    so_far: Tally,
+    found: &mut RowFields<'a>,
+) -> Result<(), Tally>
+    requires wants { wants.now ≡ wants_of (row_of row.now) }
+    requires named { bytes_eq (row_of row.now).name name.now ≡ true }
+    ensures { JudgesRow result found.new
+        (after_row name.now (map operand_of os.now) (row_of row.now) so_far) }
+{
+    if !fill_statement_row(row, wants, os, found) {
+        return Err(Tally {
+            named: true,
+            ..so_far
+        });
+    }
+    if found.rule == NO_RULE {
+        Ok(())
+    } else {
+        Err(Tally {
+            named: true,
+            fits: true,
+            least: so_far.least.min(found.rule),
+        })
+    }
+}
+
+// Fills the fields of a row. Returns false if the operands have other forms than the row wants.
+#[tactic(auto, unfolding(crate::specs::Filling::fields_of_row))]
+fn fill_statement_row<'a>(
+    row: &Row,
+    wants: &[Want],
+    os: &[Operand<'a>],
+    found: &mut RowFields<'a>,
+) -> bool
+    ensures { Fills result found.new
+        (fields_of_row (row_of row.now) wants.now (map operand_of os.now)) }
+{
+    *found = no_fields();
+    if !fill_all(row, wants, os, found) {
+        return false;
+    }
+    check_registers_apart(row, found);
+    true
 }

@@ -20,14 +20,6 @@ fn main(rt: HostRuntime) -> ExitCode {
     }
 }
 
-// The exit status of the words behind the program's name, over the system's files and standard
-// output.
-fn number_of<R: rt::Files + Print + AllocGlobal>(rt: &R, words: &[String]) -> u8 {
-    let mut files = RealFiles { rt, failed: 0 };
-    let mut out = Stdout { rt, failed: 0 };
-    u8::from(tool(rt.alloc(), words, &mut files, &mut out))
-}
-
 // The words after the program's name.
 fn words<R: env::Env + AllocGlobal>(rt: &R) -> io::Result<Vec<String>> {
     let mut words = Vec::new(rt.alloc());
@@ -37,4 +29,12 @@ fn words<R: env::Env + AllocGlobal>(rt: &R) -> io::Result<Vec<String>> {
         }
     }
     Ok(words)
+}
+
+// The exit status of the words behind the program's name, over the system's files and standard
+// output.
+fn number_of<R: rt::Files + Print + AllocGlobal>(rt: &R, words: &[String]) -> u8 {
+    let mut files = RealFiles { rt, failed: 0 };
+    let mut out = Stdout { rt, failed: 0 };
+    u8::from(tool(rt.alloc(), words, &mut files, &mut out))
 }

@@ -34,15 +34,6 @@ static STAND_IN_NAMES: [bool; 256] = [
     false, false, false, false, false, false, false, false, false, false,
 ];
 
-// Returns the table with the fact that it agrees with the definition.
-#[tactic(auto, unfolding(crate::specs::NameBytes::is_name_byte, crate::specs::NameBytes::is_name_first))]
-fn name_byte_table() -> &'static [bool; 256]
-    ensures count { length result.now ≡ 256 }
-    ensures answers { are_name_byte_answers 0 result.now ≡ true }
-{
-    &STAND_IN_NAMES
-}
-
 /// Returns true if a name can have this byte after its first: a letter, a digit, `_`, `.` or `$`.
 pub fn is_name_byte(c: u8) -> bool
     ensures { result ≡ is_name_byte c }
@@ -56,4 +47,13 @@ pub fn are_name_bytes(bytes: &[u8]) -> bool
     ensures { result ≡ list_all is_name_byte bytes.now }
 {
     bytes.iter().all(|c| is_name_byte(*c))
+}
+
+// Returns the table with the fact that it agrees with the definition.
+#[tactic(auto, unfolding(crate::specs::NameBytes::is_name_byte, crate::specs::NameBytes::is_name_first))]
+fn name_byte_table() -> &'static [bool; 256]
+    ensures count { length result.now ≡ 256 }
+    ensures answers { are_name_byte_answers 0 result.now ≡ true }
+{
+    &STAND_IN_NAMES
 }

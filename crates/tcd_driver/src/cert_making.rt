@@ -20,6 +20,18 @@ pub(crate) enum Making {
     NoMemory,
 }
 
+/// Makes the least certificate of version 1, or of version 2 if none of version 1 is accepted, and
+/// checks it.
+pub(crate) fn make_best_cert(alloc: Global, image: &Image, plan: &Plan) -> Making
+    ensures { MakesBestCert image.now plan.now result }
+{
+    match make_bytes(alloc, image, plan, 1) {
+        Ok(bytes) => check_best_cert(alloc, image, plan, bytes),
+        Err(MakeErr::Refused { .. }) => make_version_2_cert(alloc, image, plan),
+        Err(MakeErr::NoMemory) => Making::NoMemory,
+    }
+}
+
 // Checks the best certificate, which these bytes spell.
 fn check_best_cert(alloc: Global, image: &Image, plan: &Plan, bytes: Vec<u8>) -> Making
     requires { SpellBestCert image.now plan.now bytes.items }
@@ -47,18 +59,6 @@ fn make_version_2_cert(alloc: Global, image: &Image, plan: &Plan) -> Making
     match make_bytes(alloc, image, plan, 2) {
         Ok(bytes) => check_best_cert(alloc, image, plan, bytes),
         Err(MakeErr::Refused { rule, key, addr }) => Making::Refused { rule, key, addr },
-        Err(MakeErr::NoMemory) => Making::NoMemory,
-    }
-}
-
-/// Makes the least certificate of version 1, or of version 2 if none of version 1 is accepted, and
-/// checks it.
-pub(crate) fn make_best_cert(alloc: Global, image: &Image, plan: &Plan) -> Making
-    ensures { MakesBestCert image.now plan.now result }
-{
-    match make_bytes(alloc, image, plan, 1) {
-        Ok(bytes) => check_best_cert(alloc, image, plan, bytes),
-        Err(MakeErr::Refused { .. }) => make_version_2_cert(alloc, image, plan),
         Err(MakeErr::NoMemory) => Making::NoMemory,
     }
 }

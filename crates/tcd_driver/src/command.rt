@@ -157,13 +157,6 @@ fn link_command(words: &[String]) -> Option<Command<'_>>
     }
 }
 
-// Whether the verb and the number of objects are those of `link`.
-fn is_link(verb: &str, objects: &[String]) -> bool
-    ensures { result ≡ is_link verb.now (map string_bytes objects.now) }
-{
-    verb == "link" && !objects.is_empty() && objects.len() <= MOST_OBJECTS
-}
-
 // The command `ship` with its sources.
 fn ship_command(words: &[String]) -> Option<Command<'_>>
     ensures is { option_map command_of_value result ≡ ship_command_of (map string_bytes words.now) }
@@ -211,32 +204,6 @@ fn tasks_command(words: &[String]) -> Option<Command<'_>>
     }
 }
 
-// Whether the verb and the number of sources are those of `ship`, with different names for the two
-// files to write.
-fn is_ship(verb: &str, elf: &str, cert: &str, sources: &[String]) -> bool
-    ensures { result ≡ is_ship verb.now elf.now cert.now (map string_bytes sources.now) }
-{
-    verb == "ship" && elf != cert && !sources.is_empty() && sources.len() <= MOST_SOURCES
-}
-
-// Whether the verb and the number of certificates are those of `tasks`.
-fn is_tasks(verb: &str, certs: &[String]) -> bool
-    ensures { result ≡ is_tasks verb.now (map string_bytes certs.now) }
-{
-    verb == "tasks" && !certs.is_empty() && certs.len() <= MOST_CERTS
-}
-
-// Whether the verb and the number of certificates are those of `taskcert`, with different names for
-// all certificates.
-fn is_taskcert(verb: &str, certs: &[String]) -> bool
-    ensures { result ≡ is_taskcert verb.now (map string_bytes certs.now) }
-{
-    verb == "taskcert"
-        && !certs.is_empty()
-        && certs.len() <= MOST_CERTS
-        && are_distinct_names(certs)
-}
-
 // A command with a fixed number of words.
 fn fixed_command(words: &[String]) -> Option<Command<'_>>
     ensures is { option_map command_of_value result
@@ -265,6 +232,39 @@ fn fixed_command(words: &[String]) -> Option<Command<'_>>
     }
 }
 
+// Whether the verb and the number of objects are those of `link`.
+fn is_link(verb: &str, objects: &[String]) -> bool
+    ensures { result ≡ is_link verb.now (map string_bytes objects.now) }
+{
+    verb == "link" && !objects.is_empty() && objects.len() <= MOST_OBJECTS
+}
+
+// Whether the verb and the number of sources are those of `ship`, with different names for the two
+// files to write.
+fn is_ship(verb: &str, elf: &str, cert: &str, sources: &[String]) -> bool
+    ensures { result ≡ is_ship verb.now elf.now cert.now (map string_bytes sources.now) }
+{
+    verb == "ship" && elf != cert && !sources.is_empty() && sources.len() <= MOST_SOURCES
+}
+
+// Whether the verb and the number of certificates are those of `tasks`.
+fn is_tasks(verb: &str, certs: &[String]) -> bool
+    ensures { result ≡ is_tasks verb.now (map string_bytes certs.now) }
+{
+    verb == "tasks" && !certs.is_empty() && certs.len() <= MOST_CERTS
+}
+
+// Whether the verb and the number of certificates are those of `taskcert`, with different names for
+// all certificates.
+fn is_taskcert(verb: &str, certs: &[String]) -> bool
+    ensures { result ≡ is_taskcert verb.now (map string_bytes certs.now) }
+{
+    verb == "taskcert"
+        && !certs.is_empty()
+        && certs.len() <= MOST_CERTS
+        && are_distinct_names(certs)
+}
+
 // A command with one word after its verb.
 fn one_word_command<'a>(verb: &str, word: &'a str) -> Option<Command<'a>>
     ensures is { option_map command_of_value result ≡ one_word_command verb.now word.now }
@@ -274,52 +274,6 @@ fn one_word_command<'a>(verb: &str, word: &'a str) -> Option<Command<'a>>
         Some(Command::Dis { elf: word })
     } else if verb == "gen" {
         gen_command(word)
-    } else {
-        None
-    }
-}
-
-// The command `gen` with this word after its verb.
-fn gen_command<'a>(word: &str) -> Option<Command<'a>>
-    ensures is { option_map command_of_value result
-        ≡ option_map generate (gen_function_count word.now) }
-    ensures limits { IfSome result CommandKeepsLimits }
-{
-    let functions = gen_function_count(word)?;
-    Some(Command::Gen { functions })
-}
-
-/// The number of functions that the word after `gen` asks for.
-fn gen_function_count(word: &str) -> Option<u32>
-    ensures is { result ≡ gen_function_count word.now }
-    ensures limits { IfSome result (λ n. (1 ≤ n) × (n ≤ 500)) }
-{
-    if has_zero_or_plus(word) {
-        return None;
-    }
-    match word.parse::<u32>() {
-        Ok(n) => gen_count_in_range(n),
-        Err(_) => None,
-    }
-}
-
-/// Whether a word begins with 0 or a plus sign, so that `gen` doesn't take it as a number.
-fn has_zero_or_plus(word: &str) -> bool
-    ensures { result ≡ (slice_index word.now 0 == 48 || slice_index word.now 0 == 43) }
-{
-    match word.as_bytes().first() {
-        Some(first) => *first == b'0' || *first == b'+',
-        None => false,
-    }
-}
-
-// The number of functions, if it is in the range of `gen`.
-fn gen_count_in_range(n: u32) -> Option<u32>
-    ensures is { result ≡ then_some (nat_le 1 n && nat_le n 500) n }
-    ensures limits { IfSome result (λ n. (1 ≤ n) × (n ≤ 500)) }
-{
-    if 1 <= n && n <= MOST_FUNCTIONS {
-        Some(n)
     } else {
         None
     }
@@ -416,6 +370,52 @@ fn four_word_command<'a>(
         boot_command(first, second, third, fourth)
     } else if verb == "bootgen" {
         bootgen_command(first, second, third, fourth)
+    } else {
+        None
+    }
+}
+
+// The command `gen` with this word after its verb.
+fn gen_command<'a>(word: &str) -> Option<Command<'a>>
+    ensures is { option_map command_of_value result
+        ≡ option_map generate (gen_function_count word.now) }
+    ensures limits { IfSome result CommandKeepsLimits }
+{
+    let functions = gen_function_count(word)?;
+    Some(Command::Gen { functions })
+}
+
+/// The number of functions that the word after `gen` asks for.
+fn gen_function_count(word: &str) -> Option<u32>
+    ensures is { result ≡ gen_function_count word.now }
+    ensures limits { IfSome result (λ n. (1 ≤ n) × (n ≤ 500)) }
+{
+    if has_zero_or_plus(word) {
+        return None;
+    }
+    match word.parse::<u32>() {
+        Ok(n) => gen_count_in_range(n),
+        Err(_) => None,
+    }
+}
+
+/// Whether a word begins with 0 or a plus sign, so that `gen` doesn't take it as a number.
+fn has_zero_or_plus(word: &str) -> bool
+    ensures { result ≡ (slice_index word.now 0 == 48 || slice_index word.now 0 == 43) }
+{
+    match word.as_bytes().first() {
+        Some(first) => *first == b'0' || *first == b'+',
+        None => false,
+    }
+}
+
+// The number of functions, if it is in the range of `gen`.
+fn gen_count_in_range(n: u32) -> Option<u32>
+    ensures is { result ≡ then_some (nat_le 1 n && nat_le n 500) n }
+    ensures limits { IfSome result (λ n. (1 ≤ n) × (n ≤ 500)) }
+{
+    if 1 <= n && n <= MOST_FUNCTIONS {
+        Some(n)
     } else {
         None
     }

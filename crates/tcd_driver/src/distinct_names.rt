@@ -56,20 +56,6 @@ fn are_distinct_by_marks(names: &[String]) -> bool
     true
 }
 
-// The mark of a name.
-fn name_mark(name: &[u8]) -> usize
-    ensures is { result ≡ name_mark 0 name.now }
-    ensures few { result < 262144 }
-{
-    let mut mark = 0;
-    let mut rest = name;
-    while let [byte, more @ ..] = rest {
-        mark = (31 * mark + usize::from(*byte)) % MARK_COUNT;
-        rest = more;
-    }
-    mark
-}
-
 // Whether a name is one of the others.
 fn is_one_of_names(name: &str, others: &[String]) -> bool
     ensures { result ≡ list_any (bytes_eq name.now) (map string_bytes others.now) }
@@ -82,4 +68,18 @@ fn is_one_of_names(name: &str, others: &[String]) -> bool
         rest = more;
     }
     false
+}
+
+// The mark of a name.
+fn name_mark(name: &[u8]) -> usize
+    ensures is { result ≡ name_mark 0 name.now }
+    ensures few { result < 262144 }
+{
+    let mut mark = 0;
+    let mut rest = name;
+    while let [byte, more @ ..] = rest {
+        mark = (31 * mark + usize::from(*byte)) % MARK_COUNT;
+        rest = more;
+    }
+    mark
 }

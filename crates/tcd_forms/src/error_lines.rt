@@ -102,16 +102,6 @@ pub fn bad_elf_line(alloc: Global, e: ImageErr) -> Result<Vec<u8>, NoMemory>
     }
 }
 
-// The line of a refusal that names a key of the plan.
-#[tactic(auto, unfolding(crate::specs::Lines::line_end_at_key))]
-fn plan_key_line(alloc: Global, front: &str, key: PlanKey) -> Result<Vec<u8>, NoMemory>
-    requires { key.0 < length key_texts }
-    ensures { IfOk result (λ line. line.items ≡ front.now ++ line_end_at_key key) }
-{
-    let text = key_text(key);
-    Ok(format!(in alloc; "{front} key {text}\n")?.into_bytes())
-}
-
 /// The line that says why a file is no plan.
 #[tactic(auto, unfolding(crate::specs::Lines::bad_plan_line, crate::specs::Lines::line_end_at_two))]
 pub fn bad_plan_line(alloc: Global, e: PlanErr) -> Result<Vec<u8>, NoMemory>
@@ -207,26 +197,6 @@ pub fn bad_object_line(alloc: Global, place: u32, e: FormErr) -> Result<Vec<u8>,
     Ok(format!(in alloc; "bad object {kind} at {place} {offset}\n")?.into_bytes())
 }
 
-// The line of a refusal to link that names a symbol or a section.
-#[tactic(auto, unfolding(crate::specs::Lines::name_at_line_end))]
-fn bad_link_name_line(alloc: Global, front: &str, name: &str) -> Result<Vec<u8>, NoMemory>
-    ensures { IfOk result (λ line. line.items ≡ front.now ++ name_at_line_end name.now) }
-{
-    Ok(format!(in alloc; "{front} name {name}\n")?.into_bytes())
-}
-
-/// The number that the line of a link prints for why a field can't be filled.
-#[tactic(auto, unfolding(crate::specs::Lines::printed_reloc_fault))]
-fn printed_reloc_fault(err: RelocErr) -> u8
-    ensures { result ≡ printed_reloc_fault err }
-{
-    match err {
-        RelocErr::Odd => 1,
-        RelocErr::FarOff => 2,
-        RelocErr::Segment => 3,
-    }
-}
-
 /// The line that says why objects can't be linked.
 #[tactic(auto, unfolding(crate::specs::Lines::bad_link_line))]
 pub fn bad_link_line(alloc: Global, e: LinkErr) -> Result<Vec<u8>, NoMemory>
@@ -251,5 +221,35 @@ pub fn bad_link_line(alloc: Global, e: LinkErr) -> Result<Vec<u8>, NoMemory>
         }
         LinkErr::NoEntry => copy_printed_line(alloc, b"bad link 6\n"),
         LinkErr::NoMemory => Err(NoMemory),
+    }
+}
+
+// The line of a refusal that names a key of the plan.
+#[tactic(auto, unfolding(crate::specs::Lines::line_end_at_key))]
+fn plan_key_line(alloc: Global, front: &str, key: PlanKey) -> Result<Vec<u8>, NoMemory>
+    requires { key.0 < length key_texts }
+    ensures { IfOk result (λ line. line.items ≡ front.now ++ line_end_at_key key) }
+{
+    let text = key_text(key);
+    Ok(format!(in alloc; "{front} key {text}\n")?.into_bytes())
+}
+
+// The line of a refusal to link that names a symbol or a section.
+#[tactic(auto, unfolding(crate::specs::Lines::name_at_line_end))]
+fn bad_link_name_line(alloc: Global, front: &str, name: &str) -> Result<Vec<u8>, NoMemory>
+    ensures { IfOk result (λ line. line.items ≡ front.now ++ name_at_line_end name.now) }
+{
+    Ok(format!(in alloc; "{front} name {name}\n")?.into_bytes())
+}
+
+/// The number that the line of a link prints for why a field can't be filled.
+#[tactic(auto, unfolding(crate::specs::Lines::printed_reloc_fault))]
+fn printed_reloc_fault(err: RelocErr) -> u8
+    ensures { result ≡ printed_reloc_fault err }
+{
+    match err {
+        RelocErr::Odd => 1,
+        RelocErr::FarOff => 2,
+        RelocErr::Segment => 3,
     }
 }

@@ -89,53 +89,6 @@ pub fn certified_line(alloc: Global, need: u32, areas: u32) -> Result<Vec<u8>, N
     Ok(format!(in alloc; "certified {need} of {areas} areas\n")?.into_bytes())
 }
 
-/// Returns the word for a cause of death in the printed line on the result of a run.
-#[tactic(auto, unfolding(crate::specs::Lines::printed_death_cause))]
-fn printed_death_cause(cause: Cause) -> &'static [u8]
-    ensures { result.now ≡ printed_death_cause cause }
-{
-    match cause {
-        Cause::Fcd => b"fcd",
-        Cause::Fcu => b"fcu",
-        Cause::Csu => b"csu",
-        Cause::Ctyp => b"ctyp",
-        Cause::NotListed => b"notlisted",
-        Cause::NoCode => b"nocode",
-        Cause::NoArea => b"noarea",
-    }
-}
-
-// Appends whether the machine runs, or the cause and the address of its death, and the line feed.
-#[tactic(auto, unfolding(crate::specs::Lines::run_end_text))]
-fn append_run_end(line: &mut Vec<u8>, end: End, pc: u32) -> Result<(), NoMemory>
-    ensures { OnOk result (line.new.items ≡ line.old.items ++ run_end_text end pc) }
-{
-    match end {
-        End::Running => append_to_printed_line(line, b"running\n"),
-        End::Dead(cause) => append_run_death(line, cause, pc),
-    }
-}
-
-/// Appends that the machine of a run is dead, with the cause and the address, and the line feed.
-fn append_run_death(line: &mut Vec<u8>, cause: Cause, pc: u32) -> Result<(), NoMemory>
-    ensures { OnOk result (line.new.items ≡ line.old.items ++ (codes "dead "
-        ++ (printed_death_cause cause ++ (codes " at " ++ (hex_word pc ++ 10 ∷ []))))) }
-{
-    append_to_printed_line(line, b"dead ")?;
-    append_to_printed_line(line, printed_death_cause(cause))?;
-    append_to_printed_line(line, b" at ")?;
-    append_to_printed_line(line, &hex_word(pc))?;
-    append_to_printed_line(line, b"\n")
-}
-
-// The start of a line on a run.
-fn run_line_front(alloc: Global, events: u32, peak: u32) -> Result<Vec<u8>, NoMemory>
-    ensures { IfOk result (λ line. line.items ≡ codes "events "
-        ++ (decimal events ++ (codes " peak " ++ (decimal peak ++ codes " ")))) }
-{
-    Ok(format!(in alloc; "events {events} peak {peak} ")?.into_bytes())
-}
-
 /// The line on a run: its events, the peak of CSAs in use, and the state of the machine at its end.
 #[tactic(auto, unfolding(crate::specs::Lines::run_line))]
 pub fn run_line(alloc: Global, events: u32, peak: u32, m: &Machine) -> Result<Vec<u8>, NoMemory>
@@ -162,26 +115,6 @@ pub fn linked_line(alloc: Global, bytes: &[u8]) -> Result<Vec<u8>, NoMemory>
 {
     let size = bytes.len();
     Ok(format!(in alloc; "image {size} bytes\n")?.into_bytes())
-}
-
-/// Returns the start of the line on a refusal, with the rule that fails.
-fn refused_line_front(alloc: Global, rule: u8) -> Result<Vec<u8>, NoMemory>
-    ensures { IfOk result
-        (λ line. line.items ≡ codes "refused K" ++ (decimal rule ++ codes " at ")) }
-{
-    Ok(format!(in alloc; "refused K{rule} at ")?.into_bytes())
-}
-
-// Appends a key and the line feed.
-#[tactic(auto, unfolding(crate::specs::Lines::key_line))]
-fn append_key_to_line(alloc: Global, line: &mut Vec<u8>, key: Key) -> Result<(), NoMemory>
-    ensures { OnOk result (line.new.items ≡ line.old.items ++ key_line key) }
-{
-    append_to_printed_line(line, key_kind_text(key.kind).as_bytes())?;
-    append_to_printed_line(line, &hex_word(key.entry))?;
-    let prio = key_priority_text(alloc, key.prio)?;
-    append_to_printed_line(line, &prio)?;
-    append_to_printed_line(line, key_stack_digit(key.is))
 }
 
 /// The line on a rule that fails, with the address and the key.
@@ -254,4 +187,71 @@ pub(crate) fn task_line_end(alloc: Global, u: usize) -> Result<Vec<u8>, NoMemory
         (λ line. line.items ≡ codes " of task " ++ (decimal u ++ 10 ∷ [])) }
 {
     Ok(format!(in alloc; " of task {u}\n")?.into_bytes())
+}
+
+// The start of a line on a run.
+fn run_line_front(alloc: Global, events: u32, peak: u32) -> Result<Vec<u8>, NoMemory>
+    ensures { IfOk result (λ line. line.items ≡ codes "events "
+        ++ (decimal events ++ (codes " peak " ++ (decimal peak ++ codes " ")))) }
+{
+    Ok(format!(in alloc; "events {events} peak {peak} ")?.into_bytes())
+}
+
+// Appends whether the machine runs, or the cause and the address of its death, and the line feed.
+#[tactic(auto, unfolding(crate::specs::Lines::run_end_text))]
+fn append_run_end(line: &mut Vec<u8>, end: End, pc: u32) -> Result<(), NoMemory>
+    ensures { OnOk result (line.new.items ≡ line.old.items ++ run_end_text end pc) }
+{
+    match end {
+        End::Running => append_to_printed_line(line, b"running\n"),
+        End::Dead(cause) => append_run_death(line, cause, pc),
+    }
+}
+
+/// Appends that the machine of a run is dead, with the cause and the address, and the line feed.
+fn append_run_death(line: &mut Vec<u8>, cause: Cause, pc: u32) -> Result<(), NoMemory>
+    ensures { OnOk result (line.new.items ≡ line.old.items ++ (codes "dead "
+        ++ (printed_death_cause cause ++ (codes " at " ++ (hex_word pc ++ 10 ∷ []))))) }
+{
+    append_to_printed_line(line, b"dead ")?;
+    append_to_printed_line(line, printed_death_cause(cause))?;
+    append_to_printed_line(line, b" at ")?;
+    append_to_printed_line(line, &hex_word(pc))?;
+    append_to_printed_line(line, b"\n")
+}
+
+/// Returns the word for a cause of death in the printed line on the result of a run.
+#[tactic(auto, unfolding(crate::specs::Lines::printed_death_cause))]
+fn printed_death_cause(cause: Cause) -> &'static [u8]
+    ensures { result.now ≡ printed_death_cause cause }
+{
+    match cause {
+        Cause::Fcd => b"fcd",
+        Cause::Fcu => b"fcu",
+        Cause::Csu => b"csu",
+        Cause::Ctyp => b"ctyp",
+        Cause::NotListed => b"notlisted",
+        Cause::NoCode => b"nocode",
+        Cause::NoArea => b"noarea",
+    }
+}
+
+/// Returns the start of the line on a refusal, with the rule that fails.
+fn refused_line_front(alloc: Global, rule: u8) -> Result<Vec<u8>, NoMemory>
+    ensures { IfOk result
+        (λ line. line.items ≡ codes "refused K" ++ (decimal rule ++ codes " at ")) }
+{
+    Ok(format!(in alloc; "refused K{rule} at ")?.into_bytes())
+}
+
+// Appends a key and the line feed.
+#[tactic(auto, unfolding(crate::specs::Lines::key_line))]
+fn append_key_to_line(alloc: Global, line: &mut Vec<u8>, key: Key) -> Result<(), NoMemory>
+    ensures { OnOk result (line.new.items ≡ line.old.items ++ key_line key) }
+{
+    append_to_printed_line(line, key_kind_text(key.kind).as_bytes())?;
+    append_to_printed_line(line, &hex_word(key.entry))?;
+    let prio = key_priority_text(alloc, key.prio)?;
+    append_to_printed_line(line, &prio)?;
+    append_to_printed_line(line, key_stack_digit(key.is))
 }

@@ -6,20 +6,18 @@ ghost use Rattle.tcd_plan.specs.Cutting.{cut_range_parts, range_between};
 use arrayvec::ArrayVec;
 use tcd_base::Range;
 
-// Appends the range from one address up to another, if it has a byte.
-fn push_cut_part(ranges: &mut ArrayVec<Range, 32>, from: u64, upto: u64)
-    requires room { length ranges.old.items < 32 }
-    requires end { upto ≤ 2 ^ 32 }
-    requires small { upto < from + 2 ^ 32 }
-    ensures ranges { ranges.new.items ≡ ranges.old.items ++ range_between from upto }
-    ensures few { length ranges.new.items ≤ length ranges.old.items + 1 }
+/// Returns the parts of ranges below and above the `n` bytes from `x` on, at most two of each
+/// range.
+pub fn cut_plan_ranges(ranges: &[Range], x: u32, n: u32) -> ArrayVec<Range, 32>
+    requires few { length ranges.now ≤ 16 }
+    requires fit { All (λ r. r.at + r.len ≤ 2 ^ 32) ranges.now }
+    ensures { result.items ≡ cutting.cut_plan_ranges x n ranges.now }
 {
-    if from < upto {
-        ranges.push(Range {
-            at: from as u32,
-            len: (upto - from) as u32,
-        });
+    let mut parts = ArrayVec::new();
+    for r in ranges {
+        push_cut_range(&mut parts, r, x, n);
     }
+    parts
 }
 
 /// Cuts the `n` bytes from `x` on out of a plan's range: appends the parts of the range below and
@@ -37,16 +35,18 @@ fn push_cut_range(ranges: &mut ArrayVec<Range, 32>, r: &Range, x: u32, n: u32)
     push_cut_part(ranges, (block + u64::from(n)).max(start), end);
 }
 
-/// Returns the parts of ranges below and above the `n` bytes from `x` on, at most two of each
-/// range.
-pub fn cut_plan_ranges(ranges: &[Range], x: u32, n: u32) -> ArrayVec<Range, 32>
-    requires few { length ranges.now ≤ 16 }
-    requires fit { All (λ r. r.at + r.len ≤ 2 ^ 32) ranges.now }
-    ensures { result.items ≡ cutting.cut_plan_ranges x n ranges.now }
+// Appends the range from one address up to another, if it has a byte.
+fn push_cut_part(ranges: &mut ArrayVec<Range, 32>, from: u64, upto: u64)
+    requires room { length ranges.old.items < 32 }
+    requires end { upto ≤ 2 ^ 32 }
+    requires small { upto < from + 2 ^ 32 }
+    ensures ranges { ranges.new.items ≡ ranges.old.items ++ range_between from upto }
+    ensures few { length ranges.new.items ≤ length ranges.old.items + 1 }
 {
-    let mut parts = ArrayVec::new();
-    for r in ranges {
-        push_cut_range(&mut parts, r, x, n);
+    if from < upto {
+        ranges.push(Range {
+            at: from as u32,
+            len: (upto - from) as u32,
+        });
     }
-    parts
 }

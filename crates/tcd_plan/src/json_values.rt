@@ -62,6 +62,28 @@ pub fn json_number_of(value: &Value) -> Option<u32>
     }
 }
 
+/// Returns the elements of the array with this key in the document.
+pub fn json_elements_of<'a>(value: &'a Value, name: &str) -> &'a [Value]
+    ensures { map view result.now ≡ json_elements_of name.now (view value.now) }
+{
+    json_elements_at(value, name).unwrap_or(&[])
+}
+
+/// Returns true if one of the elements of a JSON array is this text.
+pub fn has_json_text(places: &[Value], text: &str) -> bool
+    ensures { result ≡ list_any (is_json_text text.now) (map view places.now) }
+{
+    places.iter().any(|place| is_json_text(place, text))
+}
+
+/// Reads a number below 256 at a key of an object in the document.
+pub fn json_byte_in(value: &Value, outer: &str, name: &str) -> u8
+    requires { json_word_in outer.now name.now (view value.now) < 2 ^ 8 }
+    ensures { result ≡ json_word_in outer.now name.now (view value.now) }
+{
+    json_word_in(value, outer, name) as u8
+}
+
 /// Returns the number that a JSON text spells: `0x` with 1 to 8 hex digits.
 fn json_text_word(text: &[u8]) -> Option<u32>
     ensures { result ≡ json_text_word text.now }
@@ -88,26 +110,4 @@ fn json_hex_digits(digits: &[u8]) -> Option<u32>
         value = value * 16 + digit;
     }
     Some(value)
-}
-
-/// Returns the elements of the array with this key in the document.
-pub fn json_elements_of<'a>(value: &'a Value, name: &str) -> &'a [Value]
-    ensures { map view result.now ≡ json_elements_of name.now (view value.now) }
-{
-    json_elements_at(value, name).unwrap_or(&[])
-}
-
-/// Returns true if one of the elements of a JSON array is this text.
-pub fn has_json_text(places: &[Value], text: &str) -> bool
-    ensures { result ≡ list_any (is_json_text text.now) (map view places.now) }
-{
-    places.iter().any(|place| is_json_text(place, text))
-}
-
-/// Reads a number below 256 at a key of an object in the document.
-pub fn json_byte_in(value: &Value, outer: &str, name: &str) -> u8
-    requires { json_word_in outer.now name.now (view value.now) < 2 ^ 8 }
-    ensures { result ≡ json_word_in outer.now name.now (view value.now) }
-{
-    json_word_in(value, outer, name) as u8
 }

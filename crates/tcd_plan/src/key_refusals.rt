@@ -24,16 +24,6 @@ pub fn first_missing_key(value: &Value) -> Option<PlanKey>
     )
 }
 
-/// Returns true if an object of the plan that should have the row's key lacks it.
-fn is_key_missing(row: &Row, value: &Value) -> bool
-    ensures { result ≡ list_any (lacks_key (row_of row.now))
-        (plan_objects_of row.now.holder (view value.now)) }
-{
-    plan_objects_of(row.holder, value)
-        .iter()
-        .any(|object| lacks_key(row, object))
-}
-
 /// Returns the first key whose value doesn't have its form.
 pub fn first_bad_key(value: &Value) -> Option<PlanKey>
     ensures { result ≡ first_bad_key (view value.now) }
@@ -45,14 +35,30 @@ pub fn first_bad_key(value: &Value) -> Option<PlanKey>
     )
 }
 
-/// Returns true if the value of the row's key in one of the holder's objects doesn't have its form.
-fn has_bad_key_value(row: &Row, value: &Value) -> bool
-    ensures { result ≡ list_any (is_key_value_bad (row_of row.now))
-        (plan_objects_of row.now.holder (view value.now)) }
+/// Returns the first object, or array of objects, with a key that isn't one of its own.
+pub fn first_unknown_key(value: &Value) -> Option<PlanKey>
+    ensures { result ≡ first_unknown_key (view value.now) }
 {
-    plan_objects_of(row.holder, value)
-        .iter()
-        .any(|object| !has_value_form(row.form, row.name, object))
+    key_of_holder(
+        holders()
+            .iter()
+            .find(|holder| have_unknown_key(**holder, value)),
+    )
+}
+
+/// Returns true if an object lacks the row's key.
+pub fn lacks_key(row: &Row, object: &Value) -> bool
+    ensures { result ≡ lacks_key (row_of row.now) (view object.now) }
+{
+    !may_key_be_absent(row.form) && object.get(row.name).is_none()
+}
+
+/// Returns true if a document without a key of this form isn't refused: `core` alone may be absent
+/// from its object.
+pub(crate) fn may_key_be_absent(form: Form) -> bool
+    ensures { result ≡ may_key_be_absent form }
+{
+    matches!(form, Form::CoreText)
 }
 
 /// Returns the key that a refusal names: that of the first row of the table that has the fault, if
@@ -63,15 +69,24 @@ fn key_of_refused_row(row: Option<&Row>) -> Option<PlanKey>
     row.map(|row| PlanKey(row.key))
 }
 
-/// Returns the first object, or array of objects, with a key that isn't one of its own.
-pub fn first_unknown_key(value: &Value) -> Option<PlanKey>
-    ensures { result ≡ first_unknown_key (view value.now) }
+/// Returns true if an object of the plan that should have the row's key lacks it.
+fn is_key_missing(row: &Row, value: &Value) -> bool
+    ensures { result ≡ list_any (lacks_key (row_of row.now))
+        (plan_objects_of row.now.holder (view value.now)) }
 {
-    key_of_holder(
-        holders()
-            .iter()
-            .find(|holder| have_unknown_key(**holder, value)),
-    )
+    plan_objects_of(row.holder, value)
+        .iter()
+        .any(|object| lacks_key(row, object))
+}
+
+/// Returns true if the value of the row's key in one of the holder's objects doesn't have its form.
+fn has_bad_key_value(row: &Row, value: &Value) -> bool
+    ensures { result ≡ list_any (is_key_value_bad (row_of row.now))
+        (plan_objects_of row.now.holder (view value.now)) }
+{
+    plan_objects_of(row.holder, value)
+        .iter()
+        .any(|object| !has_value_form(row.form, row.name, object))
 }
 
 /// Returns the key of a holder, if there is one.
@@ -117,19 +132,4 @@ fn is_known_key(holder: Holder, name: &str) -> bool
     key_table_rows()
         .iter()
         .any(|row| is_row_of_key(row, holder, name))
-}
-
-/// Returns true if an object lacks the row's key.
-pub fn lacks_key(row: &Row, object: &Value) -> bool
-    ensures { result ≡ lacks_key (row_of row.now) (view object.now) }
-{
-    !may_key_be_absent(row.form) && object.get(row.name).is_none()
-}
-
-/// Returns true if a document without a key of this form isn't refused: `core` alone may be absent
-/// from its object.
-pub(crate) fn may_key_be_absent(form: Form) -> bool
-    ensures { result ≡ may_key_be_absent form }
-{
-    matches!(form, Form::CoreText)
 }

@@ -34,26 +34,6 @@ pub fn too_many(value: &Value) -> Option<PlanKey>
     None
 }
 
-/// Returns true if a plan's rom or ram is within its limits: there are at most 16 ranges, with at
-/// most 2^22 bytes together.
-fn are_ranges_few(objects: &[Value]) -> bool
-    ensures { result ≡ are_ranges_few (map plan_range_of (map view objects.now)) }
-{
-    objects.len() <= 16 && total_len(objects) <= 1 << 22
-}
-
-/// Returns the number of bytes in all ranges together.
-fn total_len(objects: &[Value]) -> u64
-    requires { length objects.now ≤ 16 }
-    ensures { result ≡ sum_by (λ r. r.len) (map plan_range_of (map view objects.now)) }
-{
-    let mut total = 0u64;
-    for object in objects {
-        total += u64::from(json_word_at(object, "len"));
-    }
-    total
-}
-
 /// Returns true if the save areas are within their limits.
 #[tactic(auto, unfolding(crate::specs::Plans::plan_in, crate::specs::PlanData::has_areas))]
 pub fn has_areas(value: &Value) -> bool
@@ -64,21 +44,6 @@ pub fn has_areas(value: &Value) -> bool
         json_word_in(value, "csa", "areas"),
         json_word_in(value, "csa", "reserve"),
     )
-}
-
-/// Returns true if a plan's save areas are within their limits: from `at` on whole, in one segment
-/// of 2^22 bytes, and the first link isn't 0.
-fn are_areas(at: u32, areas: u32, reserve: u32) -> bool
-    ensures { result ≡ are_areas at areas reserve }
-{
-    1 <= areas
-        && areas <= 4096
-        && 1 <= reserve
-        && reserve <= areas
-        && at % 64 == 0
-        && at / 0x40_0000 % 64 == 0
-        && at > 0
-        && at % 0x40_0000 + 64 * areas <= 0x40_0000
 }
 
 /// Returns true if BIV and BTV are even.
@@ -101,6 +66,41 @@ pub fn plan_range_overlap(value: &Value) -> Option<PlanErr>
     push_ranges(&mut ranges, plan_objects_of(Holder::Devices, value));
     ranges.push(areas_range(value));
     first_overlap(ranges.as_slice())
+}
+
+/// Returns true if a plan's rom or ram is within its limits: there are at most 16 ranges, with at
+/// most 2^22 bytes together.
+fn are_ranges_few(objects: &[Value]) -> bool
+    ensures { result ≡ are_ranges_few (map plan_range_of (map view objects.now)) }
+{
+    objects.len() <= 16 && total_len(objects) <= 1 << 22
+}
+
+/// Returns the number of bytes in all ranges together.
+fn total_len(objects: &[Value]) -> u64
+    requires { length objects.now ≤ 16 }
+    ensures { result ≡ sum_by (λ r. r.len) (map plan_range_of (map view objects.now)) }
+{
+    let mut total = 0u64;
+    for object in objects {
+        total += u64::from(json_word_at(object, "len"));
+    }
+    total
+}
+
+/// Returns true if a plan's save areas are within their limits: from `at` on whole, in one segment
+/// of 2^22 bytes, and the first link isn't 0.
+fn are_areas(at: u32, areas: u32, reserve: u32) -> bool
+    ensures { result ≡ are_areas at areas reserve }
+{
+    1 <= areas
+        && areas <= 4096
+        && 1 <= reserve
+        && reserve <= areas
+        && at % 64 == 0
+        && at / 0x40_0000 % 64 == 0
+        && at > 0
+        && at % 0x40_0000 + 64 * areas <= 0x40_0000
 }
 
 /// Returns the refusal of a plan for the first pair of its ranges that share a byte, by their

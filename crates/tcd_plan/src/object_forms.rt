@@ -29,6 +29,30 @@ pub fn plan_objects_of(holder: Holder, value: &Value) -> &[Value]
     }
 }
 
+/// Returns true if the value of a key in an object has the form.
+pub fn has_value_form(form: Form, name: &str, object: &Value) -> bool
+    ensures { result ≡ has_value_form form name.now (view object.now) }
+{
+    match form {
+        Form::Ranges => json_elements_at(object, name).is_some_and(|places| !places.is_empty()
+            && are_objects(places)),
+        Form::Objects => json_elements_at(object, name).is_some_and(are_objects),
+        Form::Object => object.get(name).is_some_and(|inner| inner.is_object()),
+        Form::At => json_number_at(object, name).is_some_and(|at| at % 4 == 0),
+        Form::Len => json_number_at(object, name).is_some_and(|len| is_range_len(
+            json_word_at(object, "at"),
+            len,
+        )),
+        Form::Hi => json_number_at(object, name).is_some_and(|hi| json_word_at(object, "lo") <= hi),
+        Form::Word => json_number_at(object, name).is_some(),
+        Form::Byte => json_number_at(object, name).is_some_and(|byte| byte < 256),
+        Form::Truth => json_number_at(object, name).is_some_and(|truth| truth < 2),
+        Form::Irqs => json_elements_at(object, name).is_some_and(are_irqs),
+        Form::Traps => json_elements_at(object, name).is_some_and(are_traps),
+        Form::CoreText => is_core_text(object.get(name)),
+    }
+}
+
 /// Returns the elements of the array of objects at a key; none if one is no object.
 fn plan_objects_at<'a>(value: &'a Value, name: &str) -> &'a [Value]
     ensures { map view result.now ≡ plan_objects_at name.now (view value.now) }
@@ -57,46 +81,12 @@ fn are_objects(places: &[Value]) -> bool
     places.iter().all(|place| place.is_object())
 }
 
-/// Returns true if the value of a key in an object has the form.
-pub fn has_value_form(form: Form, name: &str, object: &Value) -> bool
-    ensures { result ≡ has_value_form form name.now (view object.now) }
-{
-    match form {
-        Form::Ranges => json_elements_at(object, name).is_some_and(|places| !places.is_empty()
-            && are_objects(places)),
-        Form::Objects => json_elements_at(object, name).is_some_and(are_objects),
-        Form::Object => object.get(name).is_some_and(|inner| inner.is_object()),
-        Form::At => json_number_at(object, name).is_some_and(|at| at % 4 == 0),
-        Form::Len => json_number_at(object, name).is_some_and(|len| is_range_len(
-            json_word_at(object, "at"),
-            len,
-        )),
-        Form::Hi => json_number_at(object, name).is_some_and(|hi| json_word_at(object, "lo") <= hi),
-        Form::Word => json_number_at(object, name).is_some(),
-        Form::Byte => json_number_at(object, name).is_some_and(|byte| byte < 256),
-        Form::Truth => json_number_at(object, name).is_some_and(|truth| truth < 2),
-        Form::Irqs => json_elements_at(object, name).is_some_and(are_irqs),
-        Form::Traps => json_elements_at(object, name).is_some_and(are_traps),
-        Form::CoreText => is_core_text(object.get(name)),
-    }
-}
-
 /// Returns true if a number is the length of a range at `at`: a multiple of 4, not 0, with the
 /// range's end at 2^32 or below.
 fn is_range_len(at: u32, len: u32) -> bool
     ensures { result ≡ is_range_len at len }
 {
     len > 0 && len % 4 == 0 && u64::from(at) + u64::from(len) <= 1 << 32
-}
-
-/// Returns true if the value of `core` is `1.3` or `1.6`, or absent.
-fn is_core_text(value: Option<&Value>) -> bool
-    ensures { result ≡ is_core_text (option_map (λ v. view v.now) value.entry) }
-{
-    match value {
-        Some(value) => is_json_text(value, "1.3") || is_json_text(value, "1.6"),
-        None => true,
-    }
 }
 
 /// Returns true if the value of `irqs` has its form: its elements are ascending numbers from 1 to
@@ -123,18 +113,21 @@ fn are_traps(places: &[Value]) -> bool
         && count_json_texts(places, "aln") <= 1
 }
 
+/// Returns true if the value of `core` is `1.3` or `1.6`, or absent.
+fn is_core_text(value: Option<&Value>) -> bool
+    ensures { result ≡ is_core_text (option_map (λ v. view v.now) value.entry) }
+{
+    match value {
+        Some(value) => is_json_text(value, "1.3") || is_json_text(value, "1.6"),
+        None => true,
+    }
+}
+
 /// Returns true if each element of `traps` is `sys` or `aln`.
 fn are_trap_texts(places: &[Value]) -> bool
     ensures { result ≡ list_all is_trap (map view places.now) }
 {
     places.iter().all(is_trap)
-}
-
-/// Returns true if an element of the value of `traps` has its form: `sys` or `aln`.
-fn is_trap(place: &Value) -> bool
-    ensures { result ≡ is_trap (view place.now) }
-{
-    is_json_text(place, "sys") || is_json_text(place, "aln")
 }
 
 /// Returns how many elements of the value of `traps` are this text.
@@ -145,4 +138,11 @@ fn count_json_texts(places: &[Value], text: &str) -> usize
         .iter()
         .filter(|place| is_json_text(place, text))
         .count()
+}
+
+/// Returns true if an element of the value of `traps` has its form: `sys` or `aln`.
+fn is_trap(place: &Value) -> bool
+    ensures { result ≡ is_trap (view place.now) }
+{
+    is_json_text(place, "sys") || is_json_text(place, "aln")
 }

@@ -21,17 +21,6 @@ pub fn plan_range_of(object: &Value) -> Range
     }
 }
 
-/// Reads a device of the plan: its range, and the bounds of its words.
-fn plan_device_of(object: &Value) -> Device
-    ensures { result ≡ plan_device_of (view object.now) }
-{
-    Device {
-        range: plan_range_of(object),
-        lo: json_word_at(object, "lo"),
-        hi: json_word_at(object, "hi"),
-    }
-}
-
 /// Appends the ranges of the objects.
 pub fn push_ranges<const N: usize>(ranges: &mut ArrayVec<Range, N>, objects: &[Value])
     requires { length ranges.old.items + length objects.now ≤ N }
@@ -108,5 +97,16 @@ pub(crate) fn areas_range(value: &Value) -> Range
     Range {
         at: json_word_in(value, "csa", "at"),
         len: 64 * json_word_in(value, "csa", "areas"),
+    }
+}
+
+/// Reads a device of the plan: its range, and the bounds of its words.
+fn plan_device_of(object: &Value) -> Device
+    ensures { result ≡ plan_device_of (view object.now) }
+{
+    Device {
+        range: plan_range_of(object),
+        lo: json_word_at(object, "lo"),
+        hi: json_word_at(object, "hi"),
     }
 }

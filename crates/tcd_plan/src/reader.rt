@@ -52,34 +52,6 @@ fn plan_of(value: &Value) -> Result<Plan, PlanErr>
     }
 }
 
-/// Reads the whole plan from a document that isn't refused.
-#[tactic(auto, unfolding(crate::specs::Plans::plan_in))]
-fn plan_in(value: &Value) -> Plan
-    requires { plan_refusal (view value.now) ≡ None }
-    ensures { result ≡ plan_in (view value.now) }
-{
-    Plan {
-        rom: ranges_of(plan_objects_of(Holder::Rom, value)),
-        ram: ranges_of(plan_objects_of(Holder::Ram, value)),
-        devices: devices_of(plan_objects_of(Holder::Devices, value)),
-        csa_at: json_word_in(value, "csa", "at"),
-        areas: json_word_in(value, "csa", "areas"),
-        reserve: json_word_in(value, "csa", "reserve"),
-        sp: json_word_at(value, "sp"),
-        isp: json_word_at(value, "isp"),
-        biv: json_word_at(value, "biv"),
-        btv: json_word_at(value, "btv"),
-        irqs: irqs_of(json_elements_of(value, "irqs")),
-        sys: has_json_text(json_elements_of(value, "traps"), "sys"),
-        aln: has_json_text(json_elements_of(value, "traps"), "aln"),
-        start_ie: json_word_in(value, "start", "ie") == 1,
-        start_ccpn: json_byte_in(value, "start", "ccpn"),
-        start_is: json_word_in(value, "start", "is") == 1,
-        globals: plan_globals_of(value),
-        core: core_of(value),
-    }
-}
-
 /// Returns the first refusal, in the order of their numbers.
 #[tactic(auto, unfolding(crate::specs::Plans::plan_refusal))]
 fn plan_refusal(value: &Value) -> Option<PlanErr>
@@ -107,4 +79,32 @@ fn plan_refusal(value: &Value) -> Option<PlanErr>
         return Some(PlanErr::BadVector);
     }
     plan_range_overlap(value)
+}
+
+/// Reads the whole plan from a document that isn't refused.
+#[tactic(auto, unfolding(crate::specs::Plans::plan_in))]
+fn plan_in(value: &Value) -> Plan
+    requires { plan_refusal (view value.now) ≡ None }
+    ensures { result ≡ plan_in (view value.now) }
+{
+    Plan {
+        rom: ranges_of(plan_objects_of(Holder::Rom, value)),
+        ram: ranges_of(plan_objects_of(Holder::Ram, value)),
+        devices: devices_of(plan_objects_of(Holder::Devices, value)),
+        csa_at: json_word_in(value, "csa", "at"),
+        areas: json_word_in(value, "csa", "areas"),
+        reserve: json_word_in(value, "csa", "reserve"),
+        sp: json_word_at(value, "sp"),
+        isp: json_word_at(value, "isp"),
+        biv: json_word_at(value, "biv"),
+        btv: json_word_at(value, "btv"),
+        irqs: irqs_of(json_elements_of(value, "irqs")),
+        sys: has_json_text(json_elements_of(value, "traps"), "sys"),
+        aln: has_json_text(json_elements_of(value, "traps"), "aln"),
+        start_ie: json_word_in(value, "start", "ie") == 1,
+        start_ccpn: json_byte_in(value, "start", "ccpn"),
+        start_is: json_word_in(value, "start", "is") == 1,
+        globals: plan_globals_of(value),
+        core: core_of(value),
+    }
 }

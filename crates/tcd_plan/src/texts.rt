@@ -39,18 +39,18 @@ static KEY_TEXTS: [&str; 32] = [
     "core",
 ];
 
-/// Returns the printed texts of all keys, in the order of their numbers.
-fn printed_key_texts() -> &'static [&'static str]
-    ensures texts { map (λ t. t.now) result.now ≡ key_texts }
-    ensures count { length result.now ≡ length key_texts }
-{
-    &KEY_TEXTS
-}
-
 /// Returns the text of a key as it is printed.
 pub fn key_text(key: PlanKey) -> &'static str
     requires { key.0 < length key_texts }
     ensures { slice_get key_texts key.0 ≡ Some result.now }
 {
     printed_key_texts()[key.0 as usize]
+}
+
+/// Returns the printed texts of all keys, in the order of their numbers.
+fn printed_key_texts() -> &'static [&'static str]
+    ensures texts { map (λ t. t.now) result.now ≡ key_texts }
+    ensures count { length result.now ≡ length key_texts }
+{
+    &KEY_TEXTS
 }

@@ -36,18 +36,6 @@ pub trait Form {
         ensures stops { IfErr result (IsBadInputOutcome ((form self.now).IsBad bytes.items) ⊥) };
 }
 
-// The outcome for a file that wasn't read: it is too large, or reading failed.
-fn unread_file_outcome<I: Form>(form: &I, alloc: Global, e: FileErr) -> Outcome
-    ensures { IsBadInputOutcome (λ t. (e ≡ FileErr.TooLong) × (t ≡ (I.form form.now).long_line))
-        (e ≡ FileErr.Failed) result }
-{
-    match e {
-        FileErr::Failed => Outcome::Unread,
-        FileErr::TooLong => bad_input_outcome(alloc, form.long_line(alloc)),
-        FileErr::NoMemory => Outcome::NoMemory,
-    }
-}
-
 /// Reads the input of this form from a file.
 pub fn read_input<I: Form, F: Files>(
     form: &I,
@@ -66,5 +54,17 @@ pub fn read_input<I: Form, F: Files>(
     match files.read(alloc, name, form.limit()) {
         Ok(bytes) => form.value(alloc, bytes),
         Err(e) => Err(unread_file_outcome(form, alloc, e)),
+    }
+}
+
+// The outcome for a file that wasn't read: it is too large, or reading failed.
+fn unread_file_outcome<I: Form>(form: &I, alloc: Global, e: FileErr) -> Outcome
+    ensures { IsBadInputOutcome (λ t. (e ≡ FileErr.TooLong) × (t ≡ (I.form form.now).long_line))
+        (e ≡ FileErr.Failed) result }
+{
+    match e {
+        FileErr::Failed => Outcome::Unread,
+        FileErr::TooLong => bad_input_outcome(alloc, form.long_line(alloc)),
+        FileErr::NoMemory => Outcome::NoMemory,
     }
 }

@@ -68,25 +68,6 @@ pub fn report(alloc: Global, status: Status, line: Result<Vec<u8>, NoMemory>) ->
     }
 }
 
-/// The list of a report's files to write: this one.
-fn one_file_to_write(alloc: Global, name: &str, bytes: Vec<u8>) -> Result<Vec<Write>, NoMemory>
-    ensures { IfOk result (λ w. w.items ≡ record { name = name.now; bytes = bytes.items } ∷ []) }
-{
-    let mut writes = Vec::new(alloc);
-    writes.push(Write::of(alloc, name, bytes)?)?;
-    Ok(writes)
-}
-
-/// Returns the list of files that the report in an outcome has to write: these two, in this order.
-fn two_files_to_write(alloc: Global, first: Write, second: Write) -> Result<Vec<Write>, NoMemory>
-    ensures { IfOk result (λ w. w.items ≡ first ∷ second ∷ []) }
-{
-    let mut writes = Vec::new(alloc);
-    writes.push(first)?;
-    writes.push(second)?;
-    Ok(writes)
-}
-
 /// A report with one file to write, or out of memory.
 pub fn report_file(
     alloc: Global,
@@ -133,31 +114,6 @@ pub fn report_two(
     }
 }
 
-/// Writes the files of a report in order, up to the first failure.
-fn write_report_files<F: Files>(
-    alloc: Global,
-    writes: &[Write],
-    files: &mut F,
-) -> Result<(), FileErr>
-    ensures done { OnOk result
-        ((F.seen files.new).held ≡ with_report_files (F.seen files.old).held writes.now) }
-    ensures stopped { IfErr result
-        (λ e. ReportWritingStopped (F.seen files.old).held (F.seen files.new).held writes.now) }
-    ensures counted { IfErr result (λ e. e ≢ FileErr.NoMemory →
-        FaultCounted (F.seen files.old).faults (F.seen files.new).faults) }
-    ensures leaves { LeavesFaults (F.seen files.old) (F.seen files.new) }
-    ensures later { (F.seen files.old).faults ≤ (F.seen files.new).faults }
-    ensures never { IsTrue (F.seen files.old).steady → IfErr result (λ e. e ≡ FileErr.NoMemory) }
-{
-    for write in writes {
-        match files.write(alloc, &write.name, &write.bytes) {
-            Ok(()) => {}
-            Err(e) => return Err(e),
-        }
-    }
-    Ok(())
-}
-
 /// Writes the files of an outcome, and then prints its text. After the first file, memory is only
 /// allocated for writing the next files.
 pub fn finish_outcome<F: Files, S: Sink>(
@@ -195,4 +151,48 @@ pub fn bad_input_outcome(alloc: Global, line: Result<Vec<u8>, NoMemory>) -> Outc
         },
         Err(_) => Outcome::NoMemory,
     }
+}
+
+/// The list of a report's files to write: this one.
+fn one_file_to_write(alloc: Global, name: &str, bytes: Vec<u8>) -> Result<Vec<Write>, NoMemory>
+    ensures { IfOk result (λ w. w.items ≡ record { name = name.now; bytes = bytes.items } ∷ []) }
+{
+    let mut writes = Vec::new(alloc);
+    writes.push(Write::of(alloc, name, bytes)?)?;
+    Ok(writes)
+}
+
+/// Returns the list of files that the report in an outcome has to write: these two, in this order.
+fn two_files_to_write(alloc: Global, first: Write, second: Write) -> Result<Vec<Write>, NoMemory>
+    ensures { IfOk result (λ w. w.items ≡ first ∷ second ∷ []) }
+{
+    let mut writes = Vec::new(alloc);
+    writes.push(first)?;
+    writes.push(second)?;
+    Ok(writes)
+}
+
+/// Writes the files of a report in order, up to the first failure.
+fn write_report_files<F: Files>(
+    alloc: Global,
+    writes: &[Write],
+    files: &mut F,
+) -> Result<(), FileErr>
+    ensures done { OnOk result
+        ((F.seen files.new).held ≡ with_report_files (F.seen files.old).held writes.now) }
+    ensures stopped { IfErr result
+        (λ e. ReportWritingStopped (F.seen files.old).held (F.seen files.new).held writes.now) }
+    ensures counted { IfErr result (λ e. e ≢ FileErr.NoMemory →
+        FaultCounted (F.seen files.old).faults (F.seen files.new).faults) }
+    ensures leaves { LeavesFaults (F.seen files.old) (F.seen files.new) }
+    ensures later { (F.seen files.old).faults ≤ (F.seen files.new).faults }
+    ensures never { IsTrue (F.seen files.old).steady → IfErr result (λ e. e ≡ FileErr.NoMemory) }
+{
+    for write in writes {
+        match files.write(alloc, &write.name, &write.bytes) {
+            Ok(()) => {}
+            Err(e) => return Err(e),
+        }
+    }
+    Ok(())
 }

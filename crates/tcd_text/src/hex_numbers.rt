@@ -10,31 +10,6 @@ ghost use Rattle.std.specs.Str.{IsAscii};
 
 use tcd_base::NoMemory;
 
-/// Returns the value of an upper-case hex digit, or `None` for any other byte.
-fn upper_hex_value(c: u8) -> Option<u32>
-    ensures { result ≡ then_some (is_upper_hex c) (digit_value c) }
-{
-    match char::from(c).to_digit(16) {
-        Some(digit) if c < b'a' => Some(digit),
-        _ => None,
-    }
-}
-
-/// Returns the number that up to eight upper-case hex digits spell, or `None`.
-fn upper_hex_digits_value(digits: &[u8]) -> Option<u32>
-    requires { length digits.now ≤ 8 }
-    ensures { result ≡ then_some (list_all is_upper_hex digits.now) (digits_value 16 digits.now) }
-{
-    let mut value = 0u32;
-    for c in digits {
-        let Some(digit) = upper_hex_value(*c) else {
-            return None;
-        };
-        value = value * 16 + digit;
-    }
-    Some(value)
-}
-
 /// Returns the number that eight upper-case hex digits spell, or `None` for any other bytes.
 pub fn hex_number(digits: &[u8]) -> Option<u32>
     ensures { result ≡ hex_number_of digits.now }
@@ -44,15 +19,6 @@ pub fn hex_number(digits: &[u8]) -> Option<u32>
     } else {
         None
     }
-}
-
-// Returns the ASCII code of a hex digit, in upper case.
-#[tactic(auto, unfolding(crate::specs::Digits::hex_digit))]
-fn hex_digit(n: u32) -> u8
-    requires { n < 16 }
-    ensures { result ≡ hex_digit n }
-{
-    if n < 10 { 48 + n as u8 } else { 55 + n as u8 }
 }
 
 /// Returns the two hex digits of a byte, the higher one first.
@@ -106,4 +72,38 @@ pub fn append_hex_word(text: &mut String, word: u32) -> Result<(), NoMemory>
     ensures { OnOk result (string_bytes text.new ≡ string_bytes text.old ++ hex_word word) }
 {
     append_ascii(text, &hex_word(word))
+}
+
+/// Returns the number that up to eight upper-case hex digits spell, or `None`.
+fn upper_hex_digits_value(digits: &[u8]) -> Option<u32>
+    requires { length digits.now ≤ 8 }
+    ensures { result ≡ then_some (list_all is_upper_hex digits.now) (digits_value 16 digits.now) }
+{
+    let mut value = 0u32;
+    for c in digits {
+        let Some(digit) = upper_hex_value(*c) else {
+            return None;
+        };
+        value = value * 16 + digit;
+    }
+    Some(value)
+}
+
+/// Returns the value of an upper-case hex digit, or `None` for any other byte.
+fn upper_hex_value(c: u8) -> Option<u32>
+    ensures { result ≡ then_some (is_upper_hex c) (digit_value c) }
+{
+    match char::from(c).to_digit(16) {
+        Some(digit) if c < b'a' => Some(digit),
+        _ => None,
+    }
+}
+
+// Returns the ASCII code of a hex digit, in upper case.
+#[tactic(auto, unfolding(crate::specs::Digits::hex_digit))]
+fn hex_digit(n: u32) -> u8
+    requires { n < 16 }
+    ensures { result ≡ hex_digit n }
+{
+    if n < 10 { 48 + n as u8 } else { 55 + n as u8 }
 }

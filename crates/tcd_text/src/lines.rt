@@ -5,14 +5,6 @@ ghost use Rattle.tcd_text.specs.Lines.{text_lines};
 
 use crate::cuts::{cut_text_after, cut_text_before};
 
-/// Returns the place of the first line feed of a text, or `None` if there is none.
-fn find_line_feed(text: &[u8]) -> Option<usize>
-    ensures value { result ≡ position (λ c. c == 10) text.now }
-    ensures within { IfSome result (λ i. i < length text.now) }
-{
-    text.iter().position(|c| *c == b'\n')
-}
-
 /// Returns the place where the first line of a text ends: its first line feed, or the length of the
 /// text.
 pub(crate) fn line_end(text: &[u8]) -> usize
@@ -34,4 +26,12 @@ pub fn cut_line(text: &[u8]) -> (&[u8], &[u8])
 {
     let end = line_end(text);
     (cut_text_before(text, end), cut_text_after(text, end))
+}
+
+/// Returns the place of the first line feed of a text, or `None` if there is none.
+fn find_line_feed(text: &[u8]) -> Option<usize>
+    ensures value { result ≡ position (λ c. c == 10) text.now }
+    ensures within { IfSome result (λ i. i < length text.now) }
+{
+    text.iter().position(|c| *c == b'\n')
 }

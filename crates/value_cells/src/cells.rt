@@ -77,23 +77,23 @@ impl Cells {
         }
     }
 
-    // Returns whether there is a cell at this address.
-    fn has_at(&self, at: u32) -> bool
-        ensures { IsTrue result ↔ Any (λ d. d.at ≡ at) self.now }
+    // Adds the cell of line `number`, or returns its error.
+    fn add_line(&mut self, plan: &Plan, number: u32, line: &[u8]) -> Result<(), CellsErr>
+        requires { AreCells plan.now self.old }
+        ensures ok { OnOk result (TakesLine plan.now self.old line.now self.new) }
+        ensures err { IfErr result (IsBadLine plan.now self.old line.now number) }
     {
-        self.list.iter().any(|cell| cell.at == at)
-    }
-
-    // Returns whether one more cell leaves at most 16 ranges of ram and at most 16 devices.
-    fn has_room(&self, plan: &Plan, cell: &Cell) -> bool
-        requires cells { AreCells plan.now self.now }
-        requires cell { IsCell plan.now cell.now }
-        ensures { IsTrue result ↔ HasRoom plan.now self.now cell.now }
-    {
-        let _areas = plan.areas;
-        let ram = ram_without_cells(plan, self.list());
-        count_ranges_without_cell(ram.as_slice(), cell.at) <= MOST
-            && plan.devices.len() + self.list.len() < MOST
+        if line.is_empty() {
+            return Ok(());
+        }
+        let Some(cell) = cell_in(line) else {
+            return Err(CellsErr::BadLine(number));
+        };
+        if let Some(fault) = self.fault_of(plan, number, &cell) {
+            return Err(fault);
+        }
+        self.list.push(cell);
+        Ok(())
     }
 
     // Returns the error of one more cell, from line `number`, if there is one.
@@ -115,22 +115,22 @@ impl Cells {
         None
     }
 
-    // Adds the cell of line `number`, or returns its error.
-    fn add_line(&mut self, plan: &Plan, number: u32, line: &[u8]) -> Result<(), CellsErr>
-        requires { AreCells plan.now self.old }
-        ensures ok { OnOk result (TakesLine plan.now self.old line.now self.new) }
-        ensures err { IfErr result (IsBadLine plan.now self.old line.now number) }
+    // Returns whether there is a cell at this address.
+    fn has_at(&self, at: u32) -> bool
+        ensures { IsTrue result ↔ Any (λ d. d.at ≡ at) self.now }
     {
-        if line.is_empty() {
-            return Ok(());
-        }
-        let Some(cell) = cell_in(line) else {
-            return Err(CellsErr::BadLine(number));
-        };
-        if let Some(fault) = self.fault_of(plan, number, &cell) {
-            return Err(fault);
-        }
-        self.list.push(cell);
-        Ok(())
+        self.list.iter().any(|cell| cell.at == at)
+    }
+
+    // Returns whether one more cell leaves at most 16 ranges of ram and at most 16 devices.
+    fn has_room(&self, plan: &Plan, cell: &Cell) -> bool
+        requires cells { AreCells plan.now self.now }
+        requires cell { IsCell plan.now cell.now }
+        ensures { IsTrue result ↔ HasRoom plan.now self.now cell.now }
+    {
+        let _areas = plan.areas;
+        let ram = ram_without_cells(plan, self.list());
+        count_ranges_without_cell(ram.as_slice(), cell.at) <= MOST
+            && plan.devices.len() + self.list.len() < MOST
     }
 }

@@ -15,25 +15,6 @@ use elf_image::Image;
 use tcd_plan::Plan;
 use value_domain::Bounds;
 
-/// Returns the first address of a node's points at which rule 16 fails.
-fn node_cells_fault(rule: &CellsRule, codes: &mut KnownCodes, node: &Node) -> Option<u32>
-    requires values { All (λ p. AreValues rule.now.bounds.now p.state.regs) node.now.points }
-    requires cells { All (λ c. c.at + 4 ≤ 2 ^ 32) rule.now.cells.now }
-    ensures none { let r = rule.now in
-        IfNone result
-        (All (KeepsCellsAtPoint r.bounds.now r.image.now r.plan.now r.cells.now) node.now.points) }
-    ensures some { let r = rule.now in
-        IfSome result
-        (IsNodeBreak r.bounds.now r.image.now r.plan.now r.cells.now node.now) }
-{
-    for point in &node.points {
-        if !keeps_rule_16(rule, codes, point.addr, &point.state) {
-            return Some(point.addr);
-        }
-    }
-    None
-}
-
 /// Returns the first key and address at which rule 16 fails: some possible store touches a cell,
 /// and isn't a store of the cell's whole word, or can store a word outside its bounds. The rules
 /// accept the certificate under the plan in which the cells are devices.
@@ -58,6 +39,25 @@ pub fn cells_fault(image: &Image, plan: &Plan, cells: &Cells, cert: &Cert) -> Op
     for node in &cert.nodes {
         if let Some(addr) = node_cells_fault(&rule, &mut codes, node) {
             return Some((node.key, addr));
+        }
+    }
+    None
+}
+
+/// Returns the first address of a node's points at which rule 16 fails.
+fn node_cells_fault(rule: &CellsRule, codes: &mut KnownCodes, node: &Node) -> Option<u32>
+    requires values { All (λ p. AreValues rule.now.bounds.now p.state.regs) node.now.points }
+    requires cells { All (λ c. c.at + 4 ≤ 2 ^ 32) rule.now.cells.now }
+    ensures none { let r = rule.now in
+        IfNone result
+        (All (KeepsCellsAtPoint r.bounds.now r.image.now r.plan.now r.cells.now) node.now.points) }
+    ensures some { let r = rule.now in
+        IfSome result
+        (IsNodeBreak r.bounds.now r.image.now r.plan.now r.cells.now node.now) }
+{
+    for point in &node.points {
+        if !keeps_rule_16(rule, codes, point.addr, &point.state) {
+            return Some(point.addr);
         }
     }
     None

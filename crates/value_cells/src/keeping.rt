@@ -30,6 +30,24 @@ pub(crate) fn keeps_cells(at: &Val, size: u8, stored: &Val, cells: &[Cell]) -> b
     true
 }
 
+/// Returns whether an instruction of this shape, with this state before it, keeps the cells.
+pub(crate) fn keeps_at(b: &Bounds, plan: &Plan, shape: Shape, s: &State, cells: &[Cell]) -> bool
+    requires shape { IsShape shape }
+    requires values { AreValues b.now s.now.regs }
+    requires cells { All (λ c. c.at + 4 ≤ 2 ^ 32) cells.now }
+    ensures { IsTrue result ↔ KeepsCellsAt b.now plan.now cells.now s.now shape }
+{
+    match shape {
+        Shape::Store { src, size, .. } => keeps_cells(
+            &address_by(b, plan, shape, s),
+            size,
+            &reg(plan, s, src),
+            cells,
+        ),
+        _ => true,
+    }
+}
+
 /// Returns whether a store keeps one cell. Only stores from at most three bytes below the cell up
 /// to its last byte touch it.
 fn keeps_cell(at: &Val, size: u8, stored: &Val, cell: &Cell) -> bool
@@ -59,15 +77,6 @@ fn fits_cell(size: u8, stored: &Val, cell: &Cell) -> bool
     size == 4 && is_within_cell_bounds(stored, cell.lo, cell.hi)
 }
 
-/// Returns whether all words of a value are in `lo..=hi`.
-fn is_within_cell_bounds(v: &Val, lo: u32, hi: u32) -> bool
-    requires { IsWell v.now }
-    ensures { IsTrue result ↔ AreWithinCellBounds v.now lo hi }
-{
-    let words = extent_of(v);
-    lo <= words.least && words.greatest <= hi
-}
-
 /// Returns whether x is no address of the value, or is the cell's, and the store fits the cell.
 fn is_cell_kept(x: u32, at: &Val, fits: bool, cell: u32) -> bool
     requires { IsWell at.now }
@@ -76,20 +85,11 @@ fn is_cell_kept(x: u32, at: &Val, fits: bool, cell: u32) -> bool
     !member(x, at) || fits && x == cell
 }
 
-/// Returns whether an instruction of this shape, with this state before it, keeps the cells.
-pub(crate) fn keeps_at(b: &Bounds, plan: &Plan, shape: Shape, s: &State, cells: &[Cell]) -> bool
-    requires shape { IsShape shape }
-    requires values { AreValues b.now s.now.regs }
-    requires cells { All (λ c. c.at + 4 ≤ 2 ^ 32) cells.now }
-    ensures { IsTrue result ↔ KeepsCellsAt b.now plan.now cells.now s.now shape }
+/// Returns whether all words of a value are in `lo..=hi`.
+fn is_within_cell_bounds(v: &Val, lo: u32, hi: u32) -> bool
+    requires { IsWell v.now }
+    ensures { IsTrue result ↔ AreWithinCellBounds v.now lo hi }
 {
-    match shape {
-        Shape::Store { src, size, .. } => keeps_cells(
-            &address_by(b, plan, shape, s),
-            size,
-            &reg(plan, s, src),
-            cells,
-        ),
-        _ => true,
-    }
+    let words = extent_of(v);
+    lo <= words.least && words.greatest <= hi
 }

@@ -5,15 +5,18 @@ ghost use Rattle.value_cells.specs.CellListText.{cell_of, cell_of_words, cell_of
 use crate::Cell;
 use tcd_text::{Words, hex_number, words_in};
 
-// Returns a cell, if its address is a multiple of 4 and its bounds are in order.
-fn cell_of_numbers(at: u32, lo: u32, hi: u32) -> Option<Cell>
-    ensures cell { result ≡ cell_of_numbers at lo hi }
+/// Returns the cell of a line, or nothing if the line has another form.
+#[tactic(auto, using(crate::proofs::LineForms::more), unfolding(crate::specs::CellListText::cell_of_words))]
+pub(crate) fn cell_in(line: &[u8]) -> Option<Cell>
+    ensures cell { result ≡ cell_of line.now }
     ensures said { IfSome result IsCellOfLine }
 {
-    if at % 4 == 0 && lo <= hi {
-        Some(Cell { at, lo, hi })
-    } else {
-        None
+    match words_in(line) {
+        Words::One(_) => None,
+        Words::Two(_, _) => None,
+        Words::Three(_, _, _) => None,
+        Words::Four(word, at, lo, hi) => cell_of_words(word, at, lo, hi),
+        Words::More => None,
     }
 }
 
@@ -32,17 +35,14 @@ fn cell_of_words(word: &[u8], at: &[u8], lo: &[u8], hi: &[u8]) -> Option<Cell>
     cell_of_numbers(at, lo, hi)
 }
 
-/// Returns the cell of a line, or nothing if the line has another form.
-#[tactic(auto, using(crate::proofs::LineForms::more), unfolding(crate::specs::CellListText::cell_of_words))]
-pub(crate) fn cell_in(line: &[u8]) -> Option<Cell>
-    ensures cell { result ≡ cell_of line.now }
+// Returns a cell, if its address is a multiple of 4 and its bounds are in order.
+fn cell_of_numbers(at: u32, lo: u32, hi: u32) -> Option<Cell>
+    ensures cell { result ≡ cell_of_numbers at lo hi }
     ensures said { IfSome result IsCellOfLine }
 {
-    match words_in(line) {
-        Words::One(_) => None,
-        Words::Two(_, _) => None,
-        Words::Three(_, _, _) => None,
-        Words::Four(word, at, lo, hi) => cell_of_words(word, at, lo, hi),
-        Words::More => None,
+    if at % 4 == 0 && lo <= hi {
+        Some(Cell { at, lo, hi })
+    } else {
+        None
     }
 }

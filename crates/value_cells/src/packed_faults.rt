@@ -16,31 +16,6 @@ use packed_cert::{PackedCert, PackedNode, PointWalk};
 use tcd_plan::Plan;
 use value_domain::Bounds;
 
-/// Returns the first address of a node's points at which rule 16 fails.
-fn node_cells_fault_packed<'a>(
-    rule: &CellsRule,
-    codes: &mut KnownCodes,
-    node: &PackedNode<'a>,
-    walk: &mut PointWalk<'a>,
-) -> Option<u32>
-    requires values { All (λ p. AreValues rule.now.bounds.now p.state.regs) node.now.points }
-    requires cells { All (λ c. c.at + 4 ≤ 2 ^ 32) rule.now.cells.now }
-    ensures none { let r = rule.now in
-        IfNone result
-        (All (KeepsCellsAtPoint r.bounds.now r.image.now r.plan.now r.cells.now) node.now.points) }
-    ensures some { let r = rule.now in
-        IfSome result
-        (IsNodeBreak r.bounds.now r.image.now r.plan.now r.cells.now node.now) }
-{
-    node.walk(walk);
-    while let Some(addr) = walk.step() {
-        if !keeps_rule_16(rule, codes, addr, walk.state()) {
-            return Some(addr);
-        }
-    }
-    None
-}
-
 /// Returns what `cells_fault` returns, for a certificate on the bytes of its file.
 #[inline(never)]
 pub fn cells_fault_packed(
@@ -73,6 +48,31 @@ pub fn cells_fault_packed(
         };
         if let Some(addr) = node_cells_fault_packed(&rule, &mut codes, &node, &mut walk) {
             return Some((node.key, addr));
+        }
+    }
+    None
+}
+
+/// Returns the first address of a node's points at which rule 16 fails.
+fn node_cells_fault_packed<'a>(
+    rule: &CellsRule,
+    codes: &mut KnownCodes,
+    node: &PackedNode<'a>,
+    walk: &mut PointWalk<'a>,
+) -> Option<u32>
+    requires values { All (λ p. AreValues rule.now.bounds.now p.state.regs) node.now.points }
+    requires cells { All (λ c. c.at + 4 ≤ 2 ^ 32) rule.now.cells.now }
+    ensures none { let r = rule.now in
+        IfNone result
+        (All (KeepsCellsAtPoint r.bounds.now r.image.now r.plan.now r.cells.now) node.now.points) }
+    ensures some { let r = rule.now in
+        IfSome result
+        (IsNodeBreak r.bounds.now r.image.now r.plan.now r.cells.now node.now) }
+{
+    node.walk(walk);
+    while let Some(addr) = walk.step() {
+        if !keeps_rule_16(rule, codes, addr, walk.state()) {
+            return Some(addr);
         }
     }
     None

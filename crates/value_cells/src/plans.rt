@@ -26,17 +26,6 @@ pub(crate) fn count_ranges_without_cell(ranges: &[Range], at: u32) -> usize
     cut_plan_ranges(ranges, at, 4).len()
 }
 
-/// Returns the ranges without the word at an address.
-fn ranges_without_cell(ranges: &[Range], at: u32) -> ArrayVec<Range, 16>
-    requires few { length ranges.now ≤ 16 }
-    requires fit { All (λ r. r.at + r.len ≤ 2 ^ 32) ranges.now }
-    requires room { length (cutting.cut_plan_ranges at 4 ranges.now) ≤ 16 }
-    ensures { result.items ≡ cutting.cut_plan_ranges at 4 ranges.now }
-{
-    let left = cut_plan_ranges(ranges, at, 4);
-    ArrayVec::try_from(left.as_slice()).unwrap()
-}
-
 /// Returns the ranges of ram without the words of all cells.
 pub(crate) fn ram_without_cells(plan: &Plan, cells: &[Cell]) -> ArrayVec<Range, 16>
     requires { AreCells plan.now cells.now }
@@ -47,29 +36,6 @@ pub(crate) fn ram_without_cells(plan: &Plan, cells: &[Cell]) -> ArrayVec<Range, 
         ram = ranges_without_cell(ram.as_slice(), cell.at);
     }
     ram
-}
-
-/// Returns the plan's devices, and after them one for each cell, which answers inside the cell's
-/// bounds.
-fn devices_with(plan: &Plan, cells: &[Cell]) -> ArrayVec<Device, 16>
-    requires { AreCells plan.now cells.now }
-    ensures { result.items ≡ plan.now.devices ++ map cell_device cells.now }
-{
-    let mut devices = ArrayVec::new();
-    devices
-        .try_extend_from_slice(plan.devices.as_slice())
-        .unwrap();
-    for cell in cells {
-        devices.push(Device {
-            range: Range {
-                at: cell.at,
-                len: 4,
-            },
-            lo: cell.lo,
-            hi: cell.hi,
-        });
-    }
-    devices
 }
 
 /// Returns the plan in which the cells are devices: their words aren't ram, and they are the last
@@ -98,4 +64,38 @@ pub fn with_cells(plan: &Plan, cells: &Cells) -> Plan
         globals: plan.globals,
         core: plan.core,
     }
+}
+
+/// Returns the ranges without the word at an address.
+fn ranges_without_cell(ranges: &[Range], at: u32) -> ArrayVec<Range, 16>
+    requires few { length ranges.now ≤ 16 }
+    requires fit { All (λ r. r.at + r.len ≤ 2 ^ 32) ranges.now }
+    requires room { length (cutting.cut_plan_ranges at 4 ranges.now) ≤ 16 }
+    ensures { result.items ≡ cutting.cut_plan_ranges at 4 ranges.now }
+{
+    let left = cut_plan_ranges(ranges, at, 4);
+    ArrayVec::try_from(left.as_slice()).unwrap()
+}
+
+/// Returns the plan's devices, and after them one for each cell, which answers inside the cell's
+/// bounds.
+fn devices_with(plan: &Plan, cells: &[Cell]) -> ArrayVec<Device, 16>
+    requires { AreCells plan.now cells.now }
+    ensures { result.items ≡ plan.now.devices ++ map cell_device cells.now }
+{
+    let mut devices = ArrayVec::new();
+    devices
+        .try_extend_from_slice(plan.devices.as_slice())
+        .unwrap();
+    for cell in cells {
+        devices.push(Device {
+            range: Range {
+                at: cell.at,
+                len: 4,
+            },
+            lo: cell.lo,
+            hi: cell.hi,
+        });
+    }
+    devices
 }

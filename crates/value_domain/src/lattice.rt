@@ -37,25 +37,6 @@ pub(crate) fn set_extent(words: &[u32]) -> Extent
     }
 }
 
-/// Returns the greatest step that fits all words.
-fn extent_step(words: &[u32]) -> u8
-    ensures { result ≡ step_of_set words.now }
-{
-    alignment_log2(extent_bits(words))
-}
-
-/// Returns the bits that are set in at least one word of a Set. The lattice takes the step of the
-/// Set's extent from them.
-fn extent_bits(words: &[u32]) -> u32
-    ensures { sets.alignment_log2 result ≡ step_of_set words.now }
-{
-    let mut bits = 0;
-    for x in words {
-        bits |= *x;
-    }
-    bits
-}
-
 /// Returns the extent of a Span, by which the lattice compares and joins values.
 pub(crate) fn span_extent(lo: u32, last: u32, step: u8) -> Extent
     requires { IsWell (Span lo last step) }
@@ -90,41 +71,6 @@ pub fn add_word(b: &Bounds, v: &mut Val, x: u32)
     put_word(b, v, x);
 }
 
-/// Widens a value to the least one that holds the word too.
-fn put_word(b: &Bounds, v: &mut Val, x: u32)
-    requires { IsValue b.now v.old }
-    ensures { v.new ≡ cover b.now (x ∷ members v.old) }
-{
-    let most_words = b.most_words();
-    if member(x, v) {
-        return;
-    }
-    if let Val::Set(words) = v {
-        if words.as_slice().len() < most_words {
-            words.put(x);
-            return;
-        }
-    }
-    let e = extent_of(v);
-    write_wider(b, &e, x, v);
-}
-
-/// Overwrites a value with the Span that holds a value of this extent and one more word.
-fn write_wider(b: &Bounds, e: &Extent, x: u32, out: &mut Val)
-    ensures { out.new
-        ≡ Span (floor b.now.thresholds (min x e.now.least))
-        (above b.now.thresholds (max x e.now.greatest) - 1)
-        (min (sets.alignment_log2 x) e.now.step) }
-{
-    write_span(
-        b,
-        x.min(e.least),
-        x.max(e.greatest),
-        alignment_log2(x).min(e.step),
-        out,
-    );
-}
-
 /// Widens a value to the least one that holds the words too.
 pub fn add_words(b: &Bounds, v: &mut Val, words: &[u32])
     requires { IsValue b.now v.old }
@@ -140,16 +86,6 @@ pub fn add_words(b: &Bounds, v: &mut Val, words: &[u32])
     if i < words.len() {
         widen(b, v, &words[i..]);
     }
-}
-
-/// Widens a Span to the least value that holds the words too.
-fn widen(b: &Bounds, v: &mut Val, words: &[u32])
-    requires span { IsNone (words_of v.old) }
-    requires value { IsValue b.now v.old }
-    ensures { v.new ≡ cover b.now (members v.old ++ words.now) }
-{
-    let e = extent_with(&extent_of(v), words);
-    write_span(b, e.least, e.greatest, e.step, v);
 }
 
 /// Returns the extent of these words and those of another extent together. The lattice's least
@@ -221,6 +157,157 @@ pub fn add_value(b: &Bounds, v: &mut Val, w: &Val)
     }
 }
 
+/// Returns true if each member of `v` is a member of `w`.
+pub fn leq(v: &Val, w: &Val) -> bool
+    requires left { IsWell v.now }
+    requires right { IsWell w.now }
+    ensures { IsTrue result ↔ IsBelow v.now w.now }
+{
+    match w {
+        Val::Span { lo, last, step } => is_below_span(v, *lo, *last, *step),
+        Val::Set(words) => match v {
+            Val::Set(own) => is_set_below_set(own.as_slice(), words.as_slice()),
+            Val::Span { lo, last, step } => is_span_below_set(*lo, *last, *step, words.as_slice()),
+        },
+    }
+}
+
+/// Returns true if a value of this extent is below this Span: the Span holds its least and its
+/// greatest member, and its step is no smaller than the Span's.
+pub fn is_extent_inside(e: &Extent, lo: u32, last: u32, step: u8) -> bool
+    ensures { IsTrue result ↔ ((lo ≤ e.now.least) × (e.now.greatest ≤ last) × (step ≤ e.now.step)) }
+{
+    lo <= e.least && e.greatest <= last && step <= e.step
+}
+
+/// Returns true if a value is one of the plan's lattice at the limits of the version.
+pub fn is_value(b: &Bounds, v: &Val) -> bool
+    ensures { IsTrue result ↔ IsValue b.now v.now }
+{
+    match v {
+        Val::Set(words) => words.as_slice().len() <= b.most_words(),
+        Val::Span { lo, last, step } => is_span_value(b, *lo, *last, *step),
+    }
+}
+
+/// Returns the least value that holds the multiples of `2 ^ step` in `first..=last`.
+pub fn cover(b: &Bounds, first: u32, last: u32, step: u8) -> Val
+    requires step { step ≤ 2 }
+    requires some { 1 ≤ count_in first last step }
+    ensures cover { result ≡ cover b.now (range first last step) }
+    ensures value { IsValue b.now result }
+{
+    let mut out = Val::any();
+    write_cover(b, first, last, step, &mut out);
+    out
+}
+
+/// Overwrites a value with the least one that holds the multiples of `2 ^ step` in `first..=last`.
+pub fn write_cover(b: &Bounds, first: u32, last: u32, step: u8, out: &mut Val)
+    requires step { step ≤ 2 }
+    requires some { 1 ≤ count_in first last step }
+    ensures cover { out.new ≡ cover b.now (range first last step) }
+    ensures value { IsValue b.now out.new }
+{
+    let most_words = b.most_words();
+    if count_of(first, last, step) > most_words as u64 {
+        write_cover_as_span(b, first, last, step, out)
+    } else {
+        write_cover_as_set(b, first, last, step, out)
+    }
+}
+
+/// Returns the extent of a value, by which the lattice compares and joins values.
+pub fn extent_of(v: &Val) -> Extent
+    requires { IsWell v.now }
+    ensures { IsExtent (members v.now) result.least result.greatest result.step }
+{
+    match v {
+        Val::Set(words) => set_extent(words.as_slice()),
+        Val::Span { lo, last, step } => span_extent(*lo, *last, *step),
+    }
+}
+
+/// Returns the first place from `k` on in a Set's ascending words whose word is at least `x`, or
+/// their number if there is none. The lattice's order of two Sets is tested by it.
+pub(crate) fn word_place_from(words: &[u32], k: usize, x: u32) -> usize
+    requires start { k ≤ length words.now }
+    ensures start { k ≤ result }
+    ensures end { result ≤ length words.now }
+    ensures below { (j : ℕ) → k ≤ j → j < result → slice_index words.now j < x }
+    ensures reached { result < length words.now → x ≤ slice_index words.now result }
+{
+    let mut at = k;
+    while at < words.len() && words[at] < x {
+        at += 1;
+    }
+    at
+}
+
+/// Returns the greatest step that fits all words.
+fn extent_step(words: &[u32]) -> u8
+    ensures { result ≡ step_of_set words.now }
+{
+    alignment_log2(extent_bits(words))
+}
+
+/// Returns the bits that are set in at least one word of a Set. The lattice takes the step of the
+/// Set's extent from them.
+fn extent_bits(words: &[u32]) -> u32
+    ensures { sets.alignment_log2 result ≡ step_of_set words.now }
+{
+    let mut bits = 0;
+    for x in words {
+        bits |= *x;
+    }
+    bits
+}
+
+/// Widens a value to the least one that holds the word too.
+fn put_word(b: &Bounds, v: &mut Val, x: u32)
+    requires { IsValue b.now v.old }
+    ensures { v.new ≡ cover b.now (x ∷ members v.old) }
+{
+    let most_words = b.most_words();
+    if member(x, v) {
+        return;
+    }
+    if let Val::Set(words) = v {
+        if words.as_slice().len() < most_words {
+            words.put(x);
+            return;
+        }
+    }
+    let e = extent_of(v);
+    write_wider(b, &e, x, v);
+}
+
+/// Overwrites a value with the Span that holds a value of this extent and one more word.
+fn write_wider(b: &Bounds, e: &Extent, x: u32, out: &mut Val)
+    ensures { out.new
+        ≡ Span (floor b.now.thresholds (min x e.now.least))
+        (above b.now.thresholds (max x e.now.greatest) - 1)
+        (min (sets.alignment_log2 x) e.now.step) }
+{
+    write_span(
+        b,
+        x.min(e.least),
+        x.max(e.greatest),
+        alignment_log2(x).min(e.step),
+        out,
+    );
+}
+
+/// Widens a Span to the least value that holds the words too.
+fn widen(b: &Bounds, v: &mut Val, words: &[u32])
+    requires span { IsNone (words_of v.old) }
+    requires value { IsValue b.now v.old }
+    ensures { v.new ≡ cover b.now (members v.old ++ words.now) }
+{
+    let e = extent_with(&extent_of(v), words);
+    write_span(b, e.least, e.greatest, e.step, v);
+}
+
 /// Widens a value to the least one that holds the words of a Set too.
 fn add_set(b: &Bounds, v: &mut Val, words: &Words)
     requires left { IsValue b.now v.old }
@@ -232,6 +319,23 @@ fn add_set(b: &Bounds, v: &mut Val, words: &Words)
     } else {
         widen(b, v, words.as_slice())
     }
+}
+
+/// Widens a value to the least one that holds the members of a Span too.
+fn add_span(b: &Bounds, v: &mut Val, lo: u32, last: u32, step: u8)
+    requires left { IsValue b.now v.old }
+    requires right { IsValue b.now (Span lo last step) }
+    ensures { v.new ≡ cover b.now (members v.old ++ range lo last step) }
+{
+    let e = extent_of(v);
+    let f = span_extent(lo, last, step);
+    write_span(
+        b,
+        e.least.min(f.least),
+        e.greatest.max(f.greatest),
+        e.step.min(f.step),
+        v,
+    );
 }
 
 /// Joins two Sets: widens the first to the lattice's least value that holds the words of both. It
@@ -260,38 +364,6 @@ fn write_value_of(b: &Bounds, words: &[u32], out: &mut Val)
     write_span(b, words[0], words[words.len() - 1], extent_step(words), out);
 }
 
-/// Widens a value to the least one that holds the members of a Span too.
-fn add_span(b: &Bounds, v: &mut Val, lo: u32, last: u32, step: u8)
-    requires left { IsValue b.now v.old }
-    requires right { IsValue b.now (Span lo last step) }
-    ensures { v.new ≡ cover b.now (members v.old ++ range lo last step) }
-{
-    let e = extent_of(v);
-    let f = span_extent(lo, last, step);
-    write_span(
-        b,
-        e.least.min(f.least),
-        e.greatest.max(f.greatest),
-        e.step.min(f.step),
-        v,
-    );
-}
-
-/// Returns true if each member of `v` is a member of `w`.
-pub fn leq(v: &Val, w: &Val) -> bool
-    requires left { IsWell v.now }
-    requires right { IsWell w.now }
-    ensures { IsTrue result ↔ IsBelow v.now w.now }
-{
-    match w {
-        Val::Span { lo, last, step } => is_below_span(v, *lo, *last, *step),
-        Val::Set(words) => match v {
-            Val::Set(own) => is_set_below_set(own.as_slice(), words.as_slice()),
-            Val::Span { lo, last, step } => is_span_below_set(*lo, *last, *step, words.as_slice()),
-        },
-    }
-}
-
 /// Returns true if each member of `v` is a multiple of `2 ^ step` in `lo..=last`.
 fn is_below_span(v: &Val, lo: u32, last: u32, step: u8) -> bool
     requires left { IsWell v.now }
@@ -303,14 +375,6 @@ fn is_below_span(v: &Val, lo: u32, last: u32, step: u8) -> bool
     }
     let e = extent_of(v);
     is_extent_inside(&e, lo, last, step)
-}
-
-/// Returns true if a value of this extent is below this Span: the Span holds its least and its
-/// greatest member, and its step is no smaller than the Span's.
-pub fn is_extent_inside(e: &Extent, lo: u32, last: u32, step: u8) -> bool
-    ensures { IsTrue result ↔ ((lo ≤ e.now.least) × (e.now.greatest ≤ last) × (step ≤ e.now.step)) }
-{
-    lo <= e.least && e.greatest <= last && step <= e.step
 }
 
 /// Returns true if each of the words is one of the others. Both lists ascend and are walked once.
@@ -346,16 +410,6 @@ fn is_span_below_set(lo: u32, last: u32, step: u8, words: &[u32]) -> bool
     true
 }
 
-/// Returns true if a value is one of the plan's lattice at the limits of the version.
-pub fn is_value(b: &Bounds, v: &Val) -> bool
-    ensures { IsTrue result ↔ IsValue b.now v.now }
-{
-    match v {
-        Val::Set(words) => words.as_slice().len() <= b.most_words(),
-        Val::Span { lo, last, step } => is_span_value(b, *lo, *last, *step),
-    }
-}
-
 /// Returns true if this Span is a value of the plan's lattice at the limits of the version.
 fn is_span_value(b: &Bounds, lo: u32, last: u32, step: u8) -> bool
     ensures { IsTrue result ↔ IsValue b.now (Span lo last step) }
@@ -372,33 +426,6 @@ fn is_span_value(b: &Bounds, lo: u32, last: u32, step: u8) -> bool
     }
     let e = span_extent(lo, last, step);
     lo == b.floor(e.least) && u64::from(last) + 1 == b.above(e.greatest)
-}
-
-/// Returns the least value that holds the multiples of `2 ^ step` in `first..=last`.
-pub fn cover(b: &Bounds, first: u32, last: u32, step: u8) -> Val
-    requires step { step ≤ 2 }
-    requires some { 1 ≤ count_in first last step }
-    ensures cover { result ≡ cover b.now (range first last step) }
-    ensures value { IsValue b.now result }
-{
-    let mut out = Val::any();
-    write_cover(b, first, last, step, &mut out);
-    out
-}
-
-/// Overwrites a value with the least one that holds the multiples of `2 ^ step` in `first..=last`.
-pub fn write_cover(b: &Bounds, first: u32, last: u32, step: u8, out: &mut Val)
-    requires step { step ≤ 2 }
-    requires some { 1 ≤ count_in first last step }
-    ensures cover { out.new ≡ cover b.now (range first last step) }
-    ensures value { IsValue b.now out.new }
-{
-    let most_words = b.most_words();
-    if count_of(first, last, step) > most_words as u64 {
-        write_cover_as_span(b, first, last, step, out)
-    } else {
-        write_cover_as_set(b, first, last, step, out)
-    }
 }
 
 /// Overwrites a value with the cover of a range of more words than a Set can have: the lattice's
@@ -430,31 +457,4 @@ fn write_cover_as_set(b: &Bounds, first: u32, last: u32, step: u8, out: &mut Val
         words.push((k * unit) as u32);
     }
     write_value_of(b, words.as_slice(), out);
-}
-
-/// Returns the extent of a value, by which the lattice compares and joins values.
-pub fn extent_of(v: &Val) -> Extent
-    requires { IsWell v.now }
-    ensures { IsExtent (members v.now) result.least result.greatest result.step }
-{
-    match v {
-        Val::Set(words) => set_extent(words.as_slice()),
-        Val::Span { lo, last, step } => span_extent(*lo, *last, *step),
-    }
-}
-
-/// Returns the first place from `k` on in a Set's ascending words whose word is at least `x`, or
-/// their number if there is none. The lattice's order of two Sets is tested by it.
-pub(crate) fn word_place_from(words: &[u32], k: usize, x: u32) -> usize
-    requires start { k ≤ length words.now }
-    ensures start { k ≤ result }
-    ensures end { result ≤ length words.now }
-    ensures below { (j : ℕ) → k ≤ j → j < result → slice_index words.now j < x }
-    ensures reached { result < length words.now → x ≤ slice_index words.now result }
-{
-    let mut at = k;
-    while at < words.len() && words[at] < x {
-        at += 1;
-    }
-    at
 }

@@ -7,21 +7,6 @@ use crate::lattice::{add_word, write_cover};
 use crate::values::{count_of, is_member, is_word_in_span, set_word};
 use crate::{Bounds, Val};
 
-/// Widens a value by a word. If nothing was found before, the value becomes that of the word alone.
-fn add_to_meet(b: &Bounds, found: bool, out: &mut Val, x: u32)
-    requires { IfSome (meet_if found out.old) (IsValue b.now) }
-    ensures more { (xs : List ℕ) → meet_if found out.old ≡ cover_of_meet b.now xs
-        → Some out.new ≡ cover_of_meet b.now (xs ++ x ∷ []) }
-    ensures value { IsValue b.now out.new }
-{
-    let _most_words = b.most_words();
-    if found {
-        add_word(b, out, x)
-    } else {
-        set_word(out, x)
-    }
-}
-
 /// Overwrites `out` with the cover of the members that are multiples of `2 ^ step` in `lo..=last`.
 /// Returns false if there are none; then `out` may be any value.
 pub fn write_meet(b: &Bounds, v: &Val, lo: u32, last: u32, step: u8, out: &mut Val) -> bool
@@ -41,18 +26,22 @@ pub fn write_meet(b: &Bounds, v: &Val, lo: u32, last: u32, step: u8, out: &mut V
     }
 }
 
-/// Overwrites `out` with the cover of the multiples of `2 ^ step` in `lo..=last`. Returns false if
-/// there are none.
-fn write_meet_of_span(b: &Bounds, lo: u32, last: u32, step: u8, out: &mut Val) -> bool
-    requires { step ≤ 2 }
-    ensures meet { meet_if result out.new ≡ cover_of_meet b.now (range lo last step) }
+/// Overwrites `out` with the cover of the words that are members of `v`. Returns false if there are
+/// none; then `out` may be any value.
+pub fn write_meet_with_words(b: &Bounds, words: &[u32], v: &Val, out: &mut Val) -> bool
+    requires { IsWell v.now }
+    ensures kept { meet_if result out.new
+        ≡ cover_of_meet b.now (filter (λ x. is_member x v.now) words.now) }
     ensures value { IfSome (meet_if result out.new) (IsValue b.now) }
 {
-    if count_of(lo, last, step) == 0 {
-        return false;
+    let mut found = false;
+    for x in words {
+        if is_member(*x, v) {
+            add_to_meet(b, found, out, *x);
+            found = true;
+        }
     }
-    write_cover(b, lo, last, step, out);
-    true
+    found
 }
 
 /// Overwrites `out` with the cover of the words that are in this Span. Returns false if there are
@@ -72,20 +61,31 @@ fn write_meet_of_set(b: &Bounds, words: &[u32], lo: u32, last: u32, step: u8, ou
     found
 }
 
-/// Overwrites `out` with the cover of the words that are members of `v`. Returns false if there are
-/// none; then `out` may be any value.
-pub fn write_meet_with_words(b: &Bounds, words: &[u32], v: &Val, out: &mut Val) -> bool
-    requires { IsWell v.now }
-    ensures kept { meet_if result out.new
-        ≡ cover_of_meet b.now (filter (λ x. is_member x v.now) words.now) }
+/// Overwrites `out` with the cover of the multiples of `2 ^ step` in `lo..=last`. Returns false if
+/// there are none.
+fn write_meet_of_span(b: &Bounds, lo: u32, last: u32, step: u8, out: &mut Val) -> bool
+    requires { step ≤ 2 }
+    ensures meet { meet_if result out.new ≡ cover_of_meet b.now (range lo last step) }
     ensures value { IfSome (meet_if result out.new) (IsValue b.now) }
 {
-    let mut found = false;
-    for x in words {
-        if is_member(*x, v) {
-            add_to_meet(b, found, out, *x);
-            found = true;
-        }
+    if count_of(lo, last, step) == 0 {
+        return false;
     }
-    found
+    write_cover(b, lo, last, step, out);
+    true
+}
+
+/// Widens a value by a word. If nothing was found before, the value becomes that of the word alone.
+fn add_to_meet(b: &Bounds, found: bool, out: &mut Val, x: u32)
+    requires { IfSome (meet_if found out.old) (IsValue b.now) }
+    ensures more { (xs : List ℕ) → meet_if found out.old ≡ cover_of_meet b.now xs
+        → Some out.new ≡ cover_of_meet b.now (xs ++ x ∷ []) }
+    ensures value { IsValue b.now out.new }
+{
+    let _most_words = b.most_words();
+    if found {
+        add_word(b, out, x)
+    } else {
+        set_word(out, x)
+    }
 }

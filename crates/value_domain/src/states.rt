@@ -76,28 +76,6 @@ pub fn covers_context(upper: &State, ie: bool, ccpn: u8, lower: bool) -> bool
     flag_implies(ie, upper.ie) && upper.ccpn <= ccpn && flag_implies(upper.lower, lower)
 }
 
-/// Returns true if the first flag of a state implies the second.
-fn flag_implies(a: bool, b: bool) -> bool
-    ensures { IsTrue result ↔ (IsTrue a → IsTrue b) }
-{
-    if a { b } else { true }
-}
-
-/// Returns true if the value of each register is below that of the same register in the other
-/// state.
-fn are_regs_below(low: &[Val; 27], high: &[Val; 27]) -> bool
-    requires low { AreWell low.now }
-    requires high { AreWell high.now }
-    ensures { IsTrue result ↔ AreBelow low.now high.now }
-{
-    for i in 0..27 {
-        if !leq(&low[i], &high[i]) {
-            return false;
-        }
-    }
-    true
-}
-
 /// Returns true if two states have equally many flags of locals, and each of `flags` implies the
 /// other at its place.
 pub fn are_flags_implied(flags: &[bool], others: &[bool]) -> bool
@@ -132,21 +110,6 @@ pub fn join_states(b: &Bounds, s: &State, t: &State) -> Option<State>
     })
 }
 
-/// Returns the least values that hold those of both states, register by register.
-fn join_regs(b: &Bounds, s: &[Val; 27], t: &[Val; 27]) -> [Val; 27]
-    requires left { AreValues b.now s.now }
-    requires right { AreValues b.now t.now }
-    ensures { result ≡ joined_regs b.now s.now t.now }
-{
-    let mut out = copy_regs(s);
-    for i in 0..27 {
-        if !are_same(&s[i], &t[i]) {
-            out[i] = join(b, &s[i], &t[i]);
-        }
-    }
-    out
-}
-
 /// Returns a copy of the flags of a state's locals. Mostly there are none.
 #[inline(always)]
 pub fn copy_locals(locals: &ArrayVec<bool, 8>) -> ArrayVec<bool, 8>
@@ -169,6 +132,43 @@ pub fn join_locals(s: &[bool], t: &[bool]) -> ArrayVec<bool, 8>
     for (i, flag) in s.iter().enumerate() {
         let both = are_both_flags_set(*flag, t[i]);
         out.push(both);
+    }
+    out
+}
+
+/// Returns true if the value of each register is below that of the same register in the other
+/// state.
+fn are_regs_below(low: &[Val; 27], high: &[Val; 27]) -> bool
+    requires low { AreWell low.now }
+    requires high { AreWell high.now }
+    ensures { IsTrue result ↔ AreBelow low.now high.now }
+{
+    for i in 0..27 {
+        if !leq(&low[i], &high[i]) {
+            return false;
+        }
+    }
+    true
+}
+
+/// Returns true if the first flag of a state implies the second.
+fn flag_implies(a: bool, b: bool) -> bool
+    ensures { IsTrue result ↔ (IsTrue a → IsTrue b) }
+{
+    if a { b } else { true }
+}
+
+/// Returns the least values that hold those of both states, register by register.
+fn join_regs(b: &Bounds, s: &[Val; 27], t: &[Val; 27]) -> [Val; 27]
+    requires left { AreValues b.now s.now }
+    requires right { AreValues b.now t.now }
+    ensures { result ≡ joined_regs b.now s.now t.now }
+{
+    let mut out = copy_regs(s);
+    for i in 0..27 {
+        if !are_same(&s[i], &t[i]) {
+            out[i] = join(b, &s[i], &t[i]);
+        }
     }
     out
 }

@@ -125,18 +125,6 @@ fn are_ascending(words: &[u32]) -> bool
     true
 }
 
-/// Returns true if a value has words, and all of them, which ascend, are below `x`: then `x` is no
-/// member.
-fn are_words_below(words: &[u32], x: u32) -> bool
-    requires { Rising words.now }
-    ensures { IsTrue result → (k : ℕ) → k < length words.now → slice_index words.now k < x }
-{
-    if words.is_empty() {
-        return false;
-    }
-    words[words.len() - 1] < x
-}
-
 /// Returns the number of a value's ascending words that are below `x`: the place of `x` if it is a
 /// member.
 fn word_place(words: &[u32], x: u32) -> usize
@@ -168,6 +156,18 @@ pub(crate) fn copied_elements<T: Copy + Default, const N: usize>(items: &[T]) ->
     let mut copy = ArrayVec::new();
     copy.try_extend_from_slice(items).unwrap();
     copy
+}
+
+/// Returns true if a value has words, and all of them, which ascend, are below `x`: then `x` is no
+/// member.
+fn are_words_below(words: &[u32], x: u32) -> bool
+    requires { Rising words.now }
+    ensures { IsTrue result → (k : ℕ) → k < length words.now → slice_index words.now k < x }
+{
+    if words.is_empty() {
+        return false;
+    }
+    words[words.len() - 1] < x
 }
 
 /// A value: a set of words. A Set has the words of its list. A Span has the multiples of 2^`step`
@@ -299,14 +299,6 @@ pub fn set_span(out: &mut Val, lo: u32, last: u32, step: u8)
     }
 }
 
-/// Overwrites a Set with a Span.
-#[inline(never)]
-fn set_span_from_set(out: &mut Val, lo: u32, last: u32, step: u8)
-    ensures { out.new ≡ Span lo last step }
-{
-    *out = Val::Span { lo, last, step };
-}
-
 /// Returns how many times two divides a word, counted up to 2. A word in a Span's range is a member
 /// of it if this is at least the Span's step.
 #[tactic(auto, unfolding(crate::specs::Sets::alignment_log2))]
@@ -384,13 +376,6 @@ pub(crate) fn is_word_in_span(lo: u32, last: u32, step: u8, x: u32) -> bool
     lo <= x && x <= last && step <= alignment_log2(x)
 }
 
-/// Returns true if `x` is one of the words of a value that is a Set, in any order.
-fn is_one_of(words: &[u32], x: u32) -> bool
-    ensures { result ≡ list_any (λ w. x == w) words.now }
-{
-    words.iter().any(|w| x == *w)
-}
-
 /// Returns true if the word is a member of the value, which needn't be well-formed.
 pub(crate) fn is_member(x: u32, v: &Val) -> bool
     ensures { result ≡ spec.is_member x v.now }
@@ -414,4 +399,19 @@ pub fn is_the_span(v: &Val, lo: u32, last: u32, step: u8) -> bool
             step: own_step,
         } => *own_lo == lo && *own_last == last && *own_step == step,
     }
+}
+
+/// Overwrites a Set with a Span.
+#[inline(never)]
+fn set_span_from_set(out: &mut Val, lo: u32, last: u32, step: u8)
+    ensures { out.new ≡ Span lo last step }
+{
+    *out = Val::Span { lo, last, step };
+}
+
+/// Returns true if `x` is one of the words of a value that is a Set, in any order.
+fn is_one_of(words: &[u32], x: u32) -> bool
+    ensures { result ≡ list_any (λ w. x == w) words.now }
+{
+    words.iter().any(|w| x == *w)
 }

@@ -120,6 +120,136 @@ pub(crate) fn narrow_side_register(
     true
 }
 
+/// Writes the change on a side of a branch into `c`, whatever it held. Returns false if the side
+/// isn't possible.
+#[tactic(auto, unfolding(crate::specs::Branches::refine_of))]
+pub fn change_on(
+    b: &Bounds,
+    plan: &Plan,
+    shape: Shape,
+    s: &State,
+    side: bool,
+    c: &mut Change,
+) -> bool
+    requires shape { IsShape shape }
+    requires values { AreValues b.now s.now.regs }
+    ensures refine { possible_side result (state_after s.now c.new)
+        ≡ refine_of b.now plan.now shape s.now side }
+    ensures values { AreValues b.now (state_after s.now c.new).regs }
+{
+    match shape {
+        Shape::Branch {
+            cond,
+            x,
+            y,
+            lowers,
+            ..
+        } => change_by(b, plan, Comparison { cond, side, x, y }, lowers, s, c),
+        _ => {
+            c.keep(s);
+            false
+        }
+    }
+}
+
+/// Writes the change on a side of a branch, and returns whether the side is possible.
+fn change_by(
+    b: &Bounds,
+    plan: &Plan,
+    test: Comparison,
+    lowers: bool,
+    s: &State,
+    c: &mut Change,
+) -> bool
+    requires operands { (test.x < 32) × IsArg test.y }
+    requires values { AreValues b.now s.now.regs }
+    ensures refine { possible_side result (state_after s.now c.new)
+        ≡ with_lowered_counter b.now plan.now test.x lowers
+        (state_on_side b.now plan.now test.cond test.x test.y s.now test.side) }
+    ensures values { AreValues b.now (state_after s.now c.new).regs }
+{
+    if !narrow_on_side(b, plan, test, s, c) {
+        return false;
+    }
+    lower_branch_counter(b, plan, test.x, lowers, s, c);
+    true
+}
+
+/// Writes the change on a side of a condition, and returns whether the side is possible. A
+/// comparison of two constants changes nothing.
+fn narrow_on_side(b: &Bounds, plan: &Plan, test: Comparison, s: &State, c: &mut Change) -> bool
+    requires operands { (test.x < 32) × IsArg test.y }
+    requires values { AreValues b.now s.now.regs }
+    ensures refined { possible_side result (state_after s.now c.new)
+        ≡ state_on_side b.now plan.now test.cond test.x test.y s.now test.side }
+    ensures values { AreValues b.now (state_after s.now c.new).regs }
+    ensures free { c.new.third.at ≡ None }
+{
+    let _most_words = b.most_words();
+    let _globals = &plan.globals;
+    if is_same_operand(test.x, test.y) {
+        c.keep(s);
+        return is_side_taken_by_same(test.cond, test.side);
+    }
+    match arg_word(b, plan, s, Arg::Reg(test.x)) {
+        Some(x) => match arg_word(b, plan, s, test.y) {
+            Some(y) => {
+                c.keep(s);
+                is_side_taken(test.cond, test.side, x, y)
+            }
+            None => narrow_side_by_values(b, plan, test, s, c),
+        },
+        None => narrow_side_by_values(b, plan, test, s, c),
+    }
+}
+
+/// Decrements the register of a loop by 1.
+fn lower_branch_counter(b: &Bounds, plan: &Plan, x: u8, lowers: bool, s: &State, c: &mut Change)
+    requires register { x < 32 }
+    requires values { AreValues b.now (state_after s.now c.old).regs }
+    requires free { c.old.third.at ≡ None }
+    ensures lowered { Some (state_after s.now c.new)
+        ≡ with_lowered_counter b.now plan.now x lowers (Some (state_after s.now c.old)) }
+    ensures values { AreValues b.now (state_after s.now c.new).regs }
+{
+    if lowers {
+        lower_branch_register(b, plan, x, s, c);
+    }
+}
+
+/// Narrows operands by the state's own values if it has them. Returns false if the side isn't
+/// possible.
+fn narrow_side_by_values(
+    b: &Bounds,
+    plan: &Plan,
+    test: Comparison,
+    s: &State,
+    c: &mut Change,
+) -> bool
+    requires operands { (test.x < 32) × IsArg test.y }
+    requires values { AreValues b.now s.now.regs }
+    ensures two { possible_side result (state_after s.now c.new)
+        ≡ side_with_operands s.now test.x test.y
+        (cover_of_meet b.now (kept_left test.cond test.side (members (reg_of plan.now s.now test.x))
+        (members (arg_of plan.now s.now test.y))))
+        (cover_of_meet b.now (kept_right test.cond test.side
+        (members (reg_of plan.now s.now test.x))
+        (members (arg_of plan.now s.now test.y)))) }
+    ensures values { AreValues b.now (state_after s.now c.new).regs }
+    ensures free { c.new.third.at ≡ None }
+{
+    match reg_in(b, plan, s, test.x) {
+        Some(v) => match test.y {
+            Arg::Word(z) => narrow_side_by_constant(b, test, s, v, z, c),
+            Arg::Reg(r) => match reg_in(b, plan, s, r) {
+                Some(w) => refine_both_operands(b, test, s, v, w, c),
+                None => narrow_side_of_built(b, plan, test, s, c),
+            },
+        },
+        None => narrow_side_of_built(b, plan, test, s, c),
+    }
+}
+
 /// Narrows the register of a comparison with a constant. Returns false if no member is possible.
 fn narrow_side_by_constant(
     b: &Bounds,
@@ -173,67 +303,6 @@ fn narrow_side_of_built(
     refine_both_operands(b, test, s, &v, &arg(b, plan, s, test.y), c)
 }
 
-/// Narrows operands by the state's own values if it has them. Returns false if the side isn't
-/// possible.
-fn narrow_side_by_values(
-    b: &Bounds,
-    plan: &Plan,
-    test: Comparison,
-    s: &State,
-    c: &mut Change,
-) -> bool
-    requires operands { (test.x < 32) × IsArg test.y }
-    requires values { AreValues b.now s.now.regs }
-    ensures two { possible_side result (state_after s.now c.new)
-        ≡ side_with_operands s.now test.x test.y
-        (cover_of_meet b.now (kept_left test.cond test.side (members (reg_of plan.now s.now test.x))
-        (members (arg_of plan.now s.now test.y))))
-        (cover_of_meet b.now (kept_right test.cond test.side
-        (members (reg_of plan.now s.now test.x))
-        (members (arg_of plan.now s.now test.y)))) }
-    ensures values { AreValues b.now (state_after s.now c.new).regs }
-    ensures free { c.new.third.at ≡ None }
-{
-    match reg_in(b, plan, s, test.x) {
-        Some(v) => match test.y {
-            Arg::Word(z) => narrow_side_by_constant(b, test, s, v, z, c),
-            Arg::Reg(r) => match reg_in(b, plan, s, r) {
-                Some(w) => refine_both_operands(b, test, s, v, w, c),
-                None => narrow_side_of_built(b, plan, test, s, c),
-            },
-        },
-        None => narrow_side_of_built(b, plan, test, s, c),
-    }
-}
-
-/// Writes the change on a side of a condition, and returns whether the side is possible. A
-/// comparison of two constants changes nothing.
-fn narrow_on_side(b: &Bounds, plan: &Plan, test: Comparison, s: &State, c: &mut Change) -> bool
-    requires operands { (test.x < 32) × IsArg test.y }
-    requires values { AreValues b.now s.now.regs }
-    ensures refined { possible_side result (state_after s.now c.new)
-        ≡ state_on_side b.now plan.now test.cond test.x test.y s.now test.side }
-    ensures values { AreValues b.now (state_after s.now c.new).regs }
-    ensures free { c.new.third.at ≡ None }
-{
-    let _most_words = b.most_words();
-    let _globals = &plan.globals;
-    if is_same_operand(test.x, test.y) {
-        c.keep(s);
-        return is_side_taken_by_same(test.cond, test.side);
-    }
-    match arg_word(b, plan, s, Arg::Reg(test.x)) {
-        Some(x) => match arg_word(b, plan, s, test.y) {
-            Some(y) => {
-                c.keep(s);
-                is_side_taken(test.cond, test.side, x, y)
-            }
-            None => narrow_side_by_values(b, plan, test, s, c),
-        },
-        None => narrow_side_by_values(b, plan, test, s, c),
-    }
-}
-
 /// Decrements a register by 1.
 #[inline(never)]
 fn lower_branch_register(b: &Bounds, plan: &Plan, x: u8, s: &State, c: &mut Change)
@@ -248,73 +317,4 @@ fn lower_branch_register(b: &Bounds, plan: &Plan, x: u8, s: &State, c: &mut Chan
     let v = changed_reg(b, plan, s, c, x);
     operation(b, Op::Sub, &v, &constant_operand(b, 1), &mut c.third.value);
     write_last(b, s, c, x);
-}
-
-/// Decrements the register of a loop by 1.
-fn lower_branch_counter(b: &Bounds, plan: &Plan, x: u8, lowers: bool, s: &State, c: &mut Change)
-    requires register { x < 32 }
-    requires values { AreValues b.now (state_after s.now c.old).regs }
-    requires free { c.old.third.at ≡ None }
-    ensures lowered { Some (state_after s.now c.new)
-        ≡ with_lowered_counter b.now plan.now x lowers (Some (state_after s.now c.old)) }
-    ensures values { AreValues b.now (state_after s.now c.new).regs }
-{
-    if lowers {
-        lower_branch_register(b, plan, x, s, c);
-    }
-}
-
-/// Writes the change on a side of a branch, and returns whether the side is possible.
-fn change_by(
-    b: &Bounds,
-    plan: &Plan,
-    test: Comparison,
-    lowers: bool,
-    s: &State,
-    c: &mut Change,
-) -> bool
-    requires operands { (test.x < 32) × IsArg test.y }
-    requires values { AreValues b.now s.now.regs }
-    ensures refine { possible_side result (state_after s.now c.new)
-        ≡ with_lowered_counter b.now plan.now test.x lowers
-        (state_on_side b.now plan.now test.cond test.x test.y s.now test.side) }
-    ensures values { AreValues b.now (state_after s.now c.new).regs }
-{
-    if !narrow_on_side(b, plan, test, s, c) {
-        return false;
-    }
-    lower_branch_counter(b, plan, test.x, lowers, s, c);
-    true
-}
-
-/// Writes the change on a side of a branch into `c`, whatever it held. Returns false if the side
-/// isn't possible.
-#[tactic(auto, unfolding(crate::specs::Branches::refine_of))]
-pub fn change_on(
-    b: &Bounds,
-    plan: &Plan,
-    shape: Shape,
-    s: &State,
-    side: bool,
-    c: &mut Change,
-) -> bool
-    requires shape { IsShape shape }
-    requires values { AreValues b.now s.now.regs }
-    ensures refine { possible_side result (state_after s.now c.new)
-        ≡ refine_of b.now plan.now shape s.now side }
-    ensures values { AreValues b.now (state_after s.now c.new).regs }
-{
-    match shape {
-        Shape::Branch {
-            cond,
-            x,
-            y,
-            lowers,
-            ..
-        } => change_by(b, plan, Comparison { cond, side, x, y }, lowers, s, c),
-        _ => {
-            c.keep(s);
-            false
-        }
-    }
 }

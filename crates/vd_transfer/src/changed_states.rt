@@ -11,32 +11,6 @@ use crate::registers::{fixed_register_value, is_lower_slot, slot_of};
 use tcd_plan::Plan;
 use value_domain::{Bounds, State, Val, are_flags_implied, covers_context, leq};
 
-/// Returns true if the put changes the value at this place of a state.
-#[inline(always)]
-fn is_changed_at(put: &Put, i: usize) -> bool
-    ensures { IsTrue result ↔ (put.now.at ≡ Some i) }
-{
-    match put.at {
-        Some(at) => at == i,
-        None => false,
-    }
-}
-
-/// Returns the value that a change starts from at a place.
-#[inline(always)]
-fn changed_base_value<'a>(s: &'a State, base: Base, any: &'a Val, i: usize) -> &'a Val
-    requires place { i < 27 }
-    requires any { any.now ≡ any_val }
-    ensures { result.now ≡ slice_index_or (base_of base s.now.regs) i any_val }
-{
-    let _regs = &s.regs[..];
-    match base {
-        Base::Same => &s.regs[i],
-        Base::Forgotten => { if is_lower_slot(i) { any } else { &s.regs[i] } }
-        Base::Any => any,
-    }
-}
-
 /// Returns the value of a changed state at a place. `any` is the value that holds all words; it is
 /// returned for what is unknown.
 #[inline(always)]
@@ -73,6 +47,47 @@ pub(crate) fn changed_reg(b: &Bounds, plan: &Plan, s: &State, c: &Change, r: u8)
     }
 }
 
+/// Returns true if a state covers a changed one.
+pub fn covers_changed(upper: &State, s: &State, c: &Change) -> bool
+    requires upper { AreWell upper.now.regs }
+    requires state { AreWell (state_after s.now c.now).regs }
+    ensures { IsTrue result ↔ Covers upper.now (state_after s.now c.now) }
+{
+    if !covers_context(upper, c.ie, c.ccpn, c.lower) {
+        return false;
+    }
+    if !are_flags_implied(upper.locals.as_slice(), c.locals.as_slice()) {
+        return false;
+    }
+    are_changed_below(s, c, &upper.regs)
+}
+
+/// Returns true if the put changes the value at this place of a state.
+#[inline(always)]
+fn is_changed_at(put: &Put, i: usize) -> bool
+    ensures { IsTrue result ↔ (put.now.at ≡ Some i) }
+{
+    match put.at {
+        Some(at) => at == i,
+        None => false,
+    }
+}
+
+/// Returns the value that a change starts from at a place.
+#[inline(always)]
+fn changed_base_value<'a>(s: &'a State, base: Base, any: &'a Val, i: usize) -> &'a Val
+    requires place { i < 27 }
+    requires any { any.now ≡ any_val }
+    ensures { result.now ≡ slice_index_or (base_of base s.now.regs) i any_val }
+{
+    let _regs = &s.regs[..];
+    match base {
+        Base::Same => &s.regs[i],
+        Base::Forgotten => { if is_lower_slot(i) { any } else { &s.regs[i] } }
+        Base::Any => any,
+    }
+}
+
 /// Returns true if the values of the changed state are below these, each at its place.
 fn are_changed_below(s: &State, c: &Change, high: &[Val; 27]) -> bool
     requires low { AreWell (state_after s.now c.now).regs }
@@ -87,19 +102,4 @@ fn are_changed_below(s: &State, c: &Change, high: &[Val; 27]) -> bool
         }
     }
     true
-}
-
-/// Returns true if a state covers a changed one.
-pub fn covers_changed(upper: &State, s: &State, c: &Change) -> bool
-    requires upper { AreWell upper.now.regs }
-    requires state { AreWell (state_after s.now c.now).regs }
-    ensures { IsTrue result ↔ Covers upper.now (state_after s.now c.now) }
-{
-    if !covers_context(upper, c.ie, c.ccpn, c.lower) {
-        return false;
-    }
-    if !are_flags_implied(upper.locals.as_slice(), c.locals.as_slice()) {
-        return false;
-    }
-    are_changed_below(s, c, &upper.regs)
 }

@@ -100,18 +100,6 @@ pub(crate) fn write_arg(b: &Bounds, plan: &Plan, s: &State, a: Arg, out: &mut Va
     }
 }
 
-/// Overwrites a value with that of an operand that has to be built. It is a function of its own, so
-/// that its callers need no stack for a value.
-#[inline(never)]
-fn write_made(b: &Bounds, plan: &Plan, s: &State, a: Arg, out: &mut Val)
-    requires operand { IsArg a }
-    requires values { AreValues b.now s.now.regs }
-    ensures arg { out.new ≡ arg_of plan.now s.now a }
-    ensures value { IsValue b.now out.new }
-{
-    *out = arg(b, plan, s, a);
-}
-
 /// Returns true if the operand is this register.
 pub(crate) fn is_same_operand(x: u8, y: Arg) -> bool
     ensures { result ≡ is_operand_register x y }
@@ -130,4 +118,16 @@ pub(crate) fn write_constant(b: &Bounds, x: u32, out: &mut Val)
 {
     let _most_words = b.most_words();
     set_word(out, x);
+}
+
+/// Overwrites a value with that of an operand that has to be built. It is a function of its own, so
+/// that its callers need no stack for a value.
+#[inline(never)]
+fn write_made(b: &Bounds, plan: &Plan, s: &State, a: Arg, out: &mut Val)
+    requires operand { IsArg a }
+    requires values { AreValues b.now s.now.regs }
+    ensures arg { out.new ≡ arg_of plan.now s.now a }
+    ensures value { IsValue b.now out.new }
+{
+    *out = arg(b, plan, s, a);
 }

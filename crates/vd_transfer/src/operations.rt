@@ -32,6 +32,37 @@ pub fn operation(b: &Bounds, op: Op, v: &Val, w: &Val, out: &mut Val)
     }
 }
 
+/// Overwrites a value with that of an operation. If the operands are one word each, it is computed
+/// directly; else by the state's own values if it has them. What has to build a value is a function
+/// of its own.
+pub(crate) fn operate(b: &Bounds, plan: &Plan, s: &State, of: Operation, out: &mut Val)
+    requires operands { IsArg of.x × IsArg of.y }
+    requires values { AreValues b.now s.now.regs }
+    ensures of { out.new
+        ≡ value_of b.now of.op (arg_of plan.now s.now of.x) (arg_of plan.now s.now of.y) }
+    ensures value { IsValue b.now out.new }
+{
+    let _most_words = b.most_words();
+    match arg_word(b, plan, s, of.x) {
+        Some(x) => match arg_word(b, plan, s, of.y) {
+            Some(y) => write_constant(b, alu(of.op, x, y), out),
+            None => operate_on_own_values(b, plan, s, of, out),
+        },
+        None => operate_on_own_values(b, plan, s, of, out),
+    }
+}
+
+/// Returns true if an operation gives 1 or 0.
+#[tactic(auto, unfolding(crate::specs::Operations::gives_truth))]
+pub(crate) fn gives_truth(op: Op) -> bool
+    ensures { result ≡ gives_truth op }
+{
+    match op {
+        Op::Eq | Op::Ne | Op::Lt | Op::LtU | Op::Ge | Op::GeU => true,
+        _ => false,
+    }
+}
+
 /// Writes the cover of the results of all pairs: directly if there is one pair, one by one if there
 /// are few.
 fn all_pairs(b: &Bounds, op: Op, xs: &[u32], ys: &[u32], out: &mut Val)
@@ -53,6 +84,27 @@ fn all_pairs(b: &Bounds, op: Op, xs: &[u32], ys: &[u32], out: &mut Val)
     many_pairs(b, op, xs, ys, out);
 }
 
+/// Writes the value that the operation's row in the table of operations gives.
+fn write_operation_row(b: &Bounds, op: Op, v: &Val, w: &Val, out: &mut Val)
+    requires left { IsValue b.now v.now }
+    requires right { IsValue b.now w.now }
+    ensures cover { out.new ≡ cover b.now (operation_row op v.now w.now) }
+    ensures value { IsValue b.now out.new }
+{
+    let _most_words = b.most_words();
+    if gives_truth(op) {
+        write_cover_words(b, &[0, 1], out);
+        return;
+    }
+    match op {
+        Op::Second => copy_to(w, out),
+        _ => {
+            let run = interval_of_row(op, &extent_of(v), &extent_of(w), w);
+            write_cover(b, run.first, run.last, run.step, out);
+        }
+    }
+}
+
 /// Writes the cover of the results of all pairs, added one by one.
 fn few_pairs(b: &Bounds, op: Op, xs: &[u32], ys: &[u32], out: &mut Val)
     requires left { 1 ≤ length xs.now }
@@ -64,17 +116,6 @@ fn few_pairs(b: &Bounds, op: Op, xs: &[u32], ys: &[u32], out: &mut Val)
     write_constant(b, alu(op, xs[0], ys[0]), out);
     for x in xs {
         add_few(b, out, op, *x, ys);
-    }
-}
-
-/// Adds the results of a word with each of the others to a value.
-fn add_few(b: &Bounds, v: &mut Val, op: Op, x: u32, ys: &[u32])
-    requires { IsValue b.now v.old }
-    ensures cover { v.new ≡ cover b.now (members v.old ++ map (alu_of op x) ys.now) }
-    ensures value { IsValue b.now v.new }
-{
-    for y in ys {
-        add_word(b, v, alu(op, x, *y));
     }
 }
 
@@ -106,21 +147,44 @@ fn many_pairs(b: &Bounds, op: Op, xs: &[u32], ys: &[u32], out: &mut Val)
     }
 }
 
-/// Adds the results of all pairs to a Span, by the extent of all.
-fn widen_by_results(b: &Bounds, v: &mut Val, op: Op, xs: &[u32], ys: &[u32], row: &mut [u32])
-    requires span { IsNone (words_of v.old) }
-    requires value { IsValue b.now v.old }
-    requires room { length row.old ≡ length ys.now }
-    ensures cover { v.new ≡ cover b.now (members v.old ++ pairs op xs.now ys.now) }
+/// Adds the results of a word with each of the others to a value.
+fn add_few(b: &Bounds, v: &mut Val, op: Op, x: u32, ys: &[u32])
+    requires { IsValue b.now v.old }
+    ensures cover { v.new ≡ cover b.now (members v.old ++ map (alu_of op x) ys.now) }
     ensures value { IsValue b.now v.new }
 {
-    let _most_words = b.most_words();
-    let mut e = extent_of(v);
-    for x in xs {
-        fill_results(op, *x, ys, row);
-        e = extent_with(&e, row);
+    for y in ys {
+        add_word(b, v, alu(op, x, *y));
     }
-    write_span(b, e.least, e.greatest, e.step, v);
+}
+
+/// Fills the row with the results of a word and each of the others. Each operation has a loop of
+/// its own.
+fn fill_results(op: Op, x: u32, ys: &[u32], row: &mut [u32])
+    requires { length row.old ≡ length ys.now }
+    ensures { row.new ≡ map (alu_of op x) ys.now }
+{
+    match op {
+        Op::Second => fill_results_by(Op::Second, x, ys, row),
+        Op::Add => fill_results_by(Op::Add, x, ys, row),
+        Op::Sub => fill_results_by(Op::Sub, x, ys, row),
+        Op::And => fill_results_by(Op::And, x, ys, row),
+        Op::Nand => fill_results_by(Op::Nand, x, ys, row),
+        Op::Or => fill_results_by(Op::Or, x, ys, row),
+        Op::Nor => fill_results_by(Op::Nor, x, ys, row),
+        Op::Xor => fill_results_by(Op::Xor, x, ys, row),
+        Op::Xnor => fill_results_by(Op::Xnor, x, ys, row),
+        Op::Andn => fill_results_by(Op::Andn, x, ys, row),
+        Op::Orn => fill_results_by(Op::Orn, x, ys, row),
+        Op::Eq => fill_results_by(Op::Eq, x, ys, row),
+        Op::Ne => fill_results_by(Op::Ne, x, ys, row),
+        Op::Lt => fill_results_by(Op::Lt, x, ys, row),
+        Op::LtU => fill_results_by(Op::LtU, x, ys, row),
+        Op::Ge => fill_results_by(Op::Ge, x, ys, row),
+        Op::GeU => fill_results_by(Op::GeU, x, ys, row),
+        Op::Sh => fill_results_by(Op::Sh, x, ys, row),
+        Op::Sha => fill_results_by(Op::Sha, x, ys, row),
+    }
 }
 
 /// Adds words to a value, eight at a time, except eight that were added together lately. `met` has
@@ -157,6 +221,42 @@ fn add_result_row(
         add_result(b, v, met, words[i]);
         i += 1;
     }
+}
+
+/// Adds the results of all pairs to a Span, by the extent of all.
+fn widen_by_results(b: &Bounds, v: &mut Val, op: Op, xs: &[u32], ys: &[u32], row: &mut [u32])
+    requires span { IsNone (words_of v.old) }
+    requires value { IsValue b.now v.old }
+    requires room { length row.old ≡ length ys.now }
+    ensures cover { v.new ≡ cover b.now (members v.old ++ pairs op xs.now ys.now) }
+    ensures value { IsValue b.now v.new }
+{
+    let _most_words = b.most_words();
+    let mut e = extent_of(v);
+    for x in xs {
+        fill_results(op, *x, ys, row);
+        e = extent_with(&e, row);
+    }
+    write_span(b, e.least, e.greatest, e.step, v);
+}
+
+/// Fills the row with the results of this operation on a word and each of the others.
+#[inline(always)]
+fn fill_results_by(op: Op, x: u32, ys: &[u32], row: &mut [u32])
+    requires { length row.old ≡ length ys.now }
+    ensures { row.new ≡ map (alu_of op x) ys.now }
+{
+    for (i, y) in ys.iter().enumerate() {
+        row[i] = alu(op, x, *y);
+    }
+}
+
+/// Returns the place of a word in `met`: the highest bits of its product with a number that spreads
+/// words at even steps.
+fn met_result_slot(z: u32) -> usize
+    ensures { result < 512 }
+{
+    (z.wrapping_mul(0x9683_8B77) >> 23) as usize
 }
 
 /// Adds eight words to a value, and notes that they were added together. It is a function of its
@@ -203,95 +303,6 @@ fn add_result(b: &Bounds, v: &mut Val, met: &mut [u32; 512], z: u32)
     met[k] = z;
 }
 
-/// Returns the place of a word in `met`: the highest bits of its product with a number that spreads
-/// words at even steps.
-fn met_result_slot(z: u32) -> usize
-    ensures { result < 512 }
-{
-    (z.wrapping_mul(0x9683_8B77) >> 23) as usize
-}
-
-/// Fills the row with the results of a word and each of the others. Each operation has a loop of
-/// its own.
-fn fill_results(op: Op, x: u32, ys: &[u32], row: &mut [u32])
-    requires { length row.old ≡ length ys.now }
-    ensures { row.new ≡ map (alu_of op x) ys.now }
-{
-    match op {
-        Op::Second => fill_results_by(Op::Second, x, ys, row),
-        Op::Add => fill_results_by(Op::Add, x, ys, row),
-        Op::Sub => fill_results_by(Op::Sub, x, ys, row),
-        Op::And => fill_results_by(Op::And, x, ys, row),
-        Op::Nand => fill_results_by(Op::Nand, x, ys, row),
-        Op::Or => fill_results_by(Op::Or, x, ys, row),
-        Op::Nor => fill_results_by(Op::Nor, x, ys, row),
-        Op::Xor => fill_results_by(Op::Xor, x, ys, row),
-        Op::Xnor => fill_results_by(Op::Xnor, x, ys, row),
-        Op::Andn => fill_results_by(Op::Andn, x, ys, row),
-        Op::Orn => fill_results_by(Op::Orn, x, ys, row),
-        Op::Eq => fill_results_by(Op::Eq, x, ys, row),
-        Op::Ne => fill_results_by(Op::Ne, x, ys, row),
-        Op::Lt => fill_results_by(Op::Lt, x, ys, row),
-        Op::LtU => fill_results_by(Op::LtU, x, ys, row),
-        Op::Ge => fill_results_by(Op::Ge, x, ys, row),
-        Op::GeU => fill_results_by(Op::GeU, x, ys, row),
-        Op::Sh => fill_results_by(Op::Sh, x, ys, row),
-        Op::Sha => fill_results_by(Op::Sha, x, ys, row),
-    }
-}
-
-/// Fills the row with the results of this operation on a word and each of the others.
-#[inline(always)]
-fn fill_results_by(op: Op, x: u32, ys: &[u32], row: &mut [u32])
-    requires { length row.old ≡ length ys.now }
-    ensures { row.new ≡ map (alu_of op x) ys.now }
-{
-    for (i, y) in ys.iter().enumerate() {
-        row[i] = alu(op, x, *y);
-    }
-}
-
-/// Writes the value that the operation's row in the table of operations gives.
-fn write_operation_row(b: &Bounds, op: Op, v: &Val, w: &Val, out: &mut Val)
-    requires left { IsValue b.now v.now }
-    requires right { IsValue b.now w.now }
-    ensures cover { out.new ≡ cover b.now (operation_row op v.now w.now) }
-    ensures value { IsValue b.now out.new }
-{
-    let _most_words = b.most_words();
-    if gives_truth(op) {
-        write_cover_words(b, &[0, 1], out);
-        return;
-    }
-    match op {
-        Op::Second => copy_to(w, out),
-        _ => {
-            let run = interval_of_row(op, &extent_of(v), &extent_of(w), w);
-            write_cover(b, run.first, run.last, run.step, out);
-        }
-    }
-}
-
-/// Overwrites a value with that of an operation. If the operands are one word each, it is computed
-/// directly; else by the state's own values if it has them. What has to build a value is a function
-/// of its own.
-pub(crate) fn operate(b: &Bounds, plan: &Plan, s: &State, of: Operation, out: &mut Val)
-    requires operands { IsArg of.x × IsArg of.y }
-    requires values { AreValues b.now s.now.regs }
-    ensures of { out.new
-        ≡ value_of b.now of.op (arg_of plan.now s.now of.x) (arg_of plan.now s.now of.y) }
-    ensures value { IsValue b.now out.new }
-{
-    let _most_words = b.most_words();
-    match arg_word(b, plan, s, of.x) {
-        Some(x) => match arg_word(b, plan, s, of.y) {
-            Some(y) => write_constant(b, alu(of.op, x, y), out),
-            None => operate_on_own_values(b, plan, s, of, out),
-        },
-        None => operate_on_own_values(b, plan, s, of, out),
-    }
-}
-
 /// Overwrites a value with the value of an operation, whose operands may be the state's own values.
 fn operate_on_own_values(b: &Bounds, plan: &Plan, s: &State, of: Operation, out: &mut Val)
     requires operands { IsArg of.x × IsArg of.y }
@@ -309,20 +320,6 @@ fn operate_on_own_values(b: &Bounds, plan: &Plan, s: &State, of: Operation, out:
     }
 }
 
-/// Writes the value of an operation on two operands, as `operate` does. The left one has no value
-/// in the state, so it is built first.
-#[inline(never)]
-fn operate_on_built_left(b: &Bounds, plan: &Plan, s: &State, of: Operation, out: &mut Val)
-    requires operands { IsArg of.x × IsArg of.y }
-    requires values { AreValues b.now s.now.regs }
-    ensures of { out.new
-        ≡ value_of b.now of.op (arg_of plan.now s.now of.x) (arg_of plan.now s.now of.y) }
-    ensures value { IsValue b.now out.new }
-{
-    let v = arg(b, plan, s, of.x);
-    operate_on_built_right(b, plan, s, of, &v, out);
-}
-
 /// Writes the value of an operation, as `operate` does, if the right operand has to be built. `v`
 /// is the left one.
 #[inline(never)]
@@ -336,13 +333,16 @@ fn operate_on_built_right(b: &Bounds, plan: &Plan, s: &State, of: Operation, v: 
     operation(b, of.op, v, &arg(b, plan, s, of.y), out);
 }
 
-/// Returns true if an operation gives 1 or 0.
-#[tactic(auto, unfolding(crate::specs::Operations::gives_truth))]
-pub(crate) fn gives_truth(op: Op) -> bool
-    ensures { result ≡ gives_truth op }
+/// Writes the value of an operation on two operands, as `operate` does. The left one has no value
+/// in the state, so it is built first.
+#[inline(never)]
+fn operate_on_built_left(b: &Bounds, plan: &Plan, s: &State, of: Operation, out: &mut Val)
+    requires operands { IsArg of.x × IsArg of.y }
+    requires values { AreValues b.now s.now.regs }
+    ensures of { out.new
+        ≡ value_of b.now of.op (arg_of plan.now s.now of.x) (arg_of plan.now s.now of.y) }
+    ensures value { IsValue b.now out.new }
 {
-    match op {
-        Op::Eq | Op::Ne | Op::Lt | Op::LtU | Op::Ge | Op::GeU => true,
-        _ => false,
-    }
+    let v = arg(b, plan, s, of.x);
+    operate_on_built_right(b, plan, s, of, &v, out);
 }

@@ -37,6 +37,116 @@ pub struct Interval {
 
 pub(crate) const NONE: Interval = Interval { lo: 1, last: 0 };
 
+/// Returns the words that are in a relation to some word from `low` to `high`, as two intervals.
+#[tactic(auto, unfolding(crate::specs::Relations::Reaches))]
+pub(crate) fn words_reached(rel: Relation, low: u32, high: u32) -> (Interval, Interval)
+    ensures { (x : ℕ) → x < 2 ^ 32 → (IsInInterval result.0 x ⊎ IsInInterval result.1 x)
+        ↔ Reaches rel low high x }
+{
+    match rel {
+        Relation::Less => (words_below(high), NONE),
+        Relation::AtMost => (Interval { lo: 0, last: high }, NONE),
+        Relation::AtLeast => (words_from(low), NONE),
+        Relation::More => (words_past(low), NONE),
+        Relation::Other => (words_below(high), words_past(low)),
+        Relation::Same => (words_from(low), NONE),
+    }
+}
+
+/// Overwrites `out` with the cover of the members of `v` that are in a relation to some member of
+/// `w`. Returns false if there are none; then `out` may be any value.
+pub fn refine_by_relation(b: &Bounds, rel: Relation, v: &Val, w: &Val, out: &mut Val) -> bool
+    requires left { IsValue b.now v.now }
+    requires right { IsValue b.now w.now }
+    ensures kept { meet_if result out.new
+        ≡ cover_of_meet b.now (related_words rel (members v.now) (members w.now)) }
+    ensures value { IfSome (meet_if result out.new) (IsValue b.now) }
+{
+    match rel {
+        Relation::Same => refine_to_common(b, v, w, out),
+        _ => refine_by_intervals(b, rel, v, w, out),
+    }
+}
+
+/// Widens a value by the members of `v` in an interval. If nothing was found before, the value
+/// becomes the cover of these members. Returns false if nothing is found, before or now.
+pub(crate) fn add_refined_members(
+    b: &Bounds,
+    v: &Val,
+    i: Interval,
+    found: bool,
+    out: &mut Val,
+) -> bool
+    requires value { IsValue b.now v.now }
+    requires before { IfSome (meet_if found out.old) (IsValue b.now) }
+    ensures more { (xs : List ℕ) → meet_if found out.old ≡ cover_of_meet b.now xs
+        → meet_if result out.new
+        ≡ cover_of_meet b.now (xs ++ filter (in_span i.lo i.last 0) (members v.now)) }
+    ensures value { IfSome (meet_if result out.new) (IsValue b.now) }
+{
+    if i.last < i.lo {
+        return found;
+    }
+    if found {
+        join_refined_members(b, v, i, out);
+        true
+    } else {
+        write_meet(b, v, i.lo, i.last, 0, out)
+    }
+}
+
+/// Overwrites `out` with the cover of the members of `v` for which some member of `w` makes the
+/// condition go to the side. Returns false if there are none; then `out` may be any value.
+pub(crate) fn refine_left_operand(
+    b: &Bounds,
+    test: Comparison,
+    v: &Val,
+    w: &Val,
+    out: &mut Val,
+) -> bool
+    requires left { IsValue b.now v.now }
+    requires right { IsValue b.now w.now }
+    ensures kept { meet_if result out.new
+        ≡ cover_of_meet b.now (kept_left test.cond test.side (members v.now) (members w.now)) }
+    ensures value { IfSome (meet_if result out.new) (IsValue b.now) }
+{
+    let rel = relation_on_side(test.cond, test.side);
+    if is_signed(test.cond) {
+        narrow_signed(b, rel, v, w, out)
+    } else {
+        refine_by_relation(b, rel, v, w, out)
+    }
+}
+
+/// Narrows both operands to the members that are possible. Returns false if one has none.
+pub(crate) fn refine_both_operands(
+    b: &Bounds,
+    test: Comparison,
+    s: &State,
+    v: &Val,
+    w: &Val,
+    c: &mut Change,
+) -> bool
+    requires values { AreValues b.now s.now.regs }
+    requires left { IsValue b.now v.now }
+    requires right { IsValue b.now w.now }
+    ensures two { possible_side result (state_after s.now c.new)
+        ≡ side_with_operands s.now test.x test.y
+        (cover_of_meet b.now (kept_left test.cond test.side (members v.now) (members w.now)))
+        (cover_of_meet b.now (kept_right test.cond test.side (members v.now) (members w.now))) }
+    ensures values { AreValues b.now (state_after s.now c.new).regs }
+    ensures free { c.new.third.at ≡ None }
+{
+    if !narrow_side_register(b, test, s, v, w, c) {
+        return false;
+    }
+    if !refine_right_operand(b, test, v, w, &mut c.second.value) {
+        return false;
+    }
+    c.second.at = operand_slot(test.y);
+    true
+}
+
 /// Returns the words that are in the relation Less to `high`, as an interval.
 fn words_below(high: u32) -> Interval
     ensures { (x : ℕ) → IsInInterval result x ↔ (x < high) }
@@ -75,34 +185,17 @@ fn words_past(low: u32) -> Interval
     }
 }
 
-/// Returns the words that are in a relation to some word from `low` to `high`, as two intervals.
-#[tactic(auto, unfolding(crate::specs::Relations::Reaches))]
-pub(crate) fn words_reached(rel: Relation, low: u32, high: u32) -> (Interval, Interval)
-    ensures { (x : ℕ) → x < 2 ^ 32 → (IsInInterval result.0 x ⊎ IsInInterval result.1 x)
-        ↔ Reaches rel low high x }
-{
-    match rel {
-        Relation::Less => (words_below(high), NONE),
-        Relation::AtMost => (Interval { lo: 0, last: high }, NONE),
-        Relation::AtLeast => (words_from(low), NONE),
-        Relation::More => (words_past(low), NONE),
-        Relation::Other => (words_below(high), words_past(low)),
-        Relation::Same => (words_from(low), NONE),
-    }
-}
-
-/// Overwrites `out` with the cover of the members of `v` that are in a relation to some member of
-/// `w`. Returns false if there are none; then `out` may be any value.
-pub fn refine_by_relation(b: &Bounds, rel: Relation, v: &Val, w: &Val, out: &mut Val) -> bool
+/// Overwrites `out` with the cover of the members of both. Returns false if there are none.
+fn refine_to_common(b: &Bounds, v: &Val, w: &Val, out: &mut Val) -> bool
     requires left { IsValue b.now v.now }
     requires right { IsValue b.now w.now }
     ensures kept { meet_if result out.new
-        ≡ cover_of_meet b.now (related_words rel (members v.now) (members w.now)) }
+        ≡ cover_of_meet b.now (related_words Same (members v.now) (members w.now)) }
     ensures value { IfSome (meet_if result out.new) (IsValue b.now) }
 {
-    match rel {
-        Relation::Same => refine_to_common(b, v, w, out),
-        _ => refine_by_intervals(b, rel, v, w, out),
+    match w {
+        Val::Set(words) => write_meet_with_words(b, words.as_slice(), v, out),
+        Val::Span { lo, last, step } => write_meet(b, v, *lo, *last, *step, out),
     }
 }
 
@@ -120,33 +213,6 @@ fn refine_by_intervals(b: &Bounds, rel: Relation, v: &Val, w: &Val, out: &mut Va
     let (first, second) = words_reached(rel, e.least, e.greatest);
     let found = write_meet(b, v, first.lo, first.last, 0, out);
     add_refined_members(b, v, second, found, out)
-}
-
-/// Widens a value by the members of `v` in an interval. If nothing was found before, the value
-/// becomes the cover of these members. Returns false if nothing is found, before or now.
-pub(crate) fn add_refined_members(
-    b: &Bounds,
-    v: &Val,
-    i: Interval,
-    found: bool,
-    out: &mut Val,
-) -> bool
-    requires value { IsValue b.now v.now }
-    requires before { IfSome (meet_if found out.old) (IsValue b.now) }
-    ensures more { (xs : List ℕ) → meet_if found out.old ≡ cover_of_meet b.now xs
-        → meet_if result out.new
-        ≡ cover_of_meet b.now (xs ++ filter (in_span i.lo i.last 0) (members v.now)) }
-    ensures value { IfSome (meet_if result out.new) (IsValue b.now) }
-{
-    if i.last < i.lo {
-        return found;
-    }
-    if found {
-        join_refined_members(b, v, i, out);
-        true
-    } else {
-        write_meet(b, v, i.lo, i.last, 0, out)
-    }
 }
 
 /// Widens a value by the members of `v` in an interval. It is a function of its own, so that its
@@ -167,59 +233,6 @@ fn join_refined_members(b: &Bounds, v: &Val, i: Interval, out: &mut Val)
     add_value(b, out, &others);
 }
 
-/// Overwrites `out` with the cover of the members of both. Returns false if there are none.
-fn refine_to_common(b: &Bounds, v: &Val, w: &Val, out: &mut Val) -> bool
-    requires left { IsValue b.now v.now }
-    requires right { IsValue b.now w.now }
-    ensures kept { meet_if result out.new
-        ≡ cover_of_meet b.now (related_words Same (members v.now) (members w.now)) }
-    ensures value { IfSome (meet_if result out.new) (IsValue b.now) }
-{
-    match w {
-        Val::Set(words) => write_meet_with_words(b, words.as_slice(), v, out),
-        Val::Span { lo, last, step } => write_meet(b, v, *lo, *last, *step, out),
-    }
-}
-
-/// Returns the relation with its operands exchanged. So refinement can narrow the right operand
-/// like the left one.
-#[tactic(auto, unfolding(crate::specs::Relations::converse))]
-fn converse(rel: Relation) -> Relation
-    ensures { result ≡ converse rel }
-{
-    match rel {
-        Relation::Same => Relation::Same,
-        Relation::Other => Relation::Other,
-        Relation::Less => Relation::More,
-        Relation::AtLeast => Relation::AtMost,
-        Relation::More => Relation::Less,
-        Relation::AtMost => Relation::AtLeast,
-    }
-}
-
-/// Overwrites `out` with the cover of the members of `v` for which some member of `w` makes the
-/// condition go to the side. Returns false if there are none; then `out` may be any value.
-pub(crate) fn refine_left_operand(
-    b: &Bounds,
-    test: Comparison,
-    v: &Val,
-    w: &Val,
-    out: &mut Val,
-) -> bool
-    requires left { IsValue b.now v.now }
-    requires right { IsValue b.now w.now }
-    ensures kept { meet_if result out.new
-        ≡ cover_of_meet b.now (kept_left test.cond test.side (members v.now) (members w.now)) }
-    ensures value { IfSome (meet_if result out.new) (IsValue b.now) }
-{
-    let rel = relation_on_side(test.cond, test.side);
-    if is_signed(test.cond) {
-        narrow_signed(b, rel, v, w, out)
-    } else {
-        refine_by_relation(b, rel, v, w, out)
-    }
-}
-
 /// Overwrites `out` with the cover of the members of `w` for which some member of `v` makes the
 /// condition go to the side. Returns false if there are none; then `out` may be any value.
 fn refine_right_operand(b: &Bounds, test: Comparison, v: &Val, w: &Val, out: &mut Val) -> bool
@@ -237,31 +250,18 @@ fn refine_right_operand(b: &Bounds, test: Comparison, v: &Val, w: &Val, out: &mu
     }
 }
 
-/// Narrows both operands to the members that are possible. Returns false if one has none.
-pub(crate) fn refine_both_operands(
-    b: &Bounds,
-    test: Comparison,
-    s: &State,
-    v: &Val,
-    w: &Val,
-    c: &mut Change,
-) -> bool
-    requires values { AreValues b.now s.now.regs }
-    requires left { IsValue b.now v.now }
-    requires right { IsValue b.now w.now }
-    ensures two { possible_side result (state_after s.now c.new)
-        ≡ side_with_operands s.now test.x test.y
-        (cover_of_meet b.now (kept_left test.cond test.side (members v.now) (members w.now)))
-        (cover_of_meet b.now (kept_right test.cond test.side (members v.now) (members w.now))) }
-    ensures values { AreValues b.now (state_after s.now c.new).regs }
-    ensures free { c.new.third.at ≡ None }
+/// Returns the relation with its operands exchanged. So refinement can narrow the right operand
+/// like the left one.
+#[tactic(auto, unfolding(crate::specs::Relations::converse))]
+fn converse(rel: Relation) -> Relation
+    ensures { result ≡ converse rel }
 {
-    if !narrow_side_register(b, test, s, v, w, c) {
-        return false;
+    match rel {
+        Relation::Same => Relation::Same,
+        Relation::Other => Relation::Other,
+        Relation::Less => Relation::More,
+        Relation::AtLeast => Relation::AtMost,
+        Relation::More => Relation::Less,
+        Relation::AtMost => Relation::AtLeast,
     }
-    if !refine_right_operand(b, test, v, w, &mut c.second.value) {
-        return false;
-    }
-    c.second.at = operand_slot(test.y);
-    true
 }

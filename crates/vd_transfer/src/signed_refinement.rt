@@ -14,6 +14,55 @@ use value_domain::{Bounds, Val, extent_of, write_meet};
 
 const HALF: u32 = 1 << 31;
 
+/// Overwrites `out` with the cover of the members of `v` that are in a relation to some member of
+/// `w` in the signed order. Returns false if there are none; then `out` may be any value.
+pub fn narrow_signed(b: &Bounds, rel: Relation, v: &Val, w: &Val, out: &mut Val) -> bool
+    requires left { IsValue b.now v.now }
+    requires right { IsValue b.now w.now }
+    requires order { rel ≢ Same }
+    ensures kept { meet_if result out.new
+        ≡ cover_of_meet b.now (signed_related_words rel (members v.now) (members w.now)) }
+    ensures value { IfSome (meet_if result out.new) (IsValue b.now) }
+{
+    let (low, high) = signed_range(w);
+    let (i, j) = words_reached(rel, signed_place(low), signed_place(high));
+    let (first, second) = signed_interval_parts(i);
+    let (third, fourth) = signed_interval_parts(j);
+    let one = write_meet(b, v, first.lo, first.last, 0, out);
+    let two = add_refined_members(b, v, second, one, out);
+    let three = add_refined_members(b, v, third, two, out);
+    add_refined_members(b, v, fourth, three, out)
+}
+
+/// Returns a word's position in the signed order.
+pub(crate) fn signed_place(x: u32) -> u32
+    ensures { result ≡ signed_order_place x }
+{
+    x.wrapping_add(1 << 31)
+}
+
+/// Returns true if a condition is of the signed order.
+#[tactic(auto, unfolding(crate::specs::Signs::is_signed))]
+pub(crate) fn is_signed(cond: Cond) -> bool
+    ensures { result ≡ is_signed cond }
+{
+    match cond {
+        Cond::Lt | Cond::Ge => true,
+        Cond::Eq | Cond::Ne | Cond::LtU | Cond::GeU => false,
+    }
+}
+
+/// Returns the least and the greatest member in the signed order.
+fn signed_range(v: &Val) -> (u32, u32)
+    requires { IsWell v.now }
+    ensures { IsSignedRange (members v.now) result.0 result.1 }
+{
+    match v {
+        Val::Set(words) => signed_words(words.as_slice()),
+        Val::Span { lo, last, step } => signed_span(*lo, *last, *step),
+    }
+}
+
 /// Returns the words whose positions in the signed order are in an interval, as two intervals.
 fn signed_interval_parts(i: Interval) -> (Interval, Interval)
     ensures { (x : ℕ) → x < 2 ^ 32 → (IsInInterval result.0 x ⊎ IsInInterval result.1 x)
@@ -36,17 +85,6 @@ fn signed_interval_parts(i: Interval) -> (Interval, Interval)
         NONE
     };
     (first, second)
-}
-
-/// Returns the least and the greatest member in the signed order.
-fn signed_range(v: &Val) -> (u32, u32)
-    requires { IsWell v.now }
-    ensures { IsSignedRange (members v.now) result.0 result.1 }
-{
-    match v {
-        Val::Set(words) => signed_words(words.as_slice()),
-        Val::Span { lo, last, step } => signed_span(*lo, *last, *step),
-    }
 }
 
 /// Returns the least and the greatest of these words in the signed order.
@@ -77,26 +115,6 @@ fn signed_span(lo: u32, last: u32, step: u8) -> (u32, u32)
     }
 }
 
-/// Overwrites `out` with the cover of the members of `v` that are in a relation to some member of
-/// `w` in the signed order. Returns false if there are none; then `out` may be any value.
-pub fn narrow_signed(b: &Bounds, rel: Relation, v: &Val, w: &Val, out: &mut Val) -> bool
-    requires left { IsValue b.now v.now }
-    requires right { IsValue b.now w.now }
-    requires order { rel ≢ Same }
-    ensures kept { meet_if result out.new
-        ≡ cover_of_meet b.now (signed_related_words rel (members v.now) (members w.now)) }
-    ensures value { IfSome (meet_if result out.new) (IsValue b.now) }
-{
-    let (low, high) = signed_range(w);
-    let (i, j) = words_reached(rel, signed_place(low), signed_place(high));
-    let (first, second) = signed_interval_parts(i);
-    let (third, fourth) = signed_interval_parts(j);
-    let one = write_meet(b, v, first.lo, first.last, 0, out);
-    let two = add_refined_members(b, v, second, one, out);
-    let three = add_refined_members(b, v, third, two, out);
-    add_refined_members(b, v, fourth, three, out)
-}
-
 /// Returns the lesser of two words in the signed order.
 fn signed_min(x: u32, low: u32) -> u32
     ensures either { (result ≡ x) ⊎ (result ≡ low) }
@@ -120,23 +138,5 @@ fn signed_max(x: u32, high: u32) -> u32
         x
     } else {
         high
-    }
-}
-
-/// Returns a word's position in the signed order.
-pub(crate) fn signed_place(x: u32) -> u32
-    ensures { result ≡ signed_order_place x }
-{
-    x.wrapping_add(1 << 31)
-}
-
-/// Returns true if a condition is of the signed order.
-#[tactic(auto, unfolding(crate::specs::Signs::is_signed))]
-pub(crate) fn is_signed(cond: Cond) -> bool
-    ensures { result ≡ is_signed cond }
-{
-    match cond {
-        Cond::Lt | Cond::Ge => true,
-        Cond::Eq | Cond::Ne | Cond::LtU | Cond::GeU => false,
     }
 }

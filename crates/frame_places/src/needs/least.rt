@@ -6,24 +6,6 @@ ghost use Rattle.frame_places.specs.declared.needs.row.NeedRow.{NeedRow};
 use crate::needs::row::{NeedRow, need_of};
 use std::alloc::{AllocError, Global};
 
-/// Raises the need of one row's node if it is too low, and returns whether it was.
-fn raise_row(needs: &mut [u32], row: &NeedRow, cap: u32) -> bool
-    requires cap { cap < 2 ^ 16 }
-    requires nodes { length needs.old < 2 ^ 16 }
-    requires node { row.now.node < length needs.old }
-    requires into { (t : ℕ) → Contains row.now.into.items t → t < length needs.old }
-    requires held { row.now.held < 2 ^ 8 }
-    requires capped { (k : ℕ) → slice_index needs.old k ≤ cap + 1 }
-    ensures pass { PassesRow cap needs.old needs.new row.now result }
-{
-    let need = need_of(needs, row, cap);
-    if needs[row.node] < need {
-        needs[row.node] = need;
-        return true;
-    }
-    false
-}
-
 /// Makes one pass over the rows: raises needs that are too low, and returns whether there were any.
 /// The last row is first, since the rows of entered frames mostly come after those of the frames
 /// that enter them.
@@ -56,37 +38,27 @@ fn run_passes(needs: &mut [u32], rows: &[NeedRow], cap: u32)
     while raise_low_needs(needs, rows, cap) {}
 }
 
-/// The number of passes that is mostly enough: one or two for frames that were found before those
-/// that they enter.
-const FEW: u32 = 16;
-
-/// Makes a few passes, and returns whether the last one changed nothing.
-fn run_few_passes(needs: &mut [u32], rows: &[NeedRow], cap: u32) -> bool
+/// Raises the need of one row's node if it is too low, and returns whether it was.
+fn raise_row(needs: &mut [u32], row: &NeedRow, cap: u32) -> bool
     requires cap { cap < 2 ^ 16 }
     requires nodes { length needs.old < 2 ^ 16 }
-    requires within { AreRowsWithin rows.now (length needs.old) }
+    requires node { row.now.node < length needs.old }
+    requires into { (t : ℕ) → Contains row.now.into.items t → t < length needs.old }
+    requires held { row.now.held < 2 ^ 8 }
     requires capped { (k : ℕ) → slice_index needs.old k ≤ cap + 1 }
-    requires low { AreNeedsLow needs.old rows.now }
-    ensures low { AreNeedsLow needs.new rows.now }
-    ensures met { IsTrue result → (row : NeedRow) → Contains rows.now row
-        → MeetsCapped cap needs.new row }
+    ensures pass { PassesRow cap needs.old needs.new row.now result }
 {
-    for _done in 0..FEW {
-        if !raise_low_needs(needs, rows, cap) {
-            return true;
-        }
+    let need = need_of(needs, row, cap);
+    if needs[row.node] < need {
+        needs[row.node] = need;
+        return true;
     }
     false
 }
 
-/// Returns the first node with a need above the cap.
-fn first_above(needs: &[u32], cap: u32) -> Option<usize>
-    ensures { MatchOption result
-        (EachIndex needs.now (λ k. slice_index needs.now k ≤ cap))
-        (λ k. (k < length needs.now) × (cap < slice_index needs.now k)) }
-{
-    needs.iter().position(|need| *need > cap)
-}
+/// The number of passes that is mostly enough: one or two for frames that were found before those
+/// that they enter.
+const FEW: u32 = 16;
 
 /// Returns the least needs, or `None` if some need has to be above the cap.
 pub fn least_needs(
@@ -130,4 +102,32 @@ pub fn soon_needs(
         None => Ok(Some(needs)),
         Some(_) => Ok(None),
     }
+}
+
+/// Returns the first node with a need above the cap.
+fn first_above(needs: &[u32], cap: u32) -> Option<usize>
+    ensures { MatchOption result
+        (EachIndex needs.now (λ k. slice_index needs.now k ≤ cap))
+        (λ k. (k < length needs.now) × (cap < slice_index needs.now k)) }
+{
+    needs.iter().position(|need| *need > cap)
+}
+
+/// Makes a few passes, and returns whether the last one changed nothing.
+fn run_few_passes(needs: &mut [u32], rows: &[NeedRow], cap: u32) -> bool
+    requires cap { cap < 2 ^ 16 }
+    requires nodes { length needs.old < 2 ^ 16 }
+    requires within { AreRowsWithin rows.now (length needs.old) }
+    requires capped { (k : ℕ) → slice_index needs.old k ≤ cap + 1 }
+    requires low { AreNeedsLow needs.old rows.now }
+    ensures low { AreNeedsLow needs.new rows.now }
+    ensures met { IsTrue result → (row : NeedRow) → Contains rows.now row
+        → MeetsCapped cap needs.new row }
+{
+    for _done in 0..FEW {
+        if !raise_low_needs(needs, rows, cap) {
+            return true;
+        }
+    }
+    false
 }

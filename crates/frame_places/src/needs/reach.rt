@@ -13,21 +13,6 @@ pub struct FrameEdge {
     pub into: usize,
 }
 
-/// Adds the edges of a node to the graph of entries, one to each node that it enters. Along edges,
-/// nodes are reached from others.
-fn add_edges(
-    edges: &mut IndexSet<FrameEdge>,
-    node: usize,
-    into: &[usize],
-) -> Result<(), AllocFailed<FrameEdge>>
-    ensures { OnOk result (AddsEdges edges.old.keys edges.new.keys node into.now) }
-{
-    for t in into {
-        edges.insert(FrameEdge { node, into: *t })?;
-    }
-    Ok(())
-}
-
 /// Returns the edges of the rows, each once.
 pub fn frame_edges(
     alloc: Global,
@@ -42,21 +27,63 @@ pub fn frame_edges(
     Ok(edges)
 }
 
-/// Adds the source of an edge to those of the node that it enters.
-fn add_edge_source(
+/// Marks the nodes from which this one is reached.
+pub fn nodes_reaching(
     alloc: Global,
-    sources: &mut IndexMap<usize, Vec<usize>>,
-    edge: FrameEdge,
-) -> Result<(), AllocError>
-    ensures { OnOk result (AddsEdgeSource sources.old sources.new edge.node edge.into) }
+    nodes: usize,
+    edges: &[FrameEdge],
+    node: usize,
+) -> Result<Vec<bool>, AllocError>
+    requires node { node < nodes }
+    requires edges { AreEdgesBetween edges.now nodes }
+    ensures { IfOk result (λ marks. AreReaching edges.now nodes node marks.items) }
 {
-    if let Some(list) = sources.get_mut(&edge.into) {
-        list.push(edge.node)?;
-        return Ok(());
+    let sources = edge_sources(alloc, edges)?;
+    nodes_reaching_by(alloc, nodes, &sources, node)
+}
+
+/// Returns whether one of these nodes is marked.
+pub fn has_reaching_node(marks: &[bool], nodes: &[usize]) -> bool
+    ensures { IsTrue result ↔ ((t : ℕ) × Contains nodes.now t × IsNodeMarked marks.now t) }
+{
+    for node in nodes {
+        if is_reaching_node(marks, *node) {
+            return true;
+        }
     }
-    let mut list = Vec::new(alloc);
-    list.push(edge.node)?;
-    sources.insert(edge.into, list)?;
+    false
+}
+
+/// Returns the recursive node of the graph that is first in this order. A node is recursive if it
+/// is reached from one that it enters.
+pub fn first_recurring(
+    alloc: Global,
+    orders: &[u64],
+    edges: &[FrameEdge],
+) -> Result<Option<usize>, AllocError>
+    requires { AreEdgesBetween edges.now (length orders.now) }
+    ensures { IfOk result (IsFirstRecurring orders.now edges.now) }
+{
+    let sources = edge_sources(alloc, edges)?;
+    let mut first = None;
+    for node in 0..orders.len() {
+        first = first_recurring_up_to(alloc, orders, edges, &sources, node, first)?;
+    }
+    Ok(first)
+}
+
+/// Adds the edges of a node to the graph of entries, one to each node that it enters. Along edges,
+/// nodes are reached from others.
+fn add_edges(
+    edges: &mut IndexSet<FrameEdge>,
+    node: usize,
+    into: &[usize],
+) -> Result<(), AllocFailed<FrameEdge>>
+    ensures { OnOk result (AddsEdges edges.old.keys edges.new.keys node into.now) }
+{
+    for t in into {
+        edges.insert(FrameEdge { node, into: *t })?;
+    }
     Ok(())
 }
 
@@ -73,56 +100,6 @@ fn edge_sources(
         add_edge_source(alloc, &mut sources, *edge)?;
     }
     Ok(sources)
-}
-
-/// Marks a node, and queues it if it had no mark.
-fn mark_reaching_node(
-    marks: &mut [bool],
-    work: &mut Vec<usize>,
-    node: usize,
-) -> Result<(), AllocError>
-    requires { node < length marks.old }
-    ensures { OnOk result
-        (MarksNodes (node ∷ []) marks.old marks.new work.old.items work.new.items) }
-{
-    if !marks[node] {
-        marks[node] = true;
-        work.push(node)?;
-    }
-    Ok(())
-}
-
-/// Marks these nodes of the graph, from which a given node is reached, and queues those that had no
-/// mark.
-fn mark_reaching_nodes(
-    marks: &mut [bool],
-    work: &mut Vec<usize>,
-    nodes: &[usize],
-) -> Result<(), AllocError>
-    requires { (k : ℕ) → Contains nodes.now k → k < length marks.old }
-    ensures { OnOk result (MarksNodes nodes.now marks.old marks.new work.old.items work.new.items) }
-{
-    for node in nodes {
-        mark_reaching_node(marks, work, *node)?;
-    }
-    Ok(())
-}
-
-/// Marks all nodes of the graph from which a queued node is reached along edges.
-fn settle_reaching_marks(
-    marks: &mut [bool],
-    work: &mut Vec<usize>,
-    sources: &IndexMap<usize, Vec<usize>>,
-) -> Result<(), AllocError>
-    requires { AreEdgeSourcesBelow sources.now (length marks.old) }
-    ensures { OnOk result (SettlesMarks sources.now marks.old marks.new work.old.items) }
-{
-    while let Some(node) = work.pop() {
-        if let Some(list) = sources.get(&node) {
-            mark_reaching_nodes(marks, work, list.as_slice())?;
-        }
-    }
-    Ok(())
 }
 
 /// Marks the nodes from which this one is reached, by the sources of each.
@@ -144,19 +121,72 @@ fn nodes_reaching_by(
     Ok(marks)
 }
 
-/// Marks the nodes from which this one is reached.
-pub fn nodes_reaching(
+/// Adds the source of an edge to those of the node that it enters.
+fn add_edge_source(
     alloc: Global,
-    nodes: usize,
-    edges: &[FrameEdge],
-    node: usize,
-) -> Result<Vec<bool>, AllocError>
-    requires node { node < nodes }
-    requires edges { AreEdgesBetween edges.now nodes }
-    ensures { IfOk result (λ marks. AreReaching edges.now nodes node marks.items) }
+    sources: &mut IndexMap<usize, Vec<usize>>,
+    edge: FrameEdge,
+) -> Result<(), AllocError>
+    ensures { OnOk result (AddsEdgeSource sources.old sources.new edge.node edge.into) }
 {
-    let sources = edge_sources(alloc, edges)?;
-    nodes_reaching_by(alloc, nodes, &sources, node)
+    if let Some(list) = sources.get_mut(&edge.into) {
+        list.push(edge.node)?;
+        return Ok(());
+    }
+    let mut list = Vec::new(alloc);
+    list.push(edge.node)?;
+    sources.insert(edge.into, list)?;
+    Ok(())
+}
+
+/// Marks all nodes of the graph from which a queued node is reached along edges.
+fn settle_reaching_marks(
+    marks: &mut [bool],
+    work: &mut Vec<usize>,
+    sources: &IndexMap<usize, Vec<usize>>,
+) -> Result<(), AllocError>
+    requires { AreEdgeSourcesBelow sources.now (length marks.old) }
+    ensures { OnOk result (SettlesMarks sources.now marks.old marks.new work.old.items) }
+{
+    while let Some(node) = work.pop() {
+        if let Some(list) = sources.get(&node) {
+            mark_reaching_nodes(marks, work, list.as_slice())?;
+        }
+    }
+    Ok(())
+}
+
+/// Marks these nodes of the graph, from which a given node is reached, and queues those that had no
+/// mark.
+fn mark_reaching_nodes(
+    marks: &mut [bool],
+    work: &mut Vec<usize>,
+    nodes: &[usize],
+) -> Result<(), AllocError>
+    requires { (k : ℕ) → Contains nodes.now k → k < length marks.old }
+    ensures { OnOk result (MarksNodes nodes.now marks.old marks.new work.old.items work.new.items) }
+{
+    for node in nodes {
+        mark_reaching_node(marks, work, *node)?;
+    }
+    Ok(())
+}
+
+/// Marks a node, and queues it if it had no mark.
+fn mark_reaching_node(
+    marks: &mut [bool],
+    work: &mut Vec<usize>,
+    node: usize,
+) -> Result<(), AllocError>
+    requires { node < length marks.old }
+    ensures { OnOk result
+        (MarksNodes (node ∷ []) marks.old marks.new work.old.items work.new.items) }
+{
+    if !marks[node] {
+        marks[node] = true;
+        work.push(node)?;
+    }
+    Ok(())
 }
 
 /// Returns whether the node is marked. A number without a node isn't.
@@ -167,49 +197,6 @@ fn is_reaching_node(marks: &[bool], node: usize) -> bool
         Some(mark) => *mark,
         None => false,
     }
-}
-
-/// Returns whether one of these nodes is marked.
-pub fn has_reaching_node(marks: &[bool], nodes: &[usize]) -> bool
-    ensures { IsTrue result ↔ ((t : ℕ) × Contains nodes.now t × IsNodeMarked marks.now t) }
-{
-    for node in nodes {
-        if is_reaching_node(marks, *node) {
-            return true;
-        }
-    }
-    false
-}
-
-/// Returns whether the node of the graph enters a marked one, from which the node that is looked
-/// for is reached.
-fn has_marked_next(marks: &[bool], edges: &[FrameEdge], node: usize) -> bool
-    requires { AreEdgesBetween edges.now (length marks.now) }
-    ensures { IsTrue result ↔ HasMarkedNext marks.now edges.now node }
-{
-    for edge in edges {
-        if edge.node == node && marks[edge.into] {
-            return true;
-        }
-    }
-    false
-}
-
-/// Returns whether the node is reached from one that it enters.
-fn is_recurring(
-    alloc: Global,
-    nodes: usize,
-    edges: &[FrameEdge],
-    sources: &IndexMap<usize, Vec<usize>>,
-    node: usize,
-) -> Result<bool, AllocError>
-    requires node { node < nodes }
-    requires edges { AreEdgesBetween edges.now nodes }
-    requires sources { AreEdgeSources edges.now sources.now }
-    ensures { IfOk result (λ recurs. IsTrue recurs ↔ IsRecurring edges.now node) }
-{
-    let marks = nodes_reaching_by(alloc, nodes, sources, node)?;
-    Ok(has_marked_next(marks.as_slice(), edges, node))
 }
 
 /// Returns the first in order of the nodes that are reached from themselves along edges of the
@@ -240,20 +227,33 @@ fn first_recurring_up_to(
     }
 }
 
-/// Returns the recursive node of the graph that is first in this order. A node is recursive if it
-/// is reached from one that it enters.
-pub fn first_recurring(
+/// Returns whether the node is reached from one that it enters.
+fn is_recurring(
     alloc: Global,
-    orders: &[u64],
+    nodes: usize,
     edges: &[FrameEdge],
-) -> Result<Option<usize>, AllocError>
-    requires { AreEdgesBetween edges.now (length orders.now) }
-    ensures { IfOk result (IsFirstRecurring orders.now edges.now) }
+    sources: &IndexMap<usize, Vec<usize>>,
+    node: usize,
+) -> Result<bool, AllocError>
+    requires node { node < nodes }
+    requires edges { AreEdgesBetween edges.now nodes }
+    requires sources { AreEdgeSources edges.now sources.now }
+    ensures { IfOk result (λ recurs. IsTrue recurs ↔ IsRecurring edges.now node) }
 {
-    let sources = edge_sources(alloc, edges)?;
-    let mut first = None;
-    for node in 0..orders.len() {
-        first = first_recurring_up_to(alloc, orders, edges, &sources, node, first)?;
+    let marks = nodes_reaching_by(alloc, nodes, sources, node)?;
+    Ok(has_marked_next(marks.as_slice(), edges, node))
+}
+
+/// Returns whether the node of the graph enters a marked one, from which the node that is looked
+/// for is reached.
+fn has_marked_next(marks: &[bool], edges: &[FrameEdge], node: usize) -> bool
+    requires { AreEdgesBetween edges.now (length marks.now) }
+    ensures { IsTrue result ↔ HasMarkedNext marks.now edges.now node }
+{
+    for edge in edges {
+        if edge.node == node && marks[edge.into] {
+            return true;
+        }
     }
-    Ok(first)
+    false
 }

@@ -114,21 +114,6 @@ fn ship_image(alloc: Global, names: &Shipment<'_>, plan: &Plan, image: &Image) -
     }
 }
 
-/// The two files that `ship` writes, in this order: the executable and its certificate.
-fn shipped_files(
-    alloc: Global,
-    names: &Shipment<'_>,
-    image: Vec<u8>,
-    cert: Vec<u8>,
-) -> Result<(Write, Write), NoMemory>
-    ensures { IfOk result (λ w. (w.0 ≡ record { name = names.now.elf.now; bytes = image.items })
-        × (w.1 ≡ record { name = names.now.cert.now; bytes = cert.items })) }
-{
-    let first = Write::of(alloc, names.elf, image)?;
-    let second = Write::of(alloc, names.cert, cert)?;
-    Ok((first, second))
-}
-
 // Certifies the image that these bytes spell, and reports both files to write.
 fn ship_bytes(
     alloc: Global,
@@ -154,4 +139,19 @@ fn ship_bytes(
         }
         Making::NoMemory => Outcome::NoMemory,
     }
+}
+
+/// The two files that `ship` writes, in this order: the executable and its certificate.
+fn shipped_files(
+    alloc: Global,
+    names: &Shipment<'_>,
+    image: Vec<u8>,
+    cert: Vec<u8>,
+) -> Result<(Write, Write), NoMemory>
+    ensures { IfOk result (λ w. (w.0 ≡ record { name = names.now.elf.now; bytes = image.items })
+        × (w.1 ≡ record { name = names.now.cert.now; bytes = cert.items })) }
+{
+    let first = Write::of(alloc, names.elf, image)?;
+    let second = Write::of(alloc, names.cert, cert)?;
+    Ok((first, second))
 }

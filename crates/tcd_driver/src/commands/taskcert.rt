@@ -128,35 +128,6 @@ fn certify_all_tasks(
     }
 }
 
-// Reports files to write, one after another, and the text on them, unless memory ran out.
-fn report_task_certs(writes: Vec<Write>, line: Result<Vec<u8>, NoMemory>) -> Outcome
-    ensures { IsToldOutcome (λ r. IsOkAnd line (λ l. r ≡ writes_files writes.items l.items)) ⊥
-        result }
-{
-    match line {
-        Ok(text) => Outcome::Report {
-            status: Status::Done,
-            text,
-            writes,
-        },
-        Err(_) => Outcome::NoMemory,
-    }
-}
-
-/// Adds the certificate of a task to the files to write.
-fn add_task_cert_file(
-    alloc: Global,
-    writes: &mut Vec<Write>,
-    name: &str,
-    bytes: Vec<u8>,
-) -> Result<(), NoMemory>
-    ensures { OnOk result (writes.new.items
-        ≡ writes.old.items ++ record { name = name.now; bytes = bytes.items } ∷ []) }
-{
-    writes.push(Write::of(alloc, name, bytes)?)?;
-    Ok(())
-}
-
 // Makes a certificate for each task.
 fn make_each_task_cert(
     alloc: Global,
@@ -195,6 +166,21 @@ fn make_each_task_cert(
     TasksMaking::Certified { writes, sum }
 }
 
+// Reports files to write, one after another, and the text on them, unless memory ran out.
+fn report_task_certs(writes: Vec<Write>, line: Result<Vec<u8>, NoMemory>) -> Outcome
+    ensures { IsToldOutcome (λ r. IsOkAnd line (λ l. r ≡ writes_files writes.items l.items)) ⊥
+        result }
+{
+    match line {
+        Ok(text) => Outcome::Report {
+            status: Status::Done,
+            text,
+            writes,
+        },
+        Err(_) => Outcome::NoMemory,
+    }
+}
+
 // Makes the least certificate of version 2 for a task's view, and checks that it keeps rule 17.
 fn make_task_cert(alloc: Global, image: &Image, plan: &Plan, tasks: &Tasks, u: usize) -> Making
     requires task { u < count tasks.now }
@@ -208,6 +194,20 @@ fn make_task_cert(alloc: Global, image: &Image, plan: &Plan, tasks: &Tasks, u: u
         Ok(view) => make_task_view_cert(alloc, &view, &view_plan(plan, tasks, u), tasks),
         Err(_) => Making::NoMemory,
     }
+}
+
+/// Adds the certificate of a task to the files to write.
+fn add_task_cert_file(
+    alloc: Global,
+    writes: &mut Vec<Write>,
+    name: &str,
+    bytes: Vec<u8>,
+) -> Result<(), NoMemory>
+    ensures { OnOk result (writes.new.items
+        ≡ writes.old.items ++ record { name = name.now; bytes = bytes.items } ∷ []) }
+{
+    writes.push(Write::of(alloc, name, bytes)?)?;
+    Ok(())
 }
 
 /// Makes the least certificate of version 2 of a task's view, and checks that it keeps rule 17.

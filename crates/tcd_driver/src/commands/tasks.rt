@@ -74,6 +74,13 @@ pub(crate) fn check_tasks<F: Files>(
     read_task_certs(alloc, &image, &board, &list, certs, files)
 }
 
+/// Returns the need that counts for a task: all tasks except the first start with two areas.
+pub(crate) fn task_need_to_count(u: usize, need: u32) -> u32
+    ensures { result ≡ (if u == 0 then need else max need 2) }
+{
+    if u == 0 { need } else { need.max(2) }
+}
+
 // Reads the certificates if there are as many as tasks, and reports the verdict.
 fn read_task_certs<F: Files>(
     alloc: Global,
@@ -200,13 +207,6 @@ fn judge_tasks(
         }
     }
     Ok(Tally::Sum(sum))
-}
-
-/// Returns the need that counts for a task: all tasks except the first start with two areas.
-pub(crate) fn task_need_to_count(u: usize, need: u32) -> u32
-    ensures { result ≡ (if u == 0 then need else max need 2) }
-{
-    if u == 0 { need } else { need.max(2) }
 }
 
 // Judges the certificate of a task for its view: by the rules of all certificates, and then by rule

@@ -28,50 +28,6 @@ pub(crate) fn generated_function_at(i: u32) -> u32
     0x8000_8000 + 32 * i
 }
 
-// Appends function i, and zeros up to the next function.
-#[tactic(auto, using(crate::proofs::ImageLemmas::Lengths::function_short))]
-fn append_filled_function(out: &mut Vec<u8>, n: u32, i: u32) -> Result<(), NoMemory>
-    requires few { n ≤ 500 }
-    requires within { i < n }
-    ensures { OnOk result (out.new.items ≡ out.old.items
-        ++ zero_padded_bytes 32 (function_code n i)) }
-{
-    let start = out.len();
-    append_function(out, n, i)?;
-    let zeros = 32 - (out.len() - start);
-    append_zeros(out, zeros)
-}
-
-// Appends function i of n. It reserves eight bytes of stack, stores a word there, and calls the
-// functions 2i + 1 and 2i + 2, if there are any.
-#[tactic(auto, using(crate::proofs::ImageLemmas::Instructions::function_bytes))]
-fn append_function(out: &mut Vec<u8>, n: u32, i: u32) -> Result<(), NoMemory>
-    requires few { n ≤ 500 }
-    requires within { i < n }
-    ensures { OnOk result (out.new.items ≡ out.old.items ++ function_code n i) }
-{
-    let at = generated_function_at(i);
-    // sub16.a a10, 8; st16.w [a10], d15
-    append_segment_bytes(out, &[0x20, 0x08, 0x74, 0xaf])?;
-    append_call_if_below(out, n, at + 4, 2 * i + 1)?;
-    append_call_if_below(out, n, at + 8, 2 * i + 2)?;
-    // ret16
-    append_segment_bytes(out, &[0x00, 0x90])
-}
-
-// Appends a call of function i, if i is below n.
-fn append_call_if_below(out: &mut Vec<u8>, n: u32, at: u32, i: u32) -> Result<(), NoMemory>
-    requires few { n ≤ 500 }
-    requires low { 0x80008000 ≤ at }
-    requires forward { i < n → at ≤ generated_function_at i }
-    ensures { OnOk result (out.new.items ≡ out.old.items ++ call_if_below n at i) }
-{
-    if i < n {
-        append_call(out, at, generated_function_at(i))?;
-    }
-    Ok(())
-}
-
 /// The main program.
 #[tactic(auto, using(crate::proofs::ImageLemmas::Instructions::main_bytes))]
 pub(crate) fn main_code() -> [u8; 32]
@@ -116,4 +72,48 @@ pub(crate) fn append_filled_handler(out: &mut Vec<u8>, n: u32, p: u8) -> Result<
 {
     append_handler(out, n, p)?;
     append_zeros(out, 308)
+}
+
+// Appends function i, and zeros up to the next function.
+#[tactic(auto, using(crate::proofs::ImageLemmas::Lengths::function_short))]
+fn append_filled_function(out: &mut Vec<u8>, n: u32, i: u32) -> Result<(), NoMemory>
+    requires few { n ≤ 500 }
+    requires within { i < n }
+    ensures { OnOk result (out.new.items ≡ out.old.items
+        ++ zero_padded_bytes 32 (function_code n i)) }
+{
+    let start = out.len();
+    append_function(out, n, i)?;
+    let zeros = 32 - (out.len() - start);
+    append_zeros(out, zeros)
+}
+
+// Appends function i of n. It reserves eight bytes of stack, stores a word there, and calls the
+// functions 2i + 1 and 2i + 2, if there are any.
+#[tactic(auto, using(crate::proofs::ImageLemmas::Instructions::function_bytes))]
+fn append_function(out: &mut Vec<u8>, n: u32, i: u32) -> Result<(), NoMemory>
+    requires few { n ≤ 500 }
+    requires within { i < n }
+    ensures { OnOk result (out.new.items ≡ out.old.items ++ function_code n i) }
+{
+    let at = generated_function_at(i);
+    // sub16.a a10, 8; st16.w [a10], d15
+    append_segment_bytes(out, &[0x20, 0x08, 0x74, 0xaf])?;
+    append_call_if_below(out, n, at + 4, 2 * i + 1)?;
+    append_call_if_below(out, n, at + 8, 2 * i + 2)?;
+    // ret16
+    append_segment_bytes(out, &[0x00, 0x90])
+}
+
+// Appends a call of function i, if i is below n.
+fn append_call_if_below(out: &mut Vec<u8>, n: u32, at: u32, i: u32) -> Result<(), NoMemory>
+    requires few { n ≤ 500 }
+    requires low { 0x80008000 ≤ at }
+    requires forward { i < n → at ≤ generated_function_at i }
+    ensures { OnOk result (out.new.items ≡ out.old.items ++ call_if_below n at i) }
+{
+    if i < n {
+        append_call(out, at, generated_function_at(i))?;
+    }
+    Ok(())
 }

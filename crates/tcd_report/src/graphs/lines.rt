@@ -56,39 +56,6 @@ pub(crate) fn append_edges(text: &mut String, front: &str, ways: &Edges) -> Resu
     append_handlers(text, front, &ways.irq)
 }
 
-// Appends one line for each of the addresses.
-fn append_lines(text: &mut String, front: &str, word: &str, targets: &[u32]) -> Result<(), NoMemory>
-    ensures { OnOk result (string_bytes text.new
-        ≡ string_bytes text.old ++ lines_to front.now word.now targets.now) }
-{
-    for to in targets {
-        append_line(text, front, word, *to)?;
-    }
-    Ok(())
-}
-
-// Appends the address that a line ends with, and a line feed.
-fn append_target(text: &mut String, to: u32) -> Result<(), NoMemory>
-    ensures { OnOk result
-        (string_bytes text.new ≡ string_bytes text.old ++ (hex_word to ++ 10 ∷ [])) }
-{
-    let w = hex_word(to);
-    append_ascii(
-        text,
-        &[w[0], w[1], w[2], w[3], w[4], w[5], w[6], w[7], b'\n'],
-    )
-}
-
-// Appends a line that ends with a word and an address.
-fn append_line(text: &mut String, front: &str, word: &str, to: u32) -> Result<(), NoMemory>
-    ensures { OnOk result (string_bytes text.new
-        ≡ string_bytes text.old ++ (front.now ++ line_end_to word.now to)) }
-{
-    extend_text(text, front)?;
-    extend_text(text, word)?;
-    append_target(text, to)
-}
-
 /// Appends the line of a point's own return, which ends with `ret` or `rfe` and no address, if its
 /// instruction is a return.
 pub(crate) fn append_leaving(text: &mut String, front: &str, shape: Shape) -> Result<(), NoMemory>
@@ -106,4 +73,37 @@ pub(crate) fn append_leaving(text: &mut String, front: &str, shape: Shape) -> Re
         }
         _ => Ok(()),
     }
+}
+
+// Appends one line for each of the addresses.
+fn append_lines(text: &mut String, front: &str, word: &str, targets: &[u32]) -> Result<(), NoMemory>
+    ensures { OnOk result (string_bytes text.new
+        ≡ string_bytes text.old ++ lines_to front.now word.now targets.now) }
+{
+    for to in targets {
+        append_line(text, front, word, *to)?;
+    }
+    Ok(())
+}
+
+// Appends a line that ends with a word and an address.
+fn append_line(text: &mut String, front: &str, word: &str, to: u32) -> Result<(), NoMemory>
+    ensures { OnOk result (string_bytes text.new
+        ≡ string_bytes text.old ++ (front.now ++ line_end_to word.now to)) }
+{
+    extend_text(text, front)?;
+    extend_text(text, word)?;
+    append_target(text, to)
+}
+
+// Appends the address that a line ends with, and a line feed.
+fn append_target(text: &mut String, to: u32) -> Result<(), NoMemory>
+    ensures { OnOk result
+        (string_bytes text.new ≡ string_bytes text.old ++ (hex_word to ++ 10 ∷ [])) }
+{
+    let w = hex_word(to);
+    append_ascii(
+        text,
+        &[w[0], w[1], w[2], w[3], w[4], w[5], w[6], w[7], b'\n'],
+    )
 }

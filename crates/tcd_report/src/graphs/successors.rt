@@ -53,6 +53,48 @@ pub(crate) fn push_successors(
     }
 }
 
+/// Appends a point's successors by a jump, or the addresses that its call enters. A function of its
+/// own, as it has room for a list of them.
+#[inline(never)]
+pub(crate) fn push_targets(
+    all: &mut Vec<u32>,
+    plan: &Plan,
+    addr: u32,
+    s: &State,
+    to: Target,
+) -> Result<(), NoMemory>
+    requires { IsTarget to }
+    ensures { OnOk result (all.new.items ≡ all.old.items
+        ++ unwrap_or (targets_of plan.now s.now addr to) []) }
+{
+    let targets = targets(plan, s, addr, to);
+    all.extend_from_slice(targets.as_slice())?;
+    Ok(())
+}
+
+/// Appends the address after a call or a system call, once for each entered frame that may return.
+/// `called` has the functions that a call may enter.
+pub(crate) fn add_returns(
+    all: &mut Vec<u32>,
+    judged: &Judged,
+    key: &Key,
+    addr: u32,
+    called: &[u32],
+    found: &Located,
+) -> Result<(), NoMemory>
+    ensures { let j = judged.now in (s : State)
+        → called.now ≡ called_of j.plan.now s addr found.now.shape
+        → OnOk result (all.new.items ≡ all.old.items
+        ++ returned_in j.cert.now (entries_at j key.now (point_of addr s) found.now)) }
+{
+    let back = addr.wrapping_add(found.size);
+    match found.shape {
+        Shape::Call { .. } => push_returns(all, judged.cert, key, called, back),
+        Shape::Syscall { .. } => push_return(all, judged.cert, &sys_key(judged.plan, key), back),
+        _ => Ok(()),
+    }
+}
+
 // Appends the addresses of those sides of a branch that are possible.
 fn push_sides(
     all: &mut Vec<u32>,
@@ -102,48 +144,6 @@ fn is_successor_possible(judged: &Judged, shape: Shape, s: &State, taken: bool) 
 {
     let mut c = identity_change(s);
     change_on(judged.bounds, judged.plan, shape, s, taken, &mut c)
-}
-
-/// Appends a point's successors by a jump, or the addresses that its call enters. A function of its
-/// own, as it has room for a list of them.
-#[inline(never)]
-pub(crate) fn push_targets(
-    all: &mut Vec<u32>,
-    plan: &Plan,
-    addr: u32,
-    s: &State,
-    to: Target,
-) -> Result<(), NoMemory>
-    requires { IsTarget to }
-    ensures { OnOk result (all.new.items ≡ all.old.items
-        ++ unwrap_or (targets_of plan.now s.now addr to) []) }
-{
-    let targets = targets(plan, s, addr, to);
-    all.extend_from_slice(targets.as_slice())?;
-    Ok(())
-}
-
-/// Appends the address after a call or a system call, once for each entered frame that may return.
-/// `called` has the functions that a call may enter.
-pub(crate) fn add_returns(
-    all: &mut Vec<u32>,
-    judged: &Judged,
-    key: &Key,
-    addr: u32,
-    called: &[u32],
-    found: &Located,
-) -> Result<(), NoMemory>
-    ensures { let j = judged.now in (s : State)
-        → called.now ≡ called_of j.plan.now s addr found.now.shape
-        → OnOk result (all.new.items ≡ all.old.items
-        ++ returned_in j.cert.now (entries_at j key.now (point_of addr s) found.now)) }
-{
-    let back = addr.wrapping_add(found.size);
-    match found.shape {
-        Shape::Call { .. } => push_returns(all, judged.cert, key, called, back),
-        Shape::Syscall { .. } => push_return(all, judged.cert, &sys_key(judged.plan, key), back),
-        _ => Ok(()),
-    }
 }
 
 /// Appends the successor of a call in its frame, the address after it, once for each of the called

@@ -52,20 +52,6 @@ pub(crate) fn heights(alloc: Global, judged: &Judged) -> Result<HashMap<Key, u32
     Ok(heights)
 }
 
-// The needs and keys of the nodes.
-fn height_ranks(alloc: Global, cert: &PackedCert) -> Result<Vec<(u16, Key)>, NoMemory>
-    ensures { IfOk result (λ v. v.items ≡ map rank_of cert.now.nodes) }
-{
-    let mut ranks = Vec::new(alloc);
-    for i in 0..cert.len() {
-        let Some(node) = cert.get(i) else {
-            unreachable!()
-        };
-        ranks.push((node.need, node.key))?;
-    }
-    Ok(ranks)
-}
-
 // The length of the longest call chain that begins with the instruction at a point.
 pub(crate) fn height_at_point(
     judged: &Judged,
@@ -90,6 +76,20 @@ pub(crate) fn height_at_point(
         Shape::Call { to } => height_of_call(judged.plan, heights, key, addr, s, to),
         _ => 0,
     }
+}
+
+// The needs and keys of the nodes.
+fn height_ranks(alloc: Global, cert: &PackedCert) -> Result<Vec<(u16, Key)>, NoMemory>
+    ensures { IfOk result (λ v. v.items ≡ map rank_of cert.now.nodes) }
+{
+    let mut ranks = Vec::new(alloc);
+    for i in 0..cert.len() {
+        let Some(node) = cert.get(i) else {
+            unreachable!()
+        };
+        ranks.push((node.need, node.key))?;
+    }
+    Ok(ranks)
 }
 
 // The length of the longest call chain that begins with a call. A function of its own, as it has

@@ -50,16 +50,6 @@ pub(crate) fn longest_by_priority(
     Ok(rows)
 }
 
-// The greater of a number, if there is one, and another number.
-fn longest_so_far(known: Option<&u32>, height: u32) -> u32
-    ensures { result ≡ longest_with (option_copied known.entry) height }
-{
-    match known {
-        None => height,
-        Some(most) => height.max(*most),
-    }
-}
-
 /// The number of priorities.
 #[tactic(auto, unfolding(crate::specs::Reports::Longest::priorities))]
 pub(crate) fn priority_count() -> u16
@@ -83,6 +73,24 @@ pub(crate) fn rows_below(
     Ok(rows)
 }
 
+// A priority, and its longest call chain.
+pub(crate) fn row_value(alloc: Global, row: &LongestCalls) -> Result<Value, NoMemory>
+    ensures { IfOk result (λ v. view v ≡ row_data row.now) }
+{
+    let value = json!(in alloc; {"longest": row.longest, "prio": row.prio})?;
+    Ok(value)
+}
+
+// The greater of a number, if there is one, and another number.
+fn longest_so_far(known: Option<&u32>, height: u32) -> u32
+    ensures { result ≡ longest_with (option_copied known.entry) height }
+{
+    match known {
+        None => height,
+        Some(most) => height.max(*most),
+    }
+}
+
 // Appends the longest chain of a priority, if it has nodes.
 fn push_row(rows: &mut Vec<LongestCalls>, prio: u16, row: Option<&u32>) -> Result<(), NoMemory>
     ensures { OnOk result
@@ -95,12 +103,4 @@ fn push_row(rows: &mut Vec<LongestCalls>, prio: u16, row: Option<&u32>) -> Resul
         })?;
     }
     Ok(())
-}
-
-// A priority, and its longest call chain.
-pub(crate) fn row_value(alloc: Global, row: &LongestCalls) -> Result<Value, NoMemory>
-    ensures { IfOk result (λ v. view v ≡ row_data row.now) }
-{
-    let value = json!(in alloc; {"longest": row.longest, "prio": row.prio})?;
-    Ok(value)
 }

@@ -46,6 +46,34 @@ pub(crate) fn whole_value(
     Ok(Value::Object(members))
 }
 
+/// Returns the array of the nodes in the report's JSON, in the order of their keys.
+pub(crate) fn nodes_value(alloc: Global, cert: &PackedCert) -> Result<Value, NoMemory>
+    ensures { IfOk result (λ v. view v ≡ nodes_data cert.now.nodes) }
+{
+    let mut values = Vec::new(alloc);
+    for i in 0..cert.len() {
+        let Some(node) = cert.get(i) else {
+            unreachable!()
+        };
+        let value = node_value(alloc, &node)?;
+        values.push(value)?;
+    }
+    Ok(Value::Array(values))
+}
+
+/// Returns the longest call chains of the priorities as the text of the report has them: an array
+/// of objects.
+pub(crate) fn rows_value(alloc: Global, rows: &[LongestCalls]) -> Result<Value, NoMemory>
+    ensures { IfOk result (λ v. view v ≡ rows_data rows.now) }
+{
+    let mut values = Vec::new(alloc);
+    for row in rows {
+        let value = row_value(alloc, row)?;
+        values.push(value)?;
+    }
+    Ok(Value::Array(values))
+}
+
 // Puts a member that is a number into an object.
 fn put_report_count(
     members: &mut Map<String, Value>,
@@ -73,21 +101,6 @@ fn put_report_value(
     Ok(())
 }
 
-/// Returns the array of the nodes in the report's JSON, in the order of their keys.
-pub(crate) fn nodes_value(alloc: Global, cert: &PackedCert) -> Result<Value, NoMemory>
-    ensures { IfOk result (λ v. view v ≡ nodes_data cert.now.nodes) }
-{
-    let mut values = Vec::new(alloc);
-    for i in 0..cert.len() {
-        let Some(node) = cert.get(i) else {
-            unreachable!()
-        };
-        let value = node_value(alloc, &node)?;
-        values.push(value)?;
-    }
-    Ok(Value::Array(values))
-}
-
 /// Returns a node as the text of the report has it: an object with its key, its need, and the
 /// number of its points.
 fn node_value(alloc: Global, node: &PackedNode<'_>) -> Result<Value, NoMemory>
@@ -97,17 +110,4 @@ fn node_value(alloc: Global, node: &PackedNode<'_>) -> Result<Value, NoMemory>
     append_key(&mut key, &node.key)?;
     let value = json!(in alloc; {"key": key, "need": node.need, "points": node.len()})?;
     Ok(value)
-}
-
-/// Returns the longest call chains of the priorities as the text of the report has them: an array
-/// of objects.
-pub(crate) fn rows_value(alloc: Global, rows: &[LongestCalls]) -> Result<Value, NoMemory>
-    ensures { IfOk result (λ v. view v ≡ rows_data rows.now) }
-{
-    let mut values = Vec::new(alloc);
-    for row in rows {
-        let value = row_value(alloc, row)?;
-        values.push(value)?;
-    }
-    Ok(Value::Array(values))
 }
