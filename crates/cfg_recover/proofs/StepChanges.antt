@@ -8,14 +8,9 @@ use Rattle.tc_isa.specs.declared.shapes.Shape.TheVariants.{Load, Nothing}
 use Rattle.value_domain.specs.declared.values.Val.{Val}
 use Rattle.value_domain.specs.declared.states.State.{State}
 use Rattle.value_domain.specs.Limits.{Limits}
-use Rattle.value_domain.specs.Values.{IsValue, any_val}
-use Rattle.vd_transfer.specs.EffectsOnStates.{EffectLoadsValue, transfer_of}
+use Rattle.value_domain.specs.Values.{any_val}
+use Rattle.vd_transfer.specs.EffectsOnStates.{transfer_of}
 use Rattle.cfg_recover.specs.Duties.{loaded_for_duties}
-
--- any value will do, unless the instruction is a load
-pub loaded_is : (b : Limits) (shape : Shape) (v : Val) → IsValue b v → EffectLoadsValue b shape v
-loaded_is b (Load dst base offset size signed after) v value = value
-loaded_is b _ v value = tt
 
 -- an instruction that isn't a load
 abbrev pub LoadsNone : Shape → Type 0

@@ -8,7 +8,6 @@ ghost use Rattle.cfg_recover.specs.Duties.{entries_of, misaligned_at, misaligned
 ghost use Rattle.cfg_recover.specs.FlowStates.{EntersWithValues};
 ghost use Rattle.cfg_recover.specs.FlowDuties.{told_entry, rule_of_entry, told_leaving, flow_leave_of};
 
-use crate::built_states::{address, state_after_change};
 use crate::decoded_inst::InstAt;
 use crate::entry_changes::{call_change, misaligned_change, system_change};
 use crate::flow_targets::{one_target, targets};
@@ -19,6 +18,7 @@ use store_ranges::aligned;
 use tc_isa::{Inst, Shape, shape};
 use tcd_plan::Plan;
 use value_domain::{Bounds, State, Val};
+use vd_transfer::{address, state_after_change};
 
 /// The entries by a call or a system call.
 pub(crate) fn call_flow_entry(

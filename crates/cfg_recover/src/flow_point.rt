@@ -10,7 +10,6 @@ ghost use Rattle.cfg_recover.specs.FlowDuties.{told_by_flow, flow_leave_of, Flow
 ghost use Rattle.cfg_recover.specs.LocalFaults.{IsLocalFault};
 
 use crate::Flow;
-use crate::built_states::state_after_change;
 use crate::decoded_inst::InstAt;
 use crate::entry_changes::handler_change;
 use crate::flow_entries::{call_flow_entry, flow_leave, misaligned_flow_entry};
@@ -21,6 +20,7 @@ use depth_cert::Key;
 use elf_image::Image;
 use tcd_plan::Plan;
 use value_domain::{Bounds, State};
+use vd_transfer::state_after_change;
 
 /// Computes the Flow of a point with this state: everything that a certificate must have because of
 /// that point. If a rule's own part fails at the point, gives the least such rule.

@@ -13,7 +13,6 @@ ghost use Rattle.cfg_recover.specs.FlowStates.{JumpsWithValues};
 ghost use Rattle.cfg_recover.specs.FlowDuties.{told_jump, told_jumps};
 
 use crate::Jump;
-use crate::built_states::{refine, state_after_change};
 use crate::decoded_inst::InstAt;
 use crate::flow_targets::{one_target, targets};
 use arrayvec::ArrayVec;
@@ -22,7 +21,9 @@ use store_ranges::{LoadKind, write_load};
 use tc_isa::{Inst, Shape, shape};
 use tcd_plan::Plan;
 use value_domain::{Bounds, State, Val, write_any};
-use vd_transfer::{Base, Change, change_of, identity_change, write_address};
+use vd_transfer::{
+    Base, Change, change_of, identity_change, refine, state_after_change, write_address,
+};
 
 /// The successors of the instruction in its frame, without the one after a call or a system call.
 pub(crate) fn successors(

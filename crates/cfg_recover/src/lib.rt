@@ -2,7 +2,6 @@
 #![tactic(auto)]
 
 mod after_return;
-mod built_states;
 mod code_cache;
 mod decoded_inst;
 mod entry_changes;
@@ -20,7 +19,6 @@ mod rom_code;
 mod start;
 
 pub use after_return::{after, covers_after};
-pub use built_states::{address, refine, state_after_change, transfer};
 pub use code_cache::KnownCodes;
 pub use entry_changes::{call_change, handler_change, misaligned_change, system_change};
 pub use flow_entries::is_flow_access_aligned;

@@ -8,12 +8,11 @@ ghost use Rattle.vd_transfer.specs.EffectsOnStates.{EffectHasRoom};
 use crate::asserts::{is_so, same};
 use crate::boards::board;
 use crate::states::{open, with};
-use cfg_recover::{address, refine, transfer};
 use std::test::Fail;
 use tc_isa::{Inst, Shape, inst, shape};
 use tcd_plan::Plan;
 use value_domain::{Bounds, State, Val, cover_words};
-use vd_transfer::reg;
+use vd_transfer::{address, refine, reg, transfer};
 
 /// Whether an instruction computes or loads, and so needs no room for a lower context.
 fn needs_no_room(b: &Bounds, inst: &Inst, s: &State) -> bool

@@ -3,6 +3,7 @@
 
 mod access;
 mod branch_sides;
+mod built_states;
 mod change;
 mod changed_states;
 mod effect;
@@ -16,6 +17,7 @@ mod strided_interval;
 
 pub use access::{address_by, write_address};
 pub use branch_sides::change_on;
+pub use built_states::{address, refine, state_after_change, transfer};
 pub use change::{Base, Change, Put, identity_change, put_register};
 pub use changed_states::{changed_value, covers_changed};
 pub use effect::change_of;

@@ -1,7 +1,8 @@
 use Rattle.std.proofs.Common.{ap, ◌∙◌}
 use Rattle.value_domain.specs.declared.values.Val.{Val}
 use Rattle.vd_transfer.specs.EffectsOnStates.{transfer_of}
-use Rattle.cfg_recover.proofs.StepChanges.{loaded_is, nothing_keeps, writes_none}
+use Rattle.vd_transfer.proofs.LoadedValues.{loaded_is}
+use Rattle.cfg_recover.proofs.StepChanges.{nothing_keeps, writes_none}
 use Rattle.cfg_recover.proofs.flow_successors.successor_change.Goals as goal
 
 pub change_of-requires-clause-loaded : goal.change_of-requires-clause-loaded

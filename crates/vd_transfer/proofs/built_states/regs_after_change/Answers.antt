@@ -5,7 +5,7 @@ use Rattle.value_domain.specs.declared.values.Val.{Val}
 use Rattle.value_domain.specs.Values.{any_val}
 use Rattle.vd_transfer.specs.Changes.{state_after}
 use Rattle.vd_transfer.proofs.ChangeLaws.{length-changed}
-use Rattle.cfg_recover.proofs.built_states.regs_after_change.Goals as goal
+use Rattle.vd_transfer.proofs.built_states.regs_after_change.Goals as goal
 
 pub loop-i-preserved : goal.loop-i-preserved
 loop-i-preserved c =

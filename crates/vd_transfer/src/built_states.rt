@@ -1,4 +1,4 @@
-// States that a change makes of another, and the addresses of accesses.
+// States built whole from changes, and the addresses of accesses.
 ghost use Rattle.std.specs.Prelude.{◌≡◌, IfSome};
 ghost use Rattle.value_domain.specs.Values.{IsValue};
 ghost use Rattle.value_domain.specs.State.{AreValues};
@@ -7,10 +7,14 @@ ghost use Rattle.vd_transfer.specs.EffectsOnStates.{EffectHasRoom, address_of, t
 ghost use Rattle.vd_transfer.specs.Branches.{refine_of};
 ghost use Rattle.vd_transfer.specs.Changes.{state_after};
 
+use crate::access::address_by;
+use crate::branch_sides::change_on;
+use crate::change::{Change, identity_change};
+use crate::changed_states::changed_value;
+use crate::effect::change_of;
 use tc_isa::{Inst, shape};
 use tcd_plan::Plan;
 use value_domain::{Bounds, State, Val, copy_locals};
-use vd_transfer::{Change, address_by, change_of, change_on, changed_value, identity_change};
 
 /// Returns the addresses that a load or a store may access in a point's state, as one value that is
 /// built here from its instruction.
