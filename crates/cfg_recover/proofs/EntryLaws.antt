@@ -14,7 +14,7 @@ use Rattle.tc_isa.specs.declared.shapes.Shape.{Shape}
 use Rattle.tc_isa.specs.declared.shapes.Shape.TheVariants.{Compute, Scaled, Load, Store, Branch, Rslcx, Mfcr}
 use Rattle.tc_machine.specs.declared.state.Machine.{Machine}
 use Rattle.tc_machine.specs.Machine.{reg, a10, is_interrupt_stack_used, IsMachine}
-use Rattle.tc_machine.specs.Instructions.{handler_stack}
+use Rattle.tc_machine.specs.Handlers.{handler_stack}
 use Rattle.tc_machine.specs.Starting.{HasGlobals, Starts}
 use Rattle.tc_machine.proofs.Words.{register_lt}
 use Rattle.value_domain.specs.declared.values.Val.{Val}

@@ -9,7 +9,7 @@ use Rattle.tc_isa.specs.declared.shapes.Shape.TheVariants.{Call, Ret, Rfe, Sysca
 use Rattle.tc_machine.specs.declared.events.Cause.{Cause}
 use Rattle.tc_machine.specs.declared.events.Event.{Event}
 use Rattle.tc_machine.specs.declared.state.Machine.{Machine}
-use Rattle.tc_machine.specs.Machine.{machine_address_ahead}
+use Rattle.tc_machine.specs.Instructions.{machine_address_ahead, is_trapping_instruction}
 use Rattle.tc_machine.specs.Fetching.{fetched, fetched_size}
 use Rattle.tc_machine.specs.Stepping.{is_taken, step, run}
 use Rattle.depth_cert.specs.declared.points.Point.{Point}
@@ -21,11 +21,10 @@ use Rattle.cfg_recover.specs.Entries.{start_key}
 use Rattle.cfg_recover.specs.Duties.{Owed, duties_of}
 use Rattle.cfg_recover.specs.RulesHoldOrFail.{limits_in}
 use Rattle.cfg_recover.specs.MovesAreOwed.{InState}
-use Rattle.tc_machine.specs.Instructions.{is_trapping_instruction}
 use Rattle.cfg_recover.specs.Frames.{Standing, frames_by, frames_after, frames_from, frames, AreFramesHeld, HoldFrames, IsReturn}
-use Rattle.cfg_recover.specs.EdgesAreOwed.{IsEdgeWayOwed, EdgeOwed}
+use Rattle.cfg_recover.specs.EdgesAreOwed.{IsEdgeWayOwed, EdgeOwed, GoesBackToFrame}
 use Rattle.cfg_recover.specs.StepEdges.{EdgeWay, to, call, irq, sys, aln, ret, rfe, edge_way_of_shape, edge_way_by_trap, edge_way_in_fetch, edge_way_of_step}
-use Rattle.cfg_recover.specs.EdgeAndFrameLaws.{StepMeetsShape, KeepsFrame, EdgeIs, EdgesAre, FramesNext, FramesAre, FramesSay, HeldFramesSay, GoesBackToFrame, StepOwed, EdgeSays, OwedEdgesSay}
+use Rattle.cfg_recover.specs.EdgeAndFrameLaws.{StepMeetsShape, KeepsFrame, EdgeIs, EdgesAre, FramesNext, FramesAre, FramesSay, HeldFramesSay, StepOwed, EdgeSays, OwedEdgesSay}
 
 -- ---- edges
 stays_to : (shape : Shape) (q : ℕ) → KeepsFrame shape → edge_way_of_shape shape q ≡ to q

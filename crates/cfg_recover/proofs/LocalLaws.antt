@@ -16,7 +16,7 @@ use Rattle.value_domain.specs.Sets.{Among}
 use Rattle.value_domain.specs.Values.{members, IsWell, word_val}
 use Rattle.value_domain.proofs.CoverLaws.{member_same}
 use Rattle.vd_transfer.specs.EffectsOnStates.{address_of}
-use Rattle.tcd_plan.specs.Regions.{IsStoreInRange}
+use Rattle.tcd_plan.specs.MappedAddresses.{IsStoreInRange}
 use Rattle.store_ranges.specs.Accesses.{AreAligned, AreStoresInRange, are_aligned}
 use Rattle.depth_cert.specs.declared.keys.Key.{Key}
 use Rattle.cfg_recover.specs.Code.{IsCode}

@@ -19,11 +19,11 @@ use Rattle.tc_isa.specs.InBounds.{IsArg, IsTarget}
 use Rattle.tc_machine.specs.declared.events.Event.{Event}
 use Rattle.tc_machine.specs.declared.events.End.TheVariants.{Running}
 use Rattle.tc_machine.specs.declared.state.Machine.{Machine}
-use Rattle.tc_machine.specs.Machine.{reg, a11, machine_address_ahead, IsMachine}
+use Rattle.tc_machine.specs.Machine.{reg, a11, IsMachine, core_register}
+use Rattle.tc_machine.specs.Instructions.{machine_address_ahead, does, access_address, is_trapping_access, target_of, is_trapping_instruction}
 use Rattle.tc_machine.specs.Fetching.{fetched}
-use Rattle.tc_machine.specs.Instructions.{does, access_address, is_trapping_access, target_of, core_register, is_trapping_instruction}
 use Rattle.tc_machine.specs.Stepping.{is_taken, load_in, store_in, where_running, stored, step}
-use Rattle.tcd_plan.specs.Regions.{IsInAreas, AnswersLoad, IsStoreInRange}
+use Rattle.tcd_plan.specs.MappedAddresses.{IsInAreas, AnswersLoad, IsStoreInRange}
 use Rattle.tc_machine.specs.Safe.{Fits}
 use Rattle.tc_machine.proofs.Steps.{with_event, step_does, stored-is}
 use Rattle.tc_machine.proofs.Stays.{stays_step, irq_lt}

@@ -10,8 +10,9 @@ use Rattle.tc_isa.specs.InBounds.{IsShape}
 use Rattle.tc_isa.proofs.ShapeBounds.{shape_is}
 use Rattle.tc_machine.specs.declared.events.Event.{Event}
 use Rattle.tc_machine.specs.declared.state.Machine.{Machine}
-use Rattle.tc_machine.specs.Machine.{a11, machine_address_ahead, then_}
-use Rattle.tc_machine.specs.Instructions.{advanced, does, trap, misaligned, is_trapping_instruction}
+use Rattle.tc_machine.specs.Machine.{a11, then_}
+use Rattle.tc_machine.specs.Instructions.{machine_address_ahead, advanced, does, misaligned, is_trapping_instruction}
+use Rattle.tc_machine.specs.Handlers.{trap}
 use Rattle.tc_machine.specs.SavesAndRestores.{save, restore}
 use Rattle.tc_machine.specs.Fetching.{fetched}
 use Rattle.tc_machine.proofs.Fetched.{fetched-is}

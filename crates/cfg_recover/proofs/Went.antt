@@ -12,8 +12,8 @@ use Rattle.tc_isa.specs.Arithmetic.{alu_of, taken_of}
 use Rattle.tc_isa.specs.InBounds.{IsArg}
 use Rattle.tc_machine.specs.declared.events.Event.{Event}
 use Rattle.tc_machine.specs.declared.state.Machine.{Machine}
-use Rattle.tc_machine.specs.Machine.{reg, with_reg, machine_address_ahead, IsMachine}
-use Rattle.tc_machine.specs.Instructions.{arg, advanced, access_address, with_base, is_trapping_access, core_register, lowered, target_of, does}
+use Rattle.tc_machine.specs.Machine.{reg, with_reg, IsMachine, core_register}
+use Rattle.tc_machine.specs.Instructions.{machine_address_ahead, arg, advanced, access_address, with_base, is_trapping_access, lowered, target_of, does}
 use Rattle.vd_transfer.specs.EffectsOnWords.{words_with_register, word_of, access_word, with_base_word, words_after}
 
 -- ---- registers

@@ -9,7 +9,7 @@ use Rattle.tcd_base.specs.declared.range.Range.{Range}
 use Rattle.tcd_plan.specs.declared.plans.Device.{Device}
 use Rattle.tcd_plan.specs.PlanData.{PlanData, IsPlan, are_all_ranges_apart, areas_range}
 use Rattle.tcd_base.specs.Ranges.{IsWithinRange, IsInOneRange}
-use Rattle.tcd_plan.specs.Regions.{IsInAreas, IsStoreInRange}
+use Rattle.tcd_plan.specs.MappedAddresses.{IsInAreas, IsStoreInRange}
 use Rattle.tc_mem.specs.PlanMemory.{HoldsRom, IsPlanMemory}
 use Rattle.store_ranges.proofs.Sound.{in_ranges}
 use Rattle.tcd_base.proofs.RangeLaws.{in_one, IsInOne-front, IsInOne-behind}

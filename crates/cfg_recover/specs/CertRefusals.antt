@@ -7,7 +7,7 @@ use Rattle.tcd_plan.specs.PlanData.{PlanData}
 use Rattle.value_domain.specs.declared.states.State.{State}
 use Rattle.value_domain.specs.Limits.{Limits}
 use Rattle.value_domain.specs.State.{joined_states}
-use Rattle.value_domain.specs.Thresholds.{limits_for}
+use Rattle.value_domain.specs.VersionLimits.{limits_for}
 use Rattle.depth_cert.specs.declared.keys.Key.{Key}
 use Rattle.depth_cert.specs.Keys.{number_of_key, same_key}
 use Rattle.cfg_recover.specs.Entries.{start_key}
@@ -35,7 +35,8 @@ pub record HasManyPoints (a : Assignment) : Type 0 where
 abbrev pub IsPastCertLimits : Assignment → Type 0
 IsPastCertLimits a = HasManyNodes a ⊎ HasManyPoints a
 
--- one step of the analysis passes a limit, by the point that it adds
+-- why no certificate passes: one step of the analysis passes a limit of certificates, by the point
+-- that it adds
 pub record PassesCertLimit (b : Limits) (image : ImageData) (plan : PlanData) (k : Key) (p : ℕ) : Type 0 where
   pub before : Assignment
   pub after : Assignment
@@ -58,8 +59,8 @@ pub data IsRefusalFault (b : Limits) (image : ImageData) (plan : PlanData) : ℕ
   derived : (a : Assignment) (r : ℕ) (k : Key) (p : ℕ) → Derived b image plan a → HasRefusalFault b image plan a r k p → IsRefusalFault b image plan r k p
   limits : (k : Key) (p : ℕ) → PassesCertLimit b image plan k p → IsRefusalFault b image plan 15 k p
 
--- the least assignment: it is derived and closed, and there is no fault for which a certificate is
--- refused
+-- a certificate isn't refused by a fault: this is the least assignment, derived and closed, and
+-- only recursion or too great a need can still be a reason to refuse
 pub record IsLeastAssignment (b : Limits) (image : ImageData) (plan : PlanData) (a : Assignment) : Type 0 where
   pub derived : Derived b image plan a
   pub closed : Closed b image plan a

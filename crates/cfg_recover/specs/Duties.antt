@@ -7,7 +7,7 @@ use Rattle.elf_image.specs.Images.{ImageData}
 use Rattle.tcd_plan.specs.PlanData.{PlanData}
 use Rattle.tc_isa.specs.declared.shapes.Shape.{Shape}
 use Rattle.tc_isa.specs.declared.shapes.Shape.TheVariants.{Load, Store, Branch, Jump, Call, Ret, Rfe, Syscall, Mtcr}
-use Rattle.tc_machine.specs.Machine.{machine_address_ahead}
+use Rattle.tc_machine.specs.Instructions.{machine_address_ahead}
 use Rattle.value_domain.specs.declared.values.Val.{Val}
 use Rattle.value_domain.specs.declared.states.State.{State}
 use Rattle.value_domain.specs.Limits.{Limits}
@@ -87,8 +87,8 @@ entries_of plan key p s (Call to) n = flat_map (λ t. entered_and_back 5 (call_k
 entries_of plan key p s (Syscall tin) n = entered_and_back 12 (sys_key plan key) (sys_entry plan key s tin) (machine_address_ahead p n)
 entries_of plan key p s _ n = []
 
--- what a point owes by a misaligned access: the duty to enter the handler of misaligned accesses,
--- which rule 10 asks for
+-- a duty of a point, and the rule that asks for it: to enter the handler of misaligned accesses, by
+-- rule 10
 abbrev pub misaligned_entry : PlanData → Key → State → Owed
 misaligned_entry plan key s = owed 10 (enter (aln_key plan key) (aln_entry plan key s))
 
@@ -104,11 +104,13 @@ misaligned_of b plan key s (Load dst base offset size signed after) =
 misaligned_of b plan key s (Store src base offset size after) = misaligned_at plan key s (address_of b plan (Store src base offset size after) s) size
 misaligned_of b plan key s _ = []
 
--- the entries of their handlers (rule 11)
+-- what a point owes by interrupts: the duties to enter the handlers of those that may be taken,
+-- which rule 11 asks for
 abbrev pub interrupts_of : PlanData → Key → State → List Owed
 interrupts_of plan key s = map (λ p. owed 11 (enter (irq_key plan p) (irq_entry plan key s p))) (irqs_of plan s)
 
--- the exits: of a function, by RET (rule 6), and of the handler of system calls, by RFE (rule 7)
+-- what a point owes by leaving its frame: the duty of the exit of a function by RET (rule 6), or of
+-- the handler of system calls by RFE (rule 7)
 abbrev pub leavings_of : Key → State → Shape → List Owed
 leavings_of key s Ret = owed 6 (leave (exit_of s)) ∷ []
 leavings_of key s Rfe = if key.kind == sys_kind then owed 7 (leave (exit_of s)) ∷ [] else []

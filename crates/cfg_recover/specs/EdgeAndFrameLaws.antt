@@ -9,9 +9,9 @@ use Rattle.tc_isa.specs.declared.shapes.Shape.{Shape}
 use Rattle.tc_isa.specs.declared.shapes.Shape.TheVariants.{Load, Store, Call, Ret, Rfe, Syscall}
 use Rattle.tc_machine.specs.declared.events.Event.{Event}
 use Rattle.tc_machine.specs.declared.state.Machine.{Machine}
-use Rattle.tc_machine.specs.Machine.{reg, is_interrupt_stack_used, machine_address_ahead}
+use Rattle.tc_machine.specs.Machine.{reg, is_interrupt_stack_used}
+use Rattle.tc_machine.specs.Instructions.{machine_address_ahead, access_address, is_trapping_instruction}
 use Rattle.tc_machine.specs.Fetching.{fetched}
-use Rattle.tc_machine.specs.Instructions.{access_address, is_trapping_instruction}
 use Rattle.tc_machine.specs.Stepping.{is_taken, step, run}
 use Rattle.tc_machine.specs.Safe.{Fits, AllFit}
 use Rattle.tc_machine.specs.Starting.{Starts}
@@ -25,7 +25,7 @@ use Rattle.cfg_recover.specs.Code.{IsCode}
 use Rattle.cfg_recover.specs.Duties.{Owed, jump, duties_of}
 use Rattle.cfg_recover.specs.RulesHoldOrFail.{limits_in}
 use Rattle.cfg_recover.specs.Frames.{Standing, frames, entered_frame_at, frame_going_on, HoldFrames}
-use Rattle.cfg_recover.specs.EdgesAreOwed.{EdgesOwed, OwesEntryAt}
+use Rattle.cfg_recover.specs.EdgesAreOwed.{EdgesOwed, OwesEntryAt, GoesBackToFrame}
 use Rattle.cfg_recover.specs.StepEdges.{to, call, irq, sys, aln, ret, rfe, edge_way_of_step, edge_of_step}
 
 -- ---- steps
@@ -101,10 +101,8 @@ abbrev pub FramesAre : Type 0
 FramesAre = (image : ImageData) (plan : PlanData) (m : Machine) → FramesFollow image plan m
 
 -- ---- what frames that are held say
--- The newest frame is at pc, and its key has PSW.IS. Its node has a point at pc, and that point's
--- state holds the machine. Each register is a member of its value, so A0, A1, A8 and A9 are the
--- plan's. Interrupts are enabled only if the state allows it, and CCPN isn't below the state's. All
--- older frames have nodes.
+-- the law of held frames: the newest is at pc, its key has PSW.IS, and the state of its node's
+-- point at pc holds the registers, IE and CCPN; all older frames have nodes
 pub record FramesSay (plan : PlanData) (cert : CertData) (m : Machine) (all : List Standing) : Type 0 where
   pub newest : Standing
   pub older : List Standing
@@ -133,14 +131,6 @@ HeldFramesSay =
     → FramesSay plan cert (run m es) (frames image plan m es)
 
 -- ---- what edges that are owed say
-
--- the law of owed edges at RET and RFE: there is an older frame, and the return goes back to it at
--- this address
-pub record GoesBackToFrame (older : List Standing) (q : ℕ) : Type 0 where
-  pub caller : Standing
-  pub rest : List Standing
-  pub are : older ≡ caller ∷ rest
-  pub at : caller.at ≡ q
 
 -- the law of owed edges, by kinds of steps: the newest frame's point owes the entry of a handler or
 -- of a called frame, or a jump in the frame; RET and RFE go back to the frame before
@@ -171,8 +161,8 @@ pub record EdgeSays (image : ImageData) (plan : PlanData) (cert : CertData) (m :
   pub code : IsCode image plan m.pc shape size
   pub owed : StepOwed (duties_of (limits_in plan cert) image plan newest.key m.pc point.state shape size) newest older m e
 
--- the law of owed edges: where each step of every run from every start state goes is owed by the
--- newest frame's point, or goes back to the frame before
+-- one of the laws of edges and frames: where each step of every run from every start state goes is
+-- owed by the newest frame's point, or goes back to the frame before
 abbrev pub OwedEdgesSay : Type 0
 OwedEdgesSay =
     (image : ImageData) (plan : PlanData) (cert : CertData) → EdgesOwed image plan cert

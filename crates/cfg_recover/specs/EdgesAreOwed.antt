@@ -65,8 +65,16 @@ EdgesOwed image plan cert =
     (m : Machine) (es : List Event) (e : Event) → Starts image plan m → AllFit plan m es → Fits plan (run m es) e
     → EdgeOwed image plan cert (run m es) e (frames image plan m es)
 
--- among these duties is one to enter a frame whose key has these parts, by this rule and with some
--- state
+-- an edge into a frame is owed: among these duties of a point is one to enter a frame whose key has
+-- these parts, by this rule and with some state
 abbrev pub OwesEntryAt : List Owed → ℕ → ℕ → ℕ → ℕ → Bool → Type 0
 OwesEntryAt ds rule kind entry prio is =
     (t : State) × Contains ds (record { rule = rule; duty = enter (record { kind = kind; entry = entry; prio = prio; is = is }) t })
+
+-- an edge by RET or RFE, which needs no duty: there is an older frame, and the return goes back to
+-- it at this address
+pub record GoesBackToFrame (older : List Standing) (q : ℕ) : Type 0 where
+  pub caller : Standing
+  pub rest : List Standing
+  pub are : older ≡ caller ∷ rest
+  pub at : caller.at ≡ q

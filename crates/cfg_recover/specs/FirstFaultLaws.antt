@@ -43,8 +43,8 @@ FirstFaultsSay =
     (image : ImageData) (plan : PlanData) (cert : CertData) (r : ℕ) (k : Key) (p : ℕ) → image.entry < 2 ^ 32 → IsCert cert
     → IsFirstFault image plan cert r k p → FirstFaultSays image plan cert r k p
 
--- the law of the certified need, which is printed where there is no first fault: it is the need of
--- the node of the start
+-- a law beside that of the first fault: the certified need, printed where there is no fault, is
+-- that of the certificate's node of the start
 abbrev pub NeedSays : Type 0
 NeedSays =
     (image : ImageData) (plan : PlanData) (cert : CertData) (node : NodeData)

@@ -9,11 +9,11 @@ use Rattle.tc_isa.specs.declared.shapes.Shape.TheVariants as shape
 use Rattle.value_domain.specs.declared.states.State.{State}
 use Rattle.value_domain.specs.Limits.{Limits}
 use Rattle.depth_cert.specs.declared.keys.Key.{Key}
-use Rattle.cfg_recover.specs.declared.flows.Jump.{Jump}
-use Rattle.cfg_recover.specs.declared.flows.Enter.{Enter}
-use Rattle.cfg_recover.specs.declared.flows.Leave.{Leave}
-use Rattle.cfg_recover.specs.declared.flows.Leave.TheVariants.{Stays, Ret, Rfe}
-use Rattle.cfg_recover.specs.declared.flows.Flow.{Flow}
+use Rattle.cfg_recover.specs.declared.flow_types.Jump.{Jump}
+use Rattle.cfg_recover.specs.declared.flow_types.Enter.{Enter}
+use Rattle.cfg_recover.specs.declared.flow_types.Leave.{Leave}
+use Rattle.cfg_recover.specs.declared.flow_types.Leave.TheVariants.{Stays, Ret, Rfe}
+use Rattle.cfg_recover.specs.declared.flow_types.Flow.{Flow}
 use Rattle.cfg_recover.specs.Code.{IsCode}
 use Rattle.cfg_recover.specs.Entries.{irq_key, irq_entry, entered_key}
 use Rattle.depth_cert.specs.Exits.{exit_of}

@@ -2,9 +2,9 @@
 use Rattle.std.specs.Prelude.{All, IfSome, Option}
 use Rattle.value_domain.specs.Limits.{Limits}
 use Rattle.value_domain.specs.State.{AreValues}
-use Rattle.cfg_recover.specs.declared.flows.Jump.{Jump}
-use Rattle.cfg_recover.specs.declared.flows.Enter.{Enter}
-use Rattle.cfg_recover.specs.declared.flows.Flow.{Flow}
+use Rattle.cfg_recover.specs.declared.flow_types.Jump.{Jump}
+use Rattle.cfg_recover.specs.declared.flow_types.Enter.{Enter}
+use Rattle.cfg_recover.specs.declared.flow_types.Flow.{Flow}
 
 -- the state of a jump has values of the plan's lattice
 abbrev pub JumpsWithValues : Limits → Option Jump → Type 0

@@ -4,7 +4,8 @@ use Rattle.elf_image.specs.Images.{ImageData}
 use Rattle.tcd_plan.specs.PlanData.{PlanData}
 use Rattle.tc_machine.specs.declared.events.Event.{Event}
 use Rattle.tc_machine.specs.declared.state.Machine.{Machine}
-use Rattle.tc_machine.specs.Machine.{is_interrupt_stack_used, machine_address_ahead}
+use Rattle.tc_machine.specs.Machine.{is_interrupt_stack_used}
+use Rattle.tc_machine.specs.Instructions.{machine_address_ahead}
 use Rattle.tc_machine.specs.Fetching.{fetched, fetched_size}
 use Rattle.tc_machine.specs.Stepping.{step}
 use Rattle.depth_cert.specs.declared.keys.Key.{Key}
@@ -62,13 +63,13 @@ abbrev pub frames : ImageData → PlanData → Machine → List Event → List S
 frames image plan m es = frames_from m es (record { key = start_key image plan; at = m.pc } ∷ [])
 
 -- ---- what an accepted certificate says about frames
--- a frame of a run lies at a point of the certificate: the point of the frame's node, at the
--- address where the frame is, has a state that holds the machine
+-- a frame of a run lies at a point: in the certificate, the node of the frame's key has a point at
+-- the frame's address, whose state holds the machine
 abbrev pub FrameLiesAtPoint : PlanData → CertData → Machine → Standing → Type 0
 FrameLiesAtPoint plan cert m f = IsSomeAnd (find_node f.key cert.nodes) (λ n. IsSomeAnd (find_point f.at n.points) (λ p. InState plan m p.state))
 
--- The newest frame is at the machine's pc, each frame has a node, the newest one's point holds the
--- machine, and `is` of its key is PSW.IS.
+-- the frames of a run are held: the newest is at pc and at a point that holds the machine, `is` of
+-- its key is PSW.IS, and each has a node in the certificate
 pub record AreFramesHeld (plan : PlanData) (cert : CertData) (m : Machine) (f : Standing) (fs : List Standing) : Type 0 where
   pub at : f.at ≡ m.pc
   pub nodes : All (λ g. IsSome (find_node g.key cert.nodes)) (f ∷ fs)

@@ -10,7 +10,8 @@ abbrev pub held_bytes : ImageData → ℕ → ℕ → Option (List ℕ)
 held_bytes image x zero = Some []
 held_bytes image x (suc n) = option_and_then (λ b. option_map (λ bs. b ∷ bs) (held_bytes image (x + 1) n)) (image_byte image x)
 
--- the segment has these bytes from x on
+-- bytes of code that an image holds at an address, within one segment: the segment has these bytes
+-- from the address x on
 abbrev pub SegmentHoldsBytes : SegmentData → ℕ → List ℕ → Type 0
 SegmentHoldsBytes s x [] = Unit {0}
 SegmentHoldsBytes s x (b ∷ bs) = (s.at ≤ x) × (slice_get s.bytes (x - s.at) ≡ Some b) × SegmentHoldsBytes s (x + 1) bs

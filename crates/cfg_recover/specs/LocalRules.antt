@@ -8,7 +8,7 @@ use Rattle.tc_isa.specs.declared.shapes.Target.{Target}
 use Rattle.tc_isa.specs.declared.shapes.Target.TheVariants as target
 use Rattle.tc_isa.specs.declared.shapes.Shape.{Shape}
 use Rattle.tc_isa.specs.declared.shapes.Shape.TheVariants.{Load, Store, Jump, Call, Ret, Rfe, Syscall}
-use Rattle.tc_machine.specs.Machine.{machine_address_ahead}
+use Rattle.tc_machine.specs.Instructions.{machine_address_ahead}
 use Rattle.value_domain.specs.declared.values.Val.{Val}
 use Rattle.value_domain.specs.declared.values.Val.TheVariants.{Set, Span}
 use Rattle.value_domain.specs.declared.states.State.{State}
@@ -101,8 +101,8 @@ pub record LocalHolds (b : Limits) (image : ImageData) (plan : PlanData) (key : 
 
 -- ---- rules 9 and 10, by the addresses of the access
 
--- the own part of rule 9, by the addresses of the access: each possible store is in one ram range
--- or one device range as a whole
+-- what rule 9 asks of a point's instruction alone, by the addresses of its access: each possible
+-- store is in one ram range or one device range as a whole
 abbrev pub StoresInRangeAt : PlanData → Val → Shape → Type 0
 StoresInRangeAt plan at (Store src base offset size after) = AreStoresInRange plan at size
 StoresInRangeAt plan at _ = Unit {0}

@@ -8,10 +8,10 @@ use Rattle.tc_isa.specs.declared.shapes.Shape.TheVariants.{Syscall, Call, Ret, R
 use Rattle.tc_machine.specs.declared.events.Event.{Event}
 use Rattle.tc_machine.specs.declared.events.End.TheVariants.{Running}
 use Rattle.tc_machine.specs.declared.state.Machine.{Machine}
-use Rattle.tc_machine.specs.Machine.{reg, a11, machine_address_ahead, IsMachine}
-use Rattle.tc_machine.specs.Instructions.{does, is_trapping_instruction, target_of}
+use Rattle.tc_machine.specs.Machine.{reg, a11, IsMachine}
+use Rattle.tc_machine.specs.Instructions.{machine_address_ahead, does, is_trapping_instruction, target_of}
 use Rattle.tc_machine.specs.Stepping.{is_taken, stored}
-use Rattle.tcd_plan.specs.Regions.{IsInAreas, IsStoreInRange}
+use Rattle.tcd_plan.specs.MappedAddresses.{IsInAreas, IsStoreInRange}
 use Rattle.tc_machine.specs.Safe.{Fits}
 use Rattle.value_domain.specs.declared.states.State.{State}
 use Rattle.value_domain.specs.Limits.{Limits, AreLimits}
@@ -28,7 +28,7 @@ use Rattle.tc_mem.specs.PlanMemory.{HoldsRom, IsPlanMemory}
 use Rattle.cfg_recover.specs.StepEdges.{to}
 use Rattle.tc_isa.specs.declared.shapes.Target.{Target}
 
--- a machine that moves on from a point is in the point's state there: the state holds its
+-- where a machine's move from a point begins or ends: the state there holds the machine's
 -- registers, IE and CCPN
 abbrev pub InState : PlanData → Machine → State → Type 0
 InState plan m s = Holds plan (reg m) m.ie m.ccpn s
@@ -49,9 +49,8 @@ pub record IsAtPoint (b : Limits) (image : ImageData) (plan : PlanData) (key : K
   pub values : AreValues b s.regs
   pub inside : InState plan m s
 
--- The machine goes from m to n inside its frame, and its registers from state s to state t. The
--- save areas, the words of the context list, PSW and A11 stay. If t says that the lower registers
--- are the entry's, they don't change.
+-- a move in a frame, from machine m and state s to n and t: save areas, context list, PSW and A11
+-- stay; lower registers too, if t says that they are the entry's
 pub record MovesTo (image : ImageData) (plan : PlanData) (m n : Machine) (s t : State) : Type 0 where
   pub inside : InState plan n t
   pub lower : t.lower ≡ true → (s.lower ≡ true) × ((r : ℕ) → is_lower_register r ≡ true → reg n r ≡ reg m r)
@@ -97,7 +96,8 @@ MovesInFrame =
     → IsAtPoint b image plan key m s shape n → Fits plan m e → is_taken m e ≡ false → StaysInFrame shape → is_trapping_instruction m e shape ≡ false
     → IsMoveOwed b image plan key m e s shape n
 
--- if an access traps, the point owes the entry of its handler
+-- a law of moves: each point whose access traps owes the entry of the handler of misaligned
+-- accesses
 abbrev pub TrapsOwed : Type 0
 TrapsOwed =
     (b : Limits) (image : ImageData) (plan : PlanData) (key : Key) (m : Machine) (e : Event) (s : State) (shape : Shape) (n : ℕ)

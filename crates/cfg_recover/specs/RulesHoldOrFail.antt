@@ -6,7 +6,7 @@ use Rattle.tc_isa.specs.declared.shapes.Shape.{Shape}
 use Rattle.value_domain.specs.declared.states.State.{State}
 use Rattle.value_domain.specs.Limits.{Limits}
 use Rattle.value_domain.specs.State.{Covers, AreValues}
-use Rattle.value_domain.specs.Thresholds.{limits_for}
+use Rattle.value_domain.specs.VersionLimits.{limits_for}
 use Rattle.depth_cert.specs.declared.keys.Key.{Key}
 use Rattle.depth_cert.specs.declared.points.Point.{Point}
 use Rattle.depth_cert.specs.Keys.{number_of_key}
@@ -25,8 +25,8 @@ abbrev pub limits_in : PlanData → CertData → Limits
 limits_in plan cert = limits_for plan cert.version
 
 -- ---- points that cover a state, and duties that are met
--- what a rule asks for, and fails without: the node of a certificate has a point at this address,
--- and its state covers this one
+-- what a rule of certificates asks for, and fails without: the node has a point at this address,
+-- and that point's state covers this one
 abbrev pub HasPoint : NodeData → ℕ → State → Type 0
 HasPoint node q s = IsSomeAnd (find_point q node.points) (λ p. Covers p.state s)
 
@@ -93,23 +93,26 @@ pub record HoldsAtNode (image : ImageData) (plan : PlanData) (cert : CertData) (
   pub entry : HoldsAtEntry (limits_in plan cert) node
   pub points : All (λ p. (r : ℕ) → RuleHolds image plan cert node p r) node.points
 
--- the rules accept a certificate: none fails, at the start, at the entry of a node, or at a point
+-- all rules hold in a certificate, so that it is accepted: rule 1 at the start, rule 2 at the entry
+-- of each node, and each rule at each point
 pub record Accepts (image : ImageData) (plan : PlanData) (cert : CertData) : Type 0 where
   pub start : HoldsAtStart image plan cert
   pub nodes : All (HoldsAtNode image plan cert) cert.nodes
 
 -- ---- the first fault
--- the order of rules that fail, for the first fault: by key, then by address, then by rule
+-- rules that fail in a certificate as numbers, the least for the first fault: by key, then by
+-- address, then by rule
 abbrev pub fault_number : ℕ → Key → ℕ → ℕ
 fault_number r k p = (number_of_key k * 2 ^ 32 + p) * 2 ^ 4 + r
 
--- the first of all rules that fail in a certificate: rule 1 comes before all others; if it holds,
--- the first is the least by key, address and rule
+-- a rule fails in a certificate here, and it is the first that does: rule 1 comes before all
+-- others; if it holds, the first is the least by key, address and rule
 pub record IsFirstFault (image : ImageData) (plan : PlanData) (cert : CertData) (r : ℕ) (k : Key) (p : ℕ) : Type 0 where
   pub fails : RuleFails image plan cert r k p
   pub start : (r ≡ 1) ⊎ HoldsAtStart image plan cert
   pub least : (q : ℕ) (j : Key) (x : ℕ) → RuleFails image plan cert q j x → (r ≡ 1) ⊎ (fault_number r k p ≤ fault_number q j x)
 
--- the need that a certificate has if its rules hold: that of its node of the start, 0 without one
+-- the need that is certified if the rules hold in a certificate: that of its node of the start
+-- frame, 0 without one
 abbrev pub certified_need : ImageData → PlanData → CertData → ℕ
 certified_need image plan cert = need_of (find_node (start_key image plan) cert.nodes)

@@ -86,8 +86,8 @@ pub fn is_flow_access_aligned(b: &Bounds, at: &Val, size: u8) -> bool
     aligned(at, size)
 }
 
-/// Returns the leave of a Flow, which is told beside its entries: how the instruction leaves its
-/// own frame, by RET, by RFE, or not at all.
+/// Returns, beside the entries of other frames in a Flow, how an instruction leaves its own frame:
+/// by RET, by RFE, or not at all.
 #[tactic(auto, unfolding(crate::specs::FlowDuties::flow_leave_of))]
 pub(crate) fn flow_leave(key: &Key, s: &State, inst: &Inst) -> Leave
     ensures told { told_leaving key.now s.now result

@@ -59,9 +59,8 @@ pub(crate) fn successors(
     }
 }
 
-/// Writes into `c` how an instruction of this shape changes the state, whatever `c` was. The
-/// instruction stays in its frame and isn't a branch or a jump. If it saves a lower context, there
-/// is room for it; if it restores one, there is one.
+/// Writes into `c`, whatever it was, the change from a point's state to its successor's. The
+/// instruction is no branch or jump. What it saves has room, what it restores is there.
 pub fn successor_change(
     b: &Bounds,
     image: &Image,

@@ -287,7 +287,8 @@ pub(crate) fn stores_in_range(plan: &Plan, at: &Val, shape: Shape) -> bool
     }
 }
 
-/// Rule 9, if the access has only one address.
+/// Returns true if rule 9's own part holds at an instruction whose access has only one address: a
+/// store is in one ram or device range.
 pub(crate) fn stores_in_range_at(plan: &Plan, x: u32, shape: Shape) -> bool
     ensures { IsTrue result ↔ StoresInRangeAt plan.now (word_val x) shape }
 {
@@ -342,7 +343,8 @@ fn local_access_fault(b: &Bounds, plan: &Plan, s: &State, shape: Shape) -> Optio
     }
 }
 
-/// The address of a load or a store, if its base has only one word.
+/// Returns the address that the own parts of rules 9 and 10 test, if the instruction is a load or a
+/// store whose base has only one word.
 #[tactic(auto, unfolding(vd_transfer::specs::EffectsOnStates::address_of))]
 fn rule_address_by_shape(b: &Bounds, plan: &Plan, s: &State, shape: Shape) -> Option<u32>
     requires shape { IsShape shape }

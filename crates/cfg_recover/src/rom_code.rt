@@ -61,7 +61,7 @@ pub(crate) fn code_byte_at(image: &Image, addr: u32, near: &mut usize) -> Option
     code_byte_anywhere(image, addr, near)
 }
 
-/// The instruction that the bytes begin with, and its length.
+/// Returns the instruction that these bytes of code from rom begin with, and its length.
 #[inline(always)]
 fn code_in_bytes(bytes: &[u8]) -> Option<(Inst, u32)>
     ensures { FindsCodeInBytes bytes.now result }
@@ -165,7 +165,7 @@ fn four_code_bytes_apart(image: &Image, addr: u32) -> Option<[u8; 4]>
     Some([first, second, third, fourth])
 }
 
-/// The byte of a segment at an address, if it holds it.
+/// Returns the byte of code at an address, if this segment of the image holds it.
 #[inline(always)]
 fn code_byte_of(segment: &Segment, addr: u32) -> Option<u8>
     ensures { IfSome result (λ b. SegmentHoldsBytes (segment_data segment.now) addr (b ∷ [])) }

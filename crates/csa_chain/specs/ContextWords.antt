@@ -74,8 +74,8 @@ d_after_lower words d =
     ∷ slice_index d 8 ∷ slice_index d 9 ∷ slice_index d 10 ∷ slice_index d 11
     ∷ slice_index d 12 ∷ slice_index d 13 ∷ slice_index d 14 ∷ slice_index d 15 ∷ []
 
--- A0 to A15 after a lower context is restored: A2 to A7 and A11 are the context's (TriCore 1
--- architecture manual, volume 1, context management).
+-- A0 to A15 after the words of a lower context were loaded: A2 to A7 and A11 are the context's
+-- (TriCore 1 architecture manual, volume 1, context management)
 abbrev pub a_after_lower : List ℕ → List ℕ → List ℕ
 a_after_lower words a =
     slice_index a 0 ∷ slice_index a 1 ∷ slice_index words 2 ∷ slice_index words 3

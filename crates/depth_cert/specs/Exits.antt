@@ -20,15 +20,15 @@ lower_values regs = take 8 regs ++ take 6 (drop 16 regs)
 abbrev pub exit_of : State → Exit
 exit_of s = record { ie = s.ie; ccpn = s.ccpn; lower = lower_values s.regs }
 
--- a state's values, from place i on, after a return by an exit: those of lower registers are the
--- exit's
+-- a state's values, from place i on, after a return by an exit of a certificate's node: those of
+-- lower registers are the exit's
 unfoldable pub with_lower_from : ℕ → List Val → List Val → List Val
 with_lower_from i lower [] = []
 with_lower_from i lower (v ∷ vs) =
     (if is_lower_slot i then slice_index_or lower (if nat_lt i 8 then i else i - 8) any_val else v) ∷ with_lower_from (i + 1) lower vs
 
--- the state after a return by this exit; a return from a call keeps the exit's IE and CCPN, and one
--- from a system call restores the caller's
+-- the state after a return by this exit of a certificate's node; a return from a call keeps the
+-- exit's IE and CCPN, one from a system call restores the caller's
 abbrev pub state_after_exit : State → Exit → ℕ → State
 state_after_exit s x kind = record s {
   regs = with_lower_from 0 x.lower s.regs;

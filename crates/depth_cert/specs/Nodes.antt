@@ -1,5 +1,5 @@
 -- Nodes as plain data, and what holds of them.
-use Rattle.std.specs.Prelude.{◌≡◌, ◌≤◌, ◌⊎◌, ℕ, List, Option, IfSome, Some, None, length, sum_by, ◌==◌, map, find}
+use Rattle.std.specs.Prelude.{◌≡◌, ◌≤◌, ◌⊎◌, ℕ, List, Option, IfSome, Some, None, length, sum_by, ◌==◌, map, find, All}
 use Rattle.std.specs.List.{All}
 use Rattle.depth_cert.specs.Keys.{call_kind, sys_kind, IsKey, number_of_key}
 use Rattle.depth_cert.specs.declared.keys.Key.{Key}
@@ -7,6 +7,7 @@ use Rattle.depth_cert.specs.declared.points.Exit.{Exit}
 use Rattle.depth_cert.specs.declared.points.Point.{Point}
 use Rattle.depth_cert.specs.Points.{ArePoints, IsPoint}
 use Rattle.depth_cert.specs.Exits.{IsExit}
+use Rattle.value_domain.specs.State.{AreWell}
 
 -- a node, with its points as a list
 pub record NodeData : Type 0 where
@@ -29,7 +30,7 @@ abbrev pub need_of : Option NodeData → ℕ
 need_of None = 0
 need_of (Some n) = n.need
 
--- the number of points of the nodes together
+-- the number of points of a list of nodes together
 abbrev pub count_points : List NodeData → ℕ
 count_points ns = sum_by (λ n. length n.points) ns
 
@@ -40,3 +41,8 @@ key_numbers ns = map (λ n. number_of_key n.key) ns
 -- the one of these nodes that has this key, if there is one
 abbrev pub find_node : Key → List NodeData → Option NodeData
 find_node k ns = find (λ n. number_of_key n.key == number_of_key k) ns
+
+-- a node whose values, those of its points and of its exit, are well-formed
+pub record IsWellNode (node : NodeData) : Type 0 where
+  pub points : All (λ p. AreWell (p.state).regs) node.points
+  pub exit : IfSome node.exit (λ x. AreWell x.lower)

@@ -1,11 +1,10 @@
 -- What is known within the limits of a version.
-use Rattle.std.specs.Prelude.{◌≡◌, ◌≤◌, length, IfSome, All}
+use Rattle.std.specs.Prelude.{◌≡◌, ◌≤◌, length}
 use Rattle.value_domain.specs.declared.states.State.{State}
 use Rattle.value_domain.specs.Limits.{Limits}
-use Rattle.value_domain.specs.State.{AreValues, AreWell}
+use Rattle.value_domain.specs.State.{AreValues}
 use Rattle.depth_cert.specs.declared.points.Exit.{Exit}
 use Rattle.depth_cert.specs.Known.{Known, leaving, state}
-use Rattle.depth_cert.specs.Nodes.{NodeData}
 
 -- a state at the limits: 27 values of the plan's lattice, and no more locals than the version
 -- allows
@@ -23,8 +22,3 @@ pub record IsProperExit (b : Limits) (x : Exit) : Type 0 where
 abbrev pub IsProperKnown : Limits → Known → Type 0
 IsProperKnown b (state s) = IsProperState b s
 IsProperKnown b (leaving x) = IsProperExit b x
-
--- the values of a node are well-formed
-pub record IsWellNode (node : NodeData) : Type 0 where
-  pub points : All (λ p. AreWell (p.state).regs) node.points
-  pub exit : IfSome node.exit (λ x. AreWell x.lower)

@@ -75,7 +75,8 @@ impl Cert {
         looked_up_node(nodes, number, at)
     }
 
-    /// Returns the bytes that spell this `Cert`.
+    /// Returns the bytes of this `Cert`, a certificate in memory: those of its version, of the
+    /// number of its nodes and of these.
     #[tactic(auto, unfolding(crate::specs::Spelling::bytes_of_cert))]
     fn spell(&self, alloc: Global) -> Result<Vec<u8>, tcd_base::NoMemory>
         ensures { IfOk result (λ out. out.items ≡ bytes_of_cert self.now) }

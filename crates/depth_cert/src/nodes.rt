@@ -42,7 +42,8 @@ impl Node {
     }
 }
 
-/// Returns an exit that knows nothing.
+/// Returns an exit for a `Node` that knows nothing: IE is off, CCPN is 0, and each lower register
+/// may have any value.
 pub fn no_exit() -> Exit
     ensures ie { result.ie ≡ false }
     ensures ccpn { result.ccpn ≡ 0 }

@@ -18,7 +18,7 @@ const LAST_SPAN: u8 = 242;
 /// A Set of no more words than these is read through room for as many, which is soon filled.
 const FEW_WORDS: u8 = 8;
 
-/// Reads a field whose value is a truth value: a byte 0 or 1. Any other byte is a `BAD_VALUE`.
+/// Reads a truth value of a certificate: a byte 0 or 1. Any other byte is a `BAD_VALUE`.
 #[tactic(auto, unfolding(crate::specs::Grammar::flag_at))]
 pub fn read_flag(c: &mut Cursor<'_>) -> Result<bool, FormErr>
     requires { length c.old.bytes ≤ 2 ^ 30 }

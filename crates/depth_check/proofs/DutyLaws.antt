@@ -17,9 +17,9 @@ use Rattle.value_domain.specs.Limits.{Limits}
 use Rattle.depth_cert.specs.declared.keys.Key.{Key}
 use Rattle.depth_cert.specs.Nodes.{NodeData, find_node}
 use Rattle.depth_cert.specs.Certs.{CertData}
-use Rattle.cfg_recover.specs.declared.flows.Enter.{Enter}
-use Rattle.cfg_recover.specs.declared.flows.Leave.{Leave}
-use Rattle.cfg_recover.specs.declared.flows.Leave.TheVariants.{Stays, Ret, Rfe}
+use Rattle.cfg_recover.specs.declared.flow_types.Enter.{Enter}
+use Rattle.cfg_recover.specs.declared.flow_types.Leave.{Leave}
+use Rattle.cfg_recover.specs.declared.flow_types.Leave.TheVariants.{Stays, Ret, Rfe}
 use Rattle.vd_transfer.specs.EffectsOnStates.{EffectHasRoom, address_of}
 use Rattle.cfg_recover.specs.declared.local_rules.Located.{Located}
 use Rattle.cfg_recover.specs.LocalFaults.{StandsFaultless}

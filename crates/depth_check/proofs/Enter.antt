@@ -12,7 +12,7 @@ use Rattle.tc_machine.specs.declared.events.End.TheVariants.{Running}
 use Rattle.tc_machine.specs.declared.state.Machine.{Machine}
 use Rattle.tc_machine.specs.Machine.{reg, a11, is_interrupt_stack_used, IsMachine}
 use Rattle.tc_machine.specs.SavesAndRestores.{context_of, saved, save}
-use Rattle.tcd_plan.specs.Regions.{IsMappedBy}
+use Rattle.tcd_plan.specs.MappedAddresses.{IsMappedBy}
 use Rattle.tc_machine.proofs.Words.{register_lt}
 use Rattle.tc_machine.proofs.PlanLaws.{HoldsRom-written}
 use Rattle.tc_machine.proofs.Saves.{save-is}

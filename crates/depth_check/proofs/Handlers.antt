@@ -8,7 +8,7 @@ use Rattle.elf_image.specs.Images.{ImageData}
 use Rattle.tcd_plan.specs.PlanData.{PlanData}
 use Rattle.tc_machine.specs.declared.state.Machine.{Machine}
 use Rattle.tc_machine.specs.Machine.{reg, a10, is_interrupt_stack_used, AreRegisters, IsMachine}
-use Rattle.tc_machine.specs.Instructions.{handler_psw, handler_stack}
+use Rattle.tc_machine.specs.Handlers.{handler_psw, handler_stack}
 use Rattle.tc_machine.proofs.Words.{register_lt, AreRegisters-set}
 use Rattle.value_domain.specs.declared.states.State.{State}
 use Rattle.value_domain.specs.declared.values.Val.{Val}

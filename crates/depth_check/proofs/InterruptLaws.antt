@@ -21,7 +21,7 @@ use Rattle.vd_transfer.specs.Changes.{state_after, no_put, reg_put}
 use Rattle.depth_cert.specs.declared.keys.Key.{Key}
 use Rattle.depth_cert.specs.declared.points.Point.{Point}
 use Rattle.depth_cert.specs.Points.{find_point}
-use Rattle.depth_cert.specs.Nodes.{NodeData, find_node}
+use Rattle.depth_cert.specs.Nodes.{NodeData, find_node, IsWellNode}
 use Rattle.depth_cert.specs.Certs.{CertData}
 use Rattle.cfg_recover.specs.Code.{HasCode}
 use Rattle.cfg_recover.specs.Entries.{irq_key, irq_entry, entry_state_with, entry_stack_of, irqs_of, entry_stack_with}
@@ -34,7 +34,6 @@ use Rattle.cfg_recover.proofs.EntryChanges.{handler-is}
 use Rattle.depth_check.specs.declared.last_interrupts.InterruptContext.{InterruptContext}
 use Rattle.depth_check.specs.declared.last_interrupts.LastInterrupts.{LastInterrupts}
 use Rattle.depth_check.specs.LeastBroken.{FindsLeastBroken}
-use Rattle.depth_cert.specs.Proper.{IsWellNode}
 use Rattle.depth_check.specs.DutiesHold.{DutyHolds, DutiesHold}
 use Rattle.depth_check.specs.Interrupts.{IsContext, IsBelowContext, InterruptsHold, HoldsInContext, AreWellStacks, LastInterruptsHold, InterruptsHoldWith}
 use Rattle.depth_check.proofs.AfterLaws.{at_well}

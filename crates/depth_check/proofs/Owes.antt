@@ -12,9 +12,9 @@ use Rattle.tc_isa.specs.declared.shapes.Target.{Target}
 use Rattle.tc_machine.specs.declared.events.Event.{Event}
 use Rattle.tc_machine.specs.declared.events.End.TheVariants.{Running}
 use Rattle.tc_machine.specs.declared.state.Machine.{Machine}
-use Rattle.tc_machine.specs.Machine.{reg, a11, machine_address_ahead, then_, with_reg}
-use Rattle.tc_machine.specs.Instructions.{handler_psw, advanced, trap, misaligned, does, access_address, with_base, target_of, is_trapping_instruction}
-use Rattle.tc_machine.specs.Stepping.{interrupt}
+use Rattle.tc_machine.specs.Machine.{reg, a11, then_, with_reg}
+use Rattle.tc_machine.specs.Instructions.{machine_address_ahead, advanced, misaligned, does, access_address, with_base, target_of, is_trapping_instruction}
+use Rattle.tc_machine.specs.Handlers.{handler_psw, trap, interrupt}
 use Rattle.tc_machine.specs.SavesAndRestores.{saved, save, restored, restore}
 use Rattle.csa_chain.specs.MemoryBytes.{load_number, with_bytes, extend_loaded_bytes}
 use Rattle.tc_machine.proofs.Saves.{then_-running}

@@ -15,9 +15,10 @@ use Rattle.tc_machine.specs.declared.events.Cause.{Cause}
 use Rattle.tc_machine.specs.declared.events.Event.{Event}
 use Rattle.tc_machine.specs.declared.events.End.TheVariants.{Running}
 use Rattle.tc_machine.specs.declared.state.Machine.{Machine}
-use Rattle.tc_machine.specs.Machine.{reg, a11, is_interrupt_stack_used, machine_address_ahead, psw_with_status, IsMachine}
-use Rattle.tc_machine.specs.Instructions.{handler_psw, target_of, does, is_trapping_instruction}
-use Rattle.tc_machine.specs.Stepping.{interrupt, is_taken, executed, machine_after_event, step}
+use Rattle.tc_machine.specs.Machine.{reg, a11, is_interrupt_stack_used, psw_with_status, IsMachine}
+use Rattle.tc_machine.specs.Instructions.{machine_address_ahead, target_of, does, is_trapping_instruction}
+use Rattle.tc_machine.specs.Handlers.{handler_psw, interrupt}
+use Rattle.tc_machine.specs.Stepping.{is_taken, executed, machine_after_event, step}
 use Rattle.tc_machine.specs.SavesAndRestores.{saved, save, restored, restore}
 use Rattle.tc_machine.specs.Fetching.{fetched, fetched_size}
 use Rattle.tc_machine.specs.Safe.{Fits}

@@ -6,18 +6,17 @@ use Rattle.tcd_plan.specs.PlanData.{PlanData, IsPlan}
 use Rattle.value_domain.specs.declared.values.Val.{Val}
 use Rattle.value_domain.specs.Values.{any_val, word_val}
 use Rattle.value_domain.specs.Limits.{AreLimits}
-use Rattle.value_domain.specs.Thresholds.{limits_for}
+use Rattle.value_domain.specs.VersionLimits.{limits_for}
 use Rattle.value_domain.specs.State.{AreWell}
 use Rattle.value_domain.proofs.RangeLaws.{one_value}
 use Rattle.depth_cert.specs.declared.points.Exit.{Exit}
 use Rattle.depth_cert.specs.Points.{IsWellCertValue}
 use Rattle.depth_cert.specs.Exits.{IsExit}
-use Rattle.depth_cert.specs.Nodes.{NodeData, IsNode}
+use Rattle.depth_cert.specs.Nodes.{NodeData, IsNode, IsWellNode}
 use Rattle.depth_cert.specs.Certs.{CertData, IsCert}
 use Rattle.packed_cert.proofs.ValueShapes.{well_of}
 use Rattle.cfg_recover.specs.Entries.{start_state}
 use Rattle.cfg_recover.proofs.FlowStates.{entry_values}
-use Rattle.depth_cert.specs.Proper.{IsWellNode}
 use Rattle.depth_check.proofs.RuleLaws.{values_well}
 
 -- the limits of any version

@@ -2,11 +2,10 @@
 use Rattle.std.specs.Prelude.{◌≡◌, ℕ, IsTrue, IfSome, All}
 use Rattle.value_domain.specs.State.{AreValues}
 use Rattle.value_domain.specs.declared.states.State.{State}
-use Rattle.depth_cert.specs.Nodes.{NodeData}
+use Rattle.depth_cert.specs.Nodes.{NodeData, IsWellNode}
 use Rattle.packed_cert.specs.Walks.{WalkData, CoversNext}
 use Rattle.cfg_recover.specs.RulesHoldOrFail.{limits_in, HasPoint}
 use Rattle.depth_check.specs.declared.points.PointCheck.{PointCheck}
-use Rattle.depth_cert.specs.Proper.{IsWellNode}
 use Rattle.depth_check.specs.DutiesHold.{HasPointWithState}
 use Rattle.depth_check.specs.Interrupts.{InterruptsHold}
 use Rattle.depth_cert.specs.declared.points.Point.{Point}
@@ -31,6 +30,6 @@ pub record IsPointCheck (at : PointCheck) : Type 0 where
   pub next : IfSome at.point.next (λ a. HasPointWithState at.node.now a at.point.state.now)
   pub walk : IfSome at.point.walk (λ w. LooksAhead at.node.now at.point.state.now w.now)
 
--- the point's address and state
+-- the point that is checked now, as a certificate has it: its address and its state
 abbrev pub point_here : CurrentPoint → Point
 point_here here = record { addr = here.addr; state = here.state.now }

@@ -1,8 +1,7 @@
 // The check of a certificate.
 ghost use Rattle.std.specs.Prelude.{◌≡◌, All, IsNone, IfSome, Some};
-ghost use Rattle.depth_cert.specs.Nodes.{find_node};
+ghost use Rattle.depth_cert.specs.Nodes.{find_node, IsWellNode};
 ghost use Rattle.cfg_recover.specs.RulesHoldOrFail.{HoldsAtStart};
-ghost use Rattle.depth_cert.specs.Proper.{IsWellNode};
 ghost use Rattle.depth_check.specs.CheckAnswers.{IsCheckAnswer, IfAnswerIsYes};
 ghost use Rattle.tc_machine.specs.Safe.{Safe};
 ghost use Rattle.cfg_recover.specs.Entries as entries;

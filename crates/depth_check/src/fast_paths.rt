@@ -18,7 +18,7 @@ ghost use Rattle.value_domain.specs.Limits.{Limits};
 ghost use Rattle.vd_transfer.specs.Branches.{refine_of};
 ghost use Rattle.cfg_recover.specs.Duties.{owed, jump};
 
-use crate::entry_rules::broken_by_interrupts;
+use crate::duty_rules::broken_by_interrupts;
 use crate::node_covers::has_next;
 use crate::points::PointCheck;
 use crate::rules::{NO_POINT, SMALL_NEED, has_own_need, lesser_broken_rule};

@@ -10,7 +10,7 @@ ghost use Rattle.depth_check.specs.Interrupts.{IsContext, FitsContext, IsBelowCo
 ghost use Rattle.depth_check.specs.PointChecks.{IsPointCheck};
 
 use crate::any_nodes::{AnyNode, NodeForm};
-use crate::entry_rules::broken_by_irqs;
+use crate::duty_rules::broken_by_irqs;
 use crate::points::PointCheck;
 use cfg_recover::interrupts;
 use packed_cert::PackedNode;

@@ -4,7 +4,7 @@
 mod any_certs;
 mod any_nodes;
 mod certificates;
-mod entry_rules;
+mod duty_rules;
 mod fast_paths;
 mod last_interrupts;
 mod laws;

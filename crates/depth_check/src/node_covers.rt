@@ -1,7 +1,7 @@
 // Whether the points and the exit of a node cover states.
 ghost use Rattle.std.specs.Prelude.{◌≡◌, length, IfSome, ◌↔◌, IsTrue};
 ghost use Rattle.cfg_recover.specs.RulesHoldOrFail.{HasPoint};
-ghost use Rattle.depth_cert.specs.Proper.{IsWellNode};
+ghost use Rattle.depth_cert.specs.Nodes.{IsWellNode};
 ghost use Rattle.depth_check.specs.DutiesHold.{HasPoints, HasExit};
 ghost use Rattle.value_domain.specs.State.{AreWell, AreBelow};
 ghost use Rattle.vd_transfer.specs.Changes.{state_after};
@@ -30,8 +30,8 @@ pub(crate) fn has_point(node: &AnyNode<'_>, addr: u32, s: &State) -> bool
     }
 }
 
-/// Returns true if the node of a checked point covers the point's own state at each of these
-/// addresses.
+/// Returns true if the node has points at all these addresses that cover the checked point's own
+/// state.
 pub(crate) fn has_points(at: &PointCheck<'_, '_>, targets: &[u32]) -> bool
     requires { IsPointCheck at.now }
     ensures { IsTrue result ↔ HasPoints at.now.node.now at.now.point.state.now targets.now }
@@ -44,8 +44,8 @@ pub(crate) fn has_points(at: &PointCheck<'_, '_>, targets: &[u32]) -> bool
     true
 }
 
-/// Whether the node of a checked point covers the point's own state at this address. A walk knows
-/// which points have the same state, so that nothing is compared there.
+/// Returns true if the node has a point at this address that covers the checked point's own state.
+/// A walk compares nothing at points with the same state.
 pub(crate) fn has_next(at: &PointCheck<'_, '_>, addr: u32) -> bool
     requires { IsPointCheck at.now }
     ensures { IsTrue result ↔ HasPoint at.now.node.now addr at.now.point.state.now }
@@ -59,8 +59,8 @@ pub(crate) fn has_next(at: &PointCheck<'_, '_>, addr: u32) -> bool
     }
 }
 
-/// Returns true if the node of a checked point covers the point's own state, kept as it is, at this
-/// address. `c` is overwritten with the change that keeps this state.
+/// Returns true if the node has a point at this address that covers the checked point's state, kept
+/// as it is. `c` is overwritten with the change that keeps it.
 pub(crate) fn has_kept_next(at: &PointCheck<'_, '_>, addr: u32, c: &mut Change) -> bool
     requires { IsPointCheck at.now }
     ensures { IsTrue result ↔ HasPoint at.now.node.now addr at.now.point.state.now }
@@ -90,8 +90,8 @@ pub(crate) fn has_changed_point(node: &AnyNode<'_>, addr: u32, s: &State, c: &Ch
     }
 }
 
-/// Whether the node of a checked point covers the changed state at this address. The next point of
-/// the walk is tried first: only the values that differ there are compared.
+/// Returns true if the node has a point at this address that covers the changed state. The next
+/// point of the walk is tried first.
 pub(crate) fn has_changed_next(at: &PointCheck<'_, '_>, addr: u32, c: &Change) -> bool
     requires point { IsPointCheck at.now }
     requires changed { AreWell (state_after at.now.point.state.now c.now).regs }

@@ -1,7 +1,7 @@
 // The rules of a node, and its first fault.
 ghost use Rattle.std.specs.Prelude.{◌≡◌, All, ◌<◌, ◌^◌, Contains, MatchOption, ◌↔◌, IsTrue};
 ghost use Rattle.cfg_recover.specs.RulesHoldOrFail.{limits_in, HoldsAtNode, HoldsAtEntry};
-ghost use Rattle.depth_cert.specs.Proper.{IsWellNode};
+ghost use Rattle.depth_cert.specs.Nodes.{IsWellNode};
 ghost use Rattle.cfg_recover.specs.SetOperations.{HoldsCachedResults};
 ghost use Rattle.depth_check.specs.Interrupts.{LastInterruptsHold};
 ghost use Rattle.depth_check.specs.NodeFaults.{IsNodeFault};
@@ -65,8 +65,8 @@ pub(crate) fn node_fault<'a>(
     }
 }
 
-/// Returns true if rule 2 holds at the entry of a node in memory: it has a point there, and values
-/// of the plan in its exit if it has one.
+/// Returns true if a node in memory keeps rule 2 by itself: it has a point at its entry, and the
+/// values of its exit, if it has one, are the plan's.
 pub(crate) fn plain_holds_at_entry(b: &Bounds, node: &Node) -> bool
     ensures { IsTrue result ↔ HoldsAtEntry b.now node.now }
 {
@@ -191,7 +191,8 @@ fn node_entry_fault(entry: u32) -> Fault
     }
 }
 
-/// Establishes that the address of a node's point is below 2^32, which its type says.
+/// Establishes, for the first fault of a checked node, that a point's address is below 2^32, which
+/// its type says.
 fn node_address_limit(addr: u32)
     ensures { addr < 2 ^ 32 }
 {}

@@ -2,7 +2,7 @@
 ghost use Rattle.std.specs.Prelude.{◌≡◌, All, IfSome, ◌↔◌, IsTrue, None, false, ◌<◌};
 ghost use Rattle.cfg_recover.specs.RulesHoldOrFail.{limits_in, RuleHolds};
 ghost use Rattle.depth_check.specs.LeastBroken.{FindsLeastBroken};
-ghost use Rattle.depth_cert.specs.Proper.{IsWellNode};
+ghost use Rattle.depth_cert.specs.Nodes.{IsWellNode};
 ghost use Rattle.depth_check.specs.DutiesHold.{HasPointWithState};
 ghost use Rattle.value_domain.specs.State.{AreValues};
 ghost use Rattle.vd_transfer.specs.Registers.{a10_of};
@@ -21,7 +21,7 @@ ghost use Rattle.packed_cert.specs.Walks.{RepeatsAt};
 
 use crate::any_certs::AnyCert;
 use crate::any_nodes::AnyNode;
-use crate::entry_rules::broken_by_duties;
+use crate::duty_rules::broken_by_duties;
 use crate::fast_paths::{CheckedRegisters, broken_on_fast_path, fast_path_next};
 use crate::last_interrupts::LastInterrupts;
 use crate::rules::{BAD_VALUES, SMALL_NEED, has_own_need, lesser_broken_rule};
@@ -215,8 +215,8 @@ pub(crate) fn change_at(at: &PointCheck<'_, '_>, found: &Located, scratch: &mut 
     );
 }
 
-/// The point at which the walk is, with facts for the fast paths. If `known`, the values of the
-/// point before it are values of the plan.
+/// Returns the point that is to be checked, at which the walk is, with facts for the fast paths. If
+/// `known`, the values of the point before it are the plan's.
 #[inline(always)]
 pub(crate) fn walked_point<'b>(
     b: &Bounds,

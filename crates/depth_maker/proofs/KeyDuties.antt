@@ -10,7 +10,7 @@ use Rattle.tc_isa.specs.declared.shapes.Target.{Target}
 use Rattle.tc_isa.specs.declared.shapes.Target.TheVariants as target
 use Rattle.tc_isa.specs.declared.shapes.Shape.{Shape}
 use Rattle.tc_isa.specs.InBounds.{IsShape, IsTarget}
-use Rattle.tc_machine.specs.Machine.{machine_address_ahead}
+use Rattle.tc_machine.specs.Instructions.{machine_address_ahead}
 use Rattle.value_domain.specs.declared.values.Val.{Val}
 use Rattle.value_domain.specs.declared.values.Val.TheVariants.{Set, Span}
 use Rattle.value_domain.specs.declared.states.State.{State}

@@ -2,7 +2,7 @@
 use Rattle.std.proofs.Common.{◌≡◌, ℕ, ◌<◌, ◌^◌, refl, sym, ap, ◌∙◌, ◌≤◌, subst, arith, Some}
 use Rattle.elf_image.specs.Images.{ImageData}
 use Rattle.tcd_plan.specs.PlanData.{PlanData}
-use Rattle.value_domain.specs.Thresholds.{limits_for}
+use Rattle.value_domain.specs.VersionLimits.{limits_for}
 use Rattle.depth_cert.specs.declared.keys.Key.{Key}
 use Rattle.value_domain.specs.Limits.{Limits}
 use Rattle.depth_cert.specs.Keys.{IsKey}

@@ -15,7 +15,7 @@ use Rattle.value_domain.specs.declared.values.Val.{Val}
 use Rattle.value_domain.specs.declared.values.Val.TheVariants.{Set, Span}
 use Rattle.value_domain.specs.declared.states.State.{State}
 use Rattle.value_domain.specs.Limits.{Limits}
-use Rattle.value_domain.specs.Thresholds.{limits_for}
+use Rattle.value_domain.specs.VersionLimits.{limits_for}
 use Rattle.value_domain.specs.Values.{IsValue, any_val}
 use Rattle.value_domain.specs.State.{AreValues}
 use Rattle.value_domain.proofs.RangeLaws.{span_count, set_value}

@@ -2,7 +2,7 @@
 use Rattle.std.specs.Prelude.{◌≡◌, ℕ, List}
 use Rattle.elf_image.specs.Images.{ImageData}
 use Rattle.tcd_plan.specs.PlanData.{PlanData}
-use Rattle.value_domain.specs.Thresholds.{limits_for}
+use Rattle.value_domain.specs.VersionLimits.{limits_for}
 use Rattle.cfg_recover.specs.CertRefusals.{IsRefusal, IsRefusalWith, IsRefusalFault}
 use Rattle.depth_maker.specs.LeastCertMade.{AreMade}
 use Rattle.depth_maker.specs.declared.inputs_and_limits.Ground.{Ground}
@@ -37,7 +37,8 @@ abbrev pub Refuses : Ground → MakeErr → Type 0
 Refuses g (Refused rule key addr) = IsRefusalWith g.bounds.now g.image.now g.plan.now rule key addr
 Refuses g NoMemory = Unit {0}
 
--- the bytes spell the certificate that is to be made
+-- what the maker returns for its image and plan is right: the bytes spell the least certificate of
+-- this version
 abbrev pub AreMadeOn : Ground → ℕ → List ℕ → Type 0
 AreMadeOn g version bytes = AreMade g.image.now g.plan.now version bytes
 

@@ -25,8 +25,8 @@ pub record AreFew (ps : List Place) (ks : List Key) : Type 0 where
   pub points : length ps ≤ 2 ^ 16
   pub frames : length ks ≤ 2048
 
--- in the maker's table, each known point and frame of the assignment is counted once, and no limit
--- is passed
+-- the maker's table counts each known point and frame of its assignment once, and there aren't too
+-- many
 pub record IsCountedIn {S : Type 0} (places : IndexMap Spot (Marked Known) S) (ps : List Spot) (ks : List Key) : Type 0 where
   pub each : AreCounted (λ q. value_for places (spot_of q)) (map place_of_spot ps) ks
   pub few : AreFew (map place_of_spot ps) ks

@@ -20,7 +20,8 @@ pub record AreCallsCovered (b : Limits) (a : Assignment) (h : LastCall) : Type 0
   pub proper : IsProperKnown b h.entry
   pub each : (t : ℕ) → Contains h.targets.items t → CoversAt a (point (called_key h t) t) h.entry
 
--- the call of these functions from a frame of this key, with this state at their entries
+-- the last call whose entries are known to be covered is this one: of these functions, from a frame
+-- of this key, with this state at their entries
 pub record IsCallOf (h : LastCall) (k : Key) (ts : List ℕ) (v : Known) : Type 0 where
   pub targets : h.targets.items ≡ ts
   pub prio : h.prio ≡ k.prio

@@ -14,7 +14,8 @@ use Rattle.frame_places.specs.declared.places.Spot.{Spot}
 use Rattle.frame_places.specs.declared.places.Spot.TheVariants.{Point, Exit}
 use Rattle.cfg_recover.specs.Duties.{Duty, jump, enter, resume, leave, Owed, entries_of, misaligned_of}
 
--- the frame that a duty enters, if any, as a list of entered frames
+-- the frame that a duty of the maker's visited point enters, as a list of entered frames: one or
+-- none
 abbrev pub entered_by : Duty → List Key
 entered_by (jump q t) = []
 entered_by (enter k t) = k ∷ []
@@ -39,7 +40,8 @@ pub record IsPlainAt (image : ImageData) (plan : PlanData) (p : ℕ) : Type 0 wh
   pub shaped : IsShape shape
   pub enters : EntersNoFrame plan shape
 
--- the same for a place; an exit has no instruction
+-- the instruction at a place enters no frame, except by interrupts; a frame's exit has no
+-- instruction
 abbrev pub IsPlainIn : ImageData → PlanData → Spot → Type 0
 IsPlainIn image plan (Point k p) = IsPlainAt image plan p
 IsPlainIn image plan (Exit k) = Unit {0}

@@ -72,7 +72,8 @@ pub record AreHandlers (plan : PlanData) (frames : List Key) (irqs : List ℕ) (
   pub priorities : map (λ h. h.prio) handlers ≡ irqs
   pub each : (h : Handler) → Contains handlers h → Contains frames (irq_key plan h.prio) → h.node ≡ frame_number_in frames (irq_key plan h.prio)
 
--- the frames of the handlers above a priority
+-- the numbers of the frames of interrupt handlers in the maker's list whose priority is above this
+-- one
 abbrev pub nodes_above : ℕ → List Handler → List ℕ
 nodes_above m handlers = map (λ h. h.node) (filter (λ h. nat_lt m h.prio) handlers)
 

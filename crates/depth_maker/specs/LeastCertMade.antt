@@ -5,7 +5,7 @@ use Rattle.elf_image.specs.Images.{ImageData}
 use Rattle.tcd_plan.specs.PlanData.{PlanData}
 use Rattle.value_domain.specs.declared.states.State.{State}
 use Rattle.value_domain.specs.State.{Covers}
-use Rattle.value_domain.specs.Thresholds.{limits_for}
+use Rattle.value_domain.specs.VersionLimits.{limits_for}
 use Rattle.depth_cert.specs.declared.keys.Key.{Key}
 use Rattle.depth_cert.specs.declared.points.Exit.{Exit}
 use Rattle.depth_cert.specs.Exits.{ExitCovers}
@@ -32,8 +32,8 @@ pub record IsNoWorse (image : ImageData) (plan : PlanData) (cert other : CertDat
   pub below : IsBelowAt (known_in cert) (known_in other)
   pub needs : (k : Key) → needs_in cert k ≤ needs_in other k
 
--- the least numbers of areas that meet the needs of an assignment, as the least certificate states
--- them; there are none if it is refused for a recursion
+-- what the least certificate states as the needs of its frames: the least numbers of areas that
+-- meet the needs of its assignment
 pub record AreLeastNeeds (b : Limits) (image : ImageData) (plan : PlanData) (a : Assignment) (need : Key → ℕ) : Type 0 where
   pub meets : MeetsNeeds b image plan a need
   pub least : (other : Key → ℕ) → MeetsNeeds b image plan a other → (k : Key) → need k ≤ other k

@@ -25,7 +25,7 @@ use Rattle.depth_cert.specs.Known.{Known, CoversKnown, joined_known}
 use Rattle.depth_cert.specs.Proper.{IsProperState, IsProperExit, IsProperKnown}
 use Rattle.depth_maker.specs.declared.answering.MakeErr.TheVariants.{Refused}
 use Rattle.depth_maker.specs.Answers.{IsRefused, NoneAccepted}
-use Rattle.value_domain.specs.Thresholds.{limits_for}
+use Rattle.value_domain.specs.VersionLimits.{limits_for}
 use Rattle.depth_maker.specs.LeastCertMade.{IsMade, IsWritten, IsLeastAccepted}
 
 -- law of the maker: every derived assignment is below every closed one without faults of its own
@@ -41,7 +41,8 @@ FaultsRefute =
     (b : Limits) (image : ImageData) (plan : PlanData) (c : Assignment) (r : ℕ) (k : Key) (p : ℕ) → IsGround b image plan → Closed b image plan c → AllFaultless b image plan c → AllProper b c
     → (IsPastCertLimits c → ⊥) → IsRefusalFault b image plan r k p → ⊥
 
--- a closed assignment at the limits, without faults of its own, whose needs are met
+-- what the maker's laws speak of, like an accepted certificate: a closed assignment at the limits,
+-- without faults of its own, and needs that are met
 pub record IsMakerSolution (b : Limits) (image : ImageData) (plan : PlanData) (a : Assignment) (need : Key → ℕ) : Type 0 where
   pub closed : Closed b image plan a
   pub faultless : AllFaultless b image plan a

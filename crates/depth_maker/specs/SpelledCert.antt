@@ -7,7 +7,7 @@ use Rattle.indexmap.specs.IndexMap.{IsUnique, keys}
 use Rattle.elf_image.specs.Images.{ImageData}
 use Rattle.tcd_plan.specs.PlanData.{PlanData}
 use Rattle.value_domain.specs.declared.states.State.{State}
-use Rattle.value_domain.specs.Thresholds.{limits_for}
+use Rattle.value_domain.specs.VersionLimits.{limits_for}
 use Rattle.depth_cert.specs.declared.keys.Key.{Key}
 use Rattle.depth_cert.specs.declared.points.Exit as exits
 use Rattle.depth_cert.specs.declared.points.Point as points
@@ -36,7 +36,7 @@ abbrev pub spelled_addresses_in : List Spot → Key → List ℕ
 spelled_addresses_in ps k = map spot_address (filter (is_point_of k) ps)
 
 -- ---- nodes
--- a state without values
+-- in the certificate that spells the maker's table: a state without values, where none is known
 abbrev pub no_spelled_state : State
 no_spelled_state = record { regs = []; ie = false; ccpn = 0; lower = false; locals = record { items = [] } }
 

@@ -23,6 +23,6 @@ place_of_spot (Exit k) = exit k
 abbrev pub spots_on : Source → List PointEntry → List Spot
 spots_on s xs = places_at (s.table.now).places xs
 
--- the places of all points, in order
+-- by the types of the code, the places of all points that the maker has ordered
 abbrev pub spots_of : Ordered → List Spot
 spots_of o = spots_on o.source.now o.points.now

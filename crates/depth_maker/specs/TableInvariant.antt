@@ -41,12 +41,14 @@ TableReadsExits readers = (k : Key) (p : ℕ) (q : Spot) → IsAmongReaders (get
 abbrev pub ArePlainInTable : {S : Type 0} → ImageData → PlanData → IndexMap Spot (Marked Known) S → Type 0
 ArePlainInTable image plan places = (q : Spot) → mark_for places q ≡ Some Plain → IsPlainIn image plan q
 
--- the table covers the point after a return, by what is known of the exit
+-- part of the invariant of the maker's table: the point after a return is covered, by what is known
+-- of the exit
 abbrev pub IsResumed : TableView → Key → State → Key → ℕ → Known → Type 0
 IsResumed t key s k q (leaving x) = CoversAt t.cells (point key q) (state (state_after_exit s x k.kind))
 IsResumed t key s k q (state u) = Unit {0}
 
--- in the table, a duty of a point is covered, and the point reads the exit that the duty depends on
+-- part of the invariant of the maker's table: a duty of a point is covered, and the point reads the
+-- exit that the duty depends on
 abbrev pub Settled : TableView → Key → ℕ → State → Duty → Type 0
 Settled t key p s (jump q u) = CoversAt t.cells (point key q) (state u)
 Settled t key p s (enter k u) = CoversAt t.cells (point k k.entry) (state u)
@@ -85,6 +87,7 @@ pub record IsDone (g : Ground) (t : made.Table) : Type 0 where
 abbrev pub FineOn : Ground → made.Table → Type 0
 FineOn g t = IsFine g.bounds.now g.image.now g.plan.now t
 
--- the maker's table between two steps: each state or exit that is known in it is at the limits
+-- part of the invariant of the maker's table between two steps: each known state or exit is at the
+-- limits
 abbrev pub CellsProper : {S : Type 0} → Limits → IndexMap Spot (Marked Known) S → Type 0
 CellsProper b places = (q : Spot) (v : Known) → value_for places q ≡ Some v → IsProperKnown b v

@@ -53,7 +53,8 @@ OwesAll v ds = (d : Owed) → Contains ds d → VisitedPointOwes (v.ground.now).
 abbrev pub JoinedBy : Visit → made.Table → made.Table → List Owed → Type 0
 JoinedBy v s t ds = DutiesJoined (v.ground.now).bounds.now (v.ground.now).image.now (v.ground.now).plan.now s t v.key v.addr v.state.now ds
 
--- the instruction at the visited point, where no rule's own part fails, so that its duties are owed
+-- the visited point owes the duties of this instruction: it is the one there, and no rule's own
+-- part fails
 abbrev pub StandsBy : Visit → Located → Type 0
 StandsBy v found = StandsFaultless (v.ground.now).bounds.now (v.ground.now).image.now (v.ground.now).plan.now v.key v.addr v.state.now found
 

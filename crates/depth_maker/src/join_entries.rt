@@ -74,8 +74,8 @@ pub(crate) fn join_access_entry(
     join_misaligned_entry(alloc, table, v)
 }
 
-/// Joins the entries of the handlers of the interrupts that may be taken. There are none if IE is
-/// off.
+/// Joins the entries of frames that the visited point enters by interrupts: those that may be
+/// taken, none if IE is off.
 pub(crate) fn join_interrupts(alloc: Global, table: &mut Table, v: &Visit) -> Result<(), Refusal>
     requires visited { VisitedBy v.now table.old }
     requires owes { OwesAll v.now (interrupts_by v.now) }

@@ -123,7 +123,8 @@ pub(crate) fn join_first_jump(
     join_at_place(alloc, table, v, &Spot::Point(v.key, to), &incoming)
 }
 
-/// Joins the state at the exit of the point's frame, which it leaves.
+/// Joins what follows if the visited point leaves its frame: instead of a successor, its state goes
+/// to the frame's exit.
 pub(crate) fn join_exit(alloc: Global, table: &mut Table, v: &Visit) -> Result<(), Refusal>
     requires visited { VisitedBy v.now table.old }
     requires owes { OwesDuty v.now (leave (exit_of v.now.state.now)) }

@@ -11,8 +11,8 @@ pub fn growth_laws()
     ensures proper { DutiesAreProper }
 {}
 
-/// For the maker's joins: the state after a return grows with the caller's state and the exit, and
-/// is at the limits.
+/// Laws of the maker: the state after a return grows with the caller's state and with the exit, and
+/// it is at the limits.
 pub fn after_laws()
     ensures grows { AfterGrows }
     ensures proper { AfterIsProper }

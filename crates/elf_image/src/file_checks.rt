@@ -84,8 +84,8 @@ pub(crate) fn is_bad_header(bytes: &[u8], number: u16) -> bool
     header.kind == PT_LOAD && passes_bounds(bytes.len(), &header)
 }
 
-/// Checks whether the bytes that two program headers load share an address. Such an ELF file is
-/// refused.
+/// Returns true if the bytes that two program headers load share an address, for the check that
+/// refuses such an ELF file.
 #[tactic(auto, unfolding(crate::specs::ReadElf::has_overlap_with))]
 pub(crate) fn has_overlap_with(header: &Header, other: &Header) -> bool
     ensures { result ≡ has_overlap_with header.now other.now }

@@ -49,8 +49,8 @@ impl Image {
         })
     }
 
-    /// Returns the executable file of this image: the ELF header, a program header for each
-    /// segment, and the segments' bytes without gaps. `read` gives the image back.
+    /// Returns this image as an executable file: the ELF header, a program header for each segment,
+    /// and the segments' bytes without gaps. `Image::read` gives the image back.
     pub fn write(&self, alloc: Global) -> Result<Vec<u8>, ImageErr>
         ensures bytes { IfOk result (λ v. v.items ≡ file_of self.now) }
         ensures small { IfOk result (λ v. length v.items ≤ 2 ^ 30) }

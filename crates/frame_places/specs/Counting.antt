@@ -5,7 +5,6 @@ use Rattle.frame_places.specs.declared.places.Spot.{Spot}
 use Rattle.frame_places.specs.declared.places.Spot.TheVariants.{Point, Exit}
 use Rattle.frame_places.specs.declared.refusals.Refusal.{Refusal}
 use Rattle.frame_places.specs.declared.refusals.Refusal.TheVariants.{Fault, NoMemory}
-use Rattle.frame_places.specs.Spots.{with_point}
 
 -- the counted frames with that of one more place, if it is an entry point
 abbrev pub with_counted_frame : List Key → Spot → List Key
@@ -22,6 +21,11 @@ PassesCountLimit ps ks (Exit k) = ⊥
 abbrev pub IsCountRefusal : Bool → List Spot → List Key → Spot → Refusal → Type 0
 IsCountRefusal known ps ks y (Fault rule x) = (rule ≡ 15) × (x ≡ y) × (known ≡ false) × PassesCountLimit ps ks y
 IsCountRefusal known ps ks y NoMemory = Unit {0}
+
+-- the counted points with one more, if this place is a point
+abbrev pub with_point : List Spot → Spot → List Spot
+with_point ps (Point k p) = ps ++ Point k p ∷ []
+with_point ps (Exit k) = ps
 
 -- the counted points after a place y flows in and is counted; a known place is counted already
 abbrev pub counted_points_after : Bool → List Spot → Spot → List Spot

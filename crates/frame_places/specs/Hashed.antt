@@ -23,7 +23,8 @@ key_flags_tell false false e = refl
 key_flags_tell true false e = cc
 key_flags_tell false true e = cc
 
--- keys of frames that compare as equal are the same
+-- keys of frames that compare as equal in all fields are the same, as the hash map of places needs
+-- it
 pub keys_tell : (f g : Key) → (nat_eq f.kind g.kind && (nat_eq f.entry g.entry && (nat_eq f.prio g.prio && beq f.is g.is))) ≡ true → f ≡ g
 keys_tell f g e =
     let a = and_parts _ _ e in

@@ -24,8 +24,8 @@ mark_for places q = option_map (λ m. m.mark) (get spot_eq places q)
 abbrev pub AreKnown : {V S : Type 0} → IndexMap Spot (Marked V) S → (Spot → Type 0) → Type 0
 AreKnown places these = (q : Spot) → these q → IsSome (value_for places q)
 
--- each place that is marked as queued is listed, by its number; each number that is listed is a
--- place's
+-- the marks of places agree with the work: each place marked as queued is listed by its number, and
+-- each number that is listed is a place's
 pub record AllListed {V S : Type 0} (places : IndexMap Spot (Marked V) S) (work : List ℕ) : Type 0 where
   pub listed : (q : Spot) → mark_for places q ≡ Some Queued → (number : ℕ) × Contains work number × PlaceHasNumber places number q
   pub known : (number : ℕ) → Contains work number → (q : Spot) × PlaceHasNumber places number q

@@ -5,11 +5,14 @@ use Rattle.std.specs.declared.alloc.Global.{Global}
 use Rattle.indexmap.specs.IndexMap.{IndexMap, get}
 use Rattle.frame_places.specs.declared.needs.reach.FrameEdge.{FrameEdge}
 use Rattle.frame_places.specs.declared.needs.row.NeedRow.{NeedRow}
-use Rattle.frame_places.specs.RowNeeds.{RowHasEntry}
 
 -- the edge from one node to another
 abbrev pub edge_to : ℕ → ℕ → FrameEdge
 edge_to k t = record { node = k; into = t }
+
+-- there is an edge of the graph of entries: some row of the node k enters the node t
+abbrev pub RowHasEntry : List NeedRow → ℕ → ℕ → Type 0
+RowHasEntry rows k t = (row : NeedRow) × Contains rows row × (row.node ≡ k) × Contains row.into.items t
 
 -- the edges of the graph are the entries of the rows
 pub record AreEdges (rows : List NeedRow) (edges : List FrameEdge) : Type 0 where
@@ -46,7 +49,7 @@ unmarked_nodes [] = 0
 unmarked_nodes (true ∷ ms) = unmarked_nodes ms
 unmarked_nodes (false ∷ ms) = unmarked_nodes ms + 1
 
--- a node of the graph is marked, as are those from which a given node is reached
+-- in the graph of entries this node is marked, as one from which a given node is reached
 abbrev pub IsNodeMarked : List Bool → ℕ → Type 0
 IsNodeMarked marks k = slice_index_or marks k false ≡ true
 
@@ -85,8 +88,8 @@ pub record MarksNodes (nodes : List ℕ) (old new : List Bool) (work later : Lis
   pub less : 2 * unmarked_nodes new + length later ≤ 2 * unmarked_nodes old + length work
   pub same : length new ≡ length old
 
--- Marks on the way: each marked node leads to j, each queued node is marked, and each source of a
--- marked node that isn't queued is marked.
+-- the graph's nodes are marked as far as the search has come: marked ones lead to j, queued ones
+-- are marked, and so is each source of a marked node that isn't queued
 pub record IsMarking (edges : List FrameEdge) (nodes j : ℕ) (marks : List Bool) (work : List ℕ) : Type 0 where
   pub all : length marks ≡ nodes
   pub sound : AllLeadAlongEdges edges j marks

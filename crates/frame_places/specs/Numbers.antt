@@ -7,7 +7,7 @@ use Rattle.depth_cert.specs.Keys.{same_key}
 use Rattle.frame_places.specs.declared.places.Spot.{Spot}
 use Rattle.frame_places.specs.declared.places.Marked.{Marked}
 
--- key equality, as the map of the numbers of frames compares keys
+-- the equality of keys in the map from frames to their numbers
 abbrev pub frame_key_eq : Key → Key → Bool
 frame_key_eq = (block.ghosts).eq
 

@@ -55,7 +55,3 @@ abbrev pub LeastNeeds : ℕ → List NeedRow → ℕ → Result (Option (Vec ℕ
 LeastNeeds nodes rows cap (Ok (Some needs)) = (length needs.items ≡ nodes) × MeetsRows (λ k. slice_index needs.items k) rows × AreNeedsLow needs.items rows × ((k : ℕ) → slice_index needs.items k ≤ cap)
 LeastNeeds nodes rows cap (Ok None) = (other : ℕ → ℕ) → MeetsRows other rows → (k : ℕ) × (k < nodes) × (cap < other k)
 LeastNeeds nodes rows cap (Err e) = Unit {0}
-
--- some row of the node k enters the node t
-abbrev pub RowHasEntry : List NeedRow → ℕ → ℕ → Type 0
-RowHasEntry rows k t = (row : NeedRow) × Contains rows row × (row.node ≡ k) × Contains row.into.items t

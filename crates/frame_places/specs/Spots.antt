@@ -1,5 +1,5 @@
 -- Places of frames: which are the same, and their order.
-use Rattle.std.specs.Prelude.{◌≡◌, ◌<◌, ◌+◌, ◌*◌, ◌^◌, ◌==◌, ℕ, Bool, false, List, Option, Some, None, Contains, true, ◌∷◌, ◌++◌, []}
+use Rattle.std.specs.Prelude.{◌≡◌, ◌<◌, ◌+◌, ◌*◌, ◌^◌, ◌==◌, ℕ, Bool, false, List, Option, Some, None, Contains, true}
 use Rattle.depth_cert.specs.declared.keys.Key.{Key}
 use Rattle.depth_cert.specs.Keys.{IsKey, number_of_key, same_key}
 use Rattle.frame_places.specs.contracts.places.SpotPartialEq.TheImpl as block
@@ -44,11 +44,6 @@ IsAddressIn k y (Some p) = y ≡ Point k p
 abbrev pub is_point : Spot → Bool
 is_point (Point k p) = true
 is_point (Exit k) = false
-
--- the points with one more place, if it is one
-abbrev pub with_point : List Spot → Spot → List Spot
-with_point ps (Point k p) = ps ++ Point k p ∷ []
-with_point ps (Exit k) = ps
 
 -- a place that stands where there is none: the exit of a frame whose key is all zeros
 abbrev pub nowhere : Spot

@@ -1,8 +1,7 @@
 // Counts the known points and frames, within the limits of certificates.
 ghost use Rattle.std.specs.Prelude.{◌≡◌, ◌≤◌, ◌^◌, OnOk, IfErr, false, length};
 ghost use Rattle.frame_places.specs.declared.places.Spot.TheVariants.{Point};
-ghost use Rattle.frame_places.specs.Counting.{IsCountRefusal, counted_frames_after, counted_points_after, with_counted_frame};
-ghost use Rattle.frame_places.specs.Spots.{with_point};
+ghost use Rattle.frame_places.specs.Counting.{IsCountRefusal, counted_frames_after, counted_points_after, with_counted_frame, with_point};
 
 use crate::places::Spot;
 use crate::refusals::{LIMITS_RULE, Refusal};

@@ -34,8 +34,8 @@ pub(crate) fn mark_place<V>(places: &mut IndexMap<Spot, Marked<V>>, number: usiz
 /// rises.
 const PATIENT: u8 = 2;
 
-/// Returns whether a requeued place waits for the next round: it is told to, or was visited often.
-/// So a call of many functions waits until all their exits have risen as far as they do for now.
+/// Returns whether a place that is marked as queued again waits for the next round: it is told to,
+/// or was visited often. So a call of many functions waits until their exits have risen.
 #[inline(always)]
 pub(crate) fn is_requeued_later<V>(
     places: &IndexMap<Spot, Marked<V>>,
@@ -112,7 +112,8 @@ pub fn end_visit<V>(places: &mut IndexMap<Spot, Marked<V>>, number: usize, plain
     }
 }
 
-/// Marks the known place `x` as queued unless it is. It waits for the next round, or is next.
+/// Marks the known place `x` as queued unless it is, with its number in the work for the next
+/// round, or as the next.
 pub(crate) fn requeue<V>(
     places: &mut IndexMap<Spot, Marked<V>>,
     work: &mut Work,
@@ -146,7 +147,7 @@ fn mark_after(mark: Mark, plain: bool) -> Mark
     }
 }
 
-/// Returns the mark of a place without work.
+/// Returns the mark of a place that isn't queued: plain or idle.
 #[inline(always)]
 fn mark_without_work(plain: bool) -> Mark
     ensures { result ≡ idle_mark plain }

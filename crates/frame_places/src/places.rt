@@ -119,7 +119,8 @@ pub fn address_in_frame(key: Key, place: Spot) -> Option<u32>
     if other == key { Some(addr) } else { None }
 }
 
-/// Adds the unknown place `y` with this value to the map of places, with work.
+/// Adds the unknown place `y` with this value to the map of places, marked as queued and listed as
+/// work.
 #[inline(always)]
 pub fn add_queued_place<V: Drop>(
     places: &mut IndexMap<Spot, Marked<V>>,

@@ -2,8 +2,7 @@
 use Rattle.std.proofs.Common.{◌≡◌, ℕ, ◌+◌, ◌*◌, ◌<◌, ◌≤◌, ◌^◌, List, length, get_or, take, drop, refl, sym, ap, ◌∙◌, subst, arith, length-append}
 use Rattle.std.proofs.lemmas.List.{take_more_same, take-append-drop, length-take, get_or-drop}
 use Rattle.tcd_base.specs.Bytes.{word_in_bytes}
-use Rattle.packed_cert.specs.RepeatedBytes.{SameBytesAtPlaces}
-use Rattle.packed_cert.specs.ValuesInBytes.{eight_bytes_at_place}
+use Rattle.packed_cert.specs.RepeatedBytes.{SameBytesAtPlaces, eight_bytes_at_place}
 use Rattle.packed_cert.proofs.SameBytes.{Small}
 
 drop_length : (bytes : List ℕ) (x i : ℕ) → x + i < length bytes → i < length (drop x bytes)

@@ -16,8 +16,8 @@ pub record IsMoved (version : ℕ) (bytes : List ℕ) (before : State) (p : Pack
   pub stand : 0 < (p.row).behind → drop (p.row).first (state_in version bytes p.place).regs ≡ values_in version bytes (p.row).from (27 - (p.row).first)
   pub same : IsTrue p.same → state_in version bytes p.place ≡ before
 
--- the state that point k moves on from, with which it shares values: that of the point before it,
--- or any state if it is the first
+-- the state that point k moves on from and shares values with: that of the point before it, or any
+-- state if it is the first
 pub record StandsBefore (version : ℕ) (bytes : List ℕ) (ps : List PackedPoint) (k : ℕ) (s : State) : Type 0 where
   pub count : length s.regs ≡ 27
   pub last : (j : ℕ) (d : PackedPoint) → j + 1 ≡ k → s ≡ state_in version bytes (slice_index_or ps j d).place

@@ -2,13 +2,10 @@
 use Rattle.std.specs.Prelude.{◌≡◌, ◌+◌, ℕ, List, map, Ok, ◌≤◌, length, ◌^◌, zero, suc, ◌∷◌, ◌==◌, Bool, slice_index, []}
 use Rattle.tcd_base.specs.Place.{Place}
 use Rattle.value_domain.specs.declared.states.State.{State}
-use Rattle.value_domain.specs.declared.values.Val.{Val}
 use Rattle.depth_cert.specs.declared.points.Point.{Point}
 use Rattle.depth_cert.specs.Grammar.{state_at}
 use Rattle.packed_cert.specs.declared.places.PackedPoint.{PackedPoint}
 use Rattle.packed_cert.specs.declared.places.StatePlaces.{StatePlaces}
-use Rattle.packed_cert.specs.declared.places.RepeatedState.{RepeatedState}
-use Rattle.packed_cert.specs.RepeatedBytes.{IsRepeated}
 use Rattle.packed_cert.specs.ValuesInBytes.{ValuesStandFrom, place_in_bytes, read_from_bytes_or}
 use Rattle.value_domain.specs.State.{no_state}
 
@@ -34,12 +31,6 @@ pub record StateStandsAtPlaces (version : ℕ) (bytes : List ℕ) (s : State) (p
   pub within : p.end ≤ length bytes
   pub read : state_at version (place_in_bytes bytes p.start) ≡ Ok (s, place_in_bytes bytes p.end)
   pub values : ValuesStandFrom version bytes s.regs p.values p.end
-
--- a point's state in the bytes has these values, and so many of its bytes come again at another
--- place
-pub record StateComesAgain (version : ℕ) (bytes : List ℕ) (vs : List Val) (place : ℕ) (p : RepeatedState) : Type 0 where
-  pub values : ValuesStandFrom version bytes vs (p.at).values (p.at).end
-  pub repeated : IsRepeated bytes place p
 
 -- what always holds of a state in the bytes
 pub record IsStateAt (version : ℕ) (bytes : List ℕ) (place : ℕ) : Type 0 where

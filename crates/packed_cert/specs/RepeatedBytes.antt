@@ -1,7 +1,10 @@
 -- Values at their places in the bytes.
-use Rattle.std.specs.Prelude.{◌≡◌, ℕ, List, take, drop, ◌+◌, ◌≤◌, length}
+use Rattle.std.specs.Prelude.{◌≡◌, ℕ, List, take, drop, ◌+◌, ◌≤◌, length, ◌*◌}
 use Rattle.packed_cert.specs.declared.places.RepeatedState.{RepeatedState}
 use Rattle.tcd_base.specs.Place.{Place}
+use Rattle.value_domain.specs.declared.values.Val.{Val}
+use Rattle.packed_cert.specs.ValuesInBytes.{ValuesStandFrom}
+use Rattle.tcd_base.specs.Bytes.{word_in_bytes}
 
 -- bytes of a packed certificate come again: the same n bytes are at two places
 abbrev pub SameBytesAtPlaces : List ℕ → ℕ → ℕ → ℕ → Type 0
@@ -17,3 +20,12 @@ pub record IsRepeated (bytes : List ℕ) (place : ℕ) (p : RepeatedState) : Typ
 abbrev pub MovesOverRepeated : List ℕ → ℕ → ℕ → Place → Place → Type 0
 MovesOverRepeated bytes x n before after =
     (after ≡ record before { place = before.place + n }) × (before.place + n ≤ length bytes) × (take n (drop x bytes) ≡ take n (drop before.place bytes))
+
+-- a state in the bytes has these values, and so many of its bytes come again at another place
+pub record StateComesAgain (version : ℕ) (bytes : List ℕ) (vs : List Val) (place : ℕ) (p : RepeatedState) : Type 0 where
+  pub values : ValuesStandFrom version bytes vs (p.at).values (p.at).end
+  pub repeated : IsRepeated bytes place p
+
+-- the number in the eight bytes from a place on, to test whether bytes come again
+abbrev pub eight_bytes_at_place : List ℕ → ℕ → ℕ
+eight_bytes_at_place bytes place = word_in_bytes bytes place + word_in_bytes bytes (place + 4) * 4294967296

@@ -15,6 +15,7 @@ values_to_cover (Whole s) = (s.now).regs
 values_to_cover (Changed s c) = (state_after s.now c.now).regs
 values_to_cover (Lower s) = lower_values (s.now).regs
 
--- the changed value at a place of a state is below the state's own there
+-- a value that is to be covered, that of a changed state at this place, is below the unchanged
+-- state's own there
 abbrev pub IsCoveredByOwn : State → Change → ℕ → Type 0
 IsCoveredByOwn s c i = IsBelow (slice_index_or (state_after s c).regs i any_val) (slice_index_or s.regs i any_val)

@@ -52,10 +52,6 @@ abbrev pub place_after_values : List ℕ → ℕ → ℕ → ℕ
 place_after_values bytes place zero = place
 place_after_values bytes place (suc n) = place_after_values bytes (place_after_value bytes place) n
 
--- two words in the bytes: the eight bytes from a place on, as a number
-abbrev pub eight_bytes_at_place : List ℕ → ℕ → ℕ
-eight_bytes_at_place bytes place = word_in_bytes bytes place + word_in_bytes bytes (place + 4) * 4294967296
-
 -- these values are in the bytes, one after another, from a place to another
 abbrev pub ValuesStandBetween : ℕ → List ℕ → ℕ → List Val → ℕ → Type 0
 ValuesStandBetween version bytes place [] end = place ≡ end

@@ -10,8 +10,8 @@ ghost use Rattle.value_domain.specs.Sets.{Rising, Within};
 
 use crate::certs::packed_bytes_below_256;
 use crate::restored_values::ValuesAt;
-use crate::value_reader::{read_value_word, value_length_by_tag};
-use crate::values_at_places::{is_below_value_at, value_at_place};
+use crate::value_reader::value_length_by_tag;
+use crate::values_at_places::{is_below_value_at, read_value_word, value_at_place};
 use depth_cert::{SPAN, lower_value};
 use value_domain::{State, Val, extent_of, leq};
 use vd_transfer::{Change, changed_value};

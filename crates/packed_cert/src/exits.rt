@@ -125,7 +125,8 @@ impl<'a> ExitAt<'a> {
     }
 }
 
-/// Reads a node's exit into its room and returns its place, or `None` if the node has no exit.
+/// Reads an exit, if this kind of frame has one here, into the room of exits, and returns its place
+/// for an `ExitAt`.
 #[tactic(auto, unfolding(depth_cert::specs::Grammar::optional_exit_at))]
 pub(crate) fn read_exit_place(
     c: &mut Cursor<'_>,

@@ -68,8 +68,8 @@ impl<'a> PackedNode<'a> {
         self.points.len()
     }
 
-    /// Begins a walk over the points of this packed node, which are by ascending address: the walk
-    /// is put before the first.
+    /// Puts this `PackedNode`'s walk before the first of its points, which are by ascending
+    /// address.
     pub fn walk(&self, walk: &mut PointWalk<'a>)
         ensures all { walk.new.left ≡ self.now.points }
         ensures points { walk.new.points ≡ self.now.points }

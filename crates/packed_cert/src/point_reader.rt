@@ -10,7 +10,8 @@ ghost use Rattle.depth_cert.specs.Answers.{IsFaultOf};
 ghost use Rattle.std.specs.List.Sorted.{IsStrictlyIncreasing};
 ghost use Rattle.packed_cert.specs.ValuesInBytes.{ValuesStandFrom};
 ghost use Rattle.packed_cert.specs.ChangedRows.{ChangesRow, RowBeginsAtPlace, IsWholeRow};
-ghost use Rattle.packed_cert.specs.PointsInBytes.{HasState, StateStandsAtPlaces, StateComesAgain, points_in};
+ghost use Rattle.packed_cert.specs.PointsInBytes.{HasState, StateStandsAtPlaces, points_in};
+ghost use Rattle.packed_cert.specs.RepeatedBytes.{StateComesAgain};
 ghost use Rattle.packed_cert.specs.Moves.{AreMoves};
 
 use crate::places::{
@@ -101,8 +102,8 @@ pub(crate) fn read_points(
     Ok(points)
 }
 
-/// Reads a point's state over that of the point before, whose places are `before`. If its bytes
-/// come again, they are passed over, and the places stay those of the first state with these bytes.
+/// Reads the next point's state over that of the point before, with the places `before`. If its
+/// bytes come again, they are passed over, and those places stay.
 #[inline(always)]
 pub(crate) fn read_state_like(
     c: &mut Cursor<'_>,
@@ -170,7 +171,8 @@ pub(crate) fn read_state_fields(
     Ok((at, row))
 }
 
-/// Reads the state of a point over that of the point before, whose bytes don't all come again.
+/// Reads the state of a point that is read, over that of the point before; its bytes don't all come
+/// again.
 #[inline(never)]
 pub(crate) fn read_state_after(
     c: &mut Cursor<'_>,

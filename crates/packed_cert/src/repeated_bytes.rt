@@ -3,8 +3,7 @@
 // compared eight at a time: 64 in a turn, then 16. A turn of 64 takes some 28 instructions.
 ghost use Rattle.std.specs.Prelude.{◌≡◌, ◌≤◌, ◌<◌, ◌+◌, ◌*◌, IsTrue, length, slice_index, take, drop, ◌-◌, IsFalse, ◌^◌};
 ghost use Rattle.tcd_base.specs.Bytes.{word_in_bytes};
-ghost use Rattle.packed_cert.specs.RepeatedBytes.{SameBytesAtPlaces, IsRepeated, MovesOverRepeated};
-ghost use Rattle.packed_cert.specs.ValuesInBytes.{eight_bytes_at_place};
+ghost use Rattle.packed_cert.specs.RepeatedBytes.{SameBytesAtPlaces, IsRepeated, MovesOverRepeated, eight_bytes_at_place};
 
 use crate::places::RepeatedState;
 use crate::value_reader::FEW_BYTES;

@@ -154,8 +154,8 @@ impl<'a> StateAt<'a> {
     }
 }
 
-/// Returns IE and CCPN of the state that a `StateAt` is to cover after a return: the packed exit's
-/// after a call, the caller's after a system call.
+/// Returns IE and CCPN of the state after a return, which a `StateAt` is to cover: the packed
+/// exit's after a call, the caller's after a system call.
 fn status_after(s: &State, exit: &ExitAt<'_>, kind: u8) -> (bool, u8)
     ensures ie { result.0 ≡ (if kind == 1 then exit.now.ie else s.now.ie) }
     ensures ccpn { result.1 ≡ (if kind == 1 then exit.now.ccpn else s.now.ccpn) }

@@ -1,13 +1,11 @@
 // Reads values over those of the state before.
 // Fast path: a value whose bytes come again isn't read. Bytes are compared for many values at once.
 ghost use Rattle.std.specs.Prelude.{◌≡◌, ◌≤◌, ◌<◌, ◌+◌, ◌-◌, ◌^◌, ℕ, List, length, Ok, Err, OnOk, IfOk, IfErr, IfSome};
-ghost use Rattle.packed_cert.specs.RepeatedBytes.{SameBytesAtPlaces};
+ghost use Rattle.packed_cert.specs.RepeatedBytes.{SameBytesAtPlaces, StateComesAgain};
 ghost use Rattle.packed_cert.specs.ValuesInBytes.{ValuesStandFrom, place_after_values};
 ghost use Rattle.packed_cert.specs.ChangedRows.{ChangesRow, RowBeginsAtPlace, IsWithRead};
 ghost use Rattle.packed_cert.specs.ValuesInBytes as standing;
 ghost use Rattle.depth_cert.specs.Grammar.{values_at};
-ghost use Rattle.packed_cert.specs.PointsInBytes.{StateComesAgain};
-ghost use Rattle.tcd_base.specs.Bytes.{word_in_bytes};
 
 use crate::places::{RepeatedState, StatePlaces, ValueRow, no_row};
 use crate::repeated_bytes::{count_repeated_before, end_of_same};
@@ -73,7 +71,7 @@ pub(crate) fn read_values_after(
     Ok(row)
 }
 
-/// Returns the number of bytes of a value that begins with this one.
+/// Returns how many bytes the reader of values takes for a value whose first byte is this tag.
 #[inline(always)]
 pub(crate) fn value_length_by_tag(tag: u8) -> usize
     ensures { result ≡ standing.value_length_by_tag tag }
@@ -85,8 +83,7 @@ pub(crate) fn value_length_by_tag(tag: u8) -> usize
     }
 }
 
-/// Moves the cursor that reads values on to a place, past those that aren't read as their bytes
-/// come again.
+/// Moves the reader of values on to a place, past values that it doesn't read.
 #[inline(always)]
 pub(crate) fn pass_unread_values_to(c: &mut Cursor<'_>, place: usize)
     requires order { c.old.place ≤ place }
@@ -131,19 +128,6 @@ pub(crate) fn read_values_like(
         }),
         Err(e) => Err(e),
     }
-}
-
-/// Reads a word of a value at a place in the bytes of a packed certificate.
-pub(crate) fn read_value_word(bytes: &[u8], place: usize) -> u32
-    requires { place + 4 ≤ length bytes.now }
-    ensures { result ≡ word_in_bytes bytes.now place }
-{
-    u32::from_le_bytes([
-        bytes[place],
-        bytes[place + 1],
-        bytes[place + 2],
-        bytes[place + 3],
-    ])
 }
 
 /// Returns the row with value number `i`, which is after its others and was read at `place`.

@@ -1,14 +1,15 @@
 // Values at places in the bytes: tests and readers of them.
-ghost use Rattle.std.specs.Prelude.{◌≡◌, ◌≤◌, ◌<◌, ◌+◌, ◌*◌, ◌^◌, ◌↔◌, IsTrue, length};
+ghost use Rattle.std.specs.Prelude.{◌≡◌, ◌≤◌, ◌<◌, ◌+◌, ◌*◌, ◌^◌, ◌↔◌, IsTrue, length, ◌-◌};
 ghost use Rattle.value_domain.specs.declared.values.Val.{Val};
 ghost use Rattle.value_domain.specs.declared.values.Val.TheVariants.{Set};
 ghost use Rattle.value_domain.specs.Sets.{AreWords};
 ghost use Rattle.value_domain.specs.Values.{IsWell, IsBelow, IsValue};
 ghost use Rattle.packed_cert.specs.ValuesInBytes.{words_at, value_in, HasValueInBytes, values_in, HaveValuesInBytes, place_in_bytes};
 ghost use Rattle.value_domain.specs.State.{AreValues};
+ghost use Rattle.tcd_base.specs.Bytes.{word_in_bytes};
 
 use crate::covered_values::{are_words_covered_at, is_below_span_at, is_covered_by_read};
-use crate::value_reader::{MOST_WORDS, read_value_word, value_length_by_tag};
+use crate::value_reader::{MOST_WORDS, value_length_by_tag};
 use depth_cert::SPAN;
 use value_domain::{Bounds, Val, is_value, set_span, set_words, write_any};
 
@@ -142,4 +143,17 @@ fn is_value_at(b: &Bounds, bytes: &[u8], version: u8, place: usize) -> bool
     ensures { IsTrue result ↔ IsValue b.now (value_in version bytes.now place) }
 {
     is_value(b, &value_at_place(bytes, version, place))
+}
+
+/// Reads the word of a value at a place in the bytes.
+pub(crate) fn read_value_word(bytes: &[u8], place: usize) -> u32
+    requires { place + 4 ≤ length bytes.now }
+    ensures { result ≡ word_in_bytes bytes.now place }
+{
+    u32::from_le_bytes([
+        bytes[place],
+        bytes[place + 1],
+        bytes[place + 2],
+        bytes[place + 3],
+    ])
 }

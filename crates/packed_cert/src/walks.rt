@@ -110,9 +110,8 @@ impl<'a> PointWalk<'a> {
         if point.same { Some(point.addr) } else { None }
     }
 
-    /// Returns true if the walk's next point has this address and is seen to cover the state at
-    /// hand, changed. Only values put or in its row are compared; a change on another base gives
-    /// false.
+    /// Returns true if the walk's next point has this address and is seen to cover the changed
+    /// state. Only values put or in its row are compared; a change on another base gives false.
     pub fn covers_next(&self, addr: u32, c: &Change) -> bool
         requires hand { AreWell self.now.current.regs }
         requires changed { AreWell (state_after self.now.current c.now).regs }
@@ -188,7 +187,7 @@ fn walk_to_point(bytes: &[u8], version: u8, point: PackedPoint, room: &mut State
     point.row
 }
 
-/// Reads the values of a point's row over those of the state before it.
+/// Reads the row of the walk's next point into its room, over the values of the state before.
 fn read_row(bytes: &[u8], version: u8, point: PackedPoint, out: &mut [Val; 27])
     requires short { length bytes.now ≤ 2 ^ 30 }
     requires row { ChangesRow out.old (state_in version bytes.now point.place).regs point.row }

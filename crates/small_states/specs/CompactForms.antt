@@ -45,7 +45,8 @@ abbrev pub known_of : KnownForm → Known
 known_of (Point s) = state (state_in s)
 known_of (Leaves x) = leaving (exit_in x)
 
--- the outline is the one of the known state
+-- the outline (IE, CCPN and the number of locals) is that of the state that a compact form stands
+-- for; an exit has none
 abbrev pub IsOutline : Known → Outline → Type 0
 IsOutline (state s) o = (s.ie ≡ o.ie) × (s.ccpn ≡ o.ccpn) × (length s.locals.items ≡ o.held)
 IsOutline (leaving x) o = ⊥

@@ -1,5 +1,5 @@
 // What flows into a place from the duty of a point.
-ghost use Rattle.std.specs.Prelude.{◌≡◌, ◌≤◌, ◌<◌, ◌-◌, ◌==◌, length, ◌↔◌, IsTrue, IfOk, Some};
+ghost use Rattle.std.specs.Prelude.{◌≡◌, ◌<◌, ◌-◌, ◌==◌, length, ◌↔◌, IsTrue, IfOk, Some};
 ghost use Rattle.small_states.specs.Incoming.{incoming_known, is_incoming_exit, known_by, incoming_values, incoming_state_with, incoming_exit_with};
 ghost use Rattle.depth_cert.specs.Known.{known_priority, state, leaving};
 ghost use Rattle.std.specs.Option.{option_map};
@@ -100,27 +100,6 @@ pub(crate) fn incoming_context<'a>(incoming: &Incoming<'a>) -> Context<'a>
             lower: false,
             locals: &s.locals,
         },
-    }
-}
-
-/// Returns the number of incoming values: 27 for a state, 14 for an exit.
-pub(crate) fn count_incoming(incoming: &Incoming) -> usize
-    ensures long { result ≡ length (incoming_values incoming.now) }
-    ensures few { result ≤ 27 }
-{
-    match incoming {
-        Incoming::Changed(s, _) => {
-            let _regs = &s.regs[..];
-            27
-        }
-        Incoming::After(s, _, _) => {
-            let _regs = &s.regs[..];
-            27
-        }
-        Incoming::Leaving(s) => {
-            let _regs = &s.regs[..];
-            14
-        }
     }
 }
 

@@ -1,5 +1,5 @@
 // Lists of compact values: made from what flows in, compared with it, joined with it.
-ghost use Rattle.std.specs.Prelude.{◌≡◌, ◌↔◌, IsTrue, IfOk, OnOk, length, ◌<◌, ◌-◌, ◌==◌, nat_lt, slice_index_or, if◌then◌else◌};
+ghost use Rattle.std.specs.Prelude.{◌≡◌, ◌↔◌, IsTrue, IfOk, OnOk, length, ◌<◌, ◌-◌, ◌==◌, nat_lt, slice_index_or, if◌then◌else◌, ◌≤◌};
 ghost use Rattle.value_domain.specs.State.{AreBelow, AreValues, AreWell, joined_regs};
 ghost use Rattle.vd_transfer.specs.Changes.{base_of, put_in, state_after};
 ghost use Rattle.vd_transfer.specs.EffectsOnStates.{forgotten_from};
@@ -8,13 +8,15 @@ ghost use Rattle.small_states.specs.CompactForms.{all_values};
 ghost use Rattle.value_domain.specs.Values.{any_val};
 ghost use Rattle.value_domain.specs.State as states;
 ghost use Rattle.depth_cert.specs.Exits.{with_lower_from};
+ghost use Rattle.depth_cert.specs.Known.{state};
 
 use crate::SmallExit;
-use crate::incoming::{Given, Incoming, count_incoming};
+use crate::incoming::{Given, Incoming};
 use crate::small_value::{Form, Small};
 use crate::values::Values;
 use depth_cert::lower_value;
 use std::alloc::{AllocError, Global};
+use std::marker::Model;
 use std::rc::Rc;
 use value_domain::{A10_SLOT, Bounds, State, Val};
 use vd_transfer::{Base, Change, Put, is_lower_slot};
@@ -333,5 +335,26 @@ fn restored_incoming_value<'a>(
         exit.lower.as_ref().given_at(any, i - 8)
     } else {
         Given::Whole(v)
+    }
+}
+
+/// Returns the number of incoming values: 27 for a state, 14 for an exit.
+pub(crate) fn count_incoming(incoming: &Incoming) -> usize
+    ensures long { result ≡ length (incoming_values incoming.now) }
+    ensures few { result ≤ 27 }
+{
+    match incoming {
+        Incoming::Changed(s, _) => {
+            let _regs = &s.regs[..];
+            27
+        }
+        Incoming::After(s, _, _) => {
+            let _regs = &s.regs[..];
+            27
+        }
+        Incoming::Leaving(s) => {
+            let _regs = &s.regs[..];
+            14
+        }
     }
 }

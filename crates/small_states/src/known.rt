@@ -223,8 +223,8 @@ impl SmallKnown {
         }
     }
 
-    /// Appends the bytes of the state that this `SmallKnown` is, which is known at a place. For an
-    /// exit, it appends nothing.
+    /// Appends the bytes of what is known at a place, if it is a state. For an exit, it appends
+    /// nothing.
     pub fn spell_state(&self, _b: &Bounds, out: &mut Vec<u8>) -> Result<(), NoMemory>
         requires { IsProperKnown _b.now self.now }
         ensures { OnOk result (AddsKnownState self.now out.old.items out.new.items) }

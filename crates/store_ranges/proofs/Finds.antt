@@ -6,7 +6,7 @@ use Rattle.tcd_base.specs.declared.range.Range.{Range}
 use Rattle.tcd_plan.specs.declared.plans.Device.{Device}
 use Rattle.tcd_base.specs.Ranges.{IsWithinRange, IsInOneRange, is_within_range}
 use Rattle.tcd_base.proofs.RangeLaws.{true_within}
-use Rattle.tcd_plan.specs.Regions.{IsInDevice}
+use Rattle.tcd_plan.specs.MappedAddresses.{IsInDevice}
 
 -- ---- what is found
 -- passes the test

@@ -9,7 +9,7 @@ use Rattle.tcd_base.specs.declared.range.Range.{Range}
 use Rattle.tcd_plan.specs.declared.plans.Device.{Device}
 use Rattle.tcd_plan.specs.PlanData.{PlanData, IsPlan, are_all_ranges_apart, areas_range, is_device}
 use Rattle.tcd_base.specs.Ranges.{IsWithinRange, IsInOneRange, is_within_range}
-use Rattle.tcd_plan.specs.Regions.{IsInDevice}
+use Rattle.tcd_plan.specs.MappedAddresses.{IsInDevice}
 use Rattle.value_domain.specs.declared.values.Val.{Val}
 use Rattle.value_domain.specs.declared.values.Val.TheVariants.{Set, Span}
 use Rattle.value_domain.specs.Sets.{Among, Within}

@@ -11,7 +11,7 @@ use Rattle.elf_image.specs.Images.{ImageData, image_byte}
 use Rattle.tcd_plan.specs.declared.plans.Device.{Device}
 use Rattle.tcd_plan.specs.PlanData.{PlanData, IsPlan, are_all_ranges_apart, areas_range, is_device}
 use Rattle.tcd_base.specs.Ranges.{IsWithinRange, IsInOneRange, is_within_range}
-use Rattle.tcd_plan.specs.Regions.{IsInDevice, IsMappedBy, AnswersAt}
+use Rattle.tcd_plan.specs.MappedAddresses.{IsInDevice, IsMappedBy, AnswersAt}
 use Rattle.tc_mem.specs.PlanMemory.{IsPlanMemory, HoldsRom}
 use Rattle.value_domain.specs.declared.values.Val.{Val}
 use Rattle.value_domain.specs.declared.values.Val.TheVariants.{Set}

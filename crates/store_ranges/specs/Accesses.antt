@@ -1,7 +1,7 @@
 -- Accesses to memory, and those from the members of a value: are they in range, are they aligned?
 use Rattle.std.specs.Prelude.{◌≡◌, ◌⊎◌, ℕ, ◌<◌, ◌≤◌, ◌+◌, ◌%◌, ◌^◌, ◌==◌, Bool}
 use Rattle.tcd_plan.specs.PlanData.{PlanData}
-use Rattle.tcd_plan.specs.Regions.{IsStoreInRange}
+use Rattle.tcd_plan.specs.MappedAddresses.{IsStoreInRange}
 use Rattle.value_domain.specs.declared.values.Val.{Val}
 use Rattle.value_domain.specs.Sets.{alignment_log2}
 use Rattle.value_domain.specs.Values.{IsMember, members}
@@ -15,7 +15,7 @@ IsAccessSize n = (n ≡ 1) ⊎ (n ≡ 2) ⊎ (n ≡ 4)
 abbrev pub AreStoresInRange : PlanData → Val → ℕ → Type 0
 AreStoresInRange plan v size = (x : ℕ) → IsMember x v → IsStoreInRange plan (x, size)
 
--- each member is a multiple of the size
+-- the accesses from all members of a value are aligned: each is at a multiple of its size
 abbrev pub AreAligned : Val → ℕ → Type 0
 AreAligned v size = (x : ℕ) → IsMember x v → x % size ≡ 0
 

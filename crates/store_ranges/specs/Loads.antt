@@ -12,14 +12,15 @@ use Rattle.value_domain.specs.declared.values.Val.{Val}
 use Rattle.value_domain.specs.declared.values.Val.TheVariants.{Set, Span}
 use Rattle.value_domain.specs.Limits.{Limits}
 use Rattle.value_domain.specs.Values.{IsMember, cover, range}
-use Rattle.tcd_plan.specs.Regions.{AnswersLoad}
+use Rattle.tcd_plan.specs.MappedAddresses.{AnswersLoad}
 
 -- the n bytes from x on are in one rom range and held by segments of the image
 pub record IsLoadedRom (image : ImageData) (plan : PlanData) (x n : ℕ) : Type 0 where
   pub in_rom : IsInOneRange x n plan.rom
   pub held : (i : ℕ) → i < n → IsSome (image_byte image (x + i))
 
--- the number in the n bytes from x on, the lowest byte first, if segments of the image hold them
+-- the number that a load gets from the image's n bytes from x on, the lowest byte first, if its
+-- segments hold them
 unfoldable pub held_number : ImageData → ℕ → ℕ → Option ℕ
 held_number image x zero = Some 0
 held_number image x (suc n) = option_and_then (λ b. option_map (λ w. b + 2 ^ 8 * w) (held_number image (x + 1) n)) (image_byte image x)
@@ -56,9 +57,8 @@ abbrev pub loaded_of : Limits → ImageData → PlanData → Val → ℕ → Boo
 loaded_of b image plan (Set ws) size signed = cover b (flat_map (loaded_words_at image plan size signed) ws)
 loaded_of b image plan (Span lo last step) size signed = cover b (loaded_answers size signed (device_of_loads plan size (range lo last step)))
 
--- Each word that the machine can load from a member is one of the value. The memory is the plan's
--- and has the image's bytes in rom, and the input is within a device's bounds if the device has the
--- word.
+-- the value v holds each word that a load from a member of `at` gives, in the plan's memory with
+-- the image's bytes in rom, and with a device's input within its bounds
 abbrev pub HoldsLoads : ImageData → PlanData → Val → ℕ → Bool → Val → Type 0
 HoldsLoads image plan at size signed v =
     (mem : Memory) (x input : ℕ) → HasBytes mem → IsPlanMemory plan mem → HoldsRom image plan mem → input < 2 ^ 32

@@ -1,7 +1,7 @@
 // The ranges that hold an access.
 ghost use Rattle.std.specs.Prelude.{◌≡◌, ◌&&◌, find, ◌≤◌, ◌<◌, ◌-◌, ◌*◌, ◌/◌, ◌↔◌, All, IsTrue, MatchOption, ◌+◌, ◌^◌};
 ghost use Rattle.tcd_base.specs.Ranges.{is_within_range};
-ghost use Rattle.tcd_plan.specs.Regions.{IsStoreInRange};
+ghost use Rattle.tcd_plan.specs.MappedAddresses.{IsStoreInRange};
 ghost use Rattle.value_domain.specs.Sets as sets;
 ghost use Rattle.value_domain.specs.declared.values.Val.TheVariants.{Span};
 ghost use Rattle.store_ranges.specs.Accesses.{AreStoresInRange, StaysInRange, IsNextAccessAddress};
@@ -29,8 +29,8 @@ pub(crate) fn device_range_at(devices: &[Device], low: u32, high: u32, n: u8) ->
         .copied()
 }
 
-/// Returns true if each store of so many bytes at one of these addresses is wholly in one ram range
-/// or one device range.
+/// Returns true if for each of these addresses one ram range or one device range has all the bytes
+/// of a store there.
 pub(crate) fn are_in_range(plan: &Plan, words: &[u32], size: u8) -> bool
     ensures { IsTrue result ↔ All (λ x. IsStoreInRange plan.now (x, size)) words.now }
 {

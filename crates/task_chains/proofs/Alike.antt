@@ -15,12 +15,13 @@ use Rattle.tc_isa.specs.declared.shapes.Shape.TheVariants.{Call}
 use Rattle.tc_machine.specs.declared.events.Event.{Event}
 use Rattle.tc_machine.specs.declared.events.End.TheVariants.{Running}
 use Rattle.tc_machine.specs.declared.state.Machine.{Machine}
-use Rattle.tc_machine.specs.Machine.{machine_address_ahead, then_, IsMachine}
+use Rattle.tc_machine.specs.Machine.{then_, IsMachine}
+use Rattle.tc_machine.specs.Instructions.{machine_address_ahead, target_of, does}
 use Rattle.tc_machine.specs.SavesAndRestores.{context_of, saved, save}
 use Rattle.tc_machine.specs.Fetching.{fetched}
-use Rattle.tc_machine.specs.Instructions.{at_handler, target_of, does}
-use Rattle.tc_machine.specs.Stepping.{interrupt, is_taken, executed, machine_after_event, step}
-use Rattle.tcd_plan.specs.Regions.{IsInAreas}
+use Rattle.tc_machine.specs.Handlers.{at_handler, interrupt}
+use Rattle.tc_machine.specs.Stepping.{is_taken, executed, machine_after_event, step}
+use Rattle.tcd_plan.specs.MappedAddresses.{IsInAreas}
 use Rattle.tc_machine.specs.PlanAreas.{area_links_up, first_link, plan_areas}
 use Rattle.tc_machine.proofs.Saves.{save-is, then_-running}
 use Rattle.tc_machine.proofs.Steps.{with_event, step-is, step_does, does-call}

@@ -24,7 +24,7 @@ use Rattle.tc_machine.specs.Instructions.{advanced, does}
 use Rattle.tc_machine.specs.SavesAndRestores.{has_kind, saved_area_words, last_context, released, restored, restore}
 use Rattle.tc_machine.specs.Fetching.{fetched}
 use Rattle.tc_machine.specs.Stepping.{is_taken, step}
-use Rattle.tcd_plan.specs.Regions.{IsInAreas}
+use Rattle.tcd_plan.specs.MappedAddresses.{IsInAreas}
 use Rattle.tc_machine.specs.PlanAreas.{first_link, plan_areas}
 use Rattle.tc_machine.proofs.Saves.{restore-is, then_-running}
 use Rattle.tc_machine.proofs.Steps.{with_event, step_does, does-ret}

@@ -14,7 +14,7 @@ use Rattle.csa_chain.proofs.WordLaws.{area_word-lt}
 use Rattle.elf_image.specs.Images.{ImageData, image_byte}
 use Rattle.tcd_base.specs.Ranges.{IsInOneRange}
 use Rattle.tcd_plan.specs.PlanData.{PlanData, IsPlan}
-use Rattle.tcd_plan.specs.Regions.{IsInAreas}
+use Rattle.tcd_plan.specs.MappedAddresses.{IsInAreas}
 use Rattle.tc_isa.specs.Rows.{is_long}
 use Rattle.tc_isa.specs.Spelling.{spelling_of, word_of}
 use Rattle.tc_isa.specs.Insts.{fields_in}
@@ -25,8 +25,8 @@ use Rattle.tc_isa.specs.declared.shapes.Shape.TheVariants.{Ret, Rslcx, Nothing}
 use Rattle.tc_machine.specs.declared.events.Event.{Event}
 use Rattle.tc_machine.specs.declared.events.End.TheVariants.{Running}
 use Rattle.tc_machine.specs.declared.state.Machine.{Machine}
-use Rattle.tc_machine.specs.Machine.{a11, is_interrupt_stack_used, machine_address_ahead, then_, psw_with_status, IsMachine}
-use Rattle.tc_machine.specs.Instructions.{advanced, does}
+use Rattle.tc_machine.specs.Machine.{a11, is_interrupt_stack_used, then_, psw_with_status, IsMachine}
+use Rattle.tc_machine.specs.Instructions.{machine_address_ahead, advanced, does}
 use Rattle.tc_machine.specs.SavesAndRestores.{has_kind, released, restored, restore}
 use Rattle.tc_machine.specs.Fetching.{fetched}
 use Rattle.tc_machine.specs.Stepping.{is_taken, step}

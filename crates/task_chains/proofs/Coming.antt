@@ -7,15 +7,15 @@ use Rattle.csa_chain.specs.Chain.{link_in}
 use Rattle.csa_chain.proofs.ChainLaws.{Links, SameAreas}
 use Rattle.elf_image.specs.Images.{ImageData}
 use Rattle.tcd_plan.specs.PlanData.{PlanData}
-use Rattle.tcd_plan.specs.Regions.{IsInAreas, AnswersLoad}
+use Rattle.tcd_plan.specs.MappedAddresses.{IsInAreas, AnswersLoad}
 use Rattle.tc_isa.specs.declared.shapes.Shape.{Shape}
 use Rattle.tc_isa.specs.declared.shapes.Shape.TheVariants.{Ret, Rslcx, Mtcr, Nothing}
 use Rattle.tc_machine.specs.declared.events.Cause.{Cause}
 use Rattle.tc_machine.specs.declared.events.Event.{Event}
 use Rattle.tc_machine.specs.declared.events.End.TheVariants.{Running}
 use Rattle.tc_machine.specs.declared.state.Machine.{Machine}
-use Rattle.tc_machine.specs.Machine.{reg, a11, machine_address_ahead, then_, IsMachine}
-use Rattle.tc_machine.specs.Instructions.{advanced, does}
+use Rattle.tc_machine.specs.Machine.{reg, a11, then_, IsMachine}
+use Rattle.tc_machine.specs.Instructions.{machine_address_ahead, advanced, does}
 use Rattle.tc_machine.specs.SavesAndRestores.{has_kind, released, restored, restore}
 use Rattle.tc_machine.specs.Fetching.{fetched, fetched_size}
 use Rattle.tc_machine.specs.Stepping.{is_taken, load_in, step}

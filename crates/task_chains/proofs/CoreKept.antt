@@ -11,9 +11,10 @@ use Rattle.tc_machine.specs.declared.events.End.{End}
 use Rattle.tc_machine.specs.declared.events.End.TheVariants.{Running, Dead}
 use Rattle.tc_machine.specs.declared.events.Event.{Event}
 use Rattle.tc_machine.specs.declared.state.Machine.{Machine}
-use Rattle.tc_machine.specs.Machine.{a11, machine_address_ahead, died, goes_on, then_, psw_with_status}
-use Rattle.tc_machine.specs.Instructions.{advanced, access_address, is_trapping_access, at_handler, trap, target_of, does}
-use Rattle.tc_machine.specs.Stepping.{interrupt, is_taken, executed, machine_after_event, step}
+use Rattle.tc_machine.specs.Machine.{a11, died, goes_on, then_, psw_with_status}
+use Rattle.tc_machine.specs.Instructions.{machine_address_ahead, advanced, access_address, is_trapping_access, target_of, does}
+use Rattle.tc_machine.specs.Handlers.{at_handler, trap, interrupt}
+use Rattle.tc_machine.specs.Stepping.{is_taken, executed, machine_after_event, step}
 use Rattle.tc_machine.specs.SavesAndRestores.{has_kind, saved, save, restored, restore}
 use Rattle.tc_machine.specs.Fetching.{fetched}
 use Rattle.tc_machine.proofs.Steps.{done-is, does-call, does-ret}

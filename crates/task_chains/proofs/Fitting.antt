@@ -18,7 +18,7 @@ use Rattle.tc_machine.specs.Stepping.{load_at_pc}
 use Rattle.tcd_base.specs.Ranges.{IsWithinRange, IsInOneRange}
 use Rattle.tc_machine.specs.PlanAreas.{first_link}
 use Rattle.tc_machine.specs.Safe.{Fits}
-use Rattle.tcd_plan.specs.Regions.{AnswersAt, AnswersLoad}
+use Rattle.tcd_plan.specs.MappedAddresses.{AnswersAt, AnswersLoad}
 use Rattle.tc_machine.proofs.PlanLaws.{place_of}
 use Rattle.tcd_base.proofs.RangeLaws.{IsInOne-front}
 use Rattle.tcd_plan.proofs.ApartLaws.{all_apart-before, all_apart-behind}

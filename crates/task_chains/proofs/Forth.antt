@@ -8,12 +8,13 @@ use Rattle.tc_isa.specs.declared.shapes.Shape.TheVariants.{Svlcx, Bisr, Syscall}
 use Rattle.tc_machine.specs.declared.events.Event.{Event}
 use Rattle.tc_machine.specs.declared.events.End.TheVariants.{Running}
 use Rattle.tc_machine.specs.declared.state.Machine.{Machine}
-use Rattle.tc_machine.specs.Machine.{machine_address_ahead, then_, IsMachine}
-use Rattle.tc_machine.specs.Instructions.{advanced, at_handler, does, is_trapping_instruction}
+use Rattle.tc_machine.specs.Machine.{then_, IsMachine}
+use Rattle.tc_machine.specs.Instructions.{machine_address_ahead, advanced, does, is_trapping_instruction}
+use Rattle.tc_machine.specs.Handlers.{at_handler}
 use Rattle.tc_machine.specs.SavesAndRestores.{saved, save}
 use Rattle.tc_machine.specs.Fetching.{fetched}
 use Rattle.tc_machine.specs.Stepping.{is_taken, step}
-use Rattle.tcd_plan.specs.Regions.{IsInAreas}
+use Rattle.tcd_plan.specs.MappedAddresses.{IsInAreas}
 use Rattle.tc_machine.proofs.Saves.{then_-running}
 use Rattle.tc_machine.proofs.Steps.{with_event, step_does}
 use Rattle.cfg_recover.proofs.Points.{does-svlcx, does-bisr, does-syscall, does-trapped}

@@ -7,14 +7,13 @@ use Rattle.tc_isa.specs.declared.shapes.Shape.TheVariants.{Compute, Scaled, Load
 use Rattle.tc_machine.specs.declared.events.Cause.{Cause}
 use Rattle.tc_machine.specs.declared.events.Event.{Event}
 use Rattle.tc_machine.specs.declared.state.Machine.{Machine}
-use Rattle.tc_machine.specs.Machine.{machine_address_ahead}
+use Rattle.tc_machine.specs.Instructions.{machine_address_ahead, is_trapping_instruction}
 use Rattle.tc_machine.specs.Fetching.{fetched, fetched_size}
 use Rattle.tc_machine.specs.Stepping.{is_taken, step}
 use Rattle.depth_cert.specs.declared.keys.Key.{Key}
 use Rattle.depth_cert.specs.Keys.{IsKey}
 use Rattle.cfg_recover.specs.Frames.{Standing, frames_left, frames_by, frames_after}
 use Rattle.cfg_recover.specs.StepEdges.{EdgeWay, to, call, irq, sys, aln, ret, rfe, edge_way_of_shape, edge_way_in_fetch}
-use Rattle.tc_machine.specs.Instructions.{is_trapping_instruction}
 use Rattle.task_chains.specs.Tasks.{TasksData}
 use Rattle.task_chains.specs.SwitchRoutine.{switch_key}
 

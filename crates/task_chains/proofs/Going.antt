@@ -5,7 +5,7 @@ use Rattle.std.proofs.lemmas.Bool.{cases_lt, cases_Bool}
 use Rattle.csa_chain.specs.MemoryBytes.{Memory}
 use Rattle.elf_image.specs.Images.{ImageData, image_byte}
 use Rattle.tcd_plan.specs.PlanData.{PlanData}
-use Rattle.tcd_plan.specs.Regions.{IsInAreas, IsStoreInRange}
+use Rattle.tcd_plan.specs.MappedAddresses.{IsInAreas, IsStoreInRange}
 use Rattle.tcd_plan.proofs.ApartLaws.{rom_fits}
 use Rattle.tc_isa.specs.declared.shapes.Shape.{Shape}
 use Rattle.tc_isa.specs.declared.shapes.Shape.TheVariants.{Compute, Scaled, Load, Store, Branch, Jump, Call, Ret, Rfe, Svlcx, Rslcx, Bisr, Enable, Disable, Syscall, Mfcr, Mtcr, Nothing}
@@ -13,8 +13,8 @@ use Rattle.tc_machine.specs.declared.events.Cause.{Cause}
 use Rattle.tc_machine.specs.declared.events.Event.{Event}
 use Rattle.tc_machine.specs.declared.events.End.TheVariants.{Running, Dead}
 use Rattle.tc_machine.specs.declared.state.Machine.{Machine}
-use Rattle.tc_machine.specs.Machine.{reg, machine_address_ahead}
-use Rattle.tc_machine.specs.Instructions.{advanced, access_address, is_trapping_access, does}
+use Rattle.tc_machine.specs.Machine.{reg}
+use Rattle.tc_machine.specs.Instructions.{machine_address_ahead, advanced, access_address, is_trapping_access, does}
 use Rattle.tc_machine.specs.SavesAndRestores.{save}
 use Rattle.tc_machine.specs.Fetching.{fetched, fetched_size}
 use Rattle.std.specs.Prelude.{IfSome}

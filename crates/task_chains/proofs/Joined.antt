@@ -12,7 +12,7 @@ use Rattle.elf_image.specs.Images.{ImageData}
 use Rattle.tcd_base.specs.Ranges.{IsInOneRange}
 use Rattle.tcd_base.proofs.RangeLaws.{in_one, IsInOne-front, IsInOne-behind}
 use Rattle.tcd_plan.specs.PlanData.{PlanData, IsPlan, areas_range}
-use Rattle.tcd_plan.specs.Regions.{IsInAreas}
+use Rattle.tcd_plan.specs.MappedAddresses.{IsInAreas}
 use Rattle.tcd_plan.proofs.ApartLaws.{all_apart-before, rom_apart}
 use Rattle.tc_machine.specs.declared.events.Event.{Event}
 use Rattle.tc_machine.specs.declared.events.End.TheVariants.{Running}

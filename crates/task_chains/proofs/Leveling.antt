@@ -12,9 +12,10 @@ use Rattle.tc_machine.specs.declared.events.Event.{Event}
 use Rattle.tc_machine.specs.declared.events.Cause.{Cause}
 use Rattle.tc_machine.specs.declared.events.End.TheVariants.{Running}
 use Rattle.tc_machine.specs.declared.state.Machine.{Machine}
-use Rattle.tc_machine.specs.Machine.{reg, a11, machine_address_ahead, then_, IsMachine}
-use Rattle.tc_machine.specs.Instructions.{advanced, access_address, is_trapping_access, at_handler, target_of, does, is_trapping_instruction}
-use Rattle.tc_machine.specs.Stepping.{interrupt, is_taken, executed, machine_after_event, step}
+use Rattle.tc_machine.specs.Machine.{reg, a11, then_, IsMachine}
+use Rattle.tc_machine.specs.Instructions.{machine_address_ahead, advanced, access_address, is_trapping_access, target_of, does, is_trapping_instruction}
+use Rattle.tc_machine.specs.Handlers.{at_handler, interrupt}
+use Rattle.tc_machine.specs.Stepping.{is_taken, executed, machine_after_event, step}
 use Rattle.tc_machine.specs.SavesAndRestores.{saved, save, has_kind, restored, restore}
 use Rattle.tc_machine.specs.Fetching.{fetched, fetched_size}
 use Rattle.tc_machine.proofs.Saves.{then_-running, restore-is}

@@ -20,12 +20,13 @@ use Rattle.tc_machine.specs.declared.events.Event.{Event}
 use Rattle.tc_machine.specs.declared.events.End.{End}
 use Rattle.tc_machine.specs.declared.events.End.TheVariants.{Running, Dead}
 use Rattle.tc_machine.specs.declared.state.Machine.{Machine}
-use Rattle.tc_machine.specs.Machine.{reg, a11, machine_address_ahead, then_, goes_on, IsMachine}
-use Rattle.tc_machine.specs.Instructions.{advanced, access_address, is_trapping_access, core_register, at_handler, target_of, does, is_trapping_instruction}
-use Rattle.tc_machine.specs.Stepping.{interrupt, is_taken, executed, machine_after_event, step}
+use Rattle.tc_machine.specs.Machine.{reg, a11, then_, goes_on, IsMachine, core_register}
+use Rattle.tc_machine.specs.Instructions.{machine_address_ahead, advanced, access_address, is_trapping_access, target_of, does, is_trapping_instruction}
+use Rattle.tc_machine.specs.Handlers.{at_handler, interrupt}
+use Rattle.tc_machine.specs.Stepping.{is_taken, executed, machine_after_event, step}
 use Rattle.tc_machine.specs.SavesAndRestores.{has_kind, restore, saved, save}
 use Rattle.tc_machine.specs.Fetching.{fetched}
-use Rattle.tcd_plan.specs.Regions.{IsInAreas, IsStoreInRange}
+use Rattle.tcd_plan.specs.MappedAddresses.{IsInAreas, IsStoreInRange}
 use Rattle.tc_mem.specs.PlanMemory.{HoldsRom, IsPlanMemory}
 use Rattle.tc_machine.proofs.Steps.{with_event, done-is, step-is, step_does, does-call, does-ret}
 use Rattle.tc_machine.proofs.Saves.{save-is, then_-running}

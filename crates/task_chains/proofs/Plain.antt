@@ -18,11 +18,11 @@ use Rattle.tc_isa.specs.Arithmetic.{alu_of, taken_of}
 use Rattle.tc_machine.specs.declared.events.Event.{Event}
 use Rattle.tc_machine.specs.declared.events.End.TheVariants.{Running}
 use Rattle.tc_machine.specs.declared.state.Machine.{Machine}
-use Rattle.tc_machine.specs.Machine.{reg, with_reg, machine_address_ahead}
-use Rattle.tc_machine.specs.Instructions.{arg, advanced, access_address, with_base, is_trapping_access, misaligned, core_register, target_of, does}
+use Rattle.tc_machine.specs.Machine.{reg, with_reg, core_register}
+use Rattle.tc_machine.specs.Instructions.{machine_address_ahead, arg, advanced, access_address, with_base, is_trapping_access, misaligned, target_of, does}
 use Rattle.tc_machine.specs.Fetching.{fetched}
 use Rattle.tc_machine.specs.Stepping.{is_taken, step}
-use Rattle.tcd_plan.specs.Regions.{IsInAreas}
+use Rattle.tcd_plan.specs.MappedAddresses.{IsInAreas}
 use Rattle.tc_machine.specs.PlanAreas.{first_link, plan_areas}
 use Rattle.tc_machine.proofs.Steps.{with_event, step_does}
 use Rattle.tc_machine.proofs.PlanLaws.{link_address-area}

@@ -14,7 +14,7 @@ use Rattle.tc_machine.specs.Instructions.{access_address, is_trapping_access}
 use Rattle.tc_machine.specs.Stepping.{step, run}
 use Rattle.tc_machine.specs.Safe.{Fits, AllFit, IsSafeAt, Safe}
 use Rattle.tc_machine.specs.Starting.{Starts}
-use Rattle.tcd_plan.specs.Regions.{IsStoreInRange}
+use Rattle.tcd_plan.specs.MappedAddresses.{IsStoreInRange}
 use Rattle.tc_machine.proofs.Stays.{stays_run}
 use Rattle.value_domain.specs.declared.states.State.{State}
 use Rattle.value_domain.specs.Limits.{Limits}

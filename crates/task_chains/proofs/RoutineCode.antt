@@ -10,7 +10,7 @@ use Rattle.tcd_plan.specs.PlanData.{PlanData}
 use Rattle.tc_isa.specs.Rows.{RowData, row, listed, is_long}
 use Rattle.tc_isa.specs.declared.table.Form.TheVariants.{Rlc, Rr, Bol, Brc, Sys}
 use Rattle.tc_isa.specs.Forms.{bounds}
-use Rattle.tc_isa.specs.ValidRows.{FieldsFitRow}
+use Rattle.tc_isa.specs.ValidRowFields.{FieldsFitRow}
 use Rattle.tc_isa.specs.Spelling.{word_of, spelling_of, spelling}
 use Rattle.tc_isa.specs.Insts.{InstData, fields_in}
 use Rattle.tc_isa.specs.Meanings.{shape_of}
@@ -23,9 +23,9 @@ use Rattle.tc_isa.specs.declared.shapes.Shape.TheVariants.{Compute, Scaled, Load
 use Rattle.tcd_base.specs.Ranges.{IsInOneRange}
 use Rattle.cfg_recover.specs.Code.{IsCode}
 use Rattle.task_chains.specs.Tasks.{TasksData, AreTasks, count}
-use Rattle.task_chains.specs.SwitchRoutine.{routine_size, routine_bytes, view_routine_bytes, HasRoutine}
+use Rattle.task_chains.specs.SwitchRoutine.{routine_size, routine_bytes, view_routine_bytes, HasRoutine, is_in_routine}
 use Rattle.tc_isa.specs.NamedInstructions.{disable, svlcx, isync, rslcx, ret, nop, movh_a, lea_l, ld_w_l, st_w_l, addsc_a, mfcr, mtcr, addi, mov, jne, upper_half, lower_half}
-use Rattle.task_chains.specs.Views.{is_in_routine, view_image_of}
+use Rattle.task_chains.specs.Views.{view_image_of}
 use Rattle.task_chains.proofs.ViewImage.{seen_byte, view_byte}
 
 -- an instruction of four bytes whose spelling is at p

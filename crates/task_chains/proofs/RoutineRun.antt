@@ -12,8 +12,8 @@ use Rattle.tc_isa.specs.declared.shapes.Cond.TheVariants as cond
 use Rattle.tc_machine.specs.declared.events.Event.{Event}
 use Rattle.tc_machine.specs.declared.events.End.TheVariants.{Running}
 use Rattle.tc_machine.specs.declared.state.Machine.{Machine}
-use Rattle.tc_machine.specs.Machine.{reg, machine_address_ahead}
-use Rattle.tc_machine.specs.Instructions.{advanced, is_trapping_access, misaligned, does}
+use Rattle.tc_machine.specs.Machine.{reg}
+use Rattle.tc_machine.specs.Instructions.{machine_address_ahead, advanced, is_trapping_access, misaligned, does}
 use Rattle.tc_machine.specs.Fetching.{fetched}
 use Rattle.tc_machine.specs.Stepping.{is_taken, step}
 use Rattle.tc_machine.proofs.Steps.{with_event, step_does}

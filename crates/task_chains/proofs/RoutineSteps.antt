@@ -11,8 +11,8 @@ use Rattle.tc_isa.specs.declared.shapes.Shape.TheVariants.{Load, Store, Mfcr, Mt
 use Rattle.tc_machine.specs.declared.events.Event.{Event}
 use Rattle.tc_machine.specs.declared.events.End.TheVariants.{Running}
 use Rattle.tc_machine.specs.declared.state.Machine.{Machine}
-use Rattle.tc_machine.specs.Machine.{reg, with_reg, machine_address_ahead}
-use Rattle.tc_machine.specs.Instructions.{advanced, is_trapping_access, misaligned, core_register, does}
+use Rattle.tc_machine.specs.Machine.{reg, with_reg, core_register}
+use Rattle.tc_machine.specs.Instructions.{machine_address_ahead, advanced, is_trapping_access, misaligned, does}
 use Rattle.tc_machine.specs.Fetching.{fetched}
 use Rattle.tc_machine.specs.Stepping.{is_taken, step}
 use Rattle.tc_machine.proofs.Steps.{with_event, step_does}

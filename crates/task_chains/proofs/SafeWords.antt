@@ -13,7 +13,7 @@ use Rattle.tcd_base.specs.Ranges.{IsInOneRange}
 use Rattle.tcd_base.proofs.RangeLaws.{IsInOne-front, IsInOne-behind}
 use Rattle.tcd_plan.specs.declared.plans.Device.{Device}
 use Rattle.tcd_plan.specs.PlanData.{PlanData, IsPlan, are_ranges_apart, are_all_ranges_apart, areas_range}
-use Rattle.tcd_plan.specs.Regions.{IsInDevice, IsStoreInRange}
+use Rattle.tcd_plan.specs.MappedAddresses.{IsInDevice, IsStoreInRange}
 use Rattle.tc_machine.specs.declared.events.Event.{Event}
 use Rattle.tc_machine.specs.declared.state.Machine.{Machine}
 use Rattle.tc_machine.specs.PlanAreas.{first_link, plan_areas}

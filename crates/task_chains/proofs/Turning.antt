@@ -11,7 +11,7 @@ use Rattle.tcd_base.specs.declared.range.Range.{Range}
 use Rattle.tcd_base.specs.Ranges.{IsInOneRange}
 use Rattle.tcd_base.proofs.RangeLaws.{IsInOne-front}
 use Rattle.tcd_plan.specs.PlanData.{PlanData, areas_range}
-use Rattle.tcd_plan.specs.Regions.{IsInAreas, IsStoreInRange, AnswersLoad}
+use Rattle.tcd_plan.specs.MappedAddresses.{IsInAreas, IsStoreInRange, AnswersLoad}
 use Rattle.tcd_plan.proofs.ApartLaws.{IsInOne-fits, all_apart-before, rom_fits}
 use Rattle.tc_isa.specs.Arithmetic.{sign_extended}
 use Rattle.tc_isa.specs.declared.shapes.Arg.TheVariants.{Reg, Word}
@@ -22,9 +22,9 @@ use Rattle.tc_isa.specs.declared.shapes.Shape.TheVariants.{Compute, Scaled, Load
 use Rattle.tc_machine.specs.declared.events.Cause.{Cause}
 use Rattle.tc_machine.specs.declared.events.Event.{Event}
 use Rattle.tc_machine.specs.declared.state.Machine.{Machine}
-use Rattle.tc_machine.specs.Machine.{reg, machine_address_ahead}
+use Rattle.tc_machine.specs.Machine.{reg}
+use Rattle.tc_machine.specs.Instructions.{machine_address_ahead, is_trapping_access, does}
 use Rattle.tc_machine.specs.Fetching.{fetched}
-use Rattle.tc_machine.specs.Instructions.{is_trapping_access, does}
 use Rattle.std.specs.Prelude.{IfSome}
 use Rattle.tc_machine.specs.Stepping.{is_taken, load_in, store_in, stored, step}
 use Rattle.tc_machine.specs.Safe.{Fits}

@@ -20,7 +20,7 @@ use Rattle.tc_machine.specs.Stepping.{is_taken, load_in}
 use Rattle.tcd_base.specs.Ranges.{IsWithinRange, IsInOneRange}
 use Rattle.tc_machine.specs.Safe.{Fits}
 use Rattle.tc_mem.specs.PlanMemory.{IsPlanMemory}
-use Rattle.tcd_plan.specs.Regions.{IsStoreInRange, AnswersAt, AnswersLoad}
+use Rattle.tcd_plan.specs.MappedAddresses.{IsStoreInRange, AnswersAt, AnswersLoad}
 use Rattle.tcd_base.proofs.RangeLaws.{in_one, IsInOne-front, IsInOne-behind}
 use Rattle.tcd_plan.proofs.ApartLaws.{device_ranges, IsInOne-fits, all_apart-before}
 use Rattle.tc_machine.proofs.ShapeWords.{IsSize, IsShape}

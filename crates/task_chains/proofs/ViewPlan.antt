@@ -9,7 +9,7 @@ use Rattle.tcd_base.specs.declared.range.Range.{Range}
 use Rattle.tcd_plan.specs.declared.plans.Device.{Device}
 use Rattle.tcd_plan.specs.PlanData.{PlanData, IsPlan, is_range, is_device, areas_range, are_all_ranges_apart}
 use Rattle.tcd_base.specs.Ranges.{IsInOneRange}
-use Rattle.tcd_plan.specs.Regions.{IsInDevice, IsStoreInRange}
+use Rattle.tcd_plan.specs.MappedAddresses.{IsInDevice, IsStoreInRange}
 use Rattle.tcd_plan.specs.Cutting.{cut_plan_ranges}
 use Rattle.tcd_base.proofs.RangeLaws.{in_one, IsInOne-front, IsInOne-behind}
 use Rattle.tcd_plan.proofs.ApartLaws.{device_ranges, HaveBytes, HaveBytes-ranges, HaveBytes-append, all_apart-before, all_apart-behind, all_apart-front, all_apart-append}

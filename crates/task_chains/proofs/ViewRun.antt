@@ -6,7 +6,7 @@ use Rattle.csa_chain.proofs.ChainLaws.{Links, Links-unique}
 use Rattle.csa_chain.specs.SeveralChains.{sum_over_chains}
 use Rattle.elf_image.specs.Images.{ImageData}
 use Rattle.tcd_plan.specs.PlanData.{PlanData, IsPlan}
-use Rattle.tcd_plan.specs.Regions.{IsStoreInRange}
+use Rattle.tcd_plan.specs.MappedAddresses.{IsStoreInRange}
 use Rattle.tc_isa.specs.InBounds.{IsShape}
 use Rattle.tc_isa.specs.declared.shapes.Shape.{Shape}
 use Rattle.tc_isa.specs.declared.shapes.Shape.TheVariants.{Compute, Scaled, Load, Store, Branch, Jump, Call, Ret, Rfe, Svlcx, Rslcx, Bisr, Enable, Disable, Syscall, Mfcr, Mtcr, Nothing}

@@ -10,7 +10,7 @@ use Rattle.csa_chain.proofs.ChainLaws.{area_word-written, SameArea-written, area
 use Rattle.elf_image.specs.Images.{ImageData, image_byte}
 use Rattle.tcd_plan.specs.PlanData.{PlanData, IsPlan, areas_range, are_all_ranges_apart}
 use Rattle.tcd_base.specs.Ranges.{is_address_in_ranges, IsInOneRange}
-use Rattle.tcd_plan.specs.Regions.{IsInAreas, IsMappedBy}
+use Rattle.tcd_plan.specs.MappedAddresses.{IsInAreas, IsMappedBy}
 use Rattle.tc_machine.specs.PlanAreas.{first_link}
 use Rattle.tc_machine.specs.Starting.{IsLinkedUp, with_images, next_start_link, with_area_links}
 use Rattle.tc_mem.specs.PlanMemory.{HoldsRom, IsPlanMemory}

@@ -6,7 +6,7 @@ use Rattle.tcd_plan.specs.Cutting.{cut_plan_ranges}
 use Rattle.tcd_base.specs.declared.range.Range.{Range}
 use Rattle.task_chains.specs.Tasks.{TasksData, block_size}
 
--- a range that answers with any word
+-- a device of a task's view in place of ram: a range that answers with any word
 abbrev pub any_view_device : Range → Device
 any_view_device r = record { range = r; lo = 0; hi = 2 ^ 32 - 1 }
 

@@ -19,8 +19,8 @@ use Rattle.cfg_recover.specs.RulesHoldOrFail.{limits_in}
 use Rattle.task_chains.specs.Tasks.{TasksData}
 use Rattle.task_chains.specs.SwitchRoutine.{routine_size, switch_key, IsRoutineStep}
 
--- no byte of the access of n bytes from x, which can wrap at 2^32, is one of the len bytes from an
--- address on
+-- rule 17 of one access of a task, of n bytes from x on, which can wrap at 2^32: it has none of the
+-- len bytes from an address on
 abbrev pub IsAccessApart : ℕ → ℕ → ℕ → ℕ → Type 0
 IsAccessApart x n from len = (i : ℕ) → i < n → ((x + i) % 2 ^ 32 < from) ⊎ (from + len ≤ (x + i) % 2 ^ 32)
 

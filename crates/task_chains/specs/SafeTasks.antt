@@ -9,7 +9,7 @@ use Rattle.tc_machine.specs.declared.state.Machine.{Machine}
 use Rattle.tc_machine.specs.Stepping.{run, stored}
 use Rattle.tc_machine.specs.PlanAreas.{plan_areas}
 use Rattle.tc_machine.specs.Safe.{Fits, AllFit, Safe}
-use Rattle.tcd_plan.specs.Regions.{IsStoreInRange}
+use Rattle.tcd_plan.specs.MappedAddresses.{IsStoreInRange}
 use Rattle.depth_cert.specs.Certs.{CertData, IsCert}
 use Rattle.cfg_recover.specs.RulesHoldOrFail.{Accepts, certified_need}
 use Rattle.cfg_recover.specs.EdgeAndFrameLaws.{FramesHeld}
@@ -53,7 +53,8 @@ pub record AreAreasShared (plan : PlanData) (tasks : TasksData) (needs : ℕ →
 abbrev pub MissesBlock : TasksData → ℕ × ℕ → Type 0
 MissesBlock tasks at = (at.0 + at.1 ≤ tasks.block) ⊎ (tasks.block + block_size tasks ≤ at.0)
 
--- a store in range that misses the block, unless the routine does it
+-- what a safe run of all tasks may store: in range, and not in the block, unless the routine does
+-- it
 abbrev pub IsTaskStore : PlanData → TasksData → ℕ → ℕ × ℕ → Type 0
 IsTaskStore plan tasks pc at = IsStoreInRange plan at × ((IsInRoutine tasks pc → ⊥) → MissesBlock tasks at)
 

@@ -11,8 +11,8 @@ use Rattle.tc_machine.specs.declared.events.Event.{Event}
 use Rattle.tc_machine.specs.declared.events.End.TheVariants.{Running}
 use Rattle.tc_machine.specs.declared.state.Machine.{Machine}
 use Rattle.tc_machine.specs.PlanAreas.{first_link}
-use Rattle.tc_machine.specs.Stepping.{stored}
-use Rattle.tc_machine.specs.Safe.{Fits, IsRun}
+use Rattle.tc_machine.specs.Stepping.{stored, IsRun}
+use Rattle.tc_machine.specs.Safe.{Fits}
 use Rattle.tc_machine.specs.MachineLaws.{IsAreaWalk, LiesInRange}
 use Rattle.task_chains.specs.declared.task_lists.Task.{Task}
 use Rattle.task_chains.specs.TaskStarts.{TasksStart}

@@ -1,5 +1,5 @@
 -- The switch routine: what it does, its bytes, and the bytes that a task's view has instead.
-use Rattle.std.specs.Prelude.{◌≡◌, ◌+◌, ◌*◌, ◌%◌, ◌^◌, ◌<◌, ℕ, List, ◌∷◌, slice_index, Some, false, ◌≤◌, []}
+use Rattle.std.specs.Prelude.{◌≡◌, ◌+◌, ◌*◌, ◌%◌, ◌^◌, ◌<◌, ℕ, List, ◌∷◌, slice_index, Some, false, ◌≤◌, ◌&&◌, Bool, nat_le, nat_lt, []}
 use Rattle.std.specs.List.{flat_map}
 use Rattle.elf_image.specs.Images.{ImageData, image_byte}
 use Rattle.tcd_plan.specs.PlanData.{PlanData}
@@ -36,8 +36,8 @@ routine_of n b =
     rslcx ∷
     ret ∷ []
 
--- the switch routine as a task's view has it: what it reads of the block and of PCXI is an input,
--- and it writes neither
+-- the instructions of the switch routine in its other form, for a task's view: what it reads of the
+-- block and of PCXI is an input, and it writes neither
 abbrev pub view_routine_of : ℕ → ℕ → List InstData
 view_routine_of n b =
     disable ∷
@@ -108,3 +108,7 @@ switch_key tasks = record { kind = call_kind; entry = tasks.switch; prio = 0; is
 -- the address is in the switch routine
 abbrev pub IsInRoutine : TasksData → ℕ → Type 0
 IsInRoutine tasks x = (tasks.switch ≤ x) × (x < tasks.switch + routine_size)
+
+-- the address is in the switch routine, as a test
+abbrev pub is_in_routine : TasksData → ℕ → Bool
+is_in_routine tasks x = nat_le tasks.switch x && nat_lt x (tasks.switch + routine_size)

@@ -1,16 +1,13 @@
 -- The view of a task: the image and the plan for which its certificate is judged.
-use Rattle.std.specs.Prelude.{◌≡◌, ◌+◌, ◌-◌, ◌≤◌, ◌==◌, ◌&&◌, ℕ, Bool, false, nat_le, nat_lt, if◌then◌else◌, List, ◌∷◌, length, map, slice_index_or, []}
+use Rattle.std.specs.Prelude.{◌≡◌, ◌+◌, ◌-◌, ◌≤◌, ◌==◌, ℕ, false, if◌then◌else◌, List, ◌∷◌, length, map, slice_index_or, []}
 use Rattle.elf_image.specs.Images.{ImageData, SegmentData}
 use Rattle.tcd_plan.specs.PlanData.{PlanData}
 use Rattle.tcd_base.specs.Ranges.{IsInOneRange}
 use Rattle.task_chains.specs.Tasks.{TasksData, task_at, block_size}
-use Rattle.task_chains.specs.SwitchRoutine.{routine_size, view_routine_bytes}
+use Rattle.task_chains.specs.SwitchRoutine.{view_routine_bytes, is_in_routine}
 use Rattle.task_chains.specs.Devices.{view_devices}
 
 -- ---- the image
--- the address is in the routine
-abbrev pub is_in_routine : TasksData → ℕ → Bool
-is_in_routine tasks x = nat_le tasks.switch x && nat_lt x (tasks.switch + routine_size)
 
 -- bytes from x on, with those in the routine replaced by the view's
 unfoldable pub with_routine_from : TasksData → ℕ → List ℕ → List ℕ

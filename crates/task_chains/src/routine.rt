@@ -2,11 +2,12 @@
 ghost use Rattle.std.specs.Prelude.{◌≡◌, ◌≤◌, ◌<◌, ◌+◌, ◌*◌, ◌/◌, ◌%◌, ◌^◌, ◌↔◌, IsTrue, IfNone, IfSome, slice_index, ◌-◌, ℕ};
 ghost use Rattle.std.specs.List.{flat_map};
 ghost use Rattle.tcd_base.specs.Bytes.{four_bytes};
-ghost use Rattle.task_chains.specs.SwitchRoutine.{routine_of, bytes_of_routine, routine_bytes, HasRoutineByte, HasRoutine, IsRoutineFault, view_routine_of, view_routine_bytes};
+ghost use Rattle.task_chains.specs.SwitchRoutine.{routine_of, bytes_of_routine, routine_bytes, HasRoutineByte, HasRoutine, IsRoutineFault, view_routine_of, view_routine_bytes, switch_key};
 ghost use Rattle.tcd_base.specs.Ranges.{IsInOneRange};
 
 use crate::Tasks;
 use arrayvec::ArrayVec;
+use depth_cert::{CALL, Key};
 use elf_image::Image;
 use tc_isa::{lower_half, upper_half};
 use tcd_base::is_in_any_range;
@@ -144,7 +145,8 @@ fn is_routine_in_rom(plan: &Plan, x: u32, n: u32) -> bool
     is_in_any_range(plan.rom.as_slice(), x, n)
 }
 
-/// Returns the words that the view of a task has instead of those of the switch routine.
+/// Returns the words of the switch routine's instructions in its other form, as a task's view has
+/// it.
 fn view_routine_words(n: u32, b: u32) -> [u32; 18]
     requires { n ≤ 7 }
     ensures { flat_map four_bytes result ≡ bytes_of_routine (view_routine_of n b) }
@@ -171,4 +173,16 @@ fn view_routine_words(n: u32, b: u32) -> [u32; 18]
         0x0240_000D, // rslcx
         0x0180_000D, // ret
     ]
+}
+
+/// Returns the key of the switch routine's own frame.
+pub(crate) fn key_of_switch(tasks: &Tasks) -> Key
+    ensures { result ≡ switch_key tasks.now }
+{
+    Key {
+        kind: CALL,
+        entry: tasks.switch,
+        prio: 0,
+        is: false,
+    }
 }

@@ -6,12 +6,11 @@ ghost use Rattle.tc_isa.specs.InBounds.{IsShape};
 ghost use Rattle.value_domain.specs.Sets.{Among};
 ghost use Rattle.value_domain.specs.Values.{IsWell};
 ghost use Rattle.store_ranges.specs.Accesses.{IsAccessSize};
-ghost use Rattle.task_chains.specs.SwitchRoutine.{switch_key};
 
 use crate::Tasks;
-use crate::routine::{ROUTINE_BYTES, is_routine_step};
+use crate::routine::{ROUTINE_BYTES, is_routine_step, key_of_switch};
 use cfg_recover::KnownCodes;
-use depth_cert::{CALL, Key};
+use depth_cert::Key;
 use elf_image::Image;
 use tc_isa::{FCX, LCX, PCXI, Shape};
 use tcd_plan::Plan;
@@ -173,17 +172,5 @@ fn is_no_bisr(shape: Shape) -> bool
     match shape {
         Shape::Bisr { .. } => false,
         _ => true,
-    }
-}
-
-/// Returns the key of the routine's frame.
-fn key_of_switch(tasks: &Tasks) -> Key
-    ensures { result ≡ switch_key tasks.now }
-{
-    Key {
-        kind: CALL,
-        entry: tasks.switch,
-        prio: 0,
-        is: false,
     }
 }

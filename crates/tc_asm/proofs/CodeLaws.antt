@@ -7,7 +7,7 @@ use Rattle.tc_isa.specs.declared.table.Row.{Row}
 use Rattle.std.specs.Option.{option_map_or}
 use Rattle.tc_isa.specs.declared.fields.Fields.{Fields}
 use Rattle.tc_isa.specs.Rows.{RowData, row_of, listed}
-use Rattle.tc_isa.specs.ValidRows.{FieldsFitRow}
+use Rattle.tc_isa.specs.ValidRowFields.{FieldsFitRow}
 use Rattle.tc_isa.specs.Spelling.{spelling, Spells}
 use Rattle.tc_isa.specs.Insts.{InstData, IsInst}
 use Rattle.tc_stmt.specs.Items.{ReferenceData}

@@ -5,7 +5,7 @@ use Rattle.std.specs.Option.{option_map_or}
 use Rattle.std.proofs.lemmas.Bool.Decides.{Decides-eqb}
 use Rattle.tc_isa.specs.declared.fields.Fields.{Fields}
 use Rattle.tc_isa.specs.Rows.{RowData, listed, is_long}
-use Rattle.tc_isa.specs.ValidRows.{FieldsFitRow, uses_of, are_registers_apart}
+use Rattle.tc_isa.specs.ValidRowFields.{FieldsFitRow, uses_of, are_registers_apart}
 use Rattle.tc_isa.specs.Spelling.{spelling_of, spelling, word_of}
 use Rattle.tc_stmt.specs.RowFields.{RowFieldsData, set_field, with_rule}
 use Rattle.tc_stmt.specs.Items.{ReferenceData, ItemData, code, bytes}

@@ -18,8 +18,8 @@ use Rattle.tc_asm.specs.Objects.{object_of}
 use Rattle.tc_asm.proofs.LaidLaws.{lines-items}
 use Rattle.tc_asm.specs.Symbols.{SymbolData}
 use Rattle.tc_asm.specs.Drafts.{DraftData, start, draft_after_item}
-use Rattle.tc_asm.specs.DraftedSources.{draft_from_lines, with_line, rule_in, symbols_of, KeepsRules, IsLeastBrokenLine}
-use Rattle.tc_asm.specs.Rules.{item_rule, items_rule, line_rule}
+use Rattle.tc_asm.specs.DraftedSources.{draft_from_lines, with_line, symbols_of}
+use Rattle.tc_asm.specs.Rules.{rule_in, KeepsRules, IsLeastBrokenLine, item_rule, items_rule, line_rule}
 
 -- the line at a place, with the lines after it
 module _ (ls : List LineData) (i : ℕ) (x : LineData) (zs : List LineData) (here : drop i ls ≡ x ∷ zs) where

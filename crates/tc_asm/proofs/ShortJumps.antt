@@ -27,7 +27,7 @@ use Rattle.tc_asm.specs.DraftInvariants.{EachInDraft}
 use Rattle.tc_asm.specs.Objects.{assembled_addend}
 use Rattle.tc_asm.specs.Statements.{StatementData, statement, content_of}
 use Rattle.tc_asm.specs.InstructionLaws.{InstructionSpellsRow}
-use Rattle.tc_asm.specs.ShortJumps.{short_jump_displacement, ShortJumpsLaw}
+use Rattle.tc_asm.specs.ShortJumpLaws.{short_jump_displacement, ShortJumpsLaw}
 use Rattle.tc_asm.proofs.Uses.{fits}
 use Rattle.tc_asm.specs.ItemInvariants.{IsAddedCode, IsAddedItem}
 use Rattle.tc_asm.proofs.SourceItems.{source_are}

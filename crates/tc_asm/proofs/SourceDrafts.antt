@@ -6,8 +6,8 @@ use Rattle.tc_stmt.specs.Items.{ItemData}
 use Rattle.tc_stmt.specs.Lines.{LineData, lines_in, items_in}
 use Rattle.tc_asm.specs.Symbols.{SymbolData}
 use Rattle.tc_asm.specs.Drafts.{DraftData, start, draft_after_item}
-use Rattle.tc_asm.specs.DraftedSources.{draft_from_lines, with_line, symbols_of, KeepsRules, draft_in}
-use Rattle.tc_asm.specs.Rules.{item_rule, items_rule, line_rule}
+use Rattle.tc_asm.specs.DraftedSources.{draft_from_lines, with_line, symbols_of, draft_in}
+use Rattle.tc_asm.specs.Rules.{KeepsRules, item_rule, items_rule, line_rule}
 use Rattle.tc_asm.specs.DraftInvariants.{IsDraft}
 use Rattle.tc_asm.proofs.KeptLaws.{IsDraft-start, IsDraft-line}
 use Rattle.tc_object.specs.Objects.{IsObject}

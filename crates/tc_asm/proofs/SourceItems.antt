@@ -16,7 +16,7 @@ use Rattle.tc_stmt.specs.RowFields.{RowFieldsData}
 use Rattle.tc_stmt.specs.Items.{ReferenceData, ItemData, section, global, bytes, zeros}
 use Rattle.tc_stmt.specs.Filling.{reference}
 use Rattle.tc_stmt.specs.OperandForms.{shape_index, is_symbol_operand, is_half_operand, operand_number_modulo}
-use Rattle.tc_stmt.specs.DataDirectives.{is_value_within_width, value_rule, value_item, space_item}
+use Rattle.tc_stmt.specs.DataValues.{is_value_within_width, value_rule, value_item, space_item}
 use Rattle.tc_stmt.specs.StatementRow.{statement}
 use Rattle.tc_stmt.specs.Lines.{LineData, line_data, only_operand_name, named_line, space_line, values_line, code_line, stated_line, line_from, pieces_line, line_token_with_text, label_of, label_before, cut_line, line_in, lines_in, items_in}
 use Rattle.tc_asm.specs.ItemInvariants.{IsAddedData, IsAddedItem}

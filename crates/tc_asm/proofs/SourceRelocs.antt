@@ -7,7 +7,7 @@ use Rattle.tc_object.specs.declared.relocs.Reloc.{Reloc}
 use Rattle.tc_asm.specs.Symbols.{SymbolData, symbol_number}
 use Rattle.tc_asm.specs.Drafts.{UseData, PartData, part_names}
 use Rattle.tc_asm.specs.Objects.{assembled_addend, reloc_of, relocs_from, ObjectSectionsLaw}
-use Rattle.tc_asm.specs.RelocationLaws.{reloc_at, relocs_behind, relocs_of, RelocationsLaw}
+use Rattle.tc_asm.specs.SourceRelocations.{reloc_at, relocs_behind, relocs_of, RelocationsLaw}
 use Rattle.tc_asm.specs.Statements.{StatementData, statements_in, is_open_statement}
 use Rattle.tc_asm.specs.DraftedSources.{draft_in, symbols_in}
 use Rattle.tc_asm.proofs.Uses.{use_at, uses_from}

@@ -17,7 +17,7 @@ use Rattle.tc_asm.specs.Drafts.{DraftData, start, drafted_fields, fields_with_ta
 use Rattle.tc_asm.specs.DraftedSources.{symbols_of}
 use Rattle.tc_asm.specs.DraftInvariants.{EachInDraft}
 use Rattle.tc_asm.specs.Statements.{StatementData, statement, content_of}
-use Rattle.tc_asm.specs.RelocationLaws.{UnfilledLaw}
+use Rattle.tc_asm.specs.SourceRelocations.{UnfilledLaw}
 use Rattle.tc_asm.specs.InstructionLaws.{is_resolved_jump}
 use Rattle.tc_asm.specs.ItemInvariants.{IsAddedCode, IsAddedItem}
 use Rattle.tc_asm.proofs.SourceItems.{source_are}

@@ -52,7 +52,8 @@ draft_place d = option_map_or (λ p. length p.bytes) (slice_get d.parts d.sectio
 abbrev pub has_section : DraftData → Bool
 has_section d = nat_lt d.section (length d.parts)
 
--- a draft has room for n more bytes: they are within the limit of 16,777,216 in all its sections
+-- a draft with n more bytes has no more than 16,777,216 in all its sections, so that they can be
+-- added to it
 abbrev pub has_room : DraftData → ℕ → Bool
 has_room d n = nat_le (d.total + n) (2 ^ 24)
 
@@ -133,13 +134,13 @@ label_distance labels d r =
 abbrev pub drafted_fields : Fields → RowFieldsData
 drafted_fields f = record { fields = f; rule = no_rule; reference = None }
 
--- the fields with which a draft spells its next instruction, with the distance to a label as its
--- displacement, and the least rule that the target breaks
+-- the fields with which a draft spells its next instruction: the displacement is the distance from
+-- the draft's current place to a label; and the least rule that the target breaks
 unfoldable pub fields_with_label_distance : List SymbolData → DraftData → RowData → Fields → ReferenceData → RowFieldsData
 fields_with_label_distance labels d row f r = option_map_or (λ n. with_displacement row n.0 n.1 (drafted_fields f)) (label_distance labels d r) (with_rule misplaced_symbol (drafted_fields f))
 
--- the fields with which a draft spells its next instruction, of this row, with its target resolved
--- if it needs no relocation
+-- the fields with which a draft spells its next instruction, of this row: its target is resolved
+-- here, unless a relocation will fill it in
 abbrev pub fields_with_target : List SymbolData → DraftData → RowData → Fields → Option ReferenceData → RowFieldsData
 fields_with_target labels d row f None = drafted_fields f
 fields_with_target labels d row f (Some r) = if r.kind == 0 then fields_with_label_distance labels d row f r else drafted_fields f
@@ -149,8 +150,8 @@ fields_with_target labels d row f (Some r) = if r.kind == 0 then fields_with_lab
 unfoldable pub assembled_row_code : RowData → Fields → List ℕ
 assembled_row_code row f = if are_fitting_fields row f then spelling row f else []
 
--- the fields with which a draft spells its next instruction, of the row with this number, with its
--- target resolved if it needs no relocation
+-- the fields with which a draft spells its next instruction, of the row with this number: its
+-- target is resolved here, unless a relocation will fill it in
 abbrev pub row_fields_with_target : List SymbolData → DraftData → ℕ → Fields → Option ReferenceData → RowFieldsData
 row_fields_with_target labels d k f r = option_map_or (λ row. fields_with_target labels d row f r) (slice_get listed k) (drafted_fields f)
 

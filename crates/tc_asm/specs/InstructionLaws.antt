@@ -2,12 +2,13 @@
 use Rattle.std.specs.Prelude.{◌≡◌, ◌==◌, ◌++◌, ℕ, Bool, false, List, ◌∷◌, length, slice_get, Option, Some, None}
 use Rattle.tc_isa.specs.declared.fields.Fields.{Fields}
 use Rattle.tc_isa.specs.Rows.{RowData, listed}
-use Rattle.tc_isa.specs.ValidRows.{FieldsFitRow}
+use Rattle.tc_isa.specs.ValidRowFields.{FieldsFitRow}
 use Rattle.tc_isa.specs.Spelling.{spelling}
 use Rattle.tc_stmt.specs.Items.{ReferenceData, ItemData, code}
 use Rattle.tc_stmt.specs.Lines.{lines_in, items_in}
 use Rattle.tc_asm.specs.Drafts.{start}
-use Rattle.tc_asm.specs.DraftedSources.{symbols_of, KeepsRules}
+use Rattle.tc_asm.specs.DraftedSources.{symbols_of}
+use Rattle.tc_asm.specs.Rules.{KeepsRules}
 use Rattle.tc_asm.specs.Statements.{statement, statements_from, statements_in}
 
 -- what the law of instructions says of assembled bytes: they spell an instruction of the listed row

@@ -2,7 +2,7 @@
 use Rattle.std.specs.Prelude.{◌≡◌, ℕ, true, List, [], ◌∷◌, length, slice_get, Option, Some}
 use Rattle.tc_isa.specs.declared.fields.Fields.{Fields}
 use Rattle.tc_isa.specs.Rows.{RowData, listed}
-use Rattle.tc_isa.specs.ValidRows.{FieldsFitRow}
+use Rattle.tc_isa.specs.ValidRowFields.{FieldsFitRow}
 use Rattle.tc_isa.specs.Relocations.{is_reloc}
 use Rattle.tc_stmt.specs.Names.{is_source_name}
 use Rattle.tc_stmt.specs.Items.{ReferenceData, ItemData, label, section, global, code, bytes, zeros}

@@ -26,8 +26,8 @@ abbrev pub are_new : List SymbolData → DraftData → List ItemData → Bool
 are_new labels d [] = true
 are_new labels d (i ∷ is) = (has_symbol_room d.symbols && is_new d.symbols i) && are_new labels (draft_after_item labels d i) is
 
--- the least rule that items break in the second pass, after a draft that is kept without its
--- symbols if they are known
+-- the least rule that items break in the second pass over a source: if its symbols are known, each
+-- draft is kept without them
 abbrev pub kept_rule : Bool → List SymbolData → DraftData → List ItemData → ℕ
 kept_rule known labels d [] = no_rule
 kept_rule known labels d (i ∷ is) = min (item_rule labels (kept known d) i) (kept_rule known labels (draft_after_item labels d i) is)

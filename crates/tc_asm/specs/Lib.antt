@@ -8,9 +8,9 @@ pub mod Objects
 pub mod DraftInvariants
 pub mod Errors
 pub mod Statements
-pub mod RelocationLaws
+pub mod SourceRelocations
 pub mod InstructionLaws
 pub mod ItemInvariants
 pub mod AlikeDrafts
-pub mod ShortJumps
+pub mod ShortJumpLaws
 pub mod KnownSymbols

@@ -42,6 +42,7 @@ relocs_from ss section (p ∷ ps) = map (reloc_of ss section) p.uses ++ relocs_f
 abbrev pub object_of : DraftData → ObjectData
 object_of d = record { sections = map section_of d.parts; symbols = map symbol_of d.symbols; relocs = relocs_from d.symbols 0 d.parts }
 
--- the law of the object of a draft: its sections are those of the source
+-- the law of the object that a draft becomes: its sections are those that the source's statements
+-- make
 abbrev pub ObjectSectionsLaw : Type 0
 ObjectSectionsLaw = (source : List ℕ) → (object_of (draft_in source)).sections ≡ sections_in source

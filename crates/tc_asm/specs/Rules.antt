@@ -1,5 +1,5 @@
 -- The rules that depend on the earlier lines or on the whole source; 15 is none.
-use Rattle.std.specs.Prelude.{ℕ, Bool, ◌&&◌, ◌||◌, not, nat_lt, min, if◌then◌else◌, List, length, Option, Some, None, is_some, ◌∷◌, []}
+use Rattle.std.specs.Prelude.{ℕ, Bool, ◌&&◌, ◌||◌, not, nat_lt, min, if◌then◌else◌, List, length, Option, Some, None, is_some, ◌∷◌, ◌≡◌, ◌≢◌, ◌+◌, ◌<◌, take, slice_index_or, []}
 use Rattle.tc_stmt.specs.SourceRules.{label_twice, no_rule, no_section, bad_name, past_limits, undefined_global}
 use Rattle.tc_stmt.specs.Names.{is_source_name}
 use Rattle.tc_stmt.specs.Items.{ReferenceData, ItemData, label, section, global, code, bytes, zeros}
@@ -7,6 +7,7 @@ use Rattle.tc_asm.specs.Symbols.{SymbolData, entry_in, place_in}
 use Rattle.tc_isa.specs.Relocations.{is_reloc}
 use Rattle.tc_asm.specs.Drafts.{DraftData, has_section, has_room, number_of_part, row_fields_with_target, code_bytes, draft_after_item}
 use Rattle.tc_stmt.specs.Lines.{LineData}
+use Rattle.tc_asm.specs.DraftedSources.{draft_from_lines, symbols_of}
 
 -- 7: a label twice
 abbrev pub label_rule : DraftData → List ℕ → ℕ
@@ -71,3 +72,21 @@ items_rule labels d (i ∷ is) = min (item_rule labels d i) (items_rule labels (
 -- the least rule that a line breaks after this draft
 unfoldable pub line_rule : List SymbolData → DraftData → LineData → ℕ
 line_rule labels d l = min l.rule (items_rule labels d l.items)
+
+-- the least rule that a source's line at this place breaks, after the draft of the lines before it
+abbrev pub rule_in : List LineData → ℕ → LineData → ℕ
+rule_in lines k l = line_rule (symbols_of lines) (draft_from_lines (symbols_of lines) (take k lines)) l
+
+-- no line of a source before this place breaks a rule, each after the draft of the lines before it
+abbrev pub KeepsRules : List LineData → ℕ → Type 0
+KeepsRules lines n = (k : ℕ) (d : LineData) → k < n → rule_in lines k (slice_index_or lines k d) ≡ no_rule
+
+-- the number of the first line of a source that breaks a rule, and the least of the rules that it
+-- breaks after the draft of the lines before it
+pub record IsLeastBrokenLine (lines : List LineData) (line rule : ℕ) : Type 0 where
+  pub place : ℕ
+  pub within : place < length lines
+  pub is : line ≡ place + 1
+  pub broken : (d : LineData) → rule_in lines place (slice_index_or lines place d) ≡ rule
+  pub some : rule ≢ no_rule
+  pub before : KeepsRules lines place

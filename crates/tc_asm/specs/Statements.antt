@@ -54,7 +54,8 @@ offset_of ts place s = length (section_bytes s (take place ts))
 abbrev pub SectionLaw : Type 0
 SectionLaw = (labels : List SymbolData) (lines : List LineData) (s : ℕ) → bytes_at (draft_from_lines labels lines).parts s ≡ section_bytes s (statements labels lines)
 
--- the bytes of each statement of a source are in the bytes of its section at its offset
+-- each statement of a source is found in its section: its bytes are there at its offset, the size
+-- of the statements before it
 abbrev pub OffsetLaw : Type 0
 OffsetLaw = (ts : List StatementData) (place : ℕ) (t : StatementData) → slice_get ts place ≡ Some t
     → take (length t.bytes) (drop (offset_of ts place t.section) (section_bytes t.section ts)) ≡ t.bytes
@@ -69,7 +70,7 @@ abbrev pub sections_of_statements : List StatementData → ℕ → List (List �
 sections_of_statements ts number [] = []
 sections_of_statements ts number (name ∷ names) = record { name = name; bytes = section_bytes number ts } ∷ sections_of_statements ts (number + 1) names
 
--- the sections of a source
+-- the sections that the statements of a source make, each with the bytes of its statements
 unfoldable pub sections_in : List ℕ → List SectionData
 sections_in source = sections_of_statements (statements_in source) 0 (section_names_in source)
 

@@ -4,7 +4,8 @@ ghost use Rattle.tc_stmt.specs.Items.{item_of};
 ghost use Rattle.tc_stmt.specs.Lines.{line_data, lines_in, items_in};
 ghost use Rattle.tc_asm.specs.ItemInvariants.{IsAddedItem};
 ghost use Rattle.tc_asm.specs.Drafts.{start, draft_after_item};
-ghost use Rattle.tc_asm.specs.DraftedSources.{draft_from_lines, with_line, symbols_of as symbols_in, KeepsRules, IsLeastBrokenLine};
+ghost use Rattle.tc_asm.specs.DraftedSources.{draft_from_lines, with_line, symbols_of as symbols_in};
+ghost use Rattle.tc_asm.specs.Rules.{KeepsRules, IsLeastBrokenLine};
 ghost use Rattle.tc_asm.specs.KnownSymbols.{kept, kept_rule, are_new};
 ghost use Rattle.tc_asm.specs.Objects.{object_of};
 ghost use Rattle.tc_asm.specs.Errors.{IfBad};
@@ -13,7 +14,7 @@ ghost use Rattle.tc_stmt.specs.SourceViews.{lines_of};
 
 use crate::AsmErr;
 use crate::draft::Draft;
-use crate::emit::emit_object;
+use crate::finished_object::emit_object;
 use crate::put_checked_items::add_items;
 use crate::symbols::Symbols;
 use std::alloc::{AllocError, Global};
@@ -99,8 +100,8 @@ fn draft_with_known_symbols<'a>(draft: Draft<'a>, known: bool, symbols: Symbols<
     draft
 }
 
-// Adds items as far as symbols depend on them: section names, labels and sizes. Returns whether
-// there is room for all symbols, and no label is there twice.
+/// Adds items in the first of the two passes over a source, as far as symbols depend on them.
+/// Returns whether there is room for all symbols, and no label is there twice.
 fn count_items<'a>(
     alloc: Global,
     draft: &mut Draft<'a>,

@@ -94,8 +94,7 @@ impl<'a> Draft<'a> {
         n <= MOST_BYTES && self.total <= MOST_BYTES - n
     }
 
-    /// Adds bytes to the draft of an object, at the end of its current section, if they are within
-    /// the limit.
+    /// Adds bytes at the end of the draft's current section, if they are within the limit.
     #[inline(always)]
     #[tactic(auto, unfolding(crate::specs::Drafts::with_bytes))]
     pub(crate) fn add_bytes(&mut self, bytes: &[u8]) -> Result<(), AllocError>
@@ -108,8 +107,8 @@ impl<'a> Draft<'a> {
         Ok(())
     }
 
-    /// Notes a relocation for the next bytes, of which there are `size`, if they are four and there
-    /// is room for it.
+    /// Notes in the draft that its next bytes, of which there are `size`, will need a relocation,
+    /// if they are four and there is room for it.
     #[inline(always)]
     #[tactic(auto, unfolding(crate::specs::Drafts::with_use))]
     pub(crate) fn add_use(&mut self, size: usize, r: Reference<'a>) -> Result<(), AllocError>
@@ -252,8 +251,8 @@ impl<'a> Draft<'a> {
         Ok(before.is_none())
     }
 
-    /// Makes the section of this name the current one in the draft of an object. If there is none,
-    /// and there are fewer than 64, a new one begins. A bad name changes nothing.
+    /// Makes the section of this name the draft's current one. If there is none, and there are
+    /// fewer than 64, a new one begins. A bad name changes nothing.
     #[inline(never)]
     #[tactic(auto, unfolding(crate::specs::Drafts::with_current_section))]
     fn enter(&mut self, alloc: Global, name: &'a [u8]) -> Result<(), AllocError>
@@ -293,8 +292,8 @@ impl<'a> Draft<'a> {
         Ok(())
     }
 
-    /// Extends the draft of an object by the bytes of an instruction, with its target resolved if
-    /// it needs no relocation.
+    /// Extends the draft by the bytes of an instruction, with its target resolved if it needs no
+    /// relocation.
     #[inline(never)]
     #[tactic(auto, unfolding(crate::specs::Drafts::draft_after_item))]
     fn add_code(
@@ -312,7 +311,7 @@ impl<'a> Draft<'a> {
         self.add_content(first_assembled_bytes(&code.bytes, code.len), r)
     }
 
-    /// Adds zeros at the end of the draft's current section, which are only counted.
+    /// Extends the draft by zeros at the end of its current section, which are only counted.
     #[inline(always)]
     #[tactic(auto, unfolding(crate::specs::Drafts::with_bytes))]
     fn add_zeros(&mut self, n: usize) -> Result<(), AllocError>
@@ -380,7 +379,8 @@ impl<'a> Draft<'a> {
         Ok(())
     }
 
-    // Adds `n` zeros instead of bytes, and notes their symbol. The first pass needs no more.
+    /// Adds `n` zeros to the first pass's draft instead of bytes, and notes their symbol. The first
+    /// pass needs no more.
     #[inline(always)]
     fn count_bytes(&mut self, n: usize, r: &Option<Reference<'a>>) -> Result<(), AllocError>
         requires { AddedSymbolIsNamed (option_map reference_of r.now) }

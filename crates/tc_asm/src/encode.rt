@@ -47,7 +47,8 @@ pub(crate) fn assembled_code_size(row: u8) -> u8
     }
 }
 
-/// The fields of an instruction to encode, without a symbol or a broken rule.
+/// Returns the fields of an instruction that is encoded as it is: without a symbol or a broken
+/// rule.
 #[inline(always)]
 fn unbroken_fields<'a>(fields: Fields) -> RowFields<'a>
     ensures { row_fields_of result ≡ found_in fields }
@@ -136,7 +137,8 @@ impl<'a> Draft<'a> {
         }
     }
 
-    /// The fields of a jump of 16 bits to a label, and the least rule that its target breaks.
+    /// The fields with which a jump of 16 bits to a label is encoded, and the least rule that its
+    /// target breaks.
     #[inline(never)]
     #[tactic(auto, unfolding(crate::specs::Drafts::fields_with_label_distance))]
     fn resolve_jump(
@@ -160,7 +162,7 @@ impl<'a> Draft<'a> {
         }
     }
 
-    /// The distance in bytes from the draft's current place to the target of a jump, and whether
+    /// The distance in bytes from the instruction to encode to the target of its jump, and whether
     /// the target is before it. None if the symbol is no label of the current section.
     #[tactic(auto, unfolding(crate::specs::Drafts::label_distance))]
     fn label_distance(&self, labels: &Symbols<'a>, r: Reference<'a>) -> Option<(bool, u128)>

@@ -1,8 +1,8 @@
 // Public laws of sources and of their objects.
-ghost use Rattle.tc_asm.specs.RelocationLaws.{RelocationsLaw, UnfilledLaw};
+ghost use Rattle.tc_asm.specs.SourceRelocations.{RelocationsLaw, UnfilledLaw};
 ghost use Rattle.tc_asm.specs.Objects.{ObjectSectionsLaw};
 ghost use Rattle.tc_asm.specs.InstructionLaws.{InstructionsLaw};
-ghost use Rattle.tc_asm.specs.ShortJumps.{ShortJumpsLaw};
+ghost use Rattle.tc_asm.specs.ShortJumpLaws.{ShortJumpsLaw};
 ghost use Rattle.tc_asm.specs.Statements.{OffsetLaw, SectionLaw};
 
 /// A section is the bytes of its statements in order. The offset of a statement is the total size

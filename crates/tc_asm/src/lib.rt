@@ -3,9 +3,9 @@
 
 mod assemble_source;
 mod draft;
-mod emit;
 mod encode;
 mod errors;
+mod finished_object;
 mod laws;
 mod put_checked_items;
 mod rules;

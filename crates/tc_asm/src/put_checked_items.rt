@@ -238,7 +238,7 @@ impl<'a> Draft<'a> {
         Ok(())
     }
 
-    // Adds bytes with a symbol, and returns the least rule that they break.
+    /// Puts bytes with a symbol into the draft, checked: returns the least rule that they break.
     #[inline(never)]
     fn put_named(&mut self, bytes: &[u8], r: &Option<Reference<'a>>) -> Result<u8, AllocError>
         ensures draft { OnOk result
@@ -330,7 +330,8 @@ impl<'a> Draft<'a> {
     }
 }
 
-// Adds items, and returns the least rule that they break.
+/// Puts items into a draft one after another, each checked, and returns the least rule that they
+/// break.
 pub(crate) fn add_items<'a>(
     alloc: Global,
     draft: &mut Draft<'a>,

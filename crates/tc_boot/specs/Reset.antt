@@ -23,8 +23,8 @@ pub record Reset (image : ImageData) (plan : PlanData) (at : ℕ) (m : Machine) 
   pub memory : IsPlanMemory plan m.mem
   pub rom : HoldsRom image plan m.mem
 
--- the machine is inside the boot sequence: it runs at one of the 56 instructions, with interrupts
--- off
+-- on the way from reset to a start state: the machine runs at one of the 56 instructions of the
+-- boot sequence, with interrupts off
 pub record IsBooting (at : ℕ) (m : Machine) : Type 0 where
   pub running : m.end ≡ Running
   pub off : m.ie ≡ false
@@ -32,14 +32,14 @@ pub record IsBooting (at : ℕ) (m : Machine) : Type 0 where
   pub within : place < 56
   pub pc : m.pc ≡ at + 4 * place
 
--- under these events the machine ends in a start state, and is inside the boot sequence before each
--- of them
+-- from this state, as one at reset, the events lead to a start state, and the machine is inside the
+-- boot sequence before each of them
 pub record BootsFrom (image : ImageData) (plan : PlanData) (at : ℕ) (m : Machine) (es : List Event) : Type 0 where
   pub starts : Starts image plan (run m es)
   pub before : (n : ℕ) → n < length es → IsBooting at (run m (take n es))
 
 -- from any state at reset, under fitting events, the boot sequence leads to a start state, and each
--- state after it is safe: what the command for boot sequences promises
+-- state after it is safe
 abbrev pub BootsSafely : ImageData → PlanData → ℕ → ℕ → Type 0
 BootsSafely image plan at most =
     (m : Machine) (boot es : List Event) (e : Event) → Reset image plan at m → AllFit plan m boot → length boot ≡ boot_events plan

@@ -14,9 +14,9 @@ use Rattle.tc_lex.specs.Numbers.{token_number, add_digit}
 use Rattle.tc_lex.specs.Operands.{OperandData, operand, operands, operand_value_data, plain_operand, plain_number}
 use Rattle.tc_stmt.specs.OperandForms.{shape_index}
 use Rattle.tc_stmt.specs.Items.{bytes, section}
-use Rattle.tc_stmt.specs.DataDirectives.{value_rule, value_item, values_rule}
+use Rattle.tc_stmt.specs.DataValues.{value_rule, value_item, values_rule}
 use Rattle.tc_stmt.specs.Lines.{line_data, pieces_line, stated_line, values_line, named_line, only_operand_name, is_named_line_operand}
-use Rattle.tcd_text.specs.Digits.{hex_byte}
+use Rattle.tcd_text.specs.HexNumbers.{hex_byte}
 use Rattle.tc_disasm.specs.Tokens.{printed_token}
 use Rattle.tc_disasm.specs.Lexed.{IsListingStop}
 use Rattle.tc_disasm.proofs.Decimals.{decimal_is}

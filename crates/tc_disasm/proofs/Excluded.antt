@@ -4,7 +4,7 @@ use Rattle.std.specs.Prelude.{codes, not, nat_le, ◌*◌, ◌^◌, if◌then◌
 use Rattle.std.specs.Str.{bytes_eq}
 use Rattle.std.proofs.lemmas.Bool.{false≢true}
 use Rattle.tc_isa.specs.Rows.{RowData}
-use Rattle.tc_isa.specs.ValidRows.{are_bools_equal}
+use Rattle.tc_isa.specs.ValidRowFields.{are_bools_equal}
 use Rattle.tc_isa.specs.Forms.{form_index}
 use Rattle.tc_stmt.specs.declared.want.Field.{Field}
 use Rattle.tc_stmt.specs.declared.want.Field.TheVariants.{S2, K}

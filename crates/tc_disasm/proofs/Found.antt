@@ -6,7 +6,7 @@ use Rattle.std.specs.Str.{bytes_eq}
 use Rattle.std.proofs.lemmas.Bool.{false≢true}
 use Rattle.std.proofs.lemmas.Bool.Decides.{nat_tests}
 use Rattle.tc_isa.specs.Rows.{RowData}
-use Rattle.tc_isa.specs.ValidRows.{are_registers_apart}
+use Rattle.tc_isa.specs.ValidRowFields.{are_registers_apart}
 use Rattle.tc_stmt.specs.declared.tally.Tally.{Tally}
 use Rattle.tc_stmt.specs.declared.want.Want.{Want}
 use Rattle.tc_stmt.specs.Wants.{wants_of}

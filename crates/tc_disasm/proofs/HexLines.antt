@@ -3,7 +3,7 @@ use Rattle.std.proofs.Common.{◌≡◌, ◌<◌, ◌^◌, ◌∷◌, ◌++◌, 
 use Rattle.std.specs.Prelude.{codes, OnOk}
 use Rattle.std.specs.Str.{IsAscii}
 use Rattle.std.proofs.lemmas.Str.Ascii.{IsAscii-nil, IsAscii-cons}
-use Rattle.tcd_text.specs.Digits.{hex_byte, hex_word}
+use Rattle.tcd_text.specs.HexNumbers.{hex_byte, hex_word}
 use Rattle.tcd_text.proofs.DigitLaws.{hex_byte-front, hex_word-front}
 
 -- an address after its mark

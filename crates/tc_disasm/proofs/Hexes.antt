@@ -5,7 +5,7 @@ use Rattle.std.proofs.lemmas.Bool.Decides.{nat_tests}
 use Rattle.tc_lex.specs.Bytes.{is_digit, is_hex}
 use Rattle.tc_lex.specs.Cut.{has_hex_front}
 use Rattle.tc_lex.specs.Numbers.{token_digit_value, add_digit, token_number, below_2_128}
-use Rattle.tcd_text.specs.Digits.{hex_digit, hex_byte, hex_word}
+use Rattle.tcd_text.specs.HexNumbers.{hex_digit, hex_byte, hex_word}
 use Rattle.tc_disasm.proofs.Decimals.{bounded-small}
 
 pub is_hex-digit : (n : ℕ) → n < 16 → is_hex (hex_digit n) ≡ true

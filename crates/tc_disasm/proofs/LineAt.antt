@@ -13,7 +13,7 @@ use Rattle.tc_stmt.specs.Items.{bytes, section, code}
 use Rattle.tc_stmt.specs.Lines.{LineData, line_data}
 use Rattle.tcd_base.specs.NameBytes.{is_name_byte, is_name_first}
 use Rattle.tc_lex.specs.Bytes.{is_digit}
-use Rattle.tcd_text.specs.Digits.{hex_digit, hex_byte, hex_word}
+use Rattle.tcd_text.specs.HexNumbers.{hex_digit, hex_byte, hex_word}
 use Rattle.tc_disasm.specs.Texts.{instruction_text}
 use Rattle.tc_disasm.specs.Listing.{piece_text, piece_size, listed_text_at, listed_size_at, listing_remark, line_at, section_line}
 use Rattle.tc_disasm.specs.Lexed.{IsListingStop}

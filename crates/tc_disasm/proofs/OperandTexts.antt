@@ -15,7 +15,7 @@ use Rattle.tc_stmt.specs.declared.want.Want.{Want}
 use Rattle.tc_stmt.specs.declared.want.Want.TheVariants.{Reg, A10, Number, Target, Absolute, Memory}
 use Rattle.tc_stmt.specs.RowFields.{field_of}
 use Rattle.tc_lex.specs.Pieces.{PieceData}
-use Rattle.tcd_text.specs.Digits.{hex_word}
+use Rattle.tcd_text.specs.HexNumbers.{hex_word}
 use Rattle.tc_disasm.specs.Texts.{is_printed_minus, printed_size, number_text, target_text, register_text, base_text, absolute_text, absolute_operand_address, operand_text, operands_text}
 use Rattle.tc_stmt.specs.Displacements.{is_two_way}
 use Rattle.tc_disasm.specs.Tokens.{printed_token, number_tokens, field_number_tokens, target_tokens, base_tokens, operand_tokens}

@@ -17,7 +17,7 @@ use Rattle.tc_lex.specs.Operands.{operand, operand_value_data, plain_operand, br
 use Rattle.tc_stmt.specs.RowFields.{RowFieldsData, with_value, with_rule, field_of}
 use Rattle.tc_stmt.specs.Filling.{fill, fill_all, fill_plain, fill_a10, fill_value, fill_memory, fill_absolute, put_absolute, put_register, put_number}
 use Rattle.tc_stmt.specs.OperandForms.{shape_index}
-use Rattle.tcd_text.specs.Digits.{hex_word}
+use Rattle.tcd_text.specs.HexNumbers.{hex_word}
 use Rattle.tc_disasm.specs.Texts.{register_text, is_printed_minus, printed_size, absolute_text, absolute_operand_address}
 use Rattle.tc_stmt.specs.Displacements.{is_two_way}
 use Rattle.tc_disasm.specs.Tokens.{operand_tokens, base_tokens, number_tokens}

@@ -9,7 +9,7 @@ use Rattle.tc_isa.specs.Rows.{RowData, listed}
 use Rattle.tc_isa.specs.declared.fields.Fields.{Fields}
 use Rattle.tc_isa.specs.Forms.{bounds, fields}
 use Rattle.tc_isa.specs.InBounds.{IsBelow, AreSmall}
-use Rattle.tc_isa.specs.ValidRows.{uses_of, are_unused_fields_zero, FieldsFitRow}
+use Rattle.tc_isa.specs.ValidRowFields.{uses_of, are_unused_fields_zero, FieldsFitRow}
 use Rattle.tc_isa.specs.Insts.{InstData, IsInst, fields_in}
 use Rattle.tc_isa.proofs.Shaped.{small}
 use Rattle.tc_lex.specs.declared.operand.Shape.TheVariants as shape

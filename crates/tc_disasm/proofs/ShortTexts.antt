@@ -19,7 +19,7 @@ use Rattle.tc_stmt.specs.declared.want.Want.{Want}
 use Rattle.tc_stmt.specs.declared.want.Want.TheVariants.{Reg, A10, Number, Target, Absolute, Memory}
 use Rattle.tc_stmt.specs.Wants.{wants_of}
 use Rattle.tc_stmt.specs.RowFields.{field_of}
-use Rattle.tcd_text.specs.Digits.{hex_byte, hex_word}
+use Rattle.tcd_text.specs.HexNumbers.{hex_byte, hex_word}
 use Rattle.tc_disasm.specs.Texts.{is_printed_minus, register_text, number_text, target_text, absolute_text, base_text, operand_text, operands_text, row_text, instruction_text}
 use Rattle.tc_stmt.specs.Displacements.{is_two_way}
 use Rattle.tc_disasm.specs.Listing.{listed_text_at, listed_size_at, listing_remark, line_at, lines_from, section_line, section_text, listing_sections_from}

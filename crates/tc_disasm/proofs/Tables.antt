@@ -1,7 +1,7 @@
 -- By computation over the table.
 use Rattle.std.proofs.Common.{◌≡◌, true, map, refl}
 use Rattle.tc_isa.specs.Rows.{listed}
-use Rattle.tc_isa.specs.ValidRows.{uses_of}
+use Rattle.tc_isa.specs.ValidRowFields.{uses_of}
 use Rattle.tc_stmt.specs.Wants.{wants_of, want_of}
 use Rattle.tc_disasm.specs.RowsApart.{row_to_tell_apart, all_apart, excludes, are_wants_apart}
 use Rattle.tc_disasm.specs.GivenFields.{uses_by_wants, is_field_named}

@@ -11,7 +11,7 @@ use Rattle.tcd_base.specs.NameBytes.{is_name_byte, is_name_first}
 use Rattle.tc_lex.specs.Bytes.{is_digit, is_hex}
 use Rattle.tc_lex.specs.Cut.{token_front_of, token_front_by_byte, number_len, has_hex_front}
 use Rattle.tc_lex.specs.Pieces.{PieceData}
-use Rattle.tcd_text.specs.Digits.{hex_byte, hex_word}
+use Rattle.tcd_text.specs.HexNumbers.{hex_byte, hex_word}
 use Rattle.tc_disasm.specs.Texts.{register_text}
 use Rattle.tc_disasm.specs.Tokens.{printed_token}
 use Rattle.tc_disasm.specs.Lexed.{IsListingStop}

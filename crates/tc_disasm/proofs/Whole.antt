@@ -10,12 +10,12 @@ use Rattle.tc_lex.specs.Pieces.{is_kind}
 use Rattle.tc_stmt.specs.Lines.{LineData, line_data, line_in, lines_in, pieces_line, line_from}
 use Rattle.tc_asm.specs.Symbols.{SymbolData}
 use Rattle.tc_asm.specs.Drafts.{DraftData, start}
-use Rattle.tc_asm.specs.DraftedSources.{draft_from_lines, with_line, symbols_of, KeepsRules, IsLeastBrokenLine}
+use Rattle.tc_asm.specs.DraftedSources.{draft_from_lines, with_line, symbols_of}
+use Rattle.tc_asm.specs.Rules.{KeepsRules, IsLeastBrokenLine, line_rule}
 use Rattle.tc_asm.specs.declared.errors.AsmErr.{AsmErr}
 use Rattle.tc_asm.specs.declared.errors.AsmErr.TheVariants.{Bad, NoMemory}
 use Rattle.tc_asm.specs.Errors.{IfBad}
 use Rattle.tc_asm.specs.Objects.{section_of, relocs_from, object_of}
-use Rattle.tc_asm.specs.Rules.{line_rule}
 use Rattle.tc_disasm.specs.Listing.{segments_in_listing_order, listing_sections_from, listing_of}
 use Rattle.tc_disasm.specs.Assembled.{listed_section_name, HoldsSegments, ReadsBack}
 use Rattle.tc_disasm.proofs.LineTokens.{reads-tokens, lexes-end}

@@ -6,7 +6,8 @@ use Rattle.elf_image.specs.Images.{SegmentData, ImageData, IsImage}
 use Rattle.tc_object.specs.Objects.{SectionData, ObjectData}
 use Rattle.tc_stmt.specs.Lines.{lines_in}
 use Rattle.tc_asm.specs.Objects.{object_of}
-use Rattle.tc_asm.specs.DraftedSources.{symbols_of, KeepsRules, IsLeastBrokenLine, draft_from_lines}
+use Rattle.tc_asm.specs.DraftedSources.{symbols_of, draft_from_lines}
+use Rattle.tc_asm.specs.Rules.{KeepsRules, IsLeastBrokenLine}
 use Rattle.tc_disasm.specs.Listing.{listing_of}
 
 -- the name of a section in the object that a listing is assembled to, by its number: `s0`, `s1` and

@@ -6,7 +6,7 @@ use Rattle.elf_image.specs.Images.{ImageData, SegmentData}
 use Rattle.tc_isa.specs.Insts.{InstData}
 use Rattle.tc_encode.specs.declared.errors.DecodeErr.{DecodeErr}
 use Rattle.tc_encode.specs.Decoding.{decoded_of}
-use Rattle.tcd_text.specs.Digits.{hex_byte, hex_word}
+use Rattle.tcd_text.specs.HexNumbers.{hex_byte, hex_word}
 use Rattle.tc_disasm.specs.Texts.{instruction_text, data_text}
 
 -- the instruction that was decoded from the start of the bytes, else data

@@ -45,6 +45,6 @@ operand_tokens form f Target = target_tokens (is_two_way form) (bounds form).k f
 operand_tokens form f Absolute = printed_token kind.Number (absolute_text form f) ∷ []
 operand_tokens form f (Memory plus offset) = base_tokens plus f.s2 ++ (if offset then field_number_tokens true (bounds form).k f.k else [])
 
--- the operands of a row that the tokens of its printed operands stand for, with these fields
+-- the printed operands of a row with these fields, as the operands that their tokens stand for
 abbrev pub printed_operands : RowData → Fields → List OperandData
 printed_operands r f = map (λ w. operand (operand_tokens r.form f w)) (wants_of r)

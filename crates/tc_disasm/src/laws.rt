@@ -13,7 +13,7 @@ ghost use Rattle.tc_lex.specs.Numbers.{token_number};
 ghost use Rattle.tc_stmt.specs.RowFields.{no_fields};
 ghost use Rattle.tc_stmt.specs.OperandForms.{register_by_name};
 ghost use Rattle.tc_stmt.specs.StatementRow.{statement};
-ghost use Rattle.tcd_text.specs.Digits.{hex_word};
+ghost use Rattle.tcd_text.specs.HexNumbers.{hex_word};
 ghost use Rattle.tc_disasm.specs.Texts.{register_text};
 ghost use Rattle.tc_disasm.specs.Tokens.{printed_token, printed_operands};
 ghost use Rattle.tc_disasm.specs.Lexed.{IsListingStop, lexed_listing};

@@ -1,7 +1,7 @@
 // Appends a line for each instruction or piece of data of a segment.
 ghost use Rattle.std.specs.Prelude.{◌≡◌, ◌<◌, ◌≤◌, ◌+◌, ◌^◌, ◌++◌, ◌∷◌, [], OnOk, IfOk, string_bytes, codes, length, min, drop};
 ghost use Rattle.std.specs.List.{flat_map};
-ghost use Rattle.tcd_text.specs.Digits.{hex_byte, hex_word};
+ghost use Rattle.tcd_text.specs.HexNumbers.{hex_byte, hex_word};
 ghost use Rattle.tc_disasm.specs.Listing.{listed_text_at, listed_size_at, listing_remark, line_at, lines_from};
 ghost use Rattle.tc_disasm.specs.Texts.{data_text};
 

@@ -8,7 +8,7 @@ use Rattle.tc_isa.specs.declared.table.Form.{Form}
 use Rattle.tc_isa.specs.declared.table.Form.TheVariants.{Rlc, Rr, Rc, Bol, Bo, Brr, Brc, B, Abs, Sys, Sr, Sc, Sb, Sbr, Src, Srr, Slr, Ssr}
 use Rattle.tc_isa.specs.Rows.{RowData, listed, is_long}
 use Rattle.tc_isa.specs.Forms.{second_code_by_form, form_index}
-use Rattle.tc_isa.specs.ValidRows.{FieldsFitRow, IsRow, clash, none_clash}
+use Rattle.tc_isa.specs.ValidRowFields.{FieldsFitRow, IsRow, clash, none_clash}
 use Rattle.tc_isa.specs.Spelling.{word_of, spelling_of, spelling}
 use Rattle.tc_encode.proofs.Inverse.{first-word, second-word}
 use Rattle.tc_isa.proofs.TableFacts.{row_at, rows_are_apart}

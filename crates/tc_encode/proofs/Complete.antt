@@ -6,7 +6,7 @@ use Rattle.tc_isa.specs.declared.fields.Fields.{Fields}
 use Rattle.tc_isa.specs.declared.fields.Uses.{Uses}
 use Rattle.tc_isa.specs.Forms.{fields_of}
 use Rattle.tc_encode.specs.WordSearch.{mix_low_bytes, word_part_span}
-use Rattle.tc_isa.specs.ValidRows.{FieldsFitRow, IsRow, uses_of, are_unused_fields_zero, are_registers_apart, least_fields}
+use Rattle.tc_isa.specs.ValidRowFields.{FieldsFitRow, IsRow, uses_of, are_unused_fields_zero, are_registers_apart, least_fields}
 use Rattle.tc_isa.specs.Spelling.{word_of}
 use Rattle.tc_encode.proofs.Mixed.{Mixed, mixed1, mixed2, mixed3}
 

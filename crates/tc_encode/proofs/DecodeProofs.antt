@@ -6,7 +6,7 @@ use Rattle.std.proofs.lemmas.Bool.{cases_Bool, cond-true, cond-false, both_ways,
 use Rattle.std.proofs.lemmas.List.{take_all, take-append-drop, append-nil, length-take-le}
 use Rattle.tc_isa.specs.Rows.{RowData, listed, is_long}
 use Rattle.tc_isa.specs.Insts.{InstData, fields_in}
-use Rattle.tc_isa.specs.ValidRows.{least_fields}
+use Rattle.tc_isa.specs.ValidRowFields.{least_fields}
 use Rattle.tc_isa.specs.Spelling.{word_of, spelling, Spells}
 use Rattle.tc_encode.specs.Decoding.{Begins, IsFront, decoded_row_length, goes_on_as, fields_at, instruction_at_row, first_of, answer_of, decoded_of}
 use Rattle.tc_encode.specs.declared.errors.DecodeErr.{DecodeErr}

@@ -13,7 +13,7 @@ use Rattle.tc_isa.specs.declared.table.Form.{Form}
 use Rattle.tc_isa.specs.Rows.{RowData, listed}
 use Rattle.tc_isa.specs.Forms.{bounds, fields_of, second_code_by_form, form_index, is_long_form}
 use Rattle.tc_isa.specs.InBounds.{IsBelow}
-use Rattle.tc_isa.specs.ValidRows.{FieldsFitRow, uses_of, are_unused_fields_zero, are_registers_apart}
+use Rattle.tc_isa.specs.ValidRowFields.{FieldsFitRow, uses_of, are_unused_fields_zero, are_registers_apart}
 use Rattle.tc_isa.specs.Spelling.{word_of}
 use Rattle.tc_isa.specs.Insts.{InstData, IsInst, fields_in}
 use Rattle.tc_isa.proofs.TableFacts.{row_at}

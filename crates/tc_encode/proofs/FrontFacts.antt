@@ -6,7 +6,7 @@ use Rattle.std.proofs.lemmas.List.{take_at, append-nil}
 use Rattle.tc_isa.specs.declared.fields.Fields.{Fields}
 use Rattle.tc_isa.specs.Rows.{RowData, is_long}
 use Rattle.tc_encode.specs.WordSearch.{mix_low_bytes}
-use Rattle.tc_isa.specs.ValidRows.{FieldsFitRow, IsRow, least_fields}
+use Rattle.tc_isa.specs.ValidRowFields.{FieldsFitRow, IsRow, least_fields}
 use Rattle.tc_isa.specs.Spelling.{word_of, spelling_of, spelling}
 use Rattle.tc_encode.specs.Decoding.{decoded_row_length, begins_with, goes_on_as}
 use Rattle.tc_encode.proofs.Complete.{completed}

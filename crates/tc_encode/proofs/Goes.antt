@@ -2,7 +2,7 @@
 use Rattle.std.proofs.Common.{◌≡◌, ◌+◌, ◌*◌, ◌/◌, ◌%◌, ◌<◌, ◌≤◌, ℕ, zero, suc, true, List, length, get_or, refl, sym, ap, subst, ◌∙◌, arith, Option, Some, None}
 use Rattle.std.specs.Prelude.{slice_get, IfSome}
 use Rattle.tc_isa.specs.Rows.{RowData, listed}
-use Rattle.tc_isa.specs.ValidRows.{FieldsFitRow, least_fields}
+use Rattle.tc_isa.specs.ValidRowFields.{FieldsFitRow, least_fields}
 use Rattle.tc_isa.specs.Spelling.{word_of}
 use Rattle.tc_isa.specs.Insts.{InstData, fields_in}
 use Rattle.tc_isa.proofs.TableFacts.{row_at}

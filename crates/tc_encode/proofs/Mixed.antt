@@ -6,8 +6,7 @@ use Rattle.tc_isa.specs.declared.table.Form.TheVariants.{Rlc}
 use Rattle.tc_isa.specs.Forms.{bounds, second_bound, fields_of}
 use Rattle.tc_isa.specs.Spelling.{word_by_form}
 use Rattle.tc_isa.specs.InBounds.{IsBelow}
-use Rattle.tc_encode.specs.WordSearch.{mix_low_byte, mix_three_bytes}
-use Rattle.tc_isa.specs.Arithmetic.{mix_two_bytes}
+use Rattle.tc_encode.specs.WordSearch.{mix_low_byte, mix_three_bytes, mix_two_bytes}
 
 pub record Mixed (form : Form) (op1 op2 : ℕ) (f g : Fields) (m : ℕ) : Type 0 where
   pub below : IsBelow (fields_of form m) (bounds form)

@@ -3,7 +3,7 @@ use Rattle.std.proofs.Common.{◌≡◌, ℕ, ap, sym, ◌∙◌}
 use Rattle.tc_isa.specs.Rows.{RowData}
 use Rattle.tc_isa.specs.declared.fields.Fields.{Fields}
 use Rattle.tc_isa.specs.Forms.{fields_of}
-use Rattle.tc_isa.specs.ValidRows.{FieldsFitRow, IsRow}
+use Rattle.tc_isa.specs.ValidRowFields.{FieldsFitRow, IsRow}
 use Rattle.tc_isa.specs.Spelling.{word_of}
 use Rattle.tc_encode.proofs.Inverse.{fields-word}
 

@@ -8,7 +8,7 @@ use Rattle.tc_isa.specs.declared.fields.Fields.{Fields}
 use Rattle.tc_isa.specs.Rows.{RowData, is_long}
 use Rattle.tc_isa.specs.Forms.{bounds, fields_of}
 use Rattle.tc_isa.specs.InBounds.{IsBelow, is_below_test}
-use Rattle.tc_isa.specs.ValidRows.{FieldsFitRow, IsRow}
+use Rattle.tc_isa.specs.ValidRowFields.{FieldsFitRow, IsRow}
 use Rattle.tc_isa.specs.Spelling.{word_of, spelling_of, spelling}
 use Rattle.tcd_base.specs.Bytes.{two_bytes, four_bytes, number_of_bytes}
 use Rattle.tc_encode.specs.Decoding.{decoded_row_length, are_fitting_fields, fields_at, begins_with}

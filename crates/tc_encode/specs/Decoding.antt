@@ -5,7 +5,7 @@ use Rattle.std.specs.Str.{bytes_eq}
 use Rattle.tc_isa.specs.declared.fields.Fields.{Fields}
 use Rattle.tc_isa.specs.Rows.{RowData, listed}
 use Rattle.tc_isa.specs.Forms.{bounds, fields_of}
-use Rattle.tc_isa.specs.ValidRows.{uses_of, are_unused_fields_zero, are_registers_apart, least_fields}
+use Rattle.tc_isa.specs.ValidRowFields.{uses_of, are_unused_fields_zero, are_registers_apart, least_fields}
 use Rattle.tc_isa.specs.InBounds.{is_below_test}
 use Rattle.tc_isa.specs.Spelling.{spelling, Spells}
 use Rattle.tc_isa.specs.Insts.{InstData}
@@ -21,8 +21,8 @@ decoded_length first = if first % 2 == 1 then 4 else 2
 abbrev pub decoded_row_length : RowData → ℕ
 decoded_row_length r = decoded_length r.op1
 
--- the fields fit the row: they are below the bounds of its form, those that the row doesn't have
--- are 0, and its registers are apart
+-- decoded fields fit the row: they are below the bounds of its form, those that the row doesn't
+-- have are 0, and its registers are apart
 abbrev pub are_fitting_fields : RowData → Fields → Bool
 are_fitting_fields r f = is_below_test f (bounds r.form) && are_unused_fields_zero (uses_of r) f && are_registers_apart r f
 

@@ -6,12 +6,12 @@ use Rattle.tc_isa.specs.Rows.{RowData, listed}
 use Rattle.tc_isa.specs.declared.fields.Fields.{Fields}
 use Rattle.tc_isa.specs.declared.fields.Uses.{Uses}
 use Rattle.tc_isa.specs.Forms.{form_index, bounds}
-use Rattle.tc_isa.specs.ValidRows.{uses_of}
+use Rattle.tc_isa.specs.ValidRowFields.{uses_of}
 use Rattle.tc_isa.specs.Spelling.{word_of}
 use Rattle.tc_isa.specs.Insts.{InstData, IsInst, fields_in}
 use Rattle.tc_encode.specs.Decoding.{decoded_row_length}
 
--- the instruction's word is w
+-- the instruction to be found by the word w: w is its word
 pub record Makes (w : ℕ) (i : InstData) : Type 0 where
   pub inst : IsInst i
   pub is : word_of inst.row (fields_in i) ≡ w
@@ -32,7 +32,7 @@ word_part_span (suc zero) = 2 ^ 8
 word_part_span (suc (suc zero)) = 2 ^ 16
 word_part_span (suc (suc (suc n))) = 2 ^ 24
 
--- the word with the low n bytes of a, and the rest of b, for n up to 3
+-- the word for a search by its low n bytes, for n up to 3: those of a, and the rest of b
 abbrev pub mix_low_bytes : ℕ → ℕ → ℕ → ℕ
 mix_low_bytes n a b = a % word_part_span n + b / word_part_span n * word_part_span n
 
@@ -42,25 +42,26 @@ pub record GoesOn (n part : ℕ) (i : InstData) : Type 0 where
   pub longer : n < decoded_row_length inst.row
   pub is : word_of inst.row (fields_in i) % word_part_span n ≡ part
 
--- there is a row at the start of an index range, and it has the form of this one
+-- in the search by a word: the index range of its first byte starts at a row, and that has the form
+-- of this row
 abbrev pub has_same_form : RowData → Option RowData → Bool
 has_same_form r None = false
 has_same_form r (Some s) = form_index s.form == form_index r.form
 
--- the place is from the start on and before the end, and the row at the start has the form of this
--- row
+-- in the search by a word: the row's place is in the index range of its first byte, and the row at
+-- the start of that range has its form
 abbrev pub is_in_index_range : ℕ → RowData → Option ℕ → Option ℕ → Bool
 is_in_index_range place r None end = false
 is_in_index_range place r (Some start) None = false
 is_in_index_range place r (Some start) (Some end) = nat_le start place && nat_lt place end && has_same_form r (slice_get listed start)
 
--- each row, numbered from here on, is from the start on and before the end that the index has for
+-- for the search by a word: each row, numbered from here on, is in the range that the index has for
 -- its first byte
 abbrev pub are_in_index_ranges : List ℕ → List ℕ → ℕ → List RowData → Bool
 are_in_index_ranges starts ends place [] = true
 are_in_index_ranges starts ends place (r ∷ rs) = is_in_index_range place r (slice_get starts r.op1) (slice_get ends r.op1) && are_in_index_ranges starts ends (suc place) rs
 
--- the index by codes has a row's place, and it is this one
+-- the place that the search by a word finds in the index of codes is this row's
 abbrev pub is_index_place : ℕ → Option ℕ → Bool
 is_index_place place None = false
 is_index_place place (Some p) = p == place
@@ -76,7 +77,8 @@ abbrev pub are_at_index_places : List ℕ → List ℕ → ℕ → List RowData 
 are_at_index_places bases places place [] = true
 are_at_index_places bases places place (r ∷ rs) = is_at_index_place places place r (slice_get bases r.op1) && are_at_index_places bases places (suc place) rs
 
--- each field is one that the row has, or is always 0 in the form
+-- each field is one that the row has, or always 0 in its form, so that the search by a word needn't
+-- test it
 abbrev pub names_or_lacks : Uses → Fields → Bool
 names_or_lacks u b = (u.c || b.c == 1) && (u.s1 || b.s1 == 1) && (u.s2 || b.s2 == 1) && (u.n || b.n == 1) && (u.k || b.k == 1)
 
@@ -104,3 +106,7 @@ has_zero_word_gaps Src w = true
 has_zero_word_gaps Srr w = true
 has_zero_word_gaps Slr w = true
 has_zero_word_gaps Ssr w = true
+
+-- the word with the low two bytes of a, and the rest of b
+abbrev pub mix_two_bytes : ℕ → ℕ → ℕ
+mix_two_bytes a b = a % 2 ^ 16 + b / 2 ^ 16 * 2 ^ 16

@@ -1,7 +1,7 @@
 // Beginnings of instructions: whether fewer bytes than an instruction has can be completed.
 ghost use Rattle.std.specs.Prelude.{◌≡◌, ◌<◌, ◌≤◌, ◌%◌, IfSome, IfNone, slice_get, Some};
 ghost use Rattle.tc_isa.specs.Rows.{row_of, listed};
-ghost use Rattle.tc_isa.specs.ValidRows.{least_fields};
+ghost use Rattle.tc_isa.specs.ValidRowFields.{least_fields};
 ghost use Rattle.tc_isa.specs.Insts.{InstData};
 ghost use Rattle.tc_encode.specs.Decoding.{decoded_row_length, decoded_length};
 ghost use Rattle.tc_encode.specs.WordSearch.{GoesOn, word_part_span};

@@ -239,7 +239,7 @@ static PLAIN: [bool; ROW_COUNT] = [
     true, // st16.a [As2], As1
 ];
 
-/// Returns for each row, in the order of the rows, whether it has all fields of its form.
+/// Returns for each row of the index, by its place, whether it has all fields of its form.
 #[tactic(auto, unfolding(tc_isa::specs::Forms::bounds))]
 pub fn plain_rows() -> &'static [bool; ROW_COUNT]
     ensures { result.now ≡ map is_plain_row listed }

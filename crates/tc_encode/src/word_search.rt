@@ -3,7 +3,7 @@ ghost use Rattle.std.specs.Prelude.{◌≡◌, ◌<◌, ◌%◌, ◌^◌, ℕ, I
 ghost use Rattle.tc_isa.specs.Rows.{RowData, row_of, listed};
 ghost use Rattle.tc_isa.specs.Forms.{second_code_by_form, bounds};
 ghost use Rattle.tc_isa.specs.InBounds.{IsBelow};
-ghost use Rattle.tc_isa.specs.ValidRows.{uses_of, are_unused_fields_zero};
+ghost use Rattle.tc_isa.specs.ValidRowFields.{uses_of, are_unused_fields_zero};
 ghost use Rattle.tc_isa.specs.Insts.{InstData};
 ghost use Rattle.tc_encode.specs.WordSearch.{Makes, has_zero_word_gaps};
 
@@ -87,7 +87,7 @@ fn second_by(first: u8, w: u32) -> u8
     second_code(form_by(first), w)
 }
 
-/// Returns true if all bits of a word that its form has for no field are 0.
+/// Returns true if the word that is searched is 0 in all bits that its form has for no field.
 #[tactic(auto, unfolding(crate::specs::WordSearch::has_zero_word_gaps))]
 fn has_zero_word_gaps(form: Form, w: u32) -> bool
     ensures { result ≡ has_zero_word_gaps form w }

@@ -7,7 +7,7 @@ use Rattle.tcd_base.proofs.OptionLaws.{some_same}
 use Rattle.tc_isa.specs.Rows.{RowData, row_of, listed}
 use Rattle.tc_isa.specs.declared.table.Row.{Row}
 use Rattle.tc_isa.specs.declared.fields.Uses.{Uses}
-use Rattle.tc_isa.specs.ValidRows.{FieldsFitRow, uses_of}
+use Rattle.tc_isa.specs.ValidRowFields.{FieldsFitRow, uses_of}
 use Rattle.tc_isa.specs.Insts.{InstData, IsInst, fields_in}
 use Rattle.tc_isa.proofs.Places.{at_here, uses_here}
 

@@ -6,7 +6,7 @@ use Rattle.std.proofs.lemmas.Option.{slice_get-get_or}
 use Rattle.tc_isa.specs.Rows.{row_of}
 use Rattle.tc_isa.specs.declared.table.Row.{Row}
 use Rattle.tc_isa.specs.declared.fields.Uses.{Uses}
-use Rattle.tc_isa.specs.ValidRows.{IsRow, uses_of}
+use Rattle.tc_isa.specs.ValidRowFields.{IsRow, uses_of}
 
 pub some_map : {X : Type 0} {P Q : X → Type 0} (r : Option X) → IfSome r P → ((x : X) → P x → Q x) → IfSome r Q
 some_map None p f = tt

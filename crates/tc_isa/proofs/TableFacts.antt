@@ -7,7 +7,7 @@ use Rattle.std.proofs.lemmas.Bool.{ltb-true, and_parts}
 use Rattle.std.proofs.lemmas.List.Sums.{AllPass-from_list_all}
 use Rattle.tc_isa.specs.Rows.{RowData, listed}
 use Rattle.tc_isa.specs.Forms.{second_bound, bounds, is_long_form, form_index}
-use Rattle.tc_isa.specs.ValidRows.{IsRow, is_row, are_bools_equal, none_clash}
+use Rattle.tc_isa.specs.ValidRowFields.{IsRow, is_row, are_bools_equal, none_clash}
 
 same_tested : (a b : Bool) → are_bools_equal a b ≡ true → a ≡ b
 same_tested true true e = refl

@@ -63,7 +63,3 @@ alu_of op.Ge x y = one_if (nat_le (signed_order_place y) (signed_order_place x))
 alu_of op.GeU x y = one_if (nat_le y x)
 alu_of op.Sh x y = shift_by x (y % 64)
 alu_of op.Sha x y = shifted_signed x (y % 64)
-
--- the word with the low two bytes of a, and the rest of b
-abbrev pub mix_two_bytes : ℕ → ℕ → ℕ
-mix_two_bytes a b = a % 2 ^ 16 + b / 2 ^ 16 * 2 ^ 16

@@ -4,8 +4,8 @@ use Rattle.tc_isa.specs.declared.fields.Fields.{Fields}
 use Rattle.tc_isa.specs.declared.table.Form.{Form}
 use Rattle.tc_isa.specs.declared.table.Form.TheVariants.{Rlc, Rr, Rc, Bol, Bo, Brr, Brc, B, Abs, Sys, Sr, Sc, Sb, Sbr, Src, Srr, Slr, Ssr}
 
--- the record of the numbers c, s1, s2, n and k, one for each field that a form of instructions can
--- have a place for
+-- the fields c, s1, s2, n and k in one record, as each form of instructions has places and bounds
+-- for some of them
 abbrev pub fields : ℕ → ℕ → ℕ → ℕ → ℕ → Fields
 fields c s1 s2 n k = record { c = c; s1 = s1; s2 = s2; n = n; k = k }
 

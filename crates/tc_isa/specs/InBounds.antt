@@ -25,7 +25,7 @@ IsTarget (target.Rel w) = IsWord w
 IsTarget (target.Abs w) = IsWord w
 IsTarget (target.Reg r) = IsRegister r
 
--- the size of an access in bytes
+-- the size of an access in the shape of an instruction is in bounds: one, two or four bytes
 abbrev pub IsShapeAccessSize : ℕ → Type 0
 IsShapeAccessSize n = (n ≡ 1) ⊎ ((n ≡ 2) ⊎ (n ≡ 4))
 

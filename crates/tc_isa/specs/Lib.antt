@@ -1,7 +1,7 @@
 -- Definitions of the instruction table: rows, forms, fields, spelling, and what instructions do.
 pub mod Rows
 pub mod Forms
-pub mod ValidRows
+pub mod ValidRowFields
 pub mod Insts
 pub mod NamedInstructions
 pub mod Spelling

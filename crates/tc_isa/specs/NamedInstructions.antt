@@ -108,7 +108,7 @@ ret = bare_instruction 52
 abbrev pub lower_half : ℕ → ℕ
 lower_half x = x % 2 ^ 16
 
--- The upper half of a word for an instruction movh or movh.a, plus one if the lower half is
--- negative as a signed number. With the signed lower half added, it is the word.
+-- the constant of a named instruction movh or movh.a: the upper half of a word, plus one if the
+-- lower half is negative. With the signed lower half added, it is the word
 abbrev pub upper_half : ℕ → ℕ
 upper_half x = (x + 0x8000) / 2 ^ 16 % 2 ^ 16

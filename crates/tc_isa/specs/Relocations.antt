@@ -15,7 +15,8 @@ abs24 = 2
 abbrev pub rel15 : ℕ
 rel15 = 3
 
--- the upper half of an address, plus 1 if the lower half is negative
+-- the kind of relocations with the upper half of an address, plus 1 if the lower half is negative,
+-- as the constant of an instruction
 abbrev pub hi16 : ℕ
 hi16 = 4
 

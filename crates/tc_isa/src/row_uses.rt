@@ -1,7 +1,7 @@
 // The fields that each row has, as its operands say. Printed by tools/rows.py.
 ghost use Rattle.std.specs.Prelude.{◌≡◌, map};
 ghost use Rattle.tc_isa.specs.Rows.{listed};
-ghost use Rattle.tc_isa.specs.ValidRows.{uses_of, are_unused_fields_zero};
+ghost use Rattle.tc_isa.specs.ValidRowFields.{uses_of, are_unused_fields_zero};
 
 use crate::{Fields, ROW_COUNT, Uses};
 
@@ -253,7 +253,8 @@ pub fn uses() -> &'static [Uses]
     &USES
 }
 
-/// Returns true if the fields that the row doesn't have, by its uses, are 0.
+/// Returns true if each field that a row doesn't have is 0; the fields that it has are given as its
+/// uses.
 #[inline(always)]
 pub fn is_zero_elsewhere(uses: &Uses, f: &Fields) -> bool
     ensures { result ≡ are_unused_fields_zero uses.now f.now }

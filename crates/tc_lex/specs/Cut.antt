@@ -16,7 +16,7 @@ use Rattle.tc_lex.specs.Texts.{is_token}
 unfoldable pub has_hex_front : List ℕ → Bool
 has_hex_front bs = nat_lt 2 (length bs) && slice_index bs 0 == 48 && slice_index bs 1 == 120 && is_hex (slice_index bs 2)
 
--- the length of the number at the start of a text that begins with a digit
+-- the length that is cut off as a token from a text that begins with a digit, that of its number
 unfoldable pub number_len : List ℕ → ℕ
 number_len bs = if has_hex_front bs then 2 + prefix_len is_hex (drop 2 bs) else prefix_len is_digit bs
 
@@ -87,13 +87,14 @@ CutsInto (Ok u) ts r = r ≡ Ok ts
 CutsInto (Err e) ts r = r ≡ Err e
 
 -- ---- what the tokens of a line are, apart from how it is cut
--- the first `len` bytes are a token, and no longer start of the text is a token of any kind
+-- where a line is cut: the first `len` bytes are a token, and no longer start of the text is a
+-- token of any kind
 pub record IsLongest (kind : TokenKind) (len : ℕ) (text : List ℕ) : Type 0 where
   pub within : len ≤ length text
   pub stands : is_token kind (take len text) ≡ true
   pub longest : (other : TokenKind) (n : ℕ) → len < n → n ≤ length text → is_token other (take n text) ≡ false
 
--- no start of the text is a token
+-- where a line can't be cut: no start of the text is a token
 abbrev pub BeginsNoToken : List ℕ → Type 0
 BeginsNoToken text = (kind : TokenKind) (n : ℕ) → n ≤ length text → is_token kind (take n text) ≡ false
 

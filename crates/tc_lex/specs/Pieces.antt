@@ -15,7 +15,8 @@ pub record PieceData : Type 0 where
 abbrev pub piece_of : Piece → PieceData
 piece_of p = record { kind = p.kind; text = p.text.now }
 
--- a number for each kind of token, so that kinds can be compared
+-- a number for the kind of a token, so that the kinds of pieces, tokens with their texts, can be
+-- compared
 unfoldable pub kind_index : TokenKind → ℕ
 kind_index Word = 0
 kind_index Number = 1

@@ -7,13 +7,13 @@ use Rattle.tc_lex.specs.declared.kinds.TokenKind.TheVariants.{Word, Number, Comm
 use Rattle.tcd_base.specs.NameBytes.{is_name_byte, is_name_first}
 use Rattle.tc_lex.specs.Bytes.{is_digit, is_hex}
 
--- the text of a word or a decimal number as a token: a first byte that passes one test, and bytes
--- that all pass another
+-- the texts that are tokens of words or decimal numbers in a line: a first byte that passes one
+-- test, and bytes that all pass another
 abbrev pub is_run : (ℕ → Bool) → (ℕ → Bool) → List ℕ → Bool
 is_run first each [] = false
 is_run first each (c ∷ cs) = first c && list_all each (c ∷ cs)
 
--- the text of a hexadecimal number as a token: `0x` and at least one hex digit
+-- the texts that are tokens of hexadecimal numbers in a line: `0x` and at least one hex digit
 abbrev pub is_hex_text : List ℕ → Bool
 is_hex_text (z ∷ x ∷ c ∷ cs) = z == 48 && (x == 120 && list_all is_hex (c ∷ cs))
 is_hex_text bs = false

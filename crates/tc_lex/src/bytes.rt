@@ -10,7 +10,7 @@ pub(crate) fn is_digit(c: u8) -> bool
     b'0' <= c && c <= b'9'
 }
 
-/// Whether a byte is a hex digit: 0 to 9, A to F or a to f.
+/// Returns true if a byte of a token is a hex digit: 0 to 9, A to F or a to f.
 #[tactic(auto, unfolding(crate::specs::Bytes::is_hex))]
 pub fn is_hex(c: u8) -> bool
     ensures { result ≡ is_hex c }

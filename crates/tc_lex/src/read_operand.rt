@@ -31,7 +31,7 @@ pub(crate) fn put_operand<'a>(ps: &[Piece<'a>], out: &mut Scratch<Operand<'a>, 6
     }
 }
 
-/// Adds an operand, once it is read from its tokens, to the list.
+/// Adds one operand that was just read from its tokens to the list of operands.
 pub(crate) fn push_operand<'a>(operand: Operand<'a>, out: &mut Scratch<Operand<'a>, 65>)
     requires { length out.old.items < 65 }
     ensures operands { map operand_of out.new.items
@@ -41,8 +41,8 @@ pub(crate) fn push_operand<'a>(operand: Operand<'a>, out: &mut Scratch<Operand<'
     out.push(operand);
 }
 
-/// Reads an operand that isn't a single word or number, and adds it to the list. Its locals are
-/// large, so they have a function of their own.
+/// Reads one operand from tokens that aren't a single word or number, and adds it to the list. Its
+/// locals are large, so they have a function of their own.
 #[inline(never)]
 #[tactic(auto, unfolding(crate::specs::Operands::operand))]
 fn put_longer<'a>(ps: &[Piece<'a>], out: &mut Scratch<Operand<'a>, 65>)

@@ -26,7 +26,8 @@ with_layout_line d line = record {
   places = d.places ++ option_to_list (option_and_then region_in line);
 }
 
--- the layout with its first entry; without an entry, a fault at the line after the last
+-- the layout of a draft, with the first of its entries; without an entry, a fault at the line after
+-- the last
 abbrev pub with_entry : ℕ → List (List ℕ) → List PlaceData → Result LayoutData LayoutErr
 with_entry n [] places = Err (BadLine (n + 1))
 with_entry n (name ∷ names) places = Ok (record { entry = name; places = places })

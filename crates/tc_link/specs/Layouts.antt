@@ -32,7 +32,8 @@ is_overlapping_place at most q = nat_lt (max at q.at) (min (at + most) (q.at + q
 abbrev pub are_overlapping_places : PlaceData → PlaceData → Bool
 are_overlapping_places p q = is_overlapping_place p.at p.most q
 
--- some place is for sections of this name
+-- some place of a layout is for sections of this name, which the invariant of layouts excludes for
+-- a further place
 abbrev pub is_placed : List PlaceData → List ℕ → Bool
 is_placed ps name = list_any (λ p. bytes_eq name p.section) ps
 

@@ -38,7 +38,8 @@ placed_after places before (o ∷ os) = record { object = o; bases = bases_after
 abbrev pub address_in_section : List ℕ → ℕ → ℕ → ℕ
 address_in_section bases section offset = (slice_index bases section + offset) % 2 ^ 32
 
--- the address of a definition in these objects
+-- the address of a symbol's definition in an object whose sections are placed, from the address of
+-- its section
 abbrev pub address_of : List PlacedData → Definition → ℕ
 address_of placed d = option_map_or (λ p. address_in_section p.bases d.section d.offset) (slice_get placed d.object) 0
 

@@ -41,7 +41,8 @@ twice_of objects number s = then_some (is_global s && nat_lt 1 (globals_named ob
 unfoldable pub twice_in : List ObjectData → Option Refusal
 twice_in objects = first_refusal_over (λ _ o. first_refusal_over (twice_of objects) o.symbols) objects
 
--- a relocation uses the symbol of this number, so that linking is refused if the symbol is missing
+-- a reason why the linker refuses objects with a missing symbol: a relocation uses the symbol of
+-- this number
 abbrev pub is_used_by_relocs : List Reloc → ℕ → Bool
 is_used_by_relocs relocs number = list_any (λ r. r.symbol == number) relocs
 
@@ -53,7 +54,8 @@ missing_of objects relocs number s = then_some (s.kind == undefined_symbol && is
 unfoldable pub missing_in : List ObjectData → Option Refusal
 missing_in objects = first_refusal_over (λ _ o. first_refusal_over (missing_of objects o.relocs) o.symbols) objects
 
--- a symbol is defined in the section of this number
+-- a reason why the linker refuses a section without a place: a symbol is defined in the section of
+-- this number
 abbrev pub has_symbol : List SymbolData → ℕ → Bool
 has_symbol symbols number = list_any (λ s. not (s.kind == undefined_symbol) && s.section == number) symbols
 

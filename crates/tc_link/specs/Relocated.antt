@@ -17,7 +17,7 @@ field_place p r = address_in_section p.bases r.section r.offset
 abbrev pub symbol_address : List GlobalData → List ℕ → SymbolData → ℕ
 symbol_address globals bases s = if s.kind == undefined_symbol then option_map_or (λ a. a) (global_address globals s.name) 0 else address_in_section bases s.section s.offset
 
--- the addresses of the symbols of a placed object, by their numbers
+-- the addresses of the symbols of a placed object, by their numbers, as its relocations write them
 unfoldable pub symbol_addresses : List GlobalData → PlacedData → List ℕ
 symbol_addresses globals p = map (symbol_address globals p.bases) p.object.symbols
 

@@ -65,7 +65,7 @@ fn count_globals(objects: &[ObjectRef<'_>]) -> usize {
     count
 }
 
-// Adds the global symbols of object number `object`.
+/// Adds the global symbols of object number `object` to the map of global symbols by name.
 fn add_symbols<'a>(
     names: &mut HashMap<&'a str, Definition>,
     object: usize,

@@ -47,8 +47,8 @@ pub(crate) fn placed_of<'a, 'b>(
     place_objects(alloc, places, &mut sizes, objects)
 }
 
-/// Returns the address of a section that is placed after sections that use these numbers of bytes
-/// of the places, and 0 if it has no place.
+/// Returns the address at which a section is placed if these numbers of bytes of the places are
+/// used before it, and 0 if it has no place.
 pub(crate) fn base_of(places: &[Place], sizes: &[u64], section: &SectionRef<'_>) -> u64
     requires count { length sizes.now ≡ length places.now }
     requires small { AreSmallPlaceSizes sizes.now }
@@ -64,8 +64,8 @@ pub(crate) fn base_of(places: &[Place], sizes: &[u64], section: &SectionRef<'_>)
     }
 }
 
-/// Gives the sections of an object their addresses, one after another, and returns these, or the
-/// first section without room.
+/// Places the sections of an object one after another and returns their addresses, or the first
+/// section without room.
 pub(crate) fn bases_of(
     alloc: Global,
     places: &[Place],

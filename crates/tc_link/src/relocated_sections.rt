@@ -19,7 +19,8 @@ use std::collections::HashMap;
 use tc_object::Reloc;
 use tc_reloc::{RelocErr, apply};
 
-/// All sections with their relocations written, or the first relocation that is refused.
+/// Returns the relocated sections of all objects, with their relocations written, or the first
+/// relocation that is refused.
 #[tactic(auto, unfolding(crate::specs::Relocated::contents_of, crate::specs::Refusals::reloc_in))]
 pub(crate) fn contents_of<'a>(
     alloc: Global,

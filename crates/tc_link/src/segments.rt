@@ -86,7 +86,7 @@ fn pad_segment_bytes(bytes: &mut Vec<u8>) -> Result<(), LinkErr>
     Ok(())
 }
 
-// This number of zeros, at most 4.
+/// Returns this number of zeros, at most 4, to pad the bytes of a linked segment.
 fn segment_padding(count: usize) -> &'static [u8]
     requires { count ≤ 4 }
     ensures { result.now ≡ replicate count 0 }

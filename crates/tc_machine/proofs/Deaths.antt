@@ -12,8 +12,9 @@ use Rattle.tc_machine.specs.declared.events.Event.{Event}
 use Rattle.tc_machine.specs.declared.events.End.{End}
 use Rattle.tc_machine.specs.declared.events.End.TheVariants.{Running, Dead}
 use Rattle.tc_machine.specs.declared.state.Machine.{Machine}
-use Rattle.tc_machine.specs.Machine.{with_reg, died, goes_on, then_, psw_with_status}
-use Rattle.tc_machine.specs.Instructions.{trap, access_address, with_base, is_trapping_access, with_core_register, lowered, does}
+use Rattle.tc_machine.specs.Machine.{with_reg, died, goes_on, then_, psw_with_status, with_core_register}
+use Rattle.tc_machine.specs.Instructions.{access_address, with_base, is_trapping_access, lowered, does}
+use Rattle.tc_machine.specs.Handlers.{trap}
 use Rattle.tc_machine.specs.SavesAndRestores.{saved, save, has_kind, restored, restore}
 use Rattle.tc_machine.specs.Fetching.{fetched}
 use Rattle.tc_machine.specs.Stepping.{is_taken, executed, machine_after_event, step}

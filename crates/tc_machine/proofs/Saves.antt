@@ -5,7 +5,8 @@ use Rattle.csa_chain.specs.Chain.{link_in, is_area}
 use Rattle.tc_machine.specs.declared.events.End.TheVariants.{Running}
 use Rattle.tc_machine.specs.declared.events.Cause.TheVariants.{Fcd, Fcu, Csu, Ctyp, NoArea}
 use Rattle.tc_machine.specs.declared.state.Machine.{Machine}
-use Rattle.tc_machine.specs.Machine.{died, goes_on, then_, machine_address_ahead}
+use Rattle.tc_machine.specs.Machine.{died, goes_on, then_}
+use Rattle.tc_machine.specs.Instructions.{machine_address_ahead}
 use Rattle.tc_machine.specs.SavesAndRestores.{context_of, saved, save, has_kind, restored, restore}
 
 -- a save succeeds if the first free area is mapped and isn't the limit of the list

@@ -14,7 +14,7 @@ use Rattle.tc_machine.specs.Starting.{IsLinkedUp, with_images, next_start_link, 
 use Rattle.tc_machine.proofs.Filled.{images_put, images_mapped, images_none, images_outside, links_mapped, links_bytes, links_outside}
 use Rattle.tc_machine.proofs.PlanLaws.{link_address-area, link_lt}
 use Rattle.tc_machine.proofs.Zeros.{is_in-one, zero_at}
-use Rattle.tcd_plan.specs.Regions.{IsInAreas, IsMappedBy}
+use Rattle.tcd_plan.specs.MappedAddresses.{IsInAreas, IsMappedBy}
 use Rattle.tcd_plan.proofs.CutLaws.{IsInOne-parts}
 use Rattle.tc_machine.specs.PlanAreas.{first_link}
 use Rattle.tcd_base.proofs.RangeLaws.{IsInOne-front, IsInOne-behind}

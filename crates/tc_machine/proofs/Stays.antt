@@ -26,9 +26,10 @@ use Rattle.tc_machine.specs.declared.events.End.{End}
 use Rattle.tc_machine.specs.declared.events.End.TheVariants.{Running, Dead}
 use Rattle.tc_machine.specs.declared.events.Event.{Event}
 use Rattle.tc_machine.specs.declared.state.Machine.{Machine}
-use Rattle.tc_machine.specs.Machine.{reg, with_reg, a10, a11, is_interrupt_stack_used, machine_address_ahead, died, goes_on, then_, psw_with_status, AreRegisters, IsMachine}
-use Rattle.tc_machine.specs.Instructions.{handler_psw, arg, advanced, handler_stack, at_handler, trap, access_address, with_base, is_trapping_access, misaligned, core_register, with_core_register, target_of, lowered, does}
-use Rattle.tc_machine.specs.Stepping.{interrupt, is_taken, executed, machine_after_event, step, run}
+use Rattle.tc_machine.specs.Machine.{reg, with_reg, a10, a11, is_interrupt_stack_used, died, goes_on, then_, psw_with_status, AreRegisters, IsMachine, core_register, with_core_register}
+use Rattle.tc_machine.specs.Instructions.{machine_address_ahead, arg, advanced, access_address, with_base, is_trapping_access, misaligned, target_of, lowered, does}
+use Rattle.tc_machine.specs.Handlers.{handler_psw, handler_stack, at_handler, trap, interrupt}
+use Rattle.tc_machine.specs.Stepping.{is_taken, executed, machine_after_event, step, run}
 use Rattle.tc_machine.specs.SavesAndRestores.{context_of, saved, save, has_kind, last_context, released, restored, restore}
 use Rattle.csa_chain.specs.MemoryBytes.{load_number, with_bytes, extend_loaded_bytes}
 use Rattle.tc_machine.specs.Fetching.{mapped_bytes, fetched_shape, fetched}

@@ -7,9 +7,10 @@ use Rattle.tc_machine.specs.declared.events.Cause.{Cause}
 use Rattle.tc_machine.specs.declared.events.Event.{Event}
 use Rattle.tc_machine.specs.declared.events.End.TheVariants.{Running}
 use Rattle.tc_machine.specs.declared.state.Machine.{Machine}
-use Rattle.tc_machine.specs.Machine.{a11, machine_address_ahead, then_, psw_with_status}
-use Rattle.tc_machine.specs.Instructions.{advanced, target_of, does}
-use Rattle.tc_machine.specs.Stepping.{interrupt, is_taken, executed, machine_after_event, step, store_in, where_running, stored}
+use Rattle.tc_machine.specs.Machine.{a11, then_, psw_with_status}
+use Rattle.tc_machine.specs.Instructions.{machine_address_ahead, advanced, target_of, does}
+use Rattle.tc_machine.specs.Stepping.{is_taken, executed, machine_after_event, step, store_in, where_running, stored}
+use Rattle.tc_machine.specs.Handlers.{interrupt}
 use Rattle.tc_machine.specs.SavesAndRestores.{save, restore}
 use Rattle.tc_machine.specs.Fetching.{fetched}
 use Rattle.tc_machine.proofs.Saves.{then_-running}

@@ -33,8 +33,8 @@ OnSystemInstruction (Mfcr dst number) P = P
 OnSystemInstruction (Mtcr src number) P = P
 OnSystemInstruction _ P = Unit {0}
 
--- an instruction never changes the memory or PCXI: it is no store, saves and restores no context,
--- writes no core register, and can't trap
+-- the kind of instructions that never change the machine's memory or PCXI: no store, save or
+-- restore, no write of a core register, and none that can trap
 abbrev pub is_area_keeping_shape : Event → Shape → Bool
 is_area_keeping_shape e (Load dst base offset size signed after) = not e.aln
 is_area_keeping_shape e (Compute op dst x y) = true
@@ -52,7 +52,7 @@ abbrev pub keeps_found : Event → Result (Shape × ℕ) Cause → Bool
 keeps_found e (Ok found) = is_area_keeping_shape e found.0
 keeps_found e (Err cause) = false
 
--- the event keeps all areas: no interrupt is taken, and what was found at pc is an instruction of a
+-- no interrupt is taken in this event of the machine, and the instruction found at pc is of the
 -- kind that never changes the memory or PCXI
 abbrev pub is_area_keeping_event : Machine → Event → Result (Shape × ℕ) Cause → Bool
 is_area_keeping_event m e found = not (is_taken m e) && keeps_found e found

@@ -1,5 +1,5 @@
 -- What each shape of instruction does (TriCore 1 architecture manual, volumes 1 and 2).
-use Rattle.std.specs.Prelude.{ℕ, ◌+◌, ◌-◌, ◌*◌, ◌/◌, ◌%◌, ◌^◌, Bool, true, false, not, ◌&&◌, ◌==◌, if◌then◌else◌, slice_set, bit_or}
+use Rattle.std.specs.Prelude.{ℕ, ◌-◌, ◌*◌, ◌/◌, ◌%◌, ◌^◌, Bool, true, false, not, ◌&&◌, ◌==◌, if◌then◌else◌, slice_set, ◌+◌}
 use Rattle.csa_chain.specs.ContextWords.{pcpn_of, pie_of}
 use Rattle.tc_isa.specs.Arithmetic.{alu_of, taken_of}
 use Rattle.tc_isa.specs.declared.shapes.Arg.{Arg}
@@ -10,41 +10,21 @@ use Rattle.tc_isa.specs.declared.shapes.Shape.TheVariants.{Compute, Scaled, Load
 use Rattle.tc_isa.specs.declared.shapes.Target.TheVariants as target
 use Rattle.tc_machine.specs.declared.events.Event.{Event}
 use Rattle.tc_machine.specs.declared.state.Machine.{Machine}
-use Rattle.tc_machine.specs.Machine.{reg, with_reg, a10, a11, is_interrupt_stack_used, machine_address_ahead, then_}
+use Rattle.tc_machine.specs.Machine.{reg, with_reg, a11, then_, core_register, with_core_register}
 use Rattle.tc_machine.specs.SavesAndRestores.{save, restore}
 use Rattle.csa_chain.specs.MemoryBytes.{load_number, with_bytes, extend_loaded_bytes}
+use Rattle.tc_machine.specs.Handlers.{trap}
 
 -- ---- entries of handlers
--- A10 in a handler of a trap or an interrupt: the interrupt stack's pointer, or A10 as it is if
--- that stack is in use already
-abbrev pub handler_stack : Machine → ℕ
-handler_stack m = if is_interrupt_stack_used m.psw then a10 m else m.isp
-
--- PSW in a handler of a trap or an interrupt: IO (bits 11:10) is 2, PRS (bits 13:12) 0, IS (bit 9)
--- 1 and GW (bit 8) 0; the other bits stay
-abbrev pub handler_psw : ℕ → ℕ
-handler_psw psw = psw / 2 ^ 14 * 2 ^ 14 + 2 * 2 ^ 10 + 2 ^ 9 + psw % 2 ^ 8
-
--- the machine at the entry of a handler, after the save s: A11 is the address to return to, A10 and
--- PSW are the handler's, IE is off, and pc is the entry
-abbrev pub at_handler : Machine → Machine → ℕ → ℕ → Machine
-at_handler m s back entry = record s {
-  a = slice_set (slice_set s.a 11 back) 10 (handler_stack m);
-  psw = handler_psw m.psw;
-  ie = false;
-  pc = entry;
-}
-
--- what a trap does, as of an instruction syscall or a misaligned access: the upper context is
--- saved, the handler of its class entered, and D15 set to the trap's number
-abbrev pub trap : Machine → ℕ → ℕ → ℕ → Machine
-trap m class tin back =
-    then_ (save m true) (λ s. record (at_handler m s back (bit_or m.btv (class * 2 ^ 5))) { d = slice_set s.d 15 tin })
 
 -- the value of an operand
 abbrev pub arg : Machine → Arg → ℕ
 arg m (Reg r) = reg m r
 arg m (Word w) = w
+
+-- the address by bytes after another, modulo 2 ^ 32, as instructions add to pc and to addresses
+abbrev pub machine_address_ahead : ℕ → ℕ → ℕ
+machine_address_ahead at by = (at + by) % 2 ^ 32
 
 -- the machine after an instruction of n bytes that is followed by the next one
 abbrev pub advanced : ℕ → Machine → Machine
@@ -68,39 +48,6 @@ is_trapping_access e x size = e.aln && not (x % size == 0)
 -- number 4, back to the instruction itself
 abbrev pub misaligned : Machine → Machine
 misaligned m = trap m 2 4 m.pc
-
--- ---- core registers
--- what an instruction reads from the core register ICR: CCPN in bits 7:0, IE in bit 8, the other
--- bits from the input
-abbrev pub icr_of : Machine → ℕ → ℕ
-icr_of m input = input / 2 ^ 9 * 2 ^ 9 + (if m.ie then 2 ^ 8 else 0) + m.ccpn
-
--- the core register with this number; any other number reads the event's input
-abbrev pub core_register : Machine → Event → ℕ → ℕ
-core_register m e number =
-    if number == 0xfe00 then m.pcxi
-    else if number == 0xfe04 then m.psw
-    else if number == 0xfe20 then m.biv
-    else if number == 0xfe24 then m.btv
-    else if number == 0xfe28 then m.isp
-    else if number == 0xfe2c then icr_of m e.input
-    else if number == 0xfe38 then m.fcx
-    else if number == 0xfe3c then m.lcx
-    else e.input
-
--- the machine after a write to the core register with this number; BIV and BTV drop bit 0, ICR
--- takes bits 8:0, any other number changes nothing
-abbrev pub with_core_register : Machine → ℕ → ℕ → Machine
-with_core_register m number w =
-    if number == 0xfe00 then record m { pcxi = w }
-    else if number == 0xfe04 then record m { psw = w }
-    else if number == 0xfe20 then record m { biv = w / 2 * 2 }
-    else if number == 0xfe24 then record m { btv = w / 2 * 2 }
-    else if number == 0xfe28 then record m { isp = w }
-    else if number == 0xfe2c then record m { ccpn = w % 2 ^ 8; ie = w / 2 ^ 8 % 2 == 1 }
-    else if number == 0xfe38 then record m { fcx = w }
-    else if number == 0xfe3c then record m { lcx = w }
-    else m
 
 -- ---- instructions
 -- the address that a jump or a call goes to; bit 0 of a register's value is dropped
@@ -143,8 +90,8 @@ does m e (Mfcr dst number) n = advanced n (with_reg m dst (core_register m e num
 does m e (Mtcr src number) n = advanced n (with_core_register m number (reg m src))
 does m e Nothing n = advanced n m
 
--- what the instruction does is a trap: it is a load or a store whose access is misaligned, and the
--- event says that such accesses trap
+-- executing this instruction takes a trap: it is a load or a store whose access is misaligned, and
+-- the event says that such accesses trap
 abbrev pub is_trapping_instruction : Machine → Event → Shape → Bool
 is_trapping_instruction m e (Load dst base offset size signed after) = is_trapping_access e (access_address m base offset after) size
 is_trapping_instruction m e (Store src base offset size after) = is_trapping_access e (access_address m base offset after) size

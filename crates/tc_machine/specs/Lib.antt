@@ -9,3 +9,4 @@ pub mod PlanAreas
 pub mod Safe
 pub mod Starting
 pub mod MachineLaws
+pub mod Handlers

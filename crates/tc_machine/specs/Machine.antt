@@ -5,6 +5,8 @@ use Rattle.tc_machine.specs.declared.events.End.{End}
 use Rattle.tc_machine.specs.declared.events.End.TheVariants.{Running, Dead}
 pub use Rattle.tc_machine.specs.declared.state.Machine.{Machine}
 use Rattle.csa_chain.specs.MemoryBytes.{HasBytes}
+use Rattle.tc_machine.specs.declared.events.Event.{Event}
+use Rattle.tc_machine.specs.declared.state.Machine.{Machine}
 
 -- register r: 0 to 15 is D, 16 to 31 is A
 abbrev pub reg : Machine → ℕ → ℕ
@@ -26,16 +28,12 @@ a11 m = slice_index m.a 11
 abbrev pub is_interrupt_stack_used : ℕ → Bool
 is_interrupt_stack_used psw = psw / 2 ^ 9 % 2 == 1
 
--- the address by bytes after x, modulo 2 ^ 32
-abbrev pub machine_address_ahead : ℕ → ℕ → ℕ
-machine_address_ahead at by = (at + by) % 2 ^ 32
-
 -- a machine that dies: only its end changes
 abbrev pub died : Cause → Machine → Machine
 died cause m = record m { end = Dead cause }
 
--- the state of the machine after what follows, if this end says that it still runs; a dead machine
--- doesn't change
+-- what comes next for a machine in this state: if its end says that it runs, the next change of it;
+-- a dead machine stays as it is
 abbrev pub goes_on : End → Machine → (Machine → Machine) → Machine
 goes_on Running m next = next m
 goes_on (Dead cause) m next = m
@@ -44,7 +42,7 @@ goes_on (Dead cause) m next = m
 abbrev pub then_ : Machine → (Machine → Machine) → Machine
 then_ m next = goes_on m.end m next
 
--- the machine is dead, of any cause
+-- the machine's end is a death, of any cause
 abbrev pub IsDead : End → Type 0
 IsDead Running = ⊥
 IsDead (Dead cause) = Unit {0}
@@ -53,7 +51,7 @@ IsDead (Dead cause) = Unit {0}
 abbrev pub psw_with_status : ℕ → ℕ → ℕ
 psw_with_status psw status = status * 2 ^ 24 + psw % 2 ^ 24
 
--- 16 words below 2 ^ 32
+-- the words in D0 to D15, or in A0 to A15, of a machine: 16 of them, each below 2 ^ 32
 pub record AreRegisters (ws : List ℕ) : Type 0 where
   pub count : length ws ≡ 16
   pub words : All (λ w. w < 2 ^ 32) ws
@@ -73,3 +71,36 @@ pub record IsMachine (m : Machine) : Type 0 where
   pub btv : m.btv < 2 ^ 32
   pub isp : m.isp < 2 ^ 32
   pub bytes : HasBytes m.mem
+
+-- what an instruction reads from the core register ICR: CCPN in bits 7:0, IE in bit 8, the other
+-- bits from the input
+abbrev pub icr_of : Machine → ℕ → ℕ
+icr_of m input = input / 2 ^ 9 * 2 ^ 9 + (if m.ie then 2 ^ 8 else 0) + m.ccpn
+
+-- the word in the core register with this number, such as PSW or FCX; with any other number, the
+-- event's input
+abbrev pub core_register : Machine → Event → ℕ → ℕ
+core_register m e number =
+    if number == 0xfe00 then m.pcxi
+    else if number == 0xfe04 then m.psw
+    else if number == 0xfe20 then m.biv
+    else if number == 0xfe24 then m.btv
+    else if number == 0xfe28 then m.isp
+    else if number == 0xfe2c then icr_of m e.input
+    else if number == 0xfe38 then m.fcx
+    else if number == 0xfe3c then m.lcx
+    else e.input
+
+-- the machine after a write to the core register with this number; BIV and BTV drop bit 0, ICR
+-- takes bits 8:0, any other number changes nothing
+abbrev pub with_core_register : Machine → ℕ → ℕ → Machine
+with_core_register m number w =
+    if number == 0xfe00 then record m { pcxi = w }
+    else if number == 0xfe04 then record m { psw = w }
+    else if number == 0xfe20 then record m { biv = w / 2 * 2 }
+    else if number == 0xfe24 then record m { btv = w / 2 * 2 }
+    else if number == 0xfe28 then record m { isp = w }
+    else if number == 0xfe2c then record m { ccpn = w % 2 ^ 8; ie = w / 2 ^ 8 % 2 == 1 }
+    else if number == 0xfe38 then record m { fcx = w }
+    else if number == 0xfe3c then record m { lcx = w }
+    else m

@@ -16,8 +16,8 @@ use Rattle.tc_machine.specs.Instructions.{does, access_address}
 use Rattle.tc_machine.specs.Machine.{psw_with_status, IsMachine}
 use Rattle.tc_machine.specs.SavesAndRestores.{saved, save, has_kind, restored, restore}
 use Rattle.tc_machine.specs.Fetching.{fetched}
-use Rattle.tc_machine.specs.Stepping.{is_taken, step, run, load_at_pc, stored}
-use Rattle.tc_machine.specs.Safe.{AllFit, SpellsAt, ChainsAreWhole, Fits, Safe, IsRun}
+use Rattle.tc_machine.specs.Stepping.{is_taken, step, run, load_at_pc, stored, IsRun}
+use Rattle.tc_machine.specs.Safe.{AllFit, SpellsAt, ChainsAreWhole, Fits, Safe}
 use Rattle.tc_machine.specs.Starting.{Starts}
 use Rattle.tc_mem.specs.PlanMemory.{HoldsRom}
 use Rattle.csa_chain.specs.MemoryBytes.{Memory, is_mapped}
@@ -81,7 +81,7 @@ EveryEventFits =
     → d.range.at ≤ x → x + 4 ≤ d.range.at + d.range.len → (d.lo ≤ input) × (input ≤ d.hi))
     → Fits plan m (record { irq = irq; input = input; status = status; aln = aln })
 
--- the first n events
+-- the list of the first n events of a sequence, in the guard law that every run fits
 abbrev pub first_events : ℕ → (ℕ → Event) → List Event
 first_events zero events = []
 first_events (suc n) events = events 0 ∷ first_events n (λ k. events (suc k))
@@ -93,8 +93,8 @@ EveryRunFits =
     (plan : PlanData) (states : ℕ → Machine) (events : ℕ → Event) (n : ℕ) → IsRun states events → ((k : ℕ) → k < n → Fits plan (states k) (events k))
     → AllFit plan (states 0) (first_events n events) × (run (states 0) (first_events n events) ≡ states n)
 
--- Guard law of start states, in plain equations: a machine starts the image under the plan if its
--- fields are the stated ones. All other registers, bits of PSW and bytes can be anything.
+-- guard law of start states: a machine starts the image under the plan if its fields are as these
+-- plain equations say; all other registers, bits of PSW and bytes can be anything
 abbrev pub EveryStartStarts : Type 0
 EveryStartStarts =
     (image : ImageData) (plan : PlanData) (d a : List ℕ) (psw : ℕ) (mem : Memory) → IsImage image → IsPlan plan
@@ -141,10 +141,8 @@ pub record LiesInRange (ranges : List Range) (x n : ℕ) : Type 0 where
   pub from : range.at ≤ x
   pub to : x + n ≤ range.at + range.len
 
--- What is safe, in five parts. The machine runs. PCXI and FCX lead to two lists of areas: the used
--- ones in reverse and then the free ones are the areas of the plan, each in its place. At most
--- `most` are used. The bytes at pc, in memory and in the image, spell an instruction in one rom
--- range. What the next event stores at is in one range of ram or of a device.
+-- what the guard law of safety says of a state and its next event: it runs, its areas are whole, at
+-- most `most` are used, its code is in rom, and its store is in range
 pub record HasFiveParts (image : ImageData) (plan : PlanData) (most : ℕ) (m : Machine) (e : Event) : Type 0 where
   pub running : m.end ≡ Running
   pub used : List ℕ

@@ -1,5 +1,5 @@
 -- Start states, events that fit, and what safe means: the definitions under the headline.
-use Rattle.std.specs.Prelude.{◌≡◌, ℕ, ◌+◌, ◌^◌, ◌<◌, ◌≤◌, ◌⊎◌, false, List, ◌∷◌, ◌++◌, length, reverse, slice_index, Some, IfSome, Contains, suc, []}
+use Rattle.std.specs.Prelude.{◌≡◌, ℕ, ◌+◌, ◌^◌, ◌<◌, ◌≤◌, ◌⊎◌, false, List, ◌∷◌, ◌++◌, length, reverse, slice_index, Some, IfSome, Contains, []}
 use Rattle.std.specs.FinMap as map
 use Rattle.csa_chain.specs.Chain.{chain}
 use Rattle.elf_image.specs.Images.{ImageData, image_byte}
@@ -11,7 +11,7 @@ use Rattle.tc_machine.specs.declared.events.End.TheVariants.{Running}
 use Rattle.tc_machine.specs.declared.state.Machine.{Machine}
 use Rattle.tc_machine.specs.Stepping.{step, run, stored, is_taken, load_at_pc}
 use Rattle.tcd_base.specs.Ranges.{IsInOneRange}
-use Rattle.tcd_plan.specs.Regions.{AnswersLoad, IsStoreInRange}
+use Rattle.tcd_plan.specs.MappedAddresses.{AnswersLoad, IsStoreInRange}
 use Rattle.tc_machine.specs.PlanAreas.{plan_areas}
 use Rattle.tc_machine.specs.Starting.{Starts}
 
@@ -38,15 +38,15 @@ pub record ChainsAreWhole (plan : PlanData) (most : ℕ) (m : Machine) : Type 0 
   pub areas_partition : reverse used ++ free ≡ plan_areas plan
   pub within_need : length used ≤ most
 
--- safe code at an address p: the bytes are in one rom range of the plan, are held by segments of
--- the image, and spell this instruction
+-- what safe code is, for a machine with pc p: these bytes are in one rom range of the plan, are
+-- held by segments of the image, and spell this instruction
 pub record SpellsAt (image : ImageData) (plan : PlanData) (p : ℕ) (bytes : List ℕ) (inst : InstData) : Type 0 where
   pub spelled : Spells bytes inst
   pub in_rom : IsInOneRange p (length bytes) plan.rom
   pub held : (i : ℕ) → i < length bytes → image_byte image (p + i) ≡ Some (slice_index bytes i)
 
--- the bytes at the machine's pc spell an instruction in one rom range, are held by segments, and
--- are the image's
+-- the machine is at safe code: the bytes at its pc spell an instruction in one rom range, and are
+-- the same in its memory and in the image
 pub record IsAtCode (image : ImageData) (plan : PlanData) (m : Machine) : Type 0 where
   pub bytes : List ℕ
   pub inst : InstData
@@ -66,7 +66,3 @@ pub record IsSafeAt (image : ImageData) (plan : PlanData) (most : ℕ) (m : Mach
 abbrev pub Safe : ImageData → PlanData → ℕ → Type 0
 Safe image plan most =
     (m : Machine) (es : List Event) (e : Event) → Starts image plan m → AllFit plan m es → Fits plan (run m es) e → IsSafeAt image plan most (run m es) e
-
--- a run, state by state: each state is the step of the one before, under its event
-abbrev pub IsRun : (ℕ → Machine) → (ℕ → Event) → Type 0
-IsRun states events = (k : ℕ) → states (suc k) ≡ step (states k) (events k)

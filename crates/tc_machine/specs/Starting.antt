@@ -47,7 +47,8 @@ unfoldable pub with_area_links : ℕ → ℕ → ℕ → Memory → ℕ → Memo
 with_area_links at first n m zero = m
 with_area_links at first n m (suc k) = with_words (with_area_links at first n m k) (at + 64 * k) (next_start_link first n k ∷ [])
 
--- the mapped ranges: rom, ram and n areas from an address on
+-- the mapped ranges of the memory that a machine starts with: rom, ram, and n save areas from an
+-- address on
 abbrev pub start_memory_ranges : List Range → List Range → ℕ → ℕ → List Range
 start_memory_ranges rom ram at n = rom ++ ram ++ record { at = at; len = 64 * n } ∷ []
 

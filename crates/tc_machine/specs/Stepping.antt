@@ -1,5 +1,5 @@
 -- Steps and runs.
-use Rattle.std.specs.Prelude.{ℕ, Bool, ◌&&◌, nat_lt, if◌then◌else◌, List, ◌∷◌, length, Option, Some, None, Result, Ok, Err, ◌*◌, ◌^◌, true, bit_or, []}
+use Rattle.std.specs.Prelude.{ℕ, Bool, ◌&&◌, nat_lt, if◌then◌else◌, List, ◌∷◌, length, Option, Some, None, Result, Ok, Err, ◌≡◌, suc, []}
 use Rattle.std.specs.Option.{option_map}
 use Rattle.csa_chain.specs.Chain.{chain}
 use Rattle.tc_encode.specs.Decoding.{decoded_of}
@@ -11,9 +11,9 @@ use Rattle.tc_machine.specs.declared.events.End.{End}
 use Rattle.tc_machine.specs.declared.events.End.TheVariants.{Running, Dead}
 use Rattle.tc_machine.specs.declared.state.Machine.{Machine}
 use Rattle.tc_machine.specs.Machine.{died, then_, psw_with_status}
-use Rattle.tc_machine.specs.Instructions.{does, access_address, is_trapping_access, at_handler}
+use Rattle.tc_machine.specs.Instructions.{does, access_address, is_trapping_access}
+use Rattle.tc_machine.specs.Handlers.{interrupt}
 use Rattle.tc_machine.specs.Fetching.{fetched, mapped_bytes, fetched_shape}
-use Rattle.tc_machine.specs.SavesAndRestores.{save}
 
 -- the event's interrupt is taken: interrupts are enabled, and its priority is above the current one
 abbrev pub is_taken : Machine → Event → Bool
@@ -23,11 +23,6 @@ is_taken m e = m.ie && nat_lt m.ccpn e.irq
 abbrev pub executed : Machine → Event → Result (Shape × ℕ) Cause → Machine
 executed m e (Ok found) = does m e found.0 found.1
 executed m e (Err cause) = died cause m
-
--- an interrupt: volume 1, interrupts
-abbrev pub interrupt : Machine → ℕ → Machine
-interrupt m irq =
-    then_ (save m true) (λ s. record (at_handler m s m.pc (bit_or m.biv (irq * 2 ^ 5))) { ccpn = irq })
 
 -- an event of a machine that runs: an interrupt, else the instruction at pc
 abbrev pub machine_after_event : Machine → Event → Machine
@@ -43,7 +38,8 @@ abbrev pub run : Machine → List Event → Machine
 run m [] = m
 run m (e ∷ es) = run (step m e) es
 
--- what was found, if the machine runs
+-- what a machine's next step loads or stores, as found at pc, if the machine runs; none if it is
+-- dead
 abbrev pub where_running : End → Option (ℕ × ℕ) → Option (ℕ × ℕ)
 where_running Running found = found
 where_running (Dead cause) found = None
@@ -59,8 +55,8 @@ load_in m _ = None
 abbrev pub load_at_pc : Machine → Option (ℕ × ℕ)
 load_at_pc m = load_in m (fetched m)
 
--- What the next step may load: the address and the size of the load that the bytes at pc do, at odd
--- pc too. None if the machine is dead, the bytes don't decode, or they are no load.
+-- what a machine's next step may load: address and size of the load that the bytes at pc do, at odd
+-- pc too; none if the machine is dead, the bytes don't decode, or they are no load
 abbrev pub next_load_of : Machine → Option (ℕ × ℕ)
 next_load_of m = where_running m.end (load_in m (fetched_shape (decoded_of (mapped_bytes 4 m.mem m.pc))))
 
@@ -80,3 +76,7 @@ store_in m e _ = None
 -- interrupt or a misaligned access's trap is taken, or it does no store.
 unfoldable pub stored : Machine → Event → Option (ℕ × ℕ)
 stored m e = where_running m.end (if is_taken m e then None else store_in m e (fetched m))
+
+-- a run of a machine as a sequence of states: each is the step of the one before, under its event
+abbrev pub IsRun : (ℕ → Machine) → (ℕ → Event) → Type 0
+IsRun states events = (k : ℕ) → states (suc k) ≡ step (states k) (events k)

@@ -31,7 +31,8 @@ pub(crate) fn put_area_word(mem: &mut Mem, addr: u32, word: u32)
     put_area_word_bytes(mem, addr, word);
 }
 
-/// Writes a word to the four bytes from an address on, in a save area, byte by byte.
+/// Writes a word byte by byte to a context save area, as when its link to the next free area is
+/// written.
 #[tactic(auto, unfolding(csa_chain::specs::MemoryBytes::with_word))]
 fn put_area_word_bytes(mem: &mut Mem, addr: u32, word: u32)
     requires { addr + 3 < 2 ^ 32 }

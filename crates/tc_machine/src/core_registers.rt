@@ -1,6 +1,6 @@
 // Core registers, by their numbers.
 ghost use Rattle.std.specs.Prelude.{◌≡◌, ◌+◌, ◌*◌, ◌/◌, ◌^◌, if◌then◌else◌};
-ghost use Rattle.tc_machine.specs.Instructions.{core_register, with_core_register};
+ghost use Rattle.tc_machine.specs.Machine.{core_register, with_core_register};
 
 use crate::{Event, Machine};
 use tc_isa::{BIV, BTV, FCX, ICR, ISP, LCX, PCXI, PSW};

@@ -1,24 +1,20 @@
-// Executes instructions.
+// Executes instructions, but for those that save or restore a context.
 ghost use Rattle.std.specs.Prelude.{◌≡◌, ◌<◌};
 ghost use Rattle.tc_isa.specs.InBounds.{IsShape, IsArg, IsTarget, IsShapeAccessSize};
 ghost use Rattle.tc_machine.specs.declared.events.Event.{Event};
 ghost use Rattle.tc_machine.specs.Instructions.{does};
-ghost use Rattle.tc_machine.specs.InstructionKinds.{OnAccessInstruction, OnContextInstruction, OnSystemInstruction};
+ghost use Rattle.tc_machine.specs.InstructionKinds.{OnAccessInstruction, OnSystemInstruction};
 
 use crate::accesses::{is_trapping_access, load, store};
 use crate::operand_addresses::machine_address_ahead;
-use crate::{End, Event, Machine};
-use csa_chain::pcxi_parts;
-use tc_isa::{Arg, Cond, Op, Shape, Target, alu, taken};
+use crate::{Event, Machine};
+use tc_isa::{Arg, Cond, Op, Shape, alu, taken};
 
 /// The class of traps that instruction errors take, a misaligned access among them.
 const INSTRUCTION_ERRORS: u8 = 2;
 
 /// The identification number of the trap that a misaligned access takes.
 const ALN: u8 = 4;
-
-/// The class of traps that system calls take.
-const SYSTEM_CALLS: u8 = 6;
 
 /// The operand, offset and size in bytes of a load or a store, and whether the base register is
 /// increased afterwards.
@@ -36,169 +32,6 @@ struct Comparison {
     cond: Cond,
     x: u8,
     y: Arg,
-}
-
-impl Machine {
-    /// Executes an operation on two words.
-    #[tactic(auto, unfolding(crate::specs::Instructions::does))]
-    fn compute(&mut self, op: Op, dst: u8, x: Arg, y: Arg, n: u32)
-        requires { IsShape (Shape.Compute op dst x y) }
-        ensures { (event : Event) → self.new ≡ does self.old event (Shape.Compute op dst x y) n }
-    {
-        let word = alu(op, self.arg(x), self.arg(y));
-        self.set_reg(dst, word);
-        self.advance(n);
-    }
-
-    /// Executes the sum of a base and a shifted index.
-    #[tactic(auto, unfolding(crate::specs::Instructions::does))]
-    fn compute_scaled(&mut self, dst: u8, base: u8, index: u8, k: u8, n: u32)
-        requires { IsShape (Shape.Scaled dst base index k) }
-        ensures { (event : Event)
-            → self.new ≡ does self.old event (Shape.Scaled dst base index k) n }
-    {
-        let word = machine_address_ahead(self.reg(base), self.reg(index) << k);
-        self.set_reg(dst, word);
-        self.advance(n);
-    }
-
-    /// Executes a load, or takes the trap of a misaligned one.
-    #[tactic(auto, unfolding(crate::specs::Instructions::does))]
-    fn load(&mut self, event: &Event, dst: u8, at: Access, signed: bool, n: u32)
-        requires { IsShape (Shape.Load dst at.base at.offset at.size signed at.after) }
-        ensures { self.new
-            ≡ does self.old event.now (Shape.Load dst at.base at.offset at.size signed at.after) n }
-    {
-        let addr = self.access(at.base, at.offset, at.after);
-        if is_trapping_access(event, addr, at.size) {
-            self.trap(INSTRUCTION_ERRORS, ALN, self.pc);
-            return;
-        }
-        let word = load(&self.mem, event.input, addr, at.size, signed);
-        self.move_base(at.base, at.offset, at.after);
-        self.set_reg(dst, word);
-        self.advance(n);
-    }
-
-    /// Executes a store instruction of `n` bytes, or takes the trap of a misaligned one.
-    #[tactic(auto, unfolding(crate::specs::Instructions::does))]
-    fn store(&mut self, event: &Event, src: u8, at: Access, n: u32)
-        requires { IsShape (Shape.Store src at.base at.offset at.size at.after) }
-        ensures { self.new
-            ≡ does self.old event.now (Shape.Store src at.base at.offset at.size at.after) n }
-    {
-        let addr = self.access(at.base, at.offset, at.after);
-        if is_trapping_access(event, addr, at.size) {
-            self.trap(INSTRUCTION_ERRORS, ALN, self.pc);
-            return;
-        }
-        let word = self.reg(src);
-        self.move_base(at.base, at.offset, at.after);
-        store(&mut self.mem, addr, word, at.size);
-        self.advance(n);
-    }
-
-    /// Executes a branch, which is taken or not.
-    #[tactic(auto, unfolding(crate::specs::Instructions::does))]
-    fn branch(&mut self, test: Comparison, by: u32, lowers: bool, n: u32)
-        requires { IsShape (Shape.Branch test.cond test.x test.y by lowers) }
-        ensures { (event : Event)
-            → self.new ≡ does self.old event (Shape.Branch test.cond test.x test.y by lowers) n }
-    {
-        let goes = taken(test.cond, self.reg(test.x), self.arg(test.y));
-        let distance = if goes { by } else { n };
-        self.lower(test.x, lowers);
-        self.advance(distance);
-    }
-
-    /// Executes a call.
-    #[tactic(auto, unfolding(crate::specs::Instructions::does))]
-    fn call(&mut self, to: Target, n: u32)
-        requires { IsShape (Shape.Call to) }
-        ensures { (event : Event) → self.new ≡ does self.old event (Shape.Call to) n }
-    {
-        let entry = self.target(to);
-        let back = machine_address_ahead(self.pc, n);
-        self.save(true);
-        match self.end {
-            End::Running => {
-                self.a[11] = back;
-                self.pc = entry;
-            }
-            End::Dead(_) => {}
-        }
-    }
-
-    /// Executes a return from a call.
-    #[tactic(auto, unfolding(crate::specs::Instructions::does))]
-    fn go_back(&mut self, n: u32)
-        ensures { (event : Event) → self.new ≡ does self.old event Shape.Ret n }
-    {
-        let back = self.a[11] / 2 * 2;
-        self.restore(true);
-        match self.end {
-            End::Running => self.pc = back,
-            End::Dead(_) => {}
-        }
-    }
-
-    /// Executes the instruction `rfe`: returns from a handler, and restores IE and CCPN from PCXI.
-    #[tactic(auto, unfolding(crate::specs::Instructions::does))]
-    fn leave_handler(&mut self, n: u32)
-        ensures { (event : Event) → self.new ≡ does self.old event Shape.Rfe n }
-    {
-        let back = self.a[11] / 2 * 2;
-        let parts = pcxi_parts(self.core, self.pcxi);
-        self.restore(true);
-        match self.end {
-            End::Running => {
-                self.pc = back;
-                self.ie = parts.pie;
-                self.ccpn = parts.pcpn;
-            }
-            End::Dead(_) => {}
-        }
-    }
-
-    /// Executes the instruction `svlcx`: saves the lower context, and goes on after it.
-    #[tactic(auto, unfolding(crate::specs::Instructions::does))]
-    fn save_lower(&mut self, n: u32)
-        ensures { (event : Event) → self.new ≡ does self.old event Shape.Svlcx n }
-    {
-        self.save(false);
-        match self.end {
-            End::Running => self.advance(n),
-            End::Dead(_) => {}
-        }
-    }
-
-    /// Executes the instruction `rslcx`: restores the lower context, and goes on after it.
-    #[tactic(auto, unfolding(crate::specs::Instructions::does))]
-    fn take_lower(&mut self, n: u32)
-        ensures { (event : Event) → self.new ≡ does self.old event Shape.Rslcx n }
-    {
-        self.restore(false);
-        match self.end {
-            End::Running => self.advance(n),
-            End::Dead(_) => {}
-        }
-    }
-
-    /// Executes `bisr`: saves the lower context, sets CCPN and enables interrupts.
-    #[tactic(auto, unfolding(crate::specs::Instructions::does))]
-    fn begin_interruptible(&mut self, c: u8, n: u32)
-        ensures { (event : Event) → self.new ≡ does self.old event (Shape.Bisr c) n }
-    {
-        self.save(false);
-        match self.end {
-            End::Running => {
-                self.advance(n);
-                self.ccpn = c;
-                self.ie = true;
-            }
-            End::Dead(_) => {}
-        }
-    }
 }
 
 impl Machine {
@@ -279,28 +112,6 @@ impl Machine {
         }
     }
 
-    /// Executes an instruction that saves or restores a context.
-    #[tactic(auto, unfolding(crate::specs::Instructions::does))]
-    fn execute_context(&mut self, event: &Event, shape: Shape, n: u32)
-        requires { IsShape shape }
-        ensures { OnContextInstruction shape (self.new ≡ does self.old event.now shape n) }
-    {
-        match shape {
-            Shape::Call { to } => self.call(to, n),
-            Shape::Ret => self.go_back(n),
-            Shape::Rfe => self.leave_handler(n),
-            Shape::Svlcx => self.save_lower(n),
-            Shape::Rslcx => self.take_lower(n),
-            Shape::Bisr { c } => self.begin_interruptible(c, n),
-            Shape::Syscall { tin } => self.trap(
-                SYSTEM_CALLS,
-                tin,
-                machine_address_ahead(self.pc, n),
-            ),
-            _ => {}
-        }
-    }
-
     /// Executes an instruction on core registers or the interrupt system.
     #[tactic(auto, unfolding(crate::specs::Instructions::does))]
     fn execute_system(&mut self, event: &Event, shape: Shape, n: u32)
@@ -327,5 +138,79 @@ impl Machine {
             }
             _ => {}
         }
+    }
+
+    /// Executes an operation on two words.
+    #[tactic(auto, unfolding(crate::specs::Instructions::does))]
+    fn compute(&mut self, op: Op, dst: u8, x: Arg, y: Arg, n: u32)
+        requires { IsShape (Shape.Compute op dst x y) }
+        ensures { (event : Event) → self.new ≡ does self.old event (Shape.Compute op dst x y) n }
+    {
+        let word = alu(op, self.arg(x), self.arg(y));
+        self.set_reg(dst, word);
+        self.advance(n);
+    }
+
+    /// Executes the sum of a base and a shifted index.
+    #[tactic(auto, unfolding(crate::specs::Instructions::does))]
+    fn compute_scaled(&mut self, dst: u8, base: u8, index: u8, k: u8, n: u32)
+        requires { IsShape (Shape.Scaled dst base index k) }
+        ensures { (event : Event)
+            → self.new ≡ does self.old event (Shape.Scaled dst base index k) n }
+    {
+        let word = machine_address_ahead(self.reg(base), self.reg(index) << k);
+        self.set_reg(dst, word);
+        self.advance(n);
+    }
+
+    /// Executes one of the load instructions: writes the register, and the base with
+    /// post-increment, or takes the trap of a misaligned access.
+    #[tactic(auto, unfolding(crate::specs::Instructions::does))]
+    fn load(&mut self, event: &Event, dst: u8, at: Access, signed: bool, n: u32)
+        requires { IsShape (Shape.Load dst at.base at.offset at.size signed at.after) }
+        ensures { self.new
+            ≡ does self.old event.now (Shape.Load dst at.base at.offset at.size signed at.after) n }
+    {
+        let addr = self.access(at.base, at.offset, at.after);
+        if is_trapping_access(event, addr, at.size) {
+            self.trap(INSTRUCTION_ERRORS, ALN, self.pc);
+            return;
+        }
+        let word = load(&self.mem, event.input, addr, at.size, signed);
+        self.move_base(at.base, at.offset, at.after);
+        self.set_reg(dst, word);
+        self.advance(n);
+    }
+
+    /// Executes one of the store instructions: writes the bytes, and the base with post-increment,
+    /// or takes the trap of a misaligned access.
+    #[tactic(auto, unfolding(crate::specs::Instructions::does))]
+    fn store(&mut self, event: &Event, src: u8, at: Access, n: u32)
+        requires { IsShape (Shape.Store src at.base at.offset at.size at.after) }
+        ensures { self.new
+            ≡ does self.old event.now (Shape.Store src at.base at.offset at.size at.after) n }
+    {
+        let addr = self.access(at.base, at.offset, at.after);
+        if is_trapping_access(event, addr, at.size) {
+            self.trap(INSTRUCTION_ERRORS, ALN, self.pc);
+            return;
+        }
+        let word = self.reg(src);
+        self.move_base(at.base, at.offset, at.after);
+        store(&mut self.mem, addr, word, at.size);
+        self.advance(n);
+    }
+
+    /// Executes a branch, which is taken or not.
+    #[tactic(auto, unfolding(crate::specs::Instructions::does))]
+    fn branch(&mut self, test: Comparison, by: u32, lowers: bool, n: u32)
+        requires { IsShape (Shape.Branch test.cond test.x test.y by lowers) }
+        ensures { (event : Event)
+            → self.new ≡ does self.old event (Shape.Branch test.cond test.x test.y by lowers) n }
+    {
+        let goes = taken(test.cond, self.reg(test.x), self.arg(test.y));
+        let distance = if goes { by } else { n };
+        self.lower(test.x, lowers);
+        self.advance(distance);
     }
 }

@@ -2,6 +2,7 @@
 #![tactic(auto)]
 
 mod accesses;
+mod context_instructions;
 mod contexts;
 mod core_registers;
 mod events;

@@ -13,8 +13,8 @@ use crate::{Cause, End, Event, Machine};
 use csa_chain::address_of;
 use tc_isa::Shape;
 
-/// Returns true if the machine's areas in use stay under an instruction of this shape: it never
-/// changes the memory or PCXI.
+/// Returns true if the number of a machine's used areas stays under each instruction of this shape,
+/// as it never changes the memory or PCXI.
 fn is_area_keeping_shape(event: &Event, shape: Shape) -> bool
     ensures { result ≡ is_area_keeping_shape event.now shape }
 {

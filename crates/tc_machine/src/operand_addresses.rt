@@ -1,8 +1,8 @@
 // Addresses and operands of instructions.
 ghost use Rattle.std.specs.Prelude.{◌≡◌, ◌<◌};
 ghost use Rattle.tc_isa.specs.InBounds.{IsArg, IsTarget};
-ghost use Rattle.tc_machine.specs.Machine.{reg, machine_address_ahead};
-ghost use Rattle.tc_machine.specs.Instructions.{arg, access_address, with_base, target_of, lowered, does};
+ghost use Rattle.tc_machine.specs.Machine.{reg};
+ghost use Rattle.tc_machine.specs.Instructions.{machine_address_ahead, arg, access_address, with_base, target_of, lowered, does};
 
 use crate::Machine;
 use tc_isa::{Arg, Target};
@@ -50,7 +50,7 @@ impl Machine {
         }
     }
 
-    /// Decrements the register operand `x` of a branch by 1, if the branch does that.
+    /// Writes the register that a branch compares: decrements it by 1, if the branch does that.
     pub(crate) fn lower(&mut self, x: u8, lowers: bool)
         requires { x < 32 }
         ensures { self.new ≡ lowered self.old x lowers }

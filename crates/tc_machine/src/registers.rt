@@ -1,8 +1,8 @@
 // Reads and writes registers and operands.
 ghost use Rattle.std.specs.Prelude.{◌≡◌, ◌<◌};
 ghost use Rattle.tc_isa.specs.InBounds.{IsArg};
-ghost use Rattle.tc_machine.specs.Machine.{reg, with_reg, machine_address_ahead, died};
-ghost use Rattle.tc_machine.specs.Instructions.{arg, advanced};
+ghost use Rattle.tc_machine.specs.Machine.{reg, with_reg, died};
+ghost use Rattle.tc_machine.specs.Instructions.{machine_address_ahead, arg, advanced};
 
 use crate::operand_addresses::machine_address_ahead;
 use crate::{Cause, End, Machine};
@@ -44,14 +44,14 @@ impl Machine {
         }
     }
 
-    /// Moves the register pc to the next instruction, after one of `n` bytes.
+    /// Writes the register pc: the address after the instruction, which has `n` bytes.
     pub(crate) fn advance(&mut self, n: u32)
         ensures { self.new ≡ advanced n self.old }
     {
         self.pc = machine_address_ahead(self.pc, n);
     }
 
-    /// Writes only the machine's end, with this cause of death: its registers and its memory stay.
+    /// Ends the machine with this cause of death; the rest of its state stays.
     pub(crate) fn die(&mut self, cause: Cause)
         ensures { self.new ≡ died cause self.old }
     {

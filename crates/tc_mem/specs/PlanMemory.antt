@@ -5,10 +5,11 @@ use Rattle.csa_chain.specs.MemoryBytes.{Memory, is_mapped}
 use Rattle.elf_image.specs.Images.{ImageData, image_byte}
 use Rattle.tcd_base.specs.Ranges.{IsInOneRange, is_address_in_ranges}
 use Rattle.tcd_plan.specs.PlanData.{PlanData}
-use Rattle.tcd_plan.specs.Regions.{IsMappedBy}
+use Rattle.tcd_plan.specs.MappedAddresses.{IsMappedBy}
 use Rattle.tcd_base.specs.declared.range.Range.{Range}
 
--- the memory has each rom byte of the plan that a segment of the image holds
+-- the memory of a machine under a plan has each rom byte of the plan that a segment of the image
+-- holds
 abbrev pub HoldsRom : ImageData → PlanData → Memory → Type 0
 HoldsRom image plan mem = (x b : ℕ) → IsInOneRange x 1 plan.rom → image_byte image x ≡ Some b → map.get mem x ≡ Some b
 

@@ -3,6 +3,7 @@
 
 mod memory;
 mod page;
+mod page_list;
 mod page_numbers;
 
 pub use memory::Mem;

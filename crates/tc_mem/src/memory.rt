@@ -1,20 +1,19 @@
-// The type `Mem`, a sorted list of pages: its public functions, and the functions on pages that do
-// their work.
-ghost use Rattle.std.specs.Prelude.{◌≡◌, ◌≤◌, ◌+◌, ◌%◌, ◌^◌, All, IfOk, length, ◌<◌, ◌/◌, Some, None, if◌then◌else◌, ◌-◌, false, ◌*◌};
+// The type `Mem`, a sorted list of pages, with its public functions.
+ghost use Rattle.std.specs.Prelude.{◌≡◌, ◌≤◌, ◌+◌, ◌%◌, ◌^◌, All, IfOk, length, ◌<◌, ◌/◌, None, ◌-◌, false};
 ghost use Rattle.std.specs.Bool.{OnFalse};
 ghost use Rattle.std.specs.FinMap as finite;
-ghost use Rattle.csa_chain.specs.MemoryBytes.{is_mapped, are_mapped, with_byte, HasBytes, is_mapped as has_byte};
+ghost use Rattle.csa_chain.specs.MemoryBytes.{is_mapped, are_mapped, with_byte, HasBytes};
 ghost use Rattle.tc_mem.specs.Areas.{memory_area_of, memory_with_area, area_first_word};
 ghost use Rattle.tc_mem.specs.Blocks.{are_in_block, mapped_block_word, mapped_block_half, with_block_word, with_block_half};
 ghost use Rattle.tc_mem.specs.Pages.{memory_of, IsMem};
 ghost use Rattle.tc_mem.specs.PlanMemory.{IsMemoryOfZeros};
 ghost use Rattle.tc_mem.specs.Written.{IsMemoryWritten};
 
-use crate::page::{
-    Page, area_in, byte, first_in, mapped_half, mapped_word, page_of, put_area, put_byte,
-    put_bytes, put_mapped_half, put_mapped_word,
+use crate::page::{Page, byte};
+use crate::page_list::{
+    pages_of, read_area, read_area_first_word, read_half, read_memory_byte, read_word, write_area,
+    write_bytes, write_half, write_memory_byte, write_word,
 };
-use crate::page_numbers::{find_near, find_page, page_numbers};
 use std::alloc::Global;
 use std::marker::Model;
 use tcd_base::{NoMemory, Range};
@@ -153,192 +152,4 @@ impl Mem {
     {
         read_area_first_word(&self.pages, addr, near)
     }
-}
-
-// Returns the byte at an address, or `None` if it isn't mapped.
-pub(crate) fn read_memory_byte(pages: &[Page], addr: u32, near: usize) -> Option<u8>
-    requires { IsMem pages.now }
-    ensures byte { result ≡ finite.get (memory_of pages.now) addr }
-    ensures bytes { HasBytes (memory_of pages.now) }
-{
-    let Some(i) = find_page(pages, addr / 4096, near) else {
-        return None;
-    };
-    byte(&pages[i], addr)
-}
-
-/// Writes bytes from an address on, all in one page, for `Mem::set_bytes`. Those that aren't mapped
-/// are dropped.
-pub(crate) fn write_in_page(pages: &mut [Page], addr: u32, bytes: &[u8])
-    requires pages { IsMem pages.old }
-    requires within { addr % 4096 + length bytes.now ≤ 4096 }
-    ensures written { IsMemoryWritten (memory_of pages.old) addr bytes.now (memory_of pages.new) }
-    ensures pages { IsMem pages.new }
-{
-    let Some(i) = find_page(pages, addr / 4096, 0) else {
-        return;
-    };
-    put_bytes(&mut pages[i], (addr % 4096) as usize, bytes);
-}
-
-/// Does the work of `Mem::word`: returns the word at an address if its bytes are mapped and in one
-/// block of 64.
-pub(crate) fn read_word(pages: &[Page], addr: u32, near: usize) -> Option<u32>
-    requires { IsMem pages.now }
-    ensures word { result ≡ mapped_block_word (memory_of pages.now) addr }
-    ensures bytes { HasBytes (memory_of pages.now) }
-{
-    if addr % 64 > 60 {
-        return None;
-    }
-    let Some(i) = find_page(pages, addr / 4096, near) else {
-        return None;
-    };
-    mapped_word(&pages[i], (addr % 4096) as usize)
-}
-
-/// Does the work of `Mem::half` on the memory's list of pages: returns the halfword at an address
-/// if its bytes are mapped and in one block of 64.
-pub(crate) fn read_half(pages: &[Page], addr: u32, near: usize) -> Option<u16>
-    requires { IsMem pages.now }
-    ensures half { result ≡ mapped_block_half (memory_of pages.now) addr }
-    ensures bytes { HasBytes (memory_of pages.now) }
-{
-    if addr % 64 > 62 {
-        return None;
-    }
-    let Some(i) = find_page(pages, addr / 4096, near) else {
-        return None;
-    };
-    mapped_half(&pages[i], (addr % 4096) as usize)
-}
-
-/// Does the work of `Mem::set`: writes a byte if it is mapped, and returns whether it is.
-pub(crate) fn write_memory_byte(pages: &mut [Page], addr: u32, byte: u8, near: usize) -> bool
-    requires { IsMem pages.old }
-    ensures mapped { result ≡ has_byte (memory_of pages.old) addr }
-    ensures written { memory_of pages.new ≡ with_byte (memory_of pages.old) addr byte }
-    ensures kept { OnFalse result (memory_of pages.new ≡ memory_of pages.old) }
-    ensures pages { IsMem pages.new }
-    ensures bytes { HasBytes (memory_of pages.new) }
-{
-    let Some(i) = find_page(pages, addr / 4096, near) else {
-        return false;
-    };
-    put_byte(&mut pages[i], (addr % 4096) as usize, byte)
-}
-
-/// Does the work of `Mem::set_bytes`: writes bytes from an address on. Those that aren't mapped are
-/// dropped.
-pub(crate) fn write_bytes(pages: &mut [Page], addr: u32, bytes: &[u8])
-    requires pages { IsMem pages.old }
-    requires fits { addr + length bytes.now ≤ 2 ^ 32 }
-    ensures written { IsMemoryWritten (memory_of pages.old) addr bytes.now (memory_of pages.new) }
-    ensures pages { IsMem pages.new }
-    ensures bytes { HasBytes (memory_of pages.new) }
-{
-    let mut done = 0;
-    while done < bytes.len() {
-        let at = addr + done as u32;
-        let end = bytes.len().min(done + (4096 - at % 4096) as usize);
-        write_in_page(pages, at, &bytes[done..end]);
-        done = end;
-    }
-}
-
-/// Does the work of `Mem::set_word`: writes a word if its bytes are mapped and in one block of 64,
-/// and returns whether they are.
-pub(crate) fn write_word(pages: &mut [Page], addr: u32, word: u32, near: usize) -> bool
-    requires { IsMem pages.old }
-    ensures mapped { result ≡ are_in_block (memory_of pages.old) addr 4 }
-    ensures written { memory_of pages.new ≡ with_block_word (memory_of pages.old) addr word }
-    ensures pages { IsMem pages.new }
-    ensures bytes { HasBytes (memory_of pages.new) }
-{
-    if addr % 64 > 60 {
-        return false;
-    }
-    let Some(i) = find_page(pages, addr / 4096, near) else {
-        return false;
-    };
-    put_mapped_word(&mut pages[i], (addr % 4096) as usize, word)
-}
-
-/// Does the work of `Mem::set_half`: writes a halfword if its bytes are mapped and in one block of
-/// 64, and returns whether they are.
-pub(crate) fn write_half(pages: &mut [Page], addr: u32, half: u16, near: usize) -> bool
-    requires { IsMem pages.old }
-    ensures mapped { result ≡ are_in_block (memory_of pages.old) addr 2 }
-    ensures written { memory_of pages.new ≡ with_block_half (memory_of pages.old) addr half }
-    ensures pages { IsMem pages.new }
-    ensures bytes { HasBytes (memory_of pages.new) }
-{
-    if addr % 64 > 62 {
-        return false;
-    }
-    let Some(i) = find_page(pages, addr / 4096, near) else {
-        return false;
-    };
-    put_mapped_half(&mut pages[i], (addr % 4096) as usize, half)
-}
-
-/// Does the work of `Mem::first_word`: returns the first word of an area that is wholly mapped. The
-/// search for its page begins at `near`, which is then set to the place of the page.
-pub(crate) fn read_area_first_word(pages: &[Page], addr: u32, near: &mut usize) -> Option<u32>
-    requires pages { IsMem pages.now }
-    requires aligned { addr % 64 ≡ 0 }
-    ensures word { result ≡ area_first_word (memory_of pages.now) addr }
-    ensures bytes { HasBytes (memory_of pages.now) }
-{
-    let Some(i) = find_near(pages, addr / 4096, *near) else {
-        return None;
-    };
-    *near = i;
-    first_in(&pages[i], (addr % 4096) as usize)
-}
-
-/// Does the work of `Mem::area` on the memory's list of pages: returns the words of an area that is
-/// wholly mapped.
-pub(crate) fn read_area(pages: &[Page], addr: u32, near: usize) -> Option<[u32; 16]>
-    requires pages { IsMem pages.now }
-    requires aligned { addr % 64 ≡ 0 }
-    ensures words { result ≡ memory_area_of (memory_of pages.now) addr }
-    ensures bytes { HasBytes (memory_of pages.now) }
-{
-    let Some(i) = find_page(pages, addr / 4096, near) else {
-        return None;
-    };
-    area_in(&pages[i], (addr % 4096) as usize)
-}
-
-/// Does the work of `Mem::set_area`: writes an area if it is wholly mapped, and returns whether it
-/// is.
-pub(crate) fn write_area(pages: &mut [Page], addr: u32, words: &[u32; 16], near: &mut usize) -> bool
-    requires pages { IsMem pages.old }
-    requires aligned { addr % 64 ≡ 0 }
-    ensures mapped { result ≡ are_mapped (memory_of pages.old) addr 64 }
-    ensures written { memory_of pages.new ≡ memory_with_area (memory_of pages.old) addr words.now }
-    ensures pages { IsMem pages.new }
-    ensures bytes { HasBytes (memory_of pages.new) }
-{
-    let Some(i) = find_page(pages, addr / 4096, *near) else {
-        return false;
-    };
-    *near = i;
-    put_area(&mut pages[i], (addr % 4096) as usize, words)
-}
-
-/// Returns the list of pages that a new `Mem` for the ranges has, its bytes all zero. Room for all
-/// pages is reserved first, so that each is written where it stays.
-pub(crate) fn pages_of(alloc: Global, ranges: &[Range]) -> Result<Vec<Page>, NoMemory>
-    ensures pages { IfOk result (λ v. IsMem v.items) }
-    ensures bytes { IfOk result (λ v. HasBytes (memory_of v.items)) }
-    ensures zeros { IfOk result (λ v. IsMemoryOfZeros ranges.now (memory_of v.items)) }
-{
-    let numbers = page_numbers(alloc, ranges)?;
-    let mut pages = Vec::with_capacity(alloc, numbers.len())?;
-    for number in &numbers {
-        pages.push_reserved(page_of(*number, ranges));
-    }
-    Ok(pages)
 }

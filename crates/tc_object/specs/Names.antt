@@ -16,7 +16,7 @@ is_name_length n = nat_le 1 n && nat_le n 64
 abbrev pub object_name_of : List ℕ → Option (List ℕ)
 object_name_of bs = then_some (is_name_length (length bs) && is_object_name bs) bs
 
--- a name that isn't used yet
+-- the name of an object's section or symbol is well-formed, has 1 to 64 bytes, and isn't used yet
 pub record IsNewObjectName (is_used : List ℕ → Bool) (name : List ℕ) : Type 0 where
   pub some : 1 ≤ length name
   pub few : length name ≤ 64

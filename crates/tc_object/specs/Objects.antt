@@ -39,7 +39,7 @@ pub record ObjectData : Type 0 where
 abbrev pub is_section_name : List SectionData → List ℕ → Bool
 is_section_name ss name = list_any (λ s. bytes_eq name s.name) ss
 
--- some symbol of an object has the name
+-- one of an object's symbols has the name
 abbrev pub is_symbol_name : List SymbolData → List ℕ → Bool
 is_symbol_name ss name = list_any (λ s. bytes_eq name s.name) ss
 
@@ -86,7 +86,7 @@ pub record IsSymbol (sections : List SectionData) (before : List SymbolData) (s 
   pub word : s.offset < 2 ^ 32
 
 -- ---- relocations
--- the last of an object's relocations, if there is one
+-- the last of an object's relocations, if there is one; the next one's place must come after it
 abbrev pub last_reloc : List Reloc → Option Reloc
 last_reloc rs = slice_get rs (length rs - 1)
 

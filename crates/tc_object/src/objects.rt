@@ -36,7 +36,7 @@ impl Object {
     ghost use Rattle.tc_object.specs.Grammar.{object_of};
     ghost use Rattle.tc_object.specs.Spelling.{bytes_of};
 
-    /// Returns the object that the bytes spell, which owns its names and contents, or their first
+    /// Returns the `Object` that the bytes spell, which owns its names and contents, or their first
     /// fault.
     pub fn read(alloc: Global, bytes: &[u8]) -> Result<Object, ObjErr>
         requires { length bytes.now ≤ 2 ^ 30 }

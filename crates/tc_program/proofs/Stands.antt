@@ -21,8 +21,8 @@ use Rattle.tc_stmt.specs.Lines.{lines_in, items_in}
 use Rattle.tc_asm.specs.Symbols.{SymbolData, symbol_number, symbol_names}
 use Rattle.tc_asm.specs.Drafts.{UseData, PartData, start, bytes_at}
 use Rattle.tc_isa.specs.Relocations.{is_reloc}
-use Rattle.tc_asm.specs.DraftedSources.{KeepsRules, symbols_of, draft_in}
-use Rattle.tc_asm.specs.Rules.{items_rule}
+use Rattle.tc_asm.specs.DraftedSources.{symbols_of, draft_in}
+use Rattle.tc_asm.specs.Rules.{KeepsRules, items_rule}
 use Rattle.tc_asm.specs.DraftInvariants.{is_drafted_name, IsUse, IsPart}
 use Rattle.tc_asm.specs.Objects.{section_of, symbol_of, assembled_addend, reloc_of, relocs_from, object_of}
 use Rattle.tc_asm.specs.Statements.{StatementData, section_bytes, offset_of, statements_in, is_open_statement}

@@ -10,7 +10,7 @@ use Rattle.tc_asm.specs.DraftedSources.{symbols_in}
 use Rattle.tc_link.specs.Layouts.{PlaceData, place_of}
 use Rattle.tc_link.specs.PlaceSizes.{round_up_place_size, taken_place_size}
 
--- the sections of all sources, in order
+-- the sections of all sources, in the order in which they get addresses after linking
 abbrev pub program_sections : List (List ℕ) → List SectionData
 program_sections sources = flat_map sections_in sources
 
@@ -41,7 +41,8 @@ pub record GlobalHasAddress (places : List PlaceData) (sources : List (List ℕ)
   pub stands : LabelHasAddress places sources number name address
   pub is_global : (entry_of (symbols_in stands.source) name).is_global ≡ true
 
--- the address of a name in a source: that of its own label, or else that of a global one
+-- the address of a name in a source after linking: that of the source's own label, or else that of
+-- a global label of some source
 pub data NameHasAddress (places : List PlaceData) (sources : List (List ℕ)) (number : ℕ) (name : List ℕ) : ℕ → Type 0 where
   own : (address : ℕ) → LabelHasAddress places sources number name address → NameHasAddress places sources number name address
   other :

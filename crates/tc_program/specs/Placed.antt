@@ -59,7 +59,8 @@ pub record PlacedSpanData : Type 0 where
 abbrev pub placed_segment_span : SegmentData → PlacedSpanData
 placed_segment_span s = record { at = s.at; size = length s.bytes }
 
--- the address of a place, and the number of bytes that the sections of its name use
+-- where an image that was linked from sources has a segment: the address of the layout's place, and
+-- the number of bytes that the sections of its name use
 abbrev pub place_span : List SectionData → PlaceData → PlacedSpanData
 place_span sections p = record { at = p.at; size = taken_place_size p.section sections }
 

@@ -3,14 +3,15 @@ use Rattle.std.specs.Prelude.{◌≡◌, ◌<◌, ◌+◌, ◌⊎◌, nat_lt, �
 use Rattle.elf_image.specs.Images.{ImageData}
 use Rattle.tc_isa.specs.declared.fields.Fields.{Fields}
 use Rattle.tc_isa.specs.Rows.{RowData, listed}
-use Rattle.tc_isa.specs.ValidRows.{FieldsFitRow}
+use Rattle.tc_isa.specs.ValidRowFields.{FieldsFitRow}
 use Rattle.tc_isa.specs.Spelling.{spelling}
 use Rattle.tc_isa.specs.Relocations.{is_reloc}
 use Rattle.tc_reloc.specs.Fields.{reloc_field_bound, with_reloc_field}
 use Rattle.tc_stmt.specs.Items.{ReferenceData}
 use Rattle.tc_object.specs.Objects.{ObjectData}
 use Rattle.tc_stmt.specs.Lines.{lines_in}
-use Rattle.tc_asm.specs.DraftedSources.{symbols_of, KeepsRules, draft_in, symbols_in}
+use Rattle.tc_asm.specs.DraftedSources.{symbols_of, draft_in, symbols_in}
+use Rattle.tc_asm.specs.Rules.{KeepsRules}
 use Rattle.tc_asm.specs.Objects.{object_of}
 use Rattle.tc_asm.specs.Statements.{StatementData, offset_of, statements_in}
 use Rattle.tc_link.specs.Layouts.{LayoutData, IsLayout, PlaceData}
@@ -18,9 +19,9 @@ use Rattle.tc_link.specs.Linked.{image_of_objects}
 use Rattle.tc_program.specs.Addresses.{program_sections, SectionHasAddress, GlobalHasAddress, NameHasAddress}
 use Rattle.tc_program.specs.Placed.{placed_segment_span, place_span, Placed, placed_symbol_value}
 use Rattle.tc_asm.specs.InstructionLaws.{InstructionSpellsRow}
-use Rattle.tc_asm.specs.ShortJumps.{short_jump_displacement}
+use Rattle.tc_asm.specs.ShortJumpLaws.{short_jump_displacement}
 
--- the objects of sources that break no rule, one for each source
+-- what the laws of placement ask of objects: there is one for each source, which breaks no rule
 abbrev pub AreProgramObjects : List (List ℕ) → List ObjectData → Type 0
 AreProgramObjects [] [] = Unit {0}
 AreProgramObjects [] (o ∷ os) = ⊥
@@ -66,9 +67,8 @@ SourceFieldsLaw = (source : List ℕ) (index : ℕ) (t : StatementData) (r : Ref
 
 -- ---- jumps of 16 bits
 
--- A jump or call of 16 bits with these bytes, at an address of the image. It spells an instruction,
--- whose displacement goes from there to the address of its name in the source, plus the number that
--- is added.
+-- the law of placed jumps, at one jump or call of 16 bits: the displacement that its bytes spell
+-- goes to the address of its name in the source, plus the number that is added
 pub record PlacedJumpReaches (places : List PlaceData) (sources : List (List ℕ)) (number : ℕ) (r : ReferenceData) (at : ℕ) (bytes : List ℕ) : Type 0 where
   pub place : ℕ
   pub spells : InstructionSpellsRow place bytes

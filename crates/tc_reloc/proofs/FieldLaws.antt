@@ -3,7 +3,7 @@ use Rattle.std.proofs.Common.{◌≡◌, ◌+◌, ◌^◌, ◌<◌, ◌≤◌, �
 use Rattle.std.proofs.lemmas.Bool.Decides.{nat_tests}
 use Rattle.tc_reloc.specs.Refusals.{reloc_value_refusal}
 use Rattle.tc_reloc.specs.Fields.{reloc_field_number, reloc_field_bound, reloc_field_bits, bits_outside_reloc_field}
-use Rattle.tc_reloc.specs.Held.{held_reloc_number, address_reached_by_reloc}
+use Rattle.tc_reloc.specs.ReachedAddresses.{held_reloc_number, address_reached_by_reloc}
 use Rattle.tc_reloc.proofs.EachKind.{EachKind, at_kind}
 
 module _ (w k : ℕ) (word : w < 2 ^ 32) where

@@ -13,7 +13,7 @@ use Rattle.tc_isa.specs.Forms.{bounds, second_bound}
 use Rattle.tc_isa.specs.Spelling.{word_by_form, spelling_of, spelling, word_of}
 use Rattle.tc_isa.specs.InBounds.{IsBelow}
 use Rattle.tc_isa.specs.declared.fields.Uses.{Uses}
-use Rattle.tc_isa.specs.ValidRows.{uses_of, are_unused_fields_zero, FieldsFitRow, IsRow}
+use Rattle.tc_isa.specs.ValidRowFields.{uses_of, are_unused_fields_zero, FieldsFitRow, IsRow}
 use Rattle.tc_isa.proofs.TableFacts.{row_at}
 use Rattle.tc_reloc.specs.Fields.{reloc_field_bound, reloc_field_bits, bits_outside_reloc_field, with_reloc_field}
 use Rattle.tc_isa.specs.Relocations.{can_relocation_fill}

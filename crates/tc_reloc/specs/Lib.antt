@@ -2,5 +2,5 @@
 pub mod Refusals
 pub mod Fields
 pub mod Applied
-pub mod Held
+pub mod ReachedAddresses
 pub mod FillingLaws

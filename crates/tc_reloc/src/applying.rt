@@ -2,7 +2,7 @@
 ghost use Rattle.std.specs.Prelude.{◌≡◌, ◌≤◌, ◌+◌, OnOk, IfOk};
 ghost use Rattle.tcd_base.specs.Bytes.{word_in_bytes};
 ghost use Rattle.tc_reloc.specs.Fields.{reloc_field_number, bits_outside_reloc_field, reloc_field_bits};
-ghost use Rattle.tc_reloc.specs.Held.{held_reloc_number, address_reached_by_reloc};
+ghost use Rattle.tc_reloc.specs.ReachedAddresses.{held_reloc_number, address_reached_by_reloc};
 ghost use Rattle.tc_reloc.specs.Applied.{applied};
 
 use crate::fields::{bits_outside_reloc_field, reloc_field_bits, reloc_field_number};
@@ -35,8 +35,8 @@ pub fn apply(kind: u8, field: [u8; 4], place: u32, value: u32) -> Result<[u8; 4]
     Ok(word.to_le_bytes())
 }
 
-// The word with the value in its field. A whole word is its own field, so none of its old bits
-// remain.
+/// Applies a relocation that isn't refused: returns the word with the value in its field. A whole
+/// word is its own field, so none of its old bits remain.
 fn fill_reloc_field(kind: u8, word: u32, place: u32, value: u32) -> u32
     requires some { 1 ≤ kind }
     requires most { kind ≤ 7 }

@@ -24,7 +24,8 @@ use Rattle.tc_machine.specs.declared.events.End.TheVariants.{Running, Dead}
 use Rattle.tc_machine.specs.declared.state.Machine.{Machine}
 use Rattle.tc_machine.specs.Machine.{reg, with_reg, died, then_, goes_on, psw_with_status}
 use Rattle.tc_machine.specs.Instructions.{advanced, does, misaligned, with_base, access_address, is_trapping_access}
-use Rattle.tc_machine.specs.Stepping.{interrupt, is_taken, executed, machine_after_event, step, used_area_count}
+use Rattle.tc_machine.specs.Stepping.{is_taken, executed, machine_after_event, step, used_area_count}
+use Rattle.tc_machine.specs.Handlers.{interrupt}
 use Rattle.tc_machine.specs.SavesAndRestores.{context_of, saved, save, has_kind, restored, restore}
 use Rattle.tc_machine.specs.Fetching.{fetched, mapped_bytes, fetched_shape}
 use Rattle.tc_machine.specs.InstructionKinds.{is_area_keeping_shape}

@@ -26,7 +26,7 @@ use Rattle.tc_machine.proofs.ShapeWords.{IsSize, IsShape, shape_of-suits}
 use Rattle.tc_script.specs.declared.scripts.Turn.{Turn}
 use Rattle.tc_script.specs.Ports.{ArePortsAskable, ArePortsBounded}
 use Rattle.tc_script.specs.DrivenRuns.{DeviceAnswers, IsDrivenInput, IsEventOfTurn}
-use Rattle.tcd_plan.specs.Regions.{IsInDevice, AnswersAt, AnswersLoad}
+use Rattle.tcd_plan.specs.MappedAddresses.{IsInDevice, AnswersAt, AnswersLoad}
 
 -- ---- ranges
 abbrev pub in_one : ℕ → ℕ → List Device → Bool

@@ -29,8 +29,8 @@ pub record IsCounted (u : AreasUsed) (m : Machine) : Type 0 where
   pub first : u.first < 2 ^ 20
   pub row : OnTrue u.in_row (AreAreasInSequence u.first u.count m)
 
--- how an event adds an area to the consecutive ones in use: the machine after a save of a context,
--- up to changes that keep the memory and PCXI
+-- an event adds an area to those in use, which a script's run counts: afterwards the memory and
+-- PCXI are those of a save of a context
 pub record HasSaved (m after : Machine) : Type 0 where
   pub upper : Bool
   pub some : link_in m.fcx ≢ 0

@@ -5,7 +5,7 @@ use Rattle.tcd_plan.specs.PlanData.{PlanData}
 use Rattle.tc_machine.specs.declared.events.Event.{Event}
 use Rattle.tc_machine.specs.declared.events.End.TheVariants.{Running}
 use Rattle.tc_machine.specs.declared.state.Machine.{Machine}
-use Rattle.tcd_plan.specs.Regions.{IsInDevice}
+use Rattle.tcd_plan.specs.MappedAddresses.{IsInDevice}
 use Rattle.tc_machine.specs.Stepping.{step, run, next_load_of, used_area_count}
 use Rattle.tc_machine.specs.Safe.{AllFit}
 use Rattle.tc_script.specs.declared.driving.Peak.{Peak}

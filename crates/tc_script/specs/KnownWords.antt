@@ -8,8 +8,8 @@ use Rattle.tc_encode.specs.Decoding.{decoded_of}
 use Rattle.tc_machine.specs.Fetching.{fetched_shape}
 use Rattle.tc_script.specs.declared.known_words.KnownWord.{KnownWord}
 
--- for the cache of decoded words: this is what these bytes do, and the shape's registers and
--- numbers are within their bounds
+-- in the cache of known words that a script's run keeps: this is what these bytes do, and the
+-- shape's registers and numbers are within their bounds
 abbrev pub KnownWordDoes : Result (Shape × ℕ) Cause → List ℕ → Type 0
 KnownWordDoes found bytes = (found ≡ fetched_shape (decoded_of bytes)) × IfOk found (λ it. IsShape it.0)
 

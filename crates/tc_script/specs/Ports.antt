@@ -27,8 +27,8 @@ own_bounds d = record { lo = d.lo; hi = d.lo }
 abbrev pub device_answer : AnswerRange → ℕ → ℕ
 device_answer b t = b.lo + t % (b.hi - b.lo + 1)
 
--- the answer at an event of that device of a plan which is at an address, or 0 if no device is
--- there
+-- the answer of the port at an address at an event: that of the device there within its bounds, or
+-- 0 if no device is there
 abbrev pub device_answer_at : List Device → List AnswerRange → ℕ → ℕ → ℕ
 device_answer_at [] bounds x t = 0
 device_answer_at (d ∷ ds) [] x t = 0

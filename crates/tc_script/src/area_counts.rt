@@ -69,7 +69,8 @@ pub(crate) fn effect_of_event(
     }
 }
 
-/// Updates the areas in use after an event that has this effect if the machine still runs.
+/// Updates the script's count of areas in use after an event that has this effect, if the machine
+/// still runs.
 pub(crate) fn used_after(m: &Machine, used: &mut AreasUsed, effect: Effect)
     requires { m.now.end ≡ End.Running → AreaEffectHolds effect used.old m.now }
     ensures { IsCounted used.new m.now }
@@ -265,7 +266,8 @@ fn area_effect_of_store(m: &Machine, used: AreasUsed, addr: u32, size: u8) -> Ef
     Effect::Unknown
 }
 
-/// Returns the effect of a restore: one area less.
+/// Returns the effect of a restore on the script's count of areas in use: one less, or unknown if
+/// there are none.
 fn area_effect_of_restore(m: &Machine, used: AreasUsed) -> Effect
     requires counted { IsCounted used m.now }
     requires row { used.in_row ≡ true }

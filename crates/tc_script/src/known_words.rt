@@ -21,16 +21,16 @@ pub(crate) struct KnownWords {
     pub words: [KnownWord; 1024],
 }
 
-/// Returns the place of a word: the highest ten bits of its product with 2^32 divided by the golden
-/// ratio, which spreads words that differ by equal steps.
+/// Returns the place of a word in the cache of known words that a script's run keeps: the highest
+/// ten bits of its product with 2^32 divided by the golden ratio.
 fn known_word_place(word: u32) -> usize
     ensures { result < 1024 }
 {
     (word.wrapping_mul(0x9E37_79B9) / 0x40_0000) as usize
 }
 
-/// Returns an entry of the cache of known words without a word. It is all zeros, so that a table of
-/// them is filled at once.
+/// Returns an entry without a word, for the cache of known words that a script's run keeps. It is
+/// all zeros, so that a table of them is filled at once.
 fn no_known_word() -> KnownWord
     ensures { IsKnownWord result }
 {

@@ -9,7 +9,7 @@ mod laws;
 mod numbers;
 mod ports;
 mod reading;
-mod scripted;
+mod script_runs;
 mod scripts;
 mod statements;
 
@@ -17,5 +17,5 @@ pub use driving::{Peak, drive};
 pub use errors::ScriptErr;
 pub use laws::script_laws;
 pub use ports::Ports;
-pub use scripted::drive_by_script;
+pub use script_runs::drive_by_script;
 pub use scripts::{AnswerRange, Script, Turn};

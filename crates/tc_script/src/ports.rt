@@ -1,10 +1,11 @@
 // The answers of devices: the ports that a run is driven with.
-ghost use Rattle.std.specs.Prelude.{◌≡◌, ◌<◌, ◌≤◌, Some, IfSome};
+ghost use Rattle.std.specs.Prelude.{◌≡◌, ◌<◌, ◌≤◌, Some, IfSome, length};
 ghost use Rattle.tcd_base.specs.Ranges.{is_within_range};
 ghost use Rattle.std.specs.List.{list_any};
-ghost use Rattle.tc_script.specs.Ports.{ArePortsAskable, ArePortsBounded, device_answer};
+ghost use Rattle.tc_script.specs.Ports.{ArePortsAskable, ArePortsBounded, device_answer, device_answer_at};
 ghost use Rattle.tc_script.specs.DrivenRuns.{IsDrivenInput};
 
+use crate::Script;
 use crate::scripts::AnswerRange;
 use arrayvec::ArrayVec;
 use std::marker::Model;
@@ -79,7 +80,7 @@ pub(crate) fn port_input<F: Fn(u32, u32) -> u32>(
     }
 }
 
-/// Returns the answer of a device's port at an event, numbered from 0: the words from `lo` to `hi`,
+/// Returns what a device's port answers at an event, numbered from 0: the words from `lo` to `hi`,
 /// in turn and over again.
 pub(crate) fn device_answer(bounds: AnswerRange, at: u32) -> u32
     requires { bounds.lo ≤ bounds.hi }
@@ -102,4 +103,18 @@ fn port_input_at<F: Fn(u32, u32) -> u32>(ports: &Ports<F>, addr: u32, size: u8, 
     } else {
         0
     }
+}
+
+/// Returns the answer of the port at an address at an event: that of the device there, by the
+/// script's bounds, or 0 if no device is there.
+pub(crate) fn device_answer_at(devices: &[Device], script: &Script, addr: u32, t: u32) -> u32
+    requires { length script.now.bounds ≡ length devices.now }
+    ensures { result ≡ device_answer_at devices.now script.now.bounds addr t }
+{
+    for (i, device) in devices.iter().enumerate() {
+        if device.range.holds(addr, 1) {
+            return script.answer(i, t);
+        }
+    }
+    0
 }

@@ -17,7 +17,7 @@ use Rattle.tc_stmt.specs.RowFields.{RowFieldsData}
 use Rattle.tc_stmt.specs.StatementRow.{statement}
 use Rattle.tc_stmt.proofs.Cases.{by_test}
 use Rattle.tc_stmt.specs.Items.{ItemData, section, global}
-use Rattle.tc_stmt.specs.DataDirectives.{value_item}
+use Rattle.tc_stmt.specs.DataValues.{value_item}
 use Rattle.tc_stmt.specs.Lines.{LineData, line_data, only_operand_name, named_line, space_line, values_line, code_line, stated_line, line_from, has_label, pieces_line, line_token_with_text, label_of, label_before, cut_line, line_in}
 
 -- a line that adds at most this many items

@@ -9,7 +9,7 @@ use Rattle.std.proofs.lemmas.List.{take_more, map_push, length-map, get_or-map}
 use Rattle.std.proofs.lemmas.List.Sums.{fold_more, fails_before_first}
 use Rattle.tc_lex.specs.declared.operand.Operand.{Operand}
 use Rattle.tc_lex.specs.Operands.{operand_of}
-use Rattle.tc_stmt.specs.DataDirectives.{value_rule, space_rule, space_item}
+use Rattle.tc_stmt.specs.DataValues.{value_rule, space_rule, space_item}
 use Rattle.tc_stmt.specs.Items.{zeros}
 use Rattle.tc_stmt.specs.Lines.{line_data, is_named_line_operand, only_operand_name, space_line}
 use Rattle.tc_lex.proofs.Parted.{none_from}

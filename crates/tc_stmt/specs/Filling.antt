@@ -7,7 +7,7 @@ use Rattle.tc_stmt.specs.SourceRules.{wrong_register, wide_number, equal_registe
 use Rattle.tc_isa.specs.Rows.{RowData}
 use Rattle.tc_isa.specs.declared.table.Form.{Form}
 use Rattle.tc_isa.specs.Forms.{bounds, is_bol, is_abs}
-use Rattle.tc_isa.specs.ValidRows.{are_registers_apart}
+use Rattle.tc_isa.specs.ValidRowFields.{are_registers_apart}
 use Rattle.tc_lex.specs.declared.operand.Shape.{Shape}
 use Rattle.tc_stmt.specs.declared.want.Field.{Field}
 use Rattle.tc_stmt.specs.declared.want.Field.TheVariants.{S2, K}

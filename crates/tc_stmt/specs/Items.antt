@@ -14,7 +14,8 @@ pub record ReferenceData : Type 0 where
   pub minus : Bool
   pub size : ℕ
 
--- the plain data of a symbol's reference
+-- an item's reference to a symbol, as plain data: the kind of relocation, the symbol's name, and
+-- the number that is added
 abbrev pub reference_of : Reference → ReferenceData
 reference_of r = record { kind = r.kind; name = r.name.now; minus = r.minus; size = r.size }
 

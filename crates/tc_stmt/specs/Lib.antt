@@ -6,7 +6,7 @@ pub mod StatementRow
 pub mod StatedRows
 pub mod RowIndex
 pub mod Items
-pub mod DataDirectives
+pub mod DataValues
 pub mod Lines
 pub mod SourceViews
 pub mod SourceRules

@@ -14,7 +14,7 @@ use Rattle.tc_stmt.specs.RowFields.{RowFieldsData}
 use Rattle.tc_stmt.specs.OperandForms.{is_name_operand}
 use Rattle.tc_stmt.specs.StatementRow.{statement}
 use Rattle.tc_stmt.specs.Items.{ItemData, label, section, global, code, zeros}
-use Rattle.tc_stmt.specs.DataDirectives.{value_item, space_rule, space_item, values_rule}
+use Rattle.tc_stmt.specs.DataValues.{value_item, space_rule, space_item, values_rule}
 
 -- the least rule that a line breaks by itself (15 is none), and the items that it adds to its
 -- source
@@ -35,7 +35,8 @@ behind is l = line_data l.rule (is ++ l.items)
 unfoldable pub is_named_line_operand : OperandData → Bool
 is_named_line_operand o = if o.is_memory then false else is_name_operand o.value.shape
 
--- the name in a line `.section NAME` or `.global NAME`, if it is the line's only operand
+-- the meaning of a line `.section NAME` or `.global NAME` needs this: its name, if that is the
+-- line's only operand
 unfoldable pub only_operand_name : List OperandData → Option (List ℕ)
 only_operand_name [] = None
 only_operand_name (o ∷ []) = if is_named_line_operand o then Some o.value.name else None
@@ -45,19 +46,20 @@ only_operand_name (o ∷ p ∷ os) = None
 unfoldable pub named_line : (List ℕ → ItemData) → List OperandData → LineData
 named_line make os = option_map_or (λ name. line_data no_rule (make name ∷ [])) (only_operand_name os) (line_data wrong_operands [])
 
--- the meaning of a whole line `.space N`: its rule and its zeros; any other operands break rule 3
+-- the meaning of a line that is `.space N`: the rule that the line breaks, and its zeros; any other
+-- operands break rule 3
 unfoldable pub space_line : List OperandData → LineData
 space_line [] = line_data wrong_operands (zeros 0 ∷ [])
 space_line (o ∷ []) = line_data (space_rule o) (space_item o ∷ [])
 space_line (o ∷ p ∷ os) = line_data wrong_operands (zeros 0 ∷ [])
 
--- the meaning of a whole line of `.byte`, `.half` or `.word`: its rule, and an item for each of its
--- values of this many bytes
+-- the meaning of a line that is `.byte`, `.half` or `.word`: the rule that the line breaks, and an
+-- item for each of its values of this many bytes
 unfoldable pub values_line : ℕ → List OperandData → LineData
 values_line width os = line_data (values_rule width os) (map (value_item width) os)
 
--- the number of zeros for a line whose instruction breaks a rule: the size of the instructions with
--- this name, and 0 if there are none
+-- the zeros that a line adds if its instruction breaks a rule: as many bytes as the instructions
+-- with its name have, or 0 if there are none
 unfoldable pub size_of_name : List ℕ → ℕ
 size_of_name name = option_map_or (λ r. if is_long r then 4 else 2) (find (λ r. bytes_eq r.name name) listed) 0
 
@@ -97,7 +99,7 @@ line_with_label name l = line_data l.rule (label name ∷ l.items)
 unfoldable pub pieces_line : List PieceData → LineData
 pieces_line ps = if has_label ps then line_with_label (text_at ps 0) (line_from ps 2) else line_from ps 0
 
--- a token of a source's line with its text, from which the meaning of the line is read
+-- a token of a source's line, with its text; the meaning of a line is read from such tokens
 abbrev pub line_token_with_text : List ℕ → Token → PieceData
 line_token_with_text line t = with_text line t
 

@@ -24,7 +24,7 @@ is_absent_operand s = shape_index s == 0
 abbrev pub is_number_operand : Shape → Bool
 is_number_operand s = shape_index s == 1
 
--- the value is a name alone
+-- the form of an operand's value is a name alone
 abbrev pub is_name_operand : Shape → Bool
 is_name_operand s = shape_index s == 2
 
@@ -40,8 +40,8 @@ is_high_operand s = shape_index s == 4
 abbrev pub is_huge_operand : Shape → Bool
 is_huge_operand s = shape_index s == 7
 
--- the number of the register that an operand's value names: d0 to d15 are 0 to 15, a0 to a15 are 16
--- to 31, all else is 64 or more
+-- the number of the register that an operand's value is: d0 to d15 are 0 to 15, a0 to a15 are 16 to
+-- 31; any other operand gives 64 or more
 unfoldable pub register_by_name : List ℕ → ℕ
 register_by_name name =
     (if slice_index name 0 == 100 then 0 else (if slice_index name 0 == 97 then 16 else 64))
@@ -49,7 +49,7 @@ register_by_name name =
     else (if length name == 3 && slice_index name 1 == 49 && nat_le 48 (slice_index name 2) && nat_le (slice_index name 2) 53 then slice_index name 2 - 38
     else 64))
 
--- the number in an operand's value, with its sign, modulo this bound
+-- the value of an operand in the form of a number, with its sign, modulo this bound
 abbrev pub operand_number_modulo : ℕ → Bool → ℕ → ℕ
 operand_number_modulo bound minus size = if minus && not (size == 0) then bound - size else size
 

@@ -3,7 +3,7 @@ use Rattle.std.specs.Prelude.{◌≡◌, ◌||◌, ℕ, Bool, true, List, slice_
 use Rattle.tc_isa.specs.Rows.{RowData, listed, is_long}
 use Rattle.tc_isa.specs.declared.table.Form.{Form}
 use Rattle.tc_isa.specs.Forms.{is_sb, is_sbr}
-use Rattle.tc_isa.specs.ValidRows.{FieldsFitRow, uses_of}
+use Rattle.tc_isa.specs.ValidRowFields.{FieldsFitRow, uses_of}
 use Rattle.tc_isa.specs.Relocations.{is_reloc, can_relocation_fill}
 use Rattle.tc_stmt.specs.Names.{is_source_name}
 use Rattle.tc_lex.specs.Operands.{OperandData}
@@ -11,8 +11,8 @@ use Rattle.tc_stmt.specs.RowFields.{RowFieldsData}
 use Rattle.tc_stmt.specs.Items.{ReferenceData}
 use Rattle.tc_stmt.specs.StatementRow.{statement}
 
--- a row of this form may take a statement's symbol without a relocation: jumps and calls of 16
--- bits, SB (12) and SBR (13)
+-- a statement that breaks no rule may have a symbol without a relocation in a row of this form:
+-- jumps and calls of 16 bits, SB and SBR
 abbrev pub can_take_symbol_directly : Form → Bool
 can_take_symbol_directly form = is_sb form || is_sbr form
 

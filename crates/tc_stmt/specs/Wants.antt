@@ -29,7 +29,8 @@ want_of text =
     else (if bytes_eq text (codes "[As2]sk") then Memory false true
     else Memory true true)))))))))))))))
 
--- the text of an operand that a row wants, without its leading blank
+-- the text of one operand that a row wants, cut at the commas of the row's operand text, without
+-- its leading blank
 abbrev pub trimmed_want_text : List ℕ → List ℕ
 trimmed_want_text (c ∷ cs) = if c == 32 then cs else (c ∷ cs)
 trimmed_want_text [] = []

@@ -137,8 +137,8 @@ fn operand_number_modulo(bound: u32, minus: bool, size: u32) -> u32
     }
 }
 
-/// Returns the number of constants with which a target's operand can fill its field, in rows of
-/// this form.
+/// Returns the bound of the field that a statement's target fills, in rows of this form: the number
+/// of constants that it can have.
 #[tactic(auto, unfolding(tc_isa::specs::Forms::bounds))]
 fn target_operand_bound(form: Form) -> u32
     ensures value { result ≡ (bounds form).k }
@@ -332,8 +332,8 @@ fn put_register(bank: bool, field: Field, name: &[u8], acc: &mut RowFields<'_>)
     }
 }
 
-/// Returns the number of the register with which an operand fills a field: 0 to 15 for d0 to d15,
-/// 16 to 31 for a0 to a15, and `NO_REGISTER` or more for any other name.
+/// Returns the number by which a register fills a field of a row: 0 to 15 for d0 to d15, 16 to 31
+/// for a0 to a15, and `NO_REGISTER` or more for other names.
 #[tactic(auto, unfolding(crate::specs::OperandForms::register_by_name, tc_lex::specs::Bytes::is_digit))]
 fn register_by_name(name: &[u8]) -> u8
     ensures value { result ≡ register_by_name name.now }
@@ -349,8 +349,8 @@ fn register_by_name(name: &[u8]) -> u8
     }
 }
 
-/// Returns the number of register 0 in the bank that an operand's first letter names, d or a, or
-/// `NO_REGISTER`.
+/// Returns the number of register 0 in the bank that a name's first letter gives, d or a, or
+/// `NO_REGISTER`. The operand's register fills a field by it.
 fn bank_first_register(c: u8) -> u8
     ensures { result ≡ (if c == 100 then 0 else (if c == 97 then 16 else 64)) }
 {
@@ -384,7 +384,7 @@ fn put_number(
     }
 }
 
-/// Returns the relocation by which an operand `hi:` or `lo:`, a half of an address, fills the
+/// Returns the relocation that a statement's operand `hi:` or `lo:` needs where it fills the
 /// constant of this row, or `NO_RELOC` if the row takes none.
 #[tactic(auto, unfolding(crate::specs::Filling::half_operand_relocation))]
 fn half_operand_relocation(row: &Row, shape: Shape) -> u8

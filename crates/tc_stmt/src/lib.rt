@@ -1,7 +1,7 @@
 //! Statements of assembler sources: the wants of rows, the row of a statement, and a line reader.
 #![tactic(auto)]
 
-mod data;
+mod data_values;
 mod fill_fields;
 mod form_index;
 mod item;

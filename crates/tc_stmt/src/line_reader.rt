@@ -6,11 +6,11 @@ ghost use Rattle.tc_stmt.specs.StatementRow.{statement as statement_of};
 ghost use Rattle.tc_lex.specs.Pieces.{piece_of, text_at as text_in_pieces};
 ghost use Rattle.tc_lex.specs.Operands.{operand_of, operands as operands_in};
 ghost use Rattle.tc_stmt.specs.Items.{item_of, label, section, global, code, reference_of};
-ghost use Rattle.tc_stmt.specs.DataDirectives.{space_rule as space_rule_of, space_item as space_item_of};
+ghost use Rattle.tc_stmt.specs.DataValues.{space_rule as space_rule_of, space_item as space_item_of};
 ghost use Rattle.tc_stmt.specs.Lines.{line_data, named_line, is_named_line_operand, only_operand_name, space_line, values_line, size_of_name, stated_line, line_from, line_with_label, pieces_line, has_label, label_of, label_before, line_in, code_line};
 ghost use Rattle.tc_stmt.specs.SourceViews.{Adds};
 
-use crate::data::{add_values, space_item, space_rule};
+use crate::data_values::{add_values, space_item, space_rule};
 use crate::item::Item;
 use crate::row_index::row_of_name;
 use crate::shape_numbers::WORD;
@@ -244,8 +244,8 @@ fn global_line<'a>(os: &[Operand<'a>], items: &mut Vec<Item<'a>>) -> Result<u8, 
     }
 }
 
-/// Reads a whole line of `.byte`, `.half` or `.word`: adds its values of `width` bytes to the items
-/// of the source, and returns the rule that the line breaks.
+/// Reads a line that is `.byte`, `.half` or `.word`: adds an item for each value of `width` bytes,
+/// and returns the rule that the line breaks.
 #[tactic(auto, unfolding(crate::specs::Lines::values_line))]
 fn values_line<'a>(
     width: u8,
@@ -286,7 +286,7 @@ fn code_line<'a>(
     }
 }
 
-// The name that is the only operand, if it is so.
+/// Returns the name in a line `.section NAME` or `.global NAME`, if it is the line's only operand.
 fn only_operand_name<'a>(os: &[Operand<'a>]) -> Option<&'a [u8]>
     ensures { option_copied result ≡ only_operand_name (map operand_of os.now) }
 {
@@ -318,8 +318,8 @@ fn is_named_line_operand(o: &Operand<'_>) -> bool
     !o.is_memory && shape_index(o.value.shape) == WORD
 }
 
-/// Reads a whole line `.space N` with its one operand: adds its zeros to the items of the source,
-/// and returns the rule that the line breaks.
+/// Reads a line that is `.space N`, by its one operand: adds the item of its zeros, and returns the
+/// rule that the line breaks.
 fn space_operand_line<'a>(o: &Operand<'a>, items: &mut Vec<Item<'a>>) -> Result<u8, AllocError>
     ensures { Adds (line_data (space_rule_of (operand_of o.now))
         (space_item_of (operand_of o.now) ∷ []))
@@ -328,7 +328,8 @@ fn space_operand_line<'a>(o: &Operand<'a>, items: &mut Vec<Item<'a>>) -> Result<
     add_item(space_rule(o), space_item(o), items)
 }
 
-// The item of an instruction with these fields and their symbol.
+/// Returns the item that a line of an instruction adds to its source: its row, its fields, and
+/// their symbol.
 fn code_item<'a>(row: u8, found: &RowFields<'a>) -> Item<'a>
     ensures { item_of result
         ≡ code row found.now.fields (option_map reference_of found.now.reference) }

@@ -93,7 +93,7 @@ pub(crate) fn set_field(field: Field, v: u32, f: &mut Fields)
     }
 }
 
-/// Returns the value in this one of a row's fields, as far as operands filled them.
+/// Returns this one of a row's fields, C, S1, S2, N or K, as the operands of a statement filled it.
 #[tactic(auto, unfolding(crate::specs::RowFields::field_of))]
 pub fn field_of(field: Field, f: &Fields) -> u32
     ensures { result ≡ field_of field f.now }
@@ -141,7 +141,7 @@ pub(crate) fn note_misplaced_symbol(v: &Value<'_>, acc: &mut RowFields<'_>)
     break_rule(MISPLACED_SYMBOL.min(symbol_rule(v)), acc);
 }
 
-/// Notes among a row's fields that rule 12 is broken, if its registers must differ and are equal.
+/// Notes in `RowFields` that rule 12 is broken, if the row's registers must differ and are equal.
 pub(crate) fn check_registers_apart(row: &Row, f: &mut RowFields<'_>)
     ensures { row_fields_of f.new ≡ check_registers_apart (row_of row.now) (row_fields_of f.old) }
 {

@@ -24,7 +24,8 @@ u8_at p = if nat_le (p.place + 1) (length p.bytes) then Ok (slice_index p.bytes 
 unfoldable pub u16_at : Place → Result (ℕ × Place) FormErr
 u16_at p = if nat_le (p.place + 2) (length p.bytes) then Ok (half_in_bytes p.bytes p.place, record p { place = p.place + 2 }) else field_fault_at SHORT p
 
--- a field of four bytes, little-endian, with the fault of u8_at
+-- a reader of a field of four bytes, little-endian: the word and the place after it, or the fault
+-- SHORT at its first byte
 unfoldable pub u32_at : Place → Result (ℕ × Place) FormErr
 u32_at p = if nat_le (p.place + 4) (length p.bytes) then Ok (word_in_bytes p.bytes p.place, record p { place = p.place + 4 }) else field_fault_at SHORT p
 

@@ -4,7 +4,7 @@ use Rattle.elf_image.specs.Images.{ImageData}
 use Rattle.elf_image.specs.ReadElf.{image_of_file}
 use Rattle.elf_image.specs.declared.errors.ImageErr.{ImageErr}
 use Rattle.tcd_plan.specs.PlanData.{PlanData}
-use Rattle.tcd_plan.specs.Plans.{GivesPlan}
+use Rattle.tcd_plan.specs.PlanReader.{GivesPlan}
 use Rattle.tcd_base.specs.Files.{FilesSeen}
 use Rattle.tcd_report.specs.Generated.{generated_image}
 use Rattle.tcd_report.specs.Generated.Planned.{generated_text, generated_plan}

@@ -40,7 +40,8 @@ use Rattle.tcd_reading.specs.declared.status.Status.{Status}
 use Rattle.tcd_reading.specs.declared.status.Status.TheVariants.{Done, Refused, BadInput}
 use Rattle.tcd_reading.proofs.Decided.{status_is}
 use Rattle.tcd_forms.specs.Forms.{SourceData, elf_form, plan_form, cert_form, script_form, layout_form, placed_source_form}
-use Rattle.tcd_forms.specs.Lines.{certified_line, run_line, run_end_text, refused_line, key_line, key_kind_text, certified_words}
+use Rattle.tcd_forms.specs.Lines.{certified_line, run_line, run_end_text, refused_line, key_line, key_kind_text}
+use Rattle.tcd_driver.specs.Headlines.{certified_words, HoldsFile, IsBadFile, too_long, faulty, HoldsImage, HoldsPlan, HoldsCert, HoldEachFile, AreFirmwareFiles, AreCheckFiles, IsOnlyFileWritten, IsAcceptedWithNeed, IsBestWithNeed, frame_words, refused_words, HeadlineOfCheck, RefusalByCheck, HeadlineOfCert, RefusalByCert, HeadlineOfRun}
 use Rattle.tcd_driver.specs.Check as verdict
 use Rattle.tcd_driver.specs.Check.{CheckNames, IsCheckVerdict, check_reading}
 use Rattle.tcd_driver.specs.Cert as certifying
@@ -51,7 +52,6 @@ use Rattle.tcd_driver.specs.Ship as shipping
 use Rattle.tcd_driver.specs.Ship.{ShipNames, IsShipping, IsShipped, IsImageOfSources, ship_reading}
 use Rattle.tcd_driver.specs.Run as runs
 use Rattle.tcd_driver.specs.Run.{RunNames, IsRunReport, run_reading}
-use Rattle.tcd_driver.specs.Headlines.{HoldsFile, IsBadFile, too_long, faulty, HoldsImage, HoldsPlan, HoldsCert, HoldEachFile, AreFirmwareFiles, AreCheckFiles, IsOnlyFileWritten, IsAcceptedWithNeed, IsBestWithNeed, frame_words, refused_words, HeadlineOfCheck, RefusalByCheck, HeadlineOfCert, RefusalByCert, HeadlineOfRun}
 use Rattle.tcd_driver.specs.Headlines.Builds.{HoldsLayout, IsSourceText, IsImageOfFiles, HeadlineOfShip, RefusalByShip}
 
 -- ---- the files after a report

@@ -12,7 +12,7 @@ use Rattle.task_chains.specs.declared.task_lists.TasksErr.{TasksErr}
 use Rattle.value_cells.specs.declared.errors.CellsErr.TheVariants as cells
 use Rattle.task_chains.specs.declared.task_lists.TasksErr.TheVariants as tasks
 use Rattle.tc_stmt.specs.Lines.{lines_in}
-use Rattle.tc_asm.specs.DraftedSources.{IsLeastBrokenLine}
+use Rattle.tc_asm.specs.Rules.{IsLeastBrokenLine}
 
 -- the driver's line for words that are no command
 unfoldable pub bad_words_line : List ℕ
@@ -36,8 +36,8 @@ bad_cells_line (cells.NotRam n) = codes "bad cells 2" ++ line_end_at_one n
 bad_cells_line (cells.Twice n) = codes "bad cells 3" ++ line_end_at_one n
 bad_cells_line (cells.TooMany n) = codes "bad cells 4" ++ line_end_at_one n
 
--- the driver's line on why a file isn't in the form of tasks: the number of the fault, and for the
--- first two its line
+-- the driver's bad-input line `bad tasks`, for a file that isn't in the form of tasks: the number
+-- of the fault, and for the first two its line
 unfoldable pub bad_tasks_line : TasksErr → List ℕ
 bad_tasks_line (tasks.BadLine n) = codes "bad tasks 1" ++ line_end_at_one n
 bad_tasks_line (tasks.TooMany n) = codes "bad tasks 2" ++ line_end_at_one n
@@ -47,8 +47,8 @@ bad_tasks_line tasks.NoRoom = codes "bad tasks 5" ++ 10 ∷ []
 bad_tasks_line tasks.OnIsp = codes "bad tasks 6" ++ 10 ∷ []
 bad_tasks_line tasks.Count = codes "bad tasks 7" ++ 10 ∷ []
 
--- the driver's line on a source that breaks a rule: the rule, the place of the source among the
--- words, and the line in it
+-- the driver's bad-input line `bad source`: the rule that a source breaks, the place of the source
+-- among the words, and the line in it
 abbrev pub bad_source_words : ℕ → ℕ → ℕ → List ℕ
 bad_source_words rule place line = codes "bad source " ++ (decimal rule ++ (codes " at " ++ (decimal place ++ (codes " " ++ (decimal line ++ 10 ∷ [])))))
 

@@ -15,7 +15,7 @@ use Rattle.tcd_reading.specs.Inputs.{Reading, input, answer}
 use Rattle.tcd_forms.specs.Forms.{elf_form, plan_form, cert_form}
 use Rattle.tcd_forms.specs.Lines.{boots_line, generated_boot_line, refused_line}
 use Rattle.tcd_reading.specs.declared.status.Status.TheVariants.{Done, Refused}
-use Rattle.tcd_text.specs.Digits.{hex_word}
+use Rattle.tcd_text.specs.HexNumbers.{hex_word}
 use Rattle.tc_boot.specs.declared.judging.BootErr.TheVariants as boot
 
 -- ---- boot

@@ -134,8 +134,8 @@ fixed_command_of words = None
 abbrev pub command : List (List ℕ) → Option Command
 command words = option_or (link_command_of words) (option_or (ship_command_of words) (option_or (tasks_command_of words) (fixed_command_of words)))
 
--- what each of the commands that words ask for reads and reports: its files, in the order of its
--- words, and its report
+-- for each of the commands, what it reads and reports: its files, in the order of its words, and
+-- its report
 abbrev pub reading_of : Command → Reading
 reading_of (check names) = check_reading names
 reading_of (certify names) = cert_reading names
@@ -174,8 +174,8 @@ command_of_value (words.Taskcert elf plan list certs) = taskcert (record { elf =
 command_of_value (words.Tasks elf plan list certs) = tasks (record { elf = elf.now; plan = plan.now; tasks = list.now; certs = map string_bytes certs.now })
 command_of_value (words.Gen functions) = generate functions
 
--- The limits of commands' words: at most 65,535 objects or sources, a boot sequence that doesn't
--- pass 2^32, and a generated image of 1 to 500 functions.
+-- A command that words ask for is within limits: at most 65,535 objects or sources, a boot sequence
+-- that doesn't pass 2^32, and 1 to 500 functions to generate.
 abbrev pub CommandKeepsLimits : Words → Type 0
 CommandKeepsLimits (words.Check elf plan cert) = Unit {0}
 CommandKeepsLimits (words.Cert elf plan cert) = Unit {0}

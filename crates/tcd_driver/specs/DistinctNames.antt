@@ -3,7 +3,8 @@ use Rattle.std.specs.Prelude.{◌+◌, ◌*◌, ◌%◌, ℕ, List, ◌∷◌, �
 use Rattle.std.specs.List.{list_any}
 use Rattle.std.specs.Str.{bytes_eq}
 
--- the mark of a name whose bytes so far have this mark
+-- the mark of a name of a file, by which distinct names are told apart, if the bytes before these
+-- have this mark
 abbrev pub name_mark : ℕ → List ℕ → ℕ
 name_mark mark [] = mark
 name_mark mark (byte ∷ bytes) = name_mark ((31 * mark + byte) % 262144) bytes

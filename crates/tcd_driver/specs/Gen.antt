@@ -45,7 +45,7 @@ pub record IsGenFunctionCount (word : List ℕ) (functions : ℕ) : Type 0 where
   pub some : 1 ≤ functions
   pub few : functions ≤ 500
 
--- the number of functions that the word of the command `gen` asks for: 1 to 500, in decimal without
--- leading zeros
+-- the number of functions in the image that `gen` generates, by its word: 1 to 500, in decimal
+-- without leading zeros
 abbrev pub gen_function_count : List ℕ → Option ℕ
 gen_function_count word = option_and_then (λ n. then_some (nat_le 1 n && nat_le n 500) n) (script_number word)

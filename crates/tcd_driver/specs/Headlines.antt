@@ -12,7 +12,7 @@ use Rattle.std.specs.FinMap.{get}
 use Rattle.elf_image.specs.Images.{ImageData}
 use Rattle.elf_image.specs.ReadElf.{image_of_file}
 use Rattle.tcd_plan.specs.PlanData.{PlanData}
-use Rattle.tcd_plan.specs.Plans.{GivesPlan}
+use Rattle.tcd_plan.specs.PlanReader.{GivesPlan}
 use Rattle.tc_machine.specs.declared.events.Event.{Event}
 use Rattle.tc_machine.specs.declared.state.Machine.{Machine}
 use Rattle.tc_machine.specs.Stepping.{run}
@@ -22,7 +22,7 @@ use Rattle.tc_script.specs.ScriptData.{ScriptData}
 use Rattle.tc_script.specs.ScriptText.{script_of}
 use Rattle.tc_script.specs.DrivenRuns.{driven_peak}
 use Rattle.tc_script.specs.ScriptRuns.{script_events}
-use Rattle.tcd_text.specs.Digits.{hex_word}
+use Rattle.tcd_text.specs.HexNumbers.{hex_word}
 use Rattle.depth_cert.specs.declared.keys.Key.{Key}
 use Rattle.depth_cert.specs.Nodes.{NodeData, find_node}
 use Rattle.depth_cert.specs.Certs.{CertData}
@@ -31,7 +31,7 @@ use Rattle.depth_cert.specs.Spelling.{bytes_of_cert}
 use Rattle.cfg_recover.specs.Entries.{start_key}
 use Rattle.cfg_recover.specs.RulesHoldOrFail.{Accepts, IsFirstFault}
 use Rattle.tcd_base.specs.Files.{FileMap}
-use Rattle.tcd_forms.specs.Lines.{run_end_text, certified_words}
+use Rattle.tcd_forms.specs.Lines.{run_end_text}
 use Rattle.tcd_report.specs.Texts.{key_kind_words}
 use Rattle.tcd_driver.specs.BestCert.{EachIsRefused, IsLeastOfItsVersion, NoneIsAccepted}
 
@@ -55,7 +55,8 @@ HoldsPlan m name plan = HoldsFile m name (2 ^ 24) (λ bytes. GivesPlan bytes (Ok
 abbrev pub HoldsCert : FileMap → List ℕ → CertData → Type 0
 HoldsCert m name cert = HoldsFile m name (2 ^ 30) (λ bytes. certificate_of bytes ≡ Ok cert)
 
--- each name holds the value at its place in the list
+-- what headlines of commands say of several files: each name holds the value at its place in the
+-- list
 abbrev pub HoldEachFile : {A : Type 0} → FileMap → ℕ → (List ℕ → A → Type 0) → List (List ℕ) → List A → Type 0
 HoldEachFile m most Is [] [] = Unit {0}
 HoldEachFile m most Is [] (x ∷ xs) = ⊥
@@ -73,7 +74,7 @@ pub record AreFirmwareFiles (before : FileMap) (elf_name plan_name : List ℕ) (
   pub elf_file : HoldsImage before elf_name image
   pub plan_file : HoldsPlan before plan_name plan
 
--- what the headlines of `check` say of its files: the names hold an executable, its plan, and a
+-- the files in the main headline, that of `check`: the names hold an executable, its plan, and a
 -- certificate
 pub record AreCheckFiles (before : FileMap) (elf_name plan_name cert_name : List ℕ) (image : ImageData) (plan : PlanData) (cert : CertData) : Type 0 where
   pub elf_file : HoldsImage before elf_name image
@@ -86,16 +87,16 @@ pub record IsOnlyFileWritten (before after : FileMap) (name bytes : List ℕ) : 
   pub others : (other : List ℕ) → other ≢ name → get after other ≡ get before other
 
 -- ---- certificates
--- the certificate is accepted, and this is the need of its start's node
+-- what headlines of commands say of a certificate: it is accepted, and this is the need of its
+-- start's node
 pub record IsAcceptedWithNeed (image : ImageData) (plan : PlanData) (cert : CertData) (need : ℕ) : Type 0 where
   pub accepted : Accepts image plan cert
   pub start : NodeData
   pub start_is : find_node (start_key image plan) cert.nodes ≡ Some start
   pub need_is : need ≡ start.need
 
--- The certificate that is made: it is accepted, so that every run is safe with its need, and no
--- other of its version is better. It is of version 2 only if each of version 1 is refused. Its
--- bytes read back as it.
+-- What headlines say of a made certificate: it is accepted, safe with its need, the best of its
+-- version, of 2 only if each of 1 is refused, and its bytes read back as it.
 pub record IsBestWithNeed (image : ImageData) (plan : PlanData) (cert : CertData) (need : ℕ) : Type 0 where
   pub accepted : IsAcceptedWithNeed image plan cert need
   pub safe : Safe image plan need
@@ -114,6 +115,10 @@ frame_words frame =
 -- the line of a refusal in the headlines: the rule that fails, the address, and the frame
 abbrev pub refused_words : ℕ → Key → ℕ → List ℕ
 refused_words rule frame address = codes "refused K" ++ (decimal rule ++ (codes " at " ++ (hex_word address ++ (codes " in " ++ frame_words frame))))
+
+-- the printed words of `check` on a certified image: the need, and the areas without the reserve
+abbrev pub certified_words : ℕ → ℕ → List ℕ
+certified_words need areas = codes "certified " ++ (decimal need ++ (codes " of " ++ (decimal areas ++ (codes " areas" ++ 10 ∷ []))))
 
 -- ---- check
 -- The main headline: `check` is done. The certificate is accepted for the executable and the plan,

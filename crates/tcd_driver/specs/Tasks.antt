@@ -73,7 +73,8 @@ pub record IsFirstRefused (image : ImageData) (plan : PlanData) (tasks : TasksDa
   pub before : AreTasksJudged image plan tasks certs u
   pub refused : IsTaskRefused image plan tasks (cert_of_task certs u) u rule key addr
 
--- the sum of the needs, or the first task that is refused
+-- what the command `tasks` finds for all certificates: the sum of the tasks' needs, or the first
+-- task that is refused
 abbrev pub Tallies : ImageData → PlanData → TasksData → List CertData → Tally → Type 0
 Tallies image plan tasks certs (Sum n) = AreTasksJudged image plan tasks certs (count tasks) × (n ≡ sum_of_needs image plan tasks certs)
 Tallies image plan tasks certs (Against u rule key addr) = IsFirstRefused image plan tasks certs u rule key addr
@@ -102,7 +103,8 @@ abbrev pub tasks_reading_if : Bool → Reading → Reading
 tasks_reading_if true reading = reading
 tasks_reading_if false reading = answer (λ report. report ≡ says BadInput (bad_tasks_line Count))
 
--- what `tasks` or `taskcert` reads next, if there are as many names of certificates as tasks
+-- what the command `tasks` reads next, if it has as many names of certificates as tasks, else its
+-- line of bad input; `taskcert` does so too
 abbrev pub with_name_per_task : List (List ℕ) → TasksData → Reading → Reading
 with_name_per_task names tasks reading = tasks_reading_if (length names == count tasks) reading
 

@@ -457,8 +457,8 @@ fn bootgen_command<'a>(plan: &'a str, entry: &str, at: &str, source: &'a str) ->
 }
 
 impl<'a> Command<'a> {
-    /// Runs this `Command`: reads its inputs, and returns its outcome. No command is inlined here,
-    /// so that the stack has the locals of one command only.
+    /// Runs the `Command` that words ask for: reads its inputs, and returns its outcome. No command
+    /// is inlined here, so that the stack has the locals of one command only.
     pub(crate) fn outcome<F: Files>(self, alloc: Global, files: &mut F) -> Outcome
         requires { CommandKeepsLimits self }
         ensures { IsCommandOutcome (reading_of (command_of_value self.entry)) (F.seen files.old)

@@ -70,7 +70,7 @@ fn is_one_of_names(name: &str, others: &[String]) -> bool
     false
 }
 
-// The mark of a name.
+/// Returns the mark of a file's name, by which many names among a command's words are told apart.
 fn name_mark(name: &[u8]) -> usize
     ensures is { result ≡ name_mark 0 name.now }
     ensures few { result < 262144 }

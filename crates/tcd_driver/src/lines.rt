@@ -3,7 +3,7 @@
 ghost use Rattle.std.specs.Prelude.{◌≡◌, IfOk, ◌<◌, ◌++◌, ◌∷◌, [], codes};
 ghost use Rattle.tcd_driver.specs.BadInputLines.{bad_words_line, bad_cells_line, bad_tasks_line};
 ghost use Rattle.tcd_driver.specs.Boot.{refused_boot_line};
-ghost use Rattle.tcd_text.specs.Digits.{hex_word};
+ghost use Rattle.tcd_text.specs.HexNumbers.{hex_word};
 
 use std::alloc::Global;
 use task_chains::TasksErr;

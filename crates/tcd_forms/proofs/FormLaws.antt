@@ -4,14 +4,14 @@ use Rattle.serde_json.specs.Data.{Data}
 use Rattle.serde_json.specs.Read.{read}
 use Rattle.elf_image.specs.ReadElf.{image_of_file}
 use Rattle.tcd_plan.specs.PlanData.{PlanData}
-use Rattle.tcd_plan.specs.Plans.{GivesPlan, AnswersPlan, plan_of}
+use Rattle.tcd_plan.specs.PlanReader.{GivesPlan, AnswersPlan, plan_of}
 use Rattle.tcd_plan.specs.declared.plans.PlanErr.{PlanErr}
 use Rattle.tcd_plan.specs.declared.plans.PlanErr.TheVariants as plan
 use Rattle.depth_cert.specs.Grammar.{certificate_of}
 use Rattle.tc_script.specs.ScriptText.{script_of}
 use Rattle.tc_object.specs.Grammar as grammar
 use Rattle.tc_stmt.specs.Lines.{LineData, lines_in}
-use Rattle.tc_asm.specs.DraftedSources.{KeepsRules, IsLeastBrokenLine}
+use Rattle.tc_asm.specs.Rules.{KeepsRules, IsLeastBrokenLine}
 use Rattle.tc_link.specs.LayoutFaults.{layout_of}
 use Rattle.tcd_forms.specs.Forms.{elf_form, plan_form, cert_form, script_form, source_form, placed_source_form, layout_form, object_form}
 use Rattle.tcd_reading.proofs.Decided.{IsLawful}

@@ -5,7 +5,7 @@ use Rattle.elf_image.specs.Images.{ImageData}
 use Rattle.elf_image.specs.ReadElf.{image_of_file}
 use Rattle.elf_image.specs.declared.errors.ImageErr.{ImageErr}
 use Rattle.tcd_plan.specs.PlanData.{PlanData}
-use Rattle.tcd_plan.specs.Plans.{GivesPlan, AnswersPlan}
+use Rattle.tcd_plan.specs.PlanReader.{GivesPlan, AnswersPlan}
 use Rattle.tcd_plan.specs.declared.plans.PlanErr.{PlanErr}
 use Rattle.tcd_plan.specs.declared.plans.PlanErr.TheVariants as plan
 use Rattle.depth_cert.specs.Certs.{CertData}
@@ -17,7 +17,8 @@ use Rattle.tc_object.specs.Objects.{ObjectData}
 use Rattle.tc_object.specs.Grammar as grammar
 use Rattle.tc_stmt.specs.Lines.{lines_in}
 use Rattle.tc_asm.specs.Objects.{object_of}
-use Rattle.tc_asm.specs.DraftedSources.{symbols_of, KeepsRules, IsLeastBrokenLine, draft_from_lines}
+use Rattle.tc_asm.specs.DraftedSources.{symbols_of, draft_from_lines}
+use Rattle.tc_asm.specs.Rules.{KeepsRules, IsLeastBrokenLine}
 use Rattle.tc_link.specs.Layouts.{LayoutData}
 use Rattle.tc_link.specs.LayoutFaults.{layout_of}
 use Rattle.tc_link.specs.declared.layout_errors.LayoutErr.{LayoutErr}

@@ -1,7 +1,7 @@
 -- The printed lines.
 use Rattle.std.specs.Prelude.{ℕ, if◌then◌else◌, List, ◌∷◌, ◌++◌, codes, slice_get, unwrap_or, ◌-◌, length, take, []}
 use Rattle.std.specs.Fmt.{decimal}
-use Rattle.tcd_text.specs.Digits.{hex_word}
+use Rattle.tcd_text.specs.HexNumbers.{hex_word}
 unfoldable pub use Rattle.depth_cert.specs.Keys.{key_kind_text}
 use Rattle.elf_image.specs.declared.errors.ImageErr.{ImageErr}
 use Rattle.elf_image.specs.declared.errors.ImageErr.TheVariants as elf
@@ -177,7 +177,7 @@ bad_link_line no_entry = codes "bad link 6" ++ 10 ∷ []
 unfoldable pub linked_line : ℕ → List ℕ
 linked_line bytes = codes "image " ++ (decimal bytes ++ (codes " bytes" ++ 10 ∷ []))
 
--- one of the printed lines for files of every form: for a file of cells above its limit
+-- one of the printed lines: for a file of cells above its limit
 unfoldable pub long_cells_line : List ℕ
 long_cells_line = codes "bad cells 0" ++ 10 ∷ []
 
@@ -201,7 +201,8 @@ unfoldable pub certified_cells_line : ℕ → ℕ → ℕ → List ℕ
 certified_cells_line need areas count =
     codes "certified " ++ (decimal need ++ (codes " of " ++ (decimal areas ++ (codes " areas with " ++ (decimal count ++ (codes " cells" ++ 10 ∷ []))))))
 
--- the printed line on an image without the switch routine: the first address at which it lacks it
+-- one of the printed lines: for an image without the switch routine, the first address at which it
+-- lacks it
 unfoldable pub refused_switch_line : ℕ → List ℕ
 refused_switch_line addr = codes "refused switch at " ++ (hex_word addr ++ 10 ∷ [])
 
@@ -217,8 +218,8 @@ refused_task_line rule key addr u = line_with_task (refused_line rule key addr) 
 unfoldable pub refused_sum_line : ℕ → ℕ → List ℕ
 refused_sum_line sum areas = codes "refused sum " ++ (decimal sum ++ (codes " of " ++ (decimal areas ++ (codes " areas" ++ 10 ∷ []))))
 
--- the printed line of certified tasks: the CSAs that all tasks need together, those of the plan,
--- and the number of tasks
+-- one of the lines that the tool prints: that tasks are certified, with the CSAs that all tasks
+-- need together, those of the plan, and the number of tasks
 unfoldable pub certified_tasks_line : ℕ → ℕ → ℕ → List ℕ
 certified_tasks_line sum areas n =
     codes "certified " ++ (decimal sum ++ (codes " of " ++ (decimal areas ++ (codes " areas in " ++ (decimal n ++ (codes " tasks" ++ 10 ∷ []))))))
@@ -233,7 +234,3 @@ generated_line functions nodes points need areas =
     ++ (decimal nodes
     ++ (codes " points "
     ++ (decimal points ++ (codes " certified " ++ (decimal need ++ (codes " of " ++ (decimal areas ++ (codes " areas" ++ 10 ∷ []))))))))))
-
--- the line of `check`: the need, and the areas without the reserve
-abbrev pub certified_words : ℕ → ℕ → List ℕ
-certified_words need areas = codes "certified " ++ (decimal need ++ (codes " of " ++ (decimal areas ++ (codes " areas" ++ 10 ∷ []))))

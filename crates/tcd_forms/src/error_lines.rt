@@ -1,7 +1,7 @@
 // The printed lines on malformed files, and on objects that can't be linked.
 ghost use Rattle.std.specs.Prelude.{◌≡◌, ◌<◌, ◌++◌, length, IsErr, IfOk, IfSome, OnOk};
 ghost use Rattle.tcd_forms.specs.Lines.{long_elf_line, long_plan_line, long_cert_line, long_script_line, long_source_line, line_end_at_key, bad_elf_line, bad_plan_line, bad_cert_line, bad_script_line, bad_source_line, long_layout_line, long_cells_line, long_tasks_line, bad_layout_line, long_object_line, bad_object_line, printed_reloc_fault, bad_link_line, name_at_line_end};
-ghost use Rattle.tcd_plan.specs.Plans.{HasText};
+ghost use Rattle.tcd_plan.specs.PlanReader.{HasText};
 ghost use Rattle.tc_link.specs.Errors.{refusal_of};
 ghost use Rattle.tcd_plan.specs.Keys.{key_texts};
 
@@ -13,7 +13,7 @@ use tc_script::ScriptErr;
 use tcd_base::{FormErr, NoMemory};
 use tcd_plan::{PlanErr, PlanKey, key_text};
 
-/// Appends bytes to a printed line, such as one on an error in a file.
+/// Appends bytes to a printed line on an error in a file, or on a result.
 pub fn append_to_printed_line(line: &mut Vec<u8>, bytes: &[u8]) -> Result<(), NoMemory>
     ensures { OnOk result (line.new.items ≡ line.old.items ++ bytes.now) }
 {

@@ -3,7 +3,7 @@ ghost use Rattle.std.specs.Prelude.{◌≡◌, ◌++◌, ◌∷◌, [], length, 
 ghost use Rattle.std.specs.Fmt.{decimal};
 ghost use Rattle.depth_cert.specs.Nodes.{count_points};
 ghost use Rattle.tcd_forms.specs.Lines.{boots_line, generated_boot_line, certified_cells_line, certified_tasks_line, generated_line, assembled_line, linked_line, printed_death_cause, run_end_text, run_line, certified_line, key_line, refused_line, refused_switch_line, line_with_task, refused_task_line, refused_sum_line};
-ghost use Rattle.tcd_text.specs.Digits.{hex_word};
+ghost use Rattle.tcd_text.specs.HexNumbers.{hex_word};
 
 use crate::error_lines::{append_to_printed_line, copy_printed_line};
 use depth_cert::{Key, key_kind_text};
@@ -140,7 +140,7 @@ pub fn refused_switch_line(alloc: Global, addr: u32) -> Result<Vec<u8>, NoMemory
     Ok(line)
 }
 
-/// The line on a rule that fails in a task's certificate.
+/// Returns the printed line on one of the results: a rule that fails in a task's certificate.
 #[tactic(auto, unfolding(crate::specs::Lines::line_with_task))]
 pub fn refused_task_line(
     alloc: Global,
@@ -181,7 +181,7 @@ pub(crate) fn key_priority_text(alloc: Global, prio: u8) -> Result<Vec<u8>, NoMe
     Ok(format!(in alloc; " prio {prio} is ")?.into_bytes())
 }
 
-/// Returns the end of the printed line on a refused task: its number, and the line feed.
+/// Returns the end of a result's line on a refused task: its number, and the line feed.
 pub(crate) fn task_line_end(alloc: Global, u: usize) -> Result<Vec<u8>, NoMemory>
     ensures { IfOk result
         (λ line. line.items ≡ codes " of task " ++ (decimal u ++ 10 ∷ [])) }

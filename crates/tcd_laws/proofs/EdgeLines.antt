@@ -19,7 +19,7 @@ use Rattle.depth_cert.specs.Certs.{CertData, IsCert}
 use Rattle.cfg_recover.specs.StepEdges.{EdgeWay, to, call, irq, sys, aln, ret, rfe}
 use Rattle.depth_check.proofs.Sound.{accepted_is_safe}
 use Rattle.depth_check.proofs.Held.{edges_are_owed}
-use Rattle.tcd_text.specs.Digits.{hex_digit, hex_byte, hex_word}
+use Rattle.tcd_text.specs.HexNumbers.{hex_digit, hex_byte, hex_word}
 use Rattle.tcd_report.specs.Texts.{key_kind_text, key_text}
 use Rattle.tcd_report.specs.Graphs.{Arrow, goes, back, key_front, line_front, line_end_to, way_end, arrow_end, line_text, ArePointLines, AreLineParts, AreJoinedLines, AreNodeLines, AreGraphLines}
 use Rattle.tcd_report.specs.Graphs.EdgeLaws.{EdgesStand}

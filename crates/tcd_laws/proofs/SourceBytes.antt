@@ -10,7 +10,7 @@ use Rattle.tc_lex.specs.Cut.{tokens_of}
 use Rattle.tc_isa.specs.declared.fields.Fields.{Fields}
 use Rattle.tc_isa.specs.Rows.{RowData, listed, is_long}
 use Rattle.tc_isa.specs.Forms.{bounds}
-use Rattle.tc_isa.specs.ValidRows.{IsRow}
+use Rattle.tc_isa.specs.ValidRowFields.{IsRow}
 use Rattle.tc_isa.specs.Spelling.{word_of, spelling_of, spelling}
 use Rattle.tcd_base.specs.Bytes.{four_bytes, two_bytes}
 use Rattle.tc_isa.proofs.TableFacts.{row_at}
@@ -24,7 +24,7 @@ use Rattle.tc_stmt.specs.Items.{ReferenceData, ItemData, label, section, global,
 use Rattle.tc_stmt.specs.Filling.{reference}
 use Rattle.tc_stmt.specs.Names.{symbol_rule}
 use Rattle.tc_stmt.specs.OperandForms.{shape_index, is_symbol_operand, is_half_operand, operand_number_modulo}
-use Rattle.tc_stmt.specs.DataDirectives.{is_value_within_width, value_rule, value_item, space_item}
+use Rattle.tc_stmt.specs.DataValues.{is_value_within_width, value_rule, value_item, space_item}
 use Rattle.tc_stmt.specs.StatementRow.{statement}
 use Rattle.tc_stmt.specs.Lines.{LineData, line_data, only_operand_name as name_operand, named_line, space_line, values_line, code_line, stated_line, line_from, has_label, line_with_label, pieces_line, line_token_with_text, label_of, label_before, cut_line, line_in, lines_in, items_in}
 use Rattle.tc_asm.specs.Symbols.{SymbolData}

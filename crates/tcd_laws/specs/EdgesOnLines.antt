@@ -8,7 +8,8 @@ use Rattle.tcd_text.specs.Lines.{text_lines}
 use Rattle.tcd_report.specs.Graphs.{IsGraph}
 use Rattle.tcd_report.specs.Graphs.EdgeLaws.{EdgesStand}
 
--- the lines of a graph's text as it is printed, each with the line feed that ends it
+-- the lines on which the edges of runs stand: those of a graph's text as it is printed, each with
+-- the line feed that ends it
 abbrev pub printed_graph_lines : List ℕ → List (List ℕ)
 printed_graph_lines text = map (λ l. l ++ 10 ∷ []) (text_lines text)
 

@@ -5,7 +5,8 @@ use Rattle.elf_image.specs.Images.{ImageData, IsImage}
 use Rattle.tc_object.specs.Objects.{SectionData, ObjectData, IsObject}
 use Rattle.tc_object.specs.Spelling.{bytes_of}
 use Rattle.tc_stmt.specs.Lines.{lines_in}
-use Rattle.tc_asm.specs.DraftedSources.{KeepsRules, draft_in}
+use Rattle.tc_asm.specs.DraftedSources.{draft_in}
+use Rattle.tc_asm.specs.Rules.{KeepsRules}
 use Rattle.tc_asm.specs.Objects.{object_of}
 use Rattle.tc_link.specs.Layouts.{LayoutData, IsLayout}
 use Rattle.tc_link.specs.LayoutFaults.{layout_of}
@@ -15,7 +16,8 @@ use Rattle.tc_link.specs.Linked.{image_of_objects}
 abbrev pub IsByte : ℕ → Type 0
 IsByte b = b < 2 ^ 8
 
--- the section keeps the limits of bytes: what it holds are numbers of eight bits
+-- one of the limits that assembling, writing and linking keep: what a section holds are bytes,
+-- numbers of eight bits
 abbrev pub SectionHoldsBytes : SectionData → Type 0
 SectionHoldsBytes s = All IsByte s.bytes
 

@@ -50,7 +50,7 @@ AreSureInSequence (c ∷ cs) held (q ∷ qs) = IsSureInSequence (reading_of c) h
 abbrev pub all_sequence_files : List Report → List ReportFile
 all_sequence_files reports = flat_map (λ q. q.writes) reports
 
--- the texts of several reports, one behind the other
+-- the texts that a sequence of commands reports, one behind the other
 abbrev pub all_report_texts : List Report → List ℕ
 all_report_texts reports = flat_map (λ q. q.text) reports
 

@@ -5,9 +5,8 @@ use Rattle.std.proofs.lemmas.List.{length-map}
 use Rattle.serde_json.specs.Data.{Data}
 use Rattle.tcd_plan.specs.Objects.{plan_objects_of}
 use Rattle.tcd_plan.specs.JsonValues.{json_elements_of, json_word_in}
-use Rattle.tcd_plan.specs.PlanData.{PlanData, are_areas, are_ranges_few, has_areas, has_vectors, too_many_of}
-use Rattle.tcd_plan.specs.Plans.{HasShortPlanArrays, plan_device_of, irq_of, plan_range_of, plan_refusal, refusals, plan_in}
-use Rattle.tcd_plan.specs.Regions.{plan_range_overlap}
+use Rattle.tcd_plan.specs.PlanData.{PlanData, are_areas, are_ranges_few, has_areas, has_vectors, too_many_of, plan_range_overlap}
+use Rattle.tcd_plan.specs.PlanReader.{HasShortPlanArrays, plan_device_of, irq_of, plan_range_of, plan_refusal, refusals, plan_in}
 use Rattle.tcd_plan.specs.KeyFaults.{first_bad_key, refused_key}
 use Rattle.tcd_plan.specs.declared.plans.PlanErr.TheVariants.{BadValue, TooMany, BadCsa, BadVector}
 use Rattle.tcd_base.specs.declared.range.Range.{Range}

@@ -8,7 +8,7 @@ use Rattle.tcd_base.specs.Ranges.{IsWithinRange, IsInOneRange}
 use Rattle.tcd_base.proofs.RangeLaws.{IsInOne-front}
 use Rattle.tcd_plan.specs.declared.plans.Device.{Device}
 use Rattle.tcd_plan.specs.PlanData.{PlanData, IsPlan, is_range, is_device, are_ranges_apart, are_all_ranges_apart, areas_range}
-use Rattle.tcd_plan.specs.Regions.{IsInAreas}
+use Rattle.tcd_plan.specs.MappedAddresses.{IsInAreas}
 
 -- ---- ranges of whole words
 pub range_parts : (r : Range) → is_range r ≡ true → (r.at % 4 ≡ 0) × (r.len % 4 ≡ 0) × (0 < r.len) × (r.at + r.len ≤ 2 ^ 32)

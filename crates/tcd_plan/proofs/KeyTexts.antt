@@ -8,9 +8,8 @@ use Rattle.tcd_base.specs.declared.range.Range.{Range}
 use Rattle.tcd_plan.specs.KeyRows.{KeyRow, holder_key, holders, key_rows}
 use Rattle.tcd_plan.specs.Objects.{plan_objects_of}
 use Rattle.tcd_plan.specs.KeyFaults.{has_unknown_key, is_key_value_bad, lacks_key, first_bad_key, first_key, first_missing_key, refused_key, first_unknown_key}
-use Rattle.tcd_plan.specs.PlanData.{PlanData, all_ranges, are_ranges_apart, are_ranges_few, has_areas, has_vectors, too_many_of}
-use Rattle.tcd_plan.specs.Plans.{HasText, plan_refusal, plan_in, refusal_if}
-use Rattle.tcd_plan.specs.Regions.{overlap_from, plan_range_overlap}
+use Rattle.tcd_plan.specs.PlanData.{PlanData, all_ranges, are_ranges_apart, are_ranges_few, has_areas, has_vectors, too_many_of, overlap_from, plan_range_overlap}
+use Rattle.tcd_plan.specs.PlanReader.{HasText, plan_refusal, plan_in, refusal_if}
 use Rattle.tcd_plan.specs.JsonValues.{is_object}
 use Rattle.tcd_plan.specs.declared.plans.PlanErr.{PlanErr}
 use Rattle.tcd_plan.specs.declared.plans.PlanErr.TheVariants.{NotJson, Missing, Unknown, BadValue, TooMany, BadCsa, BadVector, Overlap}

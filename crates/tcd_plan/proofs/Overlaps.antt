@@ -5,10 +5,9 @@ use Rattle.std.specs.Option.{option_map_or}
 use Rattle.std.proofs.lemmas.List.{at_drop_more, take_all, length-drop}
 use Rattle.serde_json.specs.Data.{Data}
 use Rattle.tcd_base.specs.declared.range.Range.{Range}
-use Rattle.tcd_plan.specs.PlanData.{all_ranges, areas_range, are_ranges_apart}
+use Rattle.tcd_plan.specs.PlanData.{all_ranges, areas_range, are_ranges_apart, overlap_from}
 use Rattle.tcd_plan.specs.Objects.{plan_objects_of}
-use Rattle.tcd_plan.specs.Plans.{plan_device_of, plan_range_of, plan_in}
-use Rattle.tcd_plan.specs.Regions.{overlap_from}
+use Rattle.tcd_plan.specs.PlanReader.{plan_device_of, plan_range_of, plan_in}
 use Rattle.tcd_plan.specs.declared.key_table.Holder.TheVariants.{Rom, Ram, Devices}
 use Rattle.tcd_plan.specs.declared.plans.PlanErr.TheVariants.{Overlap}
 

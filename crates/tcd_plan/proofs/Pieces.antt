@@ -7,7 +7,7 @@ use Rattle.std.proofs.lemmas.List.Elements.{All-nil, All-cons}
 use Rattle.serde_json.specs.Data.{Data}
 use Rattle.tcd_plan.specs.ValueForms.{are_irqs_above, has_value_form, is_range_len, is_present_and_passing}
 use Rattle.tcd_plan.specs.PlanData.{is_device, is_range}
-use Rattle.tcd_plan.specs.Plans.{plan_device_of, irq_of, plan_range_of}
+use Rattle.tcd_plan.specs.PlanReader.{plan_device_of, irq_of, plan_range_of}
 use Rattle.tcd_plan.specs.JsonValues.{is_object, json_number_at, json_number_of, json_word_at}
 use Rattle.tcd_plan.specs.declared.key_table.Form.TheVariants.{At, Len, Hi}
 use Rattle.tcd_plan.proofs.Small.{passes-unwrap_or}

@@ -4,7 +4,7 @@ use Rattle.std.specs.List.{find, list_all, list_any, position, prefix_len}
 use Rattle.std.specs.Option.{option_or}
 use Rattle.std.proofs.lemmas.Bool.{and_from, or_parts, ltb-false}
 use Rattle.tcd_plan.specs.ValueForms.{is_present_and_passing}
-use Rattle.tcd_plan.specs.Plans.{first_given_refusal, refusal_if}
+use Rattle.tcd_plan.specs.PlanReader.{first_given_refusal, refusal_if}
 use Rattle.tcd_plan.specs.declared.plans.PlanErr.{PlanErr}
 
 pub option_or_none : {T : Type 0} (a b : Option T) → option_or a b ≡ None → (a ≡ None) × (b ≡ None)

@@ -10,9 +10,8 @@ use Rattle.tcd_base.specs.declared.range.Range.{Range}
 use Rattle.tcd_plan.specs.Objects.{plan_objects_of}
 use Rattle.tcd_plan.specs.JsonValues.{json_elements_of, json_elements_at, json_word_at, json_word_in}
 use Rattle.tcd_plan.specs.ValueForms.{are_irqs_above, has_value_form}
-use Rattle.tcd_plan.specs.PlanData.{AreAreas, ArePlanIrqs, AreRanges, ArePlanWords, IsPlan, PlanData, are_all_ranges_apart, all_ranges, are_ranges_apart, are_ranges_few, has_areas, has_vectors}
-use Rattle.tcd_plan.specs.Plans.{plan_range_of, plan_refusal, plan_in}
-use Rattle.tcd_plan.specs.Regions.{overlap_from, plan_range_overlap}
+use Rattle.tcd_plan.specs.PlanData.{AreAreas, ArePlanIrqs, AreRanges, ArePlanWords, IsPlan, PlanData, are_all_ranges_apart, all_ranges, are_ranges_apart, are_ranges_few, has_areas, has_vectors, overlap_from, plan_range_overlap}
+use Rattle.tcd_plan.specs.PlanReader.{plan_range_of, plan_refusal, plan_in}
 use Rattle.tcd_plan.specs.KeyFaults.{first_bad_key}
 use Rattle.tcd_plan.specs.declared.plans.PlanErr.TheVariants.{Overlap}
 use Rattle.tcd_plan.specs.declared.key_table.Form.TheVariants.{Irqs, Object, Ranges}

@@ -2,7 +2,8 @@
 use Rattle.std.specs.Prelude.{◌+◌, ℕ, min, max, List, ◌++◌, flat_map, ◌∷◌, ◌-◌, nat_lt, if◌then◌else◌, []}
 use Rattle.tcd_base.specs.declared.range.Range.{Range}
 
--- the range from one address up to another, as a list; an empty list if the range has no byte
+-- what cutting a block out of a plan's range leaves between two addresses, as a list: one range, or
+-- none if no byte is left
 abbrev pub range_between : ℕ → ℕ → List Range
 range_between from upto = if nat_lt from upto then record { at = from; len = upto - from } ∷ [] else []
 

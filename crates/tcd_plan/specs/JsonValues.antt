@@ -38,11 +38,11 @@ is_json_text text d = option_map_or (λ s. bytes_eq s text) (as_str d) false
 abbrev pub json_word : ℕ → Option ℕ
 json_word n = if nat_lt n (2 ^ 32) then Some n else None
 
--- a hex digit of either case
+-- a hex digit of either case, in a JSON text that is read as a number
 abbrev pub is_json_hex : ℕ → Bool
 is_json_hex c = nat_lt (digit_value c) 16
 
--- 1 to 8 hex digits of either case
+-- the number in a JSON text after its `0x`: 1 to 8 hex digits of either case
 abbrev pub json_hex_word : List ℕ → Option ℕ
 json_hex_word digits = if nat_le 1 (length digits) && nat_le (length digits) 8 && list_all is_json_hex digits then Some (digits_value 16 digits) else None
 

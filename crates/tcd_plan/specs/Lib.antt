@@ -4,8 +4,8 @@ pub mod Keys
 pub mod KeyRows
 pub mod JsonValues
 pub mod Objects
-pub mod Plans
-pub mod Regions
+pub mod PlanReader
+pub mod MappedAddresses
 pub mod Cutting
 pub mod ValueForms
 pub mod KeyFaults

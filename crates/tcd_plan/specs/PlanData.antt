@@ -1,5 +1,5 @@
 -- Plans as plain data, and what holds of every plan.
-use Rattle.std.specs.Prelude.{◌≡◌, ◌≤◌, ◌<◌, ◌+◌, ◌*◌, ◌/◌, ◌%◌, ◌^◌, ℕ, List, ◌∷◌, ◌++◌, length, map, sum_by, Bool, true, IsTrue, nat_le, nat_lt, ◌&&◌, ◌||◌, ◌==◌, if◌then◌else◌, slice_index, not, Option, Some, None, []}
+use Rattle.std.specs.Prelude.{◌≡◌, ◌≤◌, ◌<◌, ◌+◌, ◌*◌, ◌/◌, ◌%◌, ◌^◌, ℕ, List, ◌∷◌, ◌++◌, length, map, sum_by, Bool, true, IsTrue, nat_le, nat_lt, ◌&&◌, ◌||◌, ◌==◌, if◌then◌else◌, slice_index, not, Option, Some, None, position, []}
 use Rattle.std.specs.List.{list_all, list_any}
 use Rattle.std.specs.List.Sorted.{IsStrictlyIncreasing}
 use Rattle.tcd_base.specs.declared.range.Range.{Range}
@@ -8,6 +8,9 @@ use Rattle.tcd_plan.specs.declared.plans.Device.{Device}
 use Rattle.tcd_plan.specs.declared.plans.Plan.TheInside.{Inside}
 use Rattle.tcd_plan.specs.KeyFaults.{refused_key}
 use Rattle.tcd_plan.specs.declared.plans.PlanKey.{PlanKey}
+use Rattle.std.specs.Option.{option_map_or}
+use Rattle.tcd_plan.specs.declared.plans.PlanErr.{PlanErr}
+use Rattle.tcd_plan.specs.declared.plans.PlanErr.TheVariants.{Overlap}
 
 -- a plan: the board's memory and devices, the save areas, the start state, the interrupts, and the
 -- traps
@@ -64,16 +67,16 @@ is_range r = (r.at % 4 == 0) && (r.len % 4 == 0) && nat_lt 0 r.len && nat_le (r.
 abbrev pub is_device : Device → Bool
 is_device d = is_range d.range && nat_le d.lo d.hi && nat_lt d.hi (2 ^ 32)
 
--- the save areas of a plan's data, of 64 bytes each, as one range beside rom and ram
+-- in a plan's data, the save areas of 64 bytes each, as one range beside rom, ram and devices
 abbrev pub areas_range : PlanData → Range
 areas_range p = record { at = p.csa_at; len = 64 * p.areas }
 
--- a plan's data as one list of ranges, in the order in which overlaps number them: rom, ram,
+-- all ranges in a plan's data as one list, in the order in which overlaps number them: rom, ram,
 -- devices, save areas
 abbrev pub all_ranges : PlanData → List Range
 all_ranges p = p.rom ++ p.ram ++ map (λ d. d.range) p.devices ++ areas_range p ∷ []
 
--- what holds of every two ranges of a plan: they share no byte
+-- what holds of every two ranges in a plan's data: they share no byte
 abbrev pub are_ranges_apart : Range → Range → Bool
 are_ranges_apart r s = nat_le (r.at + r.len) s.at || nat_le (s.at + s.len) r.at
 
@@ -95,8 +98,8 @@ pub record AreRanges (p : PlanData) : Type 0 where
   pub small_rom : sum_by (λ r. r.len) p.rom ≤ 2 ^ 22
   pub small_ram : sum_by (λ r. r.len) p.ram ≤ 2 ^ 22
 
--- what holds of every plan's save areas: they are whole areas in one segment of 2^22 bytes, whose
--- first link isn't 0
+-- a limit on every plan's data: its save areas are whole areas in one segment of 2^22 bytes, and
+-- their first link isn't 0
 pub record AreAreas (p : PlanData) : Type 0 where
   pub some : 1 ≤ p.areas
   pub few : p.areas ≤ 4096
@@ -147,7 +150,7 @@ global_of p r = slice_index p.globals (if r == 16 then 0 else if r == 17 then 1 
 abbrev pub are_ranges_few : List Range → Bool
 are_ranges_few rs = nat_le (length rs) 16 && nat_le (sum_by (λ r. r.len) rs) (2 ^ 22)
 
--- what doesn't hold of a plan's data, if it has too much: the key of the first array with too many
+-- the limit that a plan's data passes, if there is one: the key of the first array with too many
 -- elements, or with too many bytes in its ranges
 unfoldable pub too_many_of : PlanData → Option PlanKey
 too_many_of p = if not (are_ranges_few p.rom) then Some (refused_key 1) else if not (are_ranges_few p.ram) then Some (refused_key 4) else if not (nat_le (length p.devices) 16) then Some (refused_key 7) else if not (nat_le (length p.irqs) 32) then Some (refused_key 20) else None
@@ -165,3 +168,13 @@ has_areas p = are_areas p.csa_at p.areas p.reserve
 -- interrupts and traps)
 unfoldable pub has_vectors : PlanData → Bool
 has_vectors p = (p.biv % 2 == 0) && (p.btv % 2 == 0)
+
+-- the first pair in a list of a plan's ranges that shares a byte; the ranges are numbered from i on
+abbrev pub overlap_from : ℕ → List Range → Option PlanErr
+overlap_from i [] = None
+overlap_from i (r ∷ rs) = option_map_or (λ k. Some (Overlap i (i + 1 + k))) (position (λ s. not (are_ranges_apart r s)) rs) (overlap_from (i + 1) rs)
+
+-- what doesn't hold of a plan's data, if two of its ranges overlap: the first pair that shares a
+-- byte
+unfoldable pub plan_range_overlap : PlanData → Option PlanErr
+plan_range_overlap p = overlap_from 0 (all_ranges p)

@@ -8,7 +8,7 @@ use Rattle.tcd_plan.specs.JsonValues.{is_object, is_json_text, json_number_at, j
 use Rattle.tcd_plan.specs.declared.key_table.Form.{Form}
 use Rattle.tcd_plan.specs.declared.key_table.Form.TheVariants.{Ranges, Objects, Object, At, Len, Hi, Word, Byte, Truth, Irqs, Traps, CoreText}
 
--- the value of a plan's key is present, and passes the test of its form
+-- a value has its form: it is there, and passes the test of the form
 abbrev pub is_present_and_passing : {T : Type 0} → (T → Bool) → Option T → Bool
 is_present_and_passing test o = option_map_or test o false
 

@@ -46,15 +46,14 @@ pub fn first_unknown_key(value: &Value) -> Option<PlanKey>
     )
 }
 
-/// Returns true if an object lacks the row's key.
+/// Returns true if an object is refused since it lacks the row's key, which may not be absent.
 pub fn lacks_key(row: &Row, object: &Value) -> bool
     ensures { result ≡ lacks_key (row_of row.now) (view object.now) }
 {
     !may_key_be_absent(row.form) && object.get(row.name).is_none()
 }
 
-/// Returns true if a document without a key of this form isn't refused: `core` alone may be absent
-/// from its object.
+/// Returns true if no object is refused for lacking a key of this form: `core` alone may be absent.
 pub(crate) fn may_key_be_absent(form: Form) -> bool
     ensures { result ≡ may_key_be_absent form }
 {

@@ -9,9 +9,9 @@ mod limits;
 mod object_forms;
 mod plan_parts;
 mod plans;
+mod printed_keys;
 mod reader;
-mod texts;
 
 pub use cutting::cut_plan_ranges;
 pub use plans::{Device, Plan, PlanErr, PlanKey};
-pub use texts::key_text;
+pub use printed_keys::key_text;

@@ -1,9 +1,8 @@
 // Refusals by values: arrays that are too long, save areas, vectors, and ranges that overlap.
 ghost use Rattle.std.specs.Prelude.{◌≡◌, ◌<◌, ◌≤◌, ◌+◌, IfSome, None, length, map, not, position, sum_by, true};
 ghost use Rattle.serde_json.specs.View.{view};
-ghost use Rattle.tcd_plan.specs.PlanData.{areas_range, are_ranges_apart, are_areas, are_ranges_few, has_areas, has_vectors, too_many_of};
-ghost use Rattle.tcd_plan.specs.Plans.{HasShortPlanArrays, plan_range_of, plan_in};
-ghost use Rattle.tcd_plan.specs.Regions.{overlap_from, plan_range_overlap};
+ghost use Rattle.tcd_plan.specs.PlanData.{areas_range, are_ranges_apart, are_areas, are_ranges_few, has_areas, has_vectors, too_many_of, overlap_from, plan_range_overlap};
+ghost use Rattle.tcd_plan.specs.PlanReader.{HasShortPlanArrays, plan_range_of, plan_in};
 
 use crate::json_values::{json_elements_of, json_word_at, json_word_in};
 use crate::key_table::{DEVICES, Holder, IRQS, RAM, ROM};
@@ -15,7 +14,7 @@ use serde_json::Value;
 use tcd_base::Range;
 
 /// Returns the first array with too many elements, or with too many bytes in its ranges.
-#[tactic(auto, unfolding(crate::specs::Plans::plan_in, crate::specs::PlanData::too_many_of))]
+#[tactic(auto, unfolding(crate::specs::PlanReader::plan_in, crate::specs::PlanData::too_many_of))]
 pub fn too_many(value: &Value) -> Option<PlanKey>
     ensures { result ≡ too_many_of (plan_in (view value.now)) }
 {
@@ -35,7 +34,7 @@ pub fn too_many(value: &Value) -> Option<PlanKey>
 }
 
 /// Returns true if the save areas are within their limits.
-#[tactic(auto, unfolding(crate::specs::Plans::plan_in, crate::specs::PlanData::has_areas))]
+#[tactic(auto, unfolding(crate::specs::PlanReader::plan_in, crate::specs::PlanData::has_areas))]
 pub fn has_areas(value: &Value) -> bool
     ensures { result ≡ has_areas (plan_in (view value.now)) }
 {
@@ -47,7 +46,7 @@ pub fn has_areas(value: &Value) -> bool
 }
 
 /// Returns true if BIV and BTV are even.
-#[tactic(auto, unfolding(crate::specs::Plans::plan_in, crate::specs::PlanData::has_vectors))]
+#[tactic(auto, unfolding(crate::specs::PlanReader::plan_in, crate::specs::PlanData::has_vectors))]
 pub fn has_vectors(value: &Value) -> bool
     ensures { result ≡ has_vectors (plan_in (view value.now)) }
 {
@@ -103,8 +102,8 @@ fn are_areas(at: u32, areas: u32, reserve: u32) -> bool
         && at % 0x40_0000 + 64 * areas <= 0x40_0000
 }
 
-/// Returns the refusal of a plan for the first pair of its ranges that share a byte, by their
-/// numbers.
+/// Tests the limit that no two ranges of a plan overlap: returns the refusal for the first pair
+/// that shares a byte, by their numbers.
 fn first_overlap(ranges: &[Range]) -> Option<PlanErr>
     requires { length ranges.now ≤ 49 }
     ensures { result ≡ overlap_from 0 ranges.now }

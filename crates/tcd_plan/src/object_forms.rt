@@ -53,7 +53,8 @@ pub fn has_value_form(form: Form, name: &str, object: &Value) -> bool
     }
 }
 
-/// Returns the elements of the array of objects at a key; none if one is no object.
+/// Returns the objects of a document in the array at a key, so that their values can be tested;
+/// none if an element is no object.
 fn plan_objects_at<'a>(value: &'a Value, name: &str) -> &'a [Value]
     ensures { map view result.now ≡ plan_objects_at name.now (view value.now) }
 {
@@ -63,8 +64,8 @@ fn plan_objects_at<'a>(value: &'a Value, name: &str) -> &'a [Value]
     }
 }
 
-/// Returns the objects of a plan's document at one key: the object there as a list of one, or an
-/// empty list if there is no object.
+/// Returns the object of a document at one key, as a list of one, so that its values can be tested;
+/// the list is empty if no object is there.
 fn plan_object_at<'a>(value: &'a Value, name: &str) -> &'a [Value]
     ensures { map view result.now ≡ plan_object_at name.now (view value.now) }
 {
@@ -104,7 +105,8 @@ fn are_irqs(places: &[Value]) -> bool
     true
 }
 
-/// Returns true if the elements of `traps` are only `sys` and `aln`, each at most once.
+/// Tests the form of an object's value: returns true if the elements of `traps` are only `sys` and
+/// `aln`, each at most once.
 fn are_traps(places: &[Value]) -> bool
     ensures { result ≡ are_traps (map view places.now) }
 {

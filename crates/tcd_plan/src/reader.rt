@@ -2,7 +2,7 @@
 ghost use Rattle.std.specs.Prelude.{◌≡◌, ◌≤◌, ◌^◌, ◌⊎◌, IfErr, None, length};
 ghost use Rattle.serde_json.specs.Errors.{IsMemory};
 ghost use Rattle.serde_json.specs.View.{view};
-ghost use Rattle.tcd_plan.specs.Plans.{AnswersPlan, HasText, plan_of, plan_refusal, plan_in};
+ghost use Rattle.tcd_plan.specs.PlanReader.{AnswersPlan, HasText, plan_of, plan_refusal, plan_in};
 
 use crate::json_values::{
     has_json_text, json_byte_in, json_elements_of, json_word_at, json_word_in,
@@ -52,8 +52,9 @@ fn plan_of(value: &Value) -> Result<Plan, PlanErr>
     }
 }
 
-/// Returns the first refusal, in the order of their numbers.
-#[tactic(auto, unfolding(crate::specs::Plans::plan_refusal))]
+/// Returns why the reader of plans refuses a document: the first refusal in the order of their
+/// numbers.
+#[tactic(auto, unfolding(crate::specs::PlanReader::plan_refusal))]
 fn plan_refusal(value: &Value) -> Option<PlanErr>
     ensures { result ≡ plan_refusal (view value.now) }
 {
@@ -82,7 +83,7 @@ fn plan_refusal(value: &Value) -> Option<PlanErr>
 }
 
 /// Reads the whole plan from a document that isn't refused.
-#[tactic(auto, unfolding(crate::specs::Plans::plan_in))]
+#[tactic(auto, unfolding(crate::specs::PlanReader::plan_in))]
 fn plan_in(value: &Value) -> Plan
     requires { plan_refusal (view value.now) ≡ None }
     ensures { result ≡ plan_in (view value.now) }

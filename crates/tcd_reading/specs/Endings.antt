@@ -11,8 +11,8 @@ use Rattle.tcd_reading.specs.declared.outcome.Outcome.{Outcome}
 use Rattle.tcd_reading.specs.declared.status.Status.TheVariants as status
 use Rattle.tcd_reading.specs.declared.outcome.Outcome.TheVariants as outcome
 
--- the sink has room for the text of each report, so that the command doesn't end with a fault of
--- the sink
+-- the sink has room for the text of each report that a command may have, so that the command can't
+-- end with a fault of the sink
 abbrev pub HasRoomForReports : Reading → Option FileMap → SinkSeen → Type 0
 HasRoomForReports reading held sink = (report : Report) → ReadingSays reading held report → HasRoomFor sink report.text
 

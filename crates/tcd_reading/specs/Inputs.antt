@@ -25,13 +25,14 @@ pub record IsHeldAs {A : Type 0} (form : FormSeen A) (m : FileMap) (name : List 
   pub short : length bytes ≤ form.limit
   pub is : form.Is bytes x
 
--- An input of a command is bad: the name's bytes are above its form's limit, with this line; or
--- within the limit but without a value, with one of the lines for that.
+-- the files hold an input of a command that isn't in its form: its bytes are above the limit, with
+-- this line; or they have no value, with one of the lines for that
 pub data IsHeldBad {A : Type 0} (form : FormSeen A) (m : FileMap) (name line : List ℕ) : Type 0 where
   above_limit : (bytes : List ℕ) → get m name ≡ Some bytes → form.limit < length bytes → line ≡ form.long_line → IsHeldBad form m name line
   without_value : (bytes : List ℕ) → get m name ≡ Some bytes → length bytes ≤ form.limit → form.IsBad bytes line → IsHeldBad form m name line
 
--- the line for a file that is above the limit or isn't in its form
+-- why an input of a command is refused when it is read: this is the line for a file above its
+-- form's limit, or one of the lines for a file that isn't in its form
 pub data IsInputRefusal {A : Type 0} (form : FormSeen A) (held : Option FileMap) (name text : List ℕ) : Type 0 where
   long : IsFileTooLong held name form.limit → text ≡ form.long_line → IsInputRefusal form held name text
   bad : (bytes : List ℕ) → ReadsFile held name bytes → length bytes ≤ form.limit → form.IsBad bytes text → IsInputRefusal form held name text
@@ -67,8 +68,8 @@ pub record AreSureOf (reading : Reading) (files : FilesSeen) : Type 0 where
   pub steady : IsTrue files.steady
   pub hold : HoldsAsked reading files.held
 
--- reading the inputs of a command failed at one of them: a fault was counted, and the files weren't
--- sure of its inputs
+-- an input of a command couldn't be read: a fault was counted, and the files weren't sure of its
+-- inputs
 pub record HasNotRead (reading : Reading) (old new : FilesSeen) : Type 0 where
   pub counted : FaultCounted old.faults new.faults
   pub unsure : AreSureOf reading old → ⊥

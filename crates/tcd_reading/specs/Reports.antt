@@ -15,8 +15,8 @@ pub record Report : Type 0 where
   pub text : List ℕ
   pub writes : List ReportFile
 
--- what holds of the status in every report: done, refused or bad input, as neither files nor memory
--- nor the words are at fault
+-- the status is one that a command's report can have: done, refused or bad input, as neither files
+-- nor memory nor the words are at fault
 abbrev pub IsReportStatus : Status → Type 0
 IsReportStatus s = (s ≡ Done) ⊎ ((s ≡ Refused) ⊎ (s ≡ BadInput))
 

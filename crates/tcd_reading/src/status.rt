@@ -41,8 +41,8 @@ impl From<Status> for u8 {
     }
 }
 
-/// Prints a text and returns this status, or the status of a fault if printing failed. It allocates
-/// no memory.
+/// Prints a text and returns a command's status: the one given, or that of a fault if printing
+/// failed. It allocates no memory.
 pub fn print_with_status<S: Sink>(out: &mut S, text: &[u8], status: Status) -> Status
     ensures { PrintsWithStatus status text.now (S.seen out.old) (S.seen out.new) result }
 {

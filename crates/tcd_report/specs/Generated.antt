@@ -56,7 +56,8 @@ generated_handler n p =
     generated_code (codes "bisr16") (fields 0 0 0 0 p)
     ++ (call_from (generated_handler_at p + 2) (generated_function_at (n - 1)) ++ (generated_code (codes "rslcx") (fields 0 0 0 0 0) ++ generated_code (codes "rfe16") (fields 0 0 0 0 0)))
 
--- a list of bytes, with zeros up to a length
+-- the bytes of a function or handler of a generated image, with zeros up to this length, where the
+-- next one begins
 abbrev pub zero_padded_bytes : ℕ → List ℕ → List ℕ
 zero_padded_bytes size bytes = bytes ++ replicate (size - length bytes) 0
 

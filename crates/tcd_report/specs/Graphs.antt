@@ -1,7 +1,7 @@
 -- The graph of a certificate: one line for each way on from a point, in the order of keys and
 -- addresses.
 pub mod EdgeLaws
-pub mod Handlers
+pub mod KnownHandlers
 use Rattle.std.specs.Prelude.{◌≡◌, ◌==◌, ℕ, false, not, List, ◌∷◌, ◌++◌, map, filter, codes, is_some, if◌then◌else◌, unwrap_or, []}
 use Rattle.std.specs.List.{flat_map, list_any}
 use Rattle.std.specs.Option.{option_map_or}
@@ -18,7 +18,7 @@ use Rattle.cfg_recover.specs.Code.{IsCode}
 use Rattle.cfg_recover.specs.Duties.{Duty, jump, enter, resume, Owed, duties_of, entries_of, successors_of}
 use Rattle.cfg_recover.specs.RulesHoldOrFail.{limits_in}
 use Rattle.cfg_recover.specs.StepEdges.{EdgeWay, to, call, irq, sys, aln, ret, rfe}
-use Rattle.tcd_text.specs.Digits.{hex_word}
+use Rattle.tcd_text.specs.HexNumbers.{hex_word}
 use Rattle.tcd_report.specs.Texts.{key_text}
 use Rattle.tc_isa.specs.declared.shapes.Shape.TheVariants.{Call, Ret, Rfe, Syscall}
 use Rattle.value_domain.specs.declared.states.State.{State}
@@ -47,8 +47,8 @@ line_front key p = key_front key ++ (hex_word p ++ 32 ∷ [])
 abbrev pub line_end_to : List ℕ → ℕ → List ℕ
 line_end_to word q = word ++ (hex_word q ++ 10 ∷ [])
 
--- the end of a line in the text of the graph: the word for the way of a step, and an address; a
--- return has no address
+-- how a line of the graph ends that is printed for the way of a step: its word and an address, or
+-- the word alone for a return
 abbrev pub way_end : EdgeWay → List ℕ
 way_end (to q) = line_end_to (codes "to ") q
 way_end (call q) = line_end_to (codes "call ") q
@@ -82,12 +82,12 @@ entry_by _ = []
 abbrev pub call_rule : ℕ
 call_rule = 5
 
--- the rule behind the `aln` lines of a graph: the number of the one that asks for the entry of the
--- handler of misaligned accesses
+-- the number of the rule whose duties give the `aln` lines of a graph: they ask for the entry of
+-- the handler of misaligned accesses
 abbrev pub misaligned_rule : ℕ
 misaligned_rule = 10
 
--- the rule behind the `irq` lines of a graph: the number of the one that asks for the entries of
+-- the number of the rule whose duties give the `irq` lines of a graph: they ask for the entries of
 -- the handlers of interrupts
 abbrev pub interrupt_rule : ℕ
 interrupt_rule = 11
@@ -134,13 +134,13 @@ system_call_rule = 12
 abbrev pub systems_in : List Owed → List ℕ
 systems_in ds = each_address_once (entries_in system_call_rule ds)
 
--- for the graph's `aln` line of a point: the entry of the handler of misaligned accesses that its
--- duties ask for, if any
+-- the address on the graph's `aln` line of a point, by its duties: the entry of the handler of
+-- misaligned accesses that they ask for, if any
 abbrev pub misaligned_in : List Owed → List ℕ
 misaligned_in ds = each_address_once (entries_in misaligned_rule ds)
 
--- for the graph's `irq` lines of a point: the entries of the interrupts by ascending priority; a
--- vector that two of them share is there once
+-- the addresses on the graph's `irq` lines of a point, by its duties: the entries of the interrupts
+-- by ascending priority; a vector that two of them share is there once
 abbrev pub interrupts_in : List Owed → List ℕ
 interrupts_in ds = each_address_once (entries_in interrupt_rule ds)
 

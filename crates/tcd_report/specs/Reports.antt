@@ -14,7 +14,6 @@ use Rattle.cfg_recover.specs.RulesHoldOrFail.{certified_need}
 use Rattle.tcd_report.specs.declared.reports.longest_by_priority.LongestCalls.{LongestCalls}
 use Rattle.tcd_report.specs.Texts.{key_text}
 use Rattle.tcd_report.specs.Reports.Longest.{prios_of, IsLongest}
-use Rattle.depth_cert.specs.declared.keys.Key.{Key}
 
 -- a number of the report
 abbrev pub reported_count : ℕ → Data
@@ -24,8 +23,8 @@ reported_count n = number (unsigned n)
 abbrev pub reported_node : NodeData → Data
 reported_node n = object (member (codes "key") (string (key_text n.key)) (member (codes "need") (reported_count n.need) (member (codes "points") (reported_count (length n.points)) no_members)))
 
--- the object in the report's JSON for a priority: the priority, and the length of its longest call
--- chain
+-- how the report's JSON has a row of the longest call chains: as an object of the priority and the
+-- length of its longest call chain
 abbrev pub row_data : LongestCalls → Data
 row_data r = object (member (codes "longest") (reported_count r.longest) (member (codes "prio") (reported_count r.prio) no_members))
 
@@ -38,7 +37,7 @@ whole_data areas calls certified nodes reserve =
     (member (codes "calls") calls
     (member (codes "certified") (reported_count certified) (member (codes "nodes") nodes (member (codes "reserve") (reported_count reserve) no_members)))))
 
--- the array in the report's JSON of the longest call chains, one object for each priority
+-- how the report's JSON has the longest call chains: as an array of one object for each priority
 abbrev pub rows_data : List LongestCalls → Data
 rows_data rows = array (items_of (map row_data rows))
 
@@ -57,7 +56,3 @@ pub record IsReport (image : ImageData) (plan : PlanData) (cert : CertData) (tex
   pub prios : map (λ r. r.prio) rows ≡ prios_of cert.nodes
   pub longest : All (λ r. IsLongest image plan cert r.prio r.longest) rows
   pub is : text ≡ compact_text (report_data image plan cert rows) ++ 10 ∷ []
-
--- a node's need, and its key
-abbrev pub rank_of : NodeData → ℕ × Key
-rank_of n = (n.need, n.key)

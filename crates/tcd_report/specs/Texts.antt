@@ -1,7 +1,7 @@
 -- Keys as text, and text that grows by lines.
 use Rattle.std.specs.Prelude.{ℕ, if◌then◌else◌, List, ◌∷◌, ◌++◌, codes, ◌≡◌, []}
 use Rattle.std.specs.Fmt.{decimal}
-use Rattle.tcd_text.specs.Digits.{hex_word}
+use Rattle.tcd_text.specs.HexNumbers.{hex_word}
 pub use Rattle.depth_cert.specs.Keys.{key_kind_words}
 unfoldable pub use Rattle.depth_cert.specs.Keys.{key_kind_text}
 use Rattle.depth_cert.specs.declared.keys.Key.{Key}

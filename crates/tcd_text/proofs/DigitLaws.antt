@@ -3,7 +3,7 @@ use Rattle.std.proofs.Common.{◌<◌, ◌/◌, ◌%◌, ◌^◌, ℕ, List, [],
 use Rattle.std.specs.Str.{IsAscii}
 use Rattle.std.proofs.lemmas.Bool.Decides.{nat_tests}
 use Rattle.std.proofs.lemmas.Str.Ascii.{IsAscii-nil, IsAscii-cons}
-use Rattle.tcd_text.specs.Digits.{hex_digit, hex_byte, hex_word}
+use Rattle.tcd_text.specs.HexNumbers.{hex_digit, hex_byte, hex_word}
 
 digit_below : (n : ℕ) → n < 16 → hex_digit n < 128
 unfolding hex_digit

@@ -1,5 +1,5 @@
 -- Numbers of eight upper-case hex digits.
-use Rattle.std.specs.Prelude.{◌==◌, ◌&&◌, ℕ, List, length, Option, nat_lt, Bool}
+use Rattle.std.specs.Prelude.{◌==◌, ◌&&◌, ℕ, List, length, Option, nat_lt, Bool, ◌+◌, ◌/◌, ◌%◌, ◌^◌, if◌then◌else◌, ◌∷◌, ◌++◌, []}
 use Rattle.std.specs.Bool.{then_some}
 use Rattle.std.specs.List.{list_all}
 use Rattle.std.specs.Str.Parse.{digits_value}
@@ -13,3 +13,15 @@ is_upper_hex c = nat_lt (digit_value c) 16 && nat_lt c 97
 -- project write addresses and words
 abbrev pub hex_number_of : List ℕ → Option ℕ
 hex_number_of ds = then_some (length ds == 8 && list_all is_upper_hex ds) (digits_value 16 ds)
+
+-- a hex digit in ASCII, in upper case
+unfoldable pub hex_digit : ℕ → ℕ
+hex_digit n = if nat_lt n 10 then 48 + n else 55 + n
+
+-- the two digits of a byte, in upper-case hex, the higher one first
+unfoldable pub hex_byte : ℕ → List ℕ
+hex_byte b = hex_digit (b / 16) ∷ hex_digit (b % 16) ∷ []
+
+-- a word as digits: eight in upper-case hex, two for each byte, the highest byte first
+unfoldable pub hex_word : ℕ → List ℕ
+hex_word x = hex_byte (x / 2 ^ 24) ++ (hex_byte (x / 2 ^ 16 % 256) ++ (hex_byte (x / 2 ^ 8 % 256) ++ hex_byte (x % 256)))

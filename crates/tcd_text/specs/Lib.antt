@@ -1,4 +1,3 @@
 -- Definitions of texts: lines, words and hex digits.
 pub mod Lines
 pub mod HexNumbers
-pub mod Digits

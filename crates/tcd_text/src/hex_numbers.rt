@@ -4,8 +4,7 @@ ghost use Rattle.std.specs.Bool.{then_some};
 ghost use Rattle.std.specs.Char.{digit_value};
 ghost use Rattle.std.specs.List.{list_all};
 ghost use Rattle.std.specs.Str.Parse.{digits_value};
-ghost use Rattle.tcd_text.specs.HexNumbers.{hex_number_of, is_upper_hex};
-ghost use Rattle.tcd_text.specs.Digits.{hex_digit, hex_byte, hex_word};
+ghost use Rattle.tcd_text.specs.HexNumbers.{hex_number_of, is_upper_hex, hex_digit, hex_byte, hex_word};
 ghost use Rattle.std.specs.Str.{IsAscii};
 
 use tcd_base::NoMemory;
@@ -22,7 +21,7 @@ pub fn hex_number(digits: &[u8]) -> Option<u32>
 }
 
 /// Returns the two hex digits of a byte, the higher one first.
-#[tactic(auto, unfolding(crate::specs::Digits::hex_byte))]
+#[tactic(auto, unfolding(crate::specs::HexNumbers::hex_byte))]
 pub fn hex_byte(byte: u32) -> [u8; 2]
     requires { byte < 256 }
     ensures { result ≡ hex_byte byte }
@@ -31,7 +30,7 @@ pub fn hex_byte(byte: u32) -> [u8; 2]
 }
 
 /// Returns the eight hex digits of a word, the highest one first.
-#[tactic(auto, unfolding(crate::specs::Digits::hex_byte, crate::specs::Digits::hex_word))]
+#[tactic(auto, unfolding(crate::specs::HexNumbers::hex_byte, crate::specs::HexNumbers::hex_word))]
 pub fn hex_word(word: u32) -> [u8; 8]
     ensures { result ≡ hex_word word }
 {
@@ -100,7 +99,7 @@ fn upper_hex_value(c: u8) -> Option<u32>
 }
 
 // Returns the ASCII code of a hex digit, in upper case.
-#[tactic(auto, unfolding(crate::specs::Digits::hex_digit))]
+#[tactic(auto, unfolding(crate::specs::HexNumbers::hex_digit))]
 fn hex_digit(n: u32) -> u8
     requires { n < 16 }
     ensures { result ≡ hex_digit n }

@@ -1,9 +1,9 @@
 //! Texts, read and written: lines, their words, and bytes and 32-bit words as hex digits.
 #![tactic(auto)]
 
-mod cuts;
 mod hex_numbers;
 mod lines;
+mod text_parts;
 mod words;
 
 pub use hex_numbers::{

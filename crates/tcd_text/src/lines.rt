@@ -3,7 +3,7 @@ ghost use Rattle.std.specs.Prelude.{◌≡◌, ◌≤◌, ◌<◌, ◌==◌, len
 ghost use Rattle.std.specs.List.{position_or_len};
 ghost use Rattle.tcd_text.specs.Lines.{text_lines};
 
-use crate::cuts::{cut_text_after, cut_text_before};
+use crate::text_parts::{cut_text_after, cut_text_before};
 
 /// Returns the place where the first line of a text ends: its first line feed, or the length of the
 /// text.
@@ -17,7 +17,8 @@ pub(crate) fn line_end(text: &[u8]) -> usize
     }
 }
 
-/// Returns the first line of a text that isn't empty, and the text after its line feed.
+/// Returns the first of a text's lines, without its line feed, and the text after it. The text
+/// isn't empty.
 pub fn cut_line(text: &[u8]) -> (&[u8], &[u8])
     requires { 0 < length text.now }
     ensures lines { text_lines text.now ≡ result.0.now ∷ text_lines result.1.now }

@@ -2,7 +2,7 @@
 ghost use Rattle.std.specs.Prelude.{◌≡◌, ◌<◌, length, position, IfSome, ◌∷◌, MatchOption, []};
 ghost use Rattle.tcd_text.specs.Lines.{is_word_separator, line_words, AreLineWords};
 
-use crate::cuts::{cut_text_after, cut_text_before};
+use crate::text_parts::{cut_text_after, cut_text_before};
 
 /// The words of a line, up to four.
 #[derive(Clone, Copy)]
@@ -42,8 +42,8 @@ pub fn words_in(line: &[u8]) -> Words<'_>
     }
 }
 
-/// Cuts the first word off a line: returns the word, and the line after the blank that ends it. If
-/// the line is one word, the answer is `None`.
+/// Returns the first word of a line, and the line after the blank that ends the word. If the line
+/// is one word, the answer is `None`.
 pub fn cut_word(text: &[u8]) -> Option<(&[u8], &[u8])>
     ensures { MatchOption result (line_words text.now ≡ text.now ∷ [])
         (λ p. line_words text.now ≡ p.0.now ∷ line_words p.1.now) }

@@ -22,7 +22,7 @@ use Rattle.tc_machine.specs.Instructions.{access_address, is_trapping_access}
 use Rattle.tc_machine.specs.Stepping.{is_taken, step, run, load_in, load_at_pc, store_in, where_running, stored}
 use Rattle.tc_machine.specs.Safe.{Fits, AllFit, IsAtCode, IsSafeAt}
 use Rattle.tc_mem.specs.PlanMemory.{IsPlanMemory}
-use Rattle.tcd_plan.specs.Regions.{IsStoreInRange}
+use Rattle.tcd_plan.specs.MappedAddresses.{IsStoreInRange}
 use Rattle.tcd_plan.proofs.ApartLaws.{rom_fits}
 use Rattle.tc_machine.proofs.Fetched.{mapped_bytes-front}
 use Rattle.tc_machine.proofs.Stays.{irq_lt, stays_step}

@@ -68,8 +68,8 @@ fn keeps_cell(at: &Val, size: u8, stored: &Val, cell: &Cell) -> bool
     is_cell_kept(x, at, fits, cell.at)
 }
 
-/// Returns whether the store is one of a whole word, and all words of the value are in the cell's
-/// bounds.
+/// Returns whether a store to exactly the cell's word keeps its bounds: it is of a whole word, and
+/// all words of the stored value are in the bounds.
 fn fits_cell(size: u8, stored: &Val, cell: &Cell) -> bool
     requires { IsWell stored.now }
     ensures { IsTrue result ↔ FitsCell stored.now size cell.now }

@@ -5,12 +5,11 @@ use Rattle.value_domain.specs.declared.states.State.{State}
 use Rattle.value_domain.specs.Limits.{Limits}
 use Rattle.value_domain.specs.Values.{IsWell, IsValue, IsBelow, any_val, join_of}
 
--- each value of a list, as of the registers of a state, is well-formed
+-- each of a state's registers has a well-formed value
 abbrev pub AreWell : List Val → Type 0
 AreWell vs = (r : ℕ) → r < length vs → IsWell (slice_index_or vs r any_val)
 
--- each value of a list, as of the registers of a state, is one of the plan's lattice at the limits
--- of the version
+-- each of a state's registers has a value of the plan's lattice at the limits of the version
 abbrev pub AreValues : Limits → List Val → Type 0
 AreValues b vs = (r : ℕ) → r < length vs → IsValue b (slice_index_or vs r any_val)
 

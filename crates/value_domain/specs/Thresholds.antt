@@ -1,8 +1,6 @@
 -- The thresholds of a plan, those next to a word, and the limits of a version.
 use Rattle.std.specs.Prelude.{◌^◌, ℕ, zero, suc, List, ◌∷◌, ◌++◌, ◌+◌, ◌<◌, []}
 use Rattle.tcd_plan.specs.PlanData.{PlanData, all_ranges}
-use Rattle.value_domain.specs.Limits.{Limits}
-use Rattle.value_domain.specs.VersionLimits.{most_words_of, most_locals_of}
 use Rattle.tcd_base.specs.declared.range.Range.{Range}
 use Rattle.value_domain.specs.Floors.{floor, above, IsFloor, IsAbove}
 use Rattle.std.specs.List.Sorted.{IsNonDecreasing}
@@ -22,17 +20,13 @@ threshold_ends (r ∷ rs) = r.at ∷ (r.at + r.len) ∷ threshold_ends rs
 abbrev pub thresholds_of : PlanData → List ℕ
 thresholds_of p = (0 ∷ powers_of_two 33) ++ threshold_ends (all_ranges p)
 
--- the thresholds of a plan, with a version's greatest numbers of words and locals: the limits for
--- both
-abbrev pub limits_for : PlanData → ℕ → Limits
-limits_for p version = record { thresholds = thresholds_of p; most_words = most_words_of version; most_locals = most_locals_of version }
-
 -- the thresholds of a plan next to a word
 pub record HasThresholds (ts : List ℕ) (x : ℕ) : Type 0 where
   pub floor : IsFloor ts x (floor ts x)
   pub above : IsAbove ts x (above ts x)
 
--- each word is between the greatest threshold that is at most it and the least above it
+-- each word has two thresholds of a plan next to it: the greatest that is at most the word, and the
+-- least above it
 abbrev pub AreThresholds : Type 0
 AreThresholds = (plan : PlanData) (x : ℕ) → x < 2 ^ 32 → HasThresholds (thresholds_of plan) x
 

@@ -8,7 +8,7 @@ ghost use Rattle.value_domain.specs.Limits.{AreLimits};
 ghost use Rattle.value_domain.specs.Values.{IsWell, IsValue, IsBelow, cover, members, range, count_in, words_of};
 ghost use Rattle.value_domain.specs.declared.values.Val.TheVariants.{Set, Span};
 
-use crate::merging::merge;
+use crate::merged_lists::merge;
 use crate::values::{
     alignment_log2, count_of, has_set_word, is_all, is_set, member, set_span, set_word, set_words,
 };
@@ -180,7 +180,7 @@ pub fn is_extent_inside(e: &Extent, lo: u32, last: u32, step: u8) -> bool
     lo <= e.least && e.greatest <= last && step <= e.step
 }
 
-/// Returns true if a value is one of the plan's lattice at the limits of the version.
+/// Returns true if a value is in the lattice of a plan's thresholds and a version's limits.
 pub fn is_value(b: &Bounds, v: &Val) -> bool
     ensures { IsTrue result ↔ IsValue b.now v.now }
 {
@@ -202,7 +202,8 @@ pub fn cover(b: &Bounds, first: u32, last: u32, step: u8) -> Val
     out
 }
 
-/// Overwrites a value with the least one that holds the multiples of `2 ^ step` in `first..=last`.
+/// Overwrites a value with the least one of the lattice that holds the multiples of `2 ^ step` in
+/// `first..=last`.
 pub fn write_cover(b: &Bounds, first: u32, last: u32, step: u8, out: &mut Val)
     requires step { step ≤ 2 }
     requires some { 1 ≤ count_in first last step }
@@ -244,7 +245,8 @@ pub(crate) fn word_place_from(words: &[u32], k: usize, x: u32) -> usize
     at
 }
 
-/// Returns the greatest step that fits all words.
+/// Returns the step of the words' extent, by which the lattice covers them: the greatest up to 2
+/// such that 2^`step` divides all of them.
 fn extent_step(words: &[u32]) -> u8
     ensures { result ≡ step_of_set words.now }
 {
@@ -263,7 +265,7 @@ fn extent_bits(words: &[u32]) -> u32
     bits
 }
 
-/// Widens a value to the least one that holds the word too.
+/// Widens a value to the lattice's least one that holds the word too.
 fn put_word(b: &Bounds, v: &mut Val, x: u32)
     requires { IsValue b.now v.old }
     ensures { v.new ≡ cover b.now (x ∷ members v.old) }
@@ -298,7 +300,7 @@ fn write_wider(b: &Bounds, e: &Extent, x: u32, out: &mut Val)
     );
 }
 
-/// Widens a Span to the least value that holds the words too.
+/// Widens a Span to the lattice's least value that holds these words too.
 fn widen(b: &Bounds, v: &mut Val, words: &[u32])
     requires span { IsNone (words_of v.old) }
     requires value { IsValue b.now v.old }
@@ -308,7 +310,7 @@ fn widen(b: &Bounds, v: &mut Val, words: &[u32])
     write_span(b, e.least, e.greatest, e.step, v);
 }
 
-/// Widens a value to the least one that holds the words of a Set too.
+/// Widens a value to the lattice's least one that holds the words of a Set too.
 fn add_set(b: &Bounds, v: &mut Val, words: &Words)
     requires left { IsValue b.now v.old }
     requires right { IsValue b.now (Set words.now) }
@@ -321,7 +323,7 @@ fn add_set(b: &Bounds, v: &mut Val, words: &Words)
     }
 }
 
-/// Widens a value to the least one that holds the members of a Span too.
+/// Widens a value to the lattice's least one that holds the members of a Span too.
 fn add_span(b: &Bounds, v: &mut Val, lo: u32, last: u32, step: u8)
     requires left { IsValue b.now v.old }
     requires right { IsValue b.now (Span lo last step) }
@@ -338,8 +340,8 @@ fn add_span(b: &Bounds, v: &mut Val, lo: u32, last: u32, step: u8)
     );
 }
 
-/// Joins two Sets: widens the first to the lattice's least value that holds the words of both. It
-/// is a function of its own, so that its callers need no stack for the words.
+/// Joins two Sets in the lattice: widens the first to the least value that holds the words of both.
+/// A function of its own, so that its callers need no stack for the words.
 #[inline(never)]
 fn join_set_with_set(b: &Bounds, v: &mut Val, words: &Words)
     requires { IsSome (words_of v.old) }
@@ -410,7 +412,7 @@ fn is_span_below_set(lo: u32, last: u32, step: u8, words: &[u32]) -> bool
     true
 }
 
-/// Returns true if this Span is a value of the plan's lattice at the limits of the version.
+/// Returns true if this Span is in the lattice of a plan's thresholds and a version's limits.
 fn is_span_value(b: &Bounds, lo: u32, last: u32, step: u8) -> bool
     ensures { IsTrue result ↔ IsValue b.now (Span lo last step) }
 {

@@ -5,7 +5,7 @@ mod lattice;
 mod laws;
 mod limits;
 mod meets;
-mod merging;
+mod merged_lists;
 mod states;
 mod values;
 

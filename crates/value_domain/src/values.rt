@@ -148,7 +148,7 @@ pub(crate) fn has_set_word(words: &[u32], x: u32) -> bool
     at < words.len() && words[at] == x
 }
 
-/// Returns a vector with a copy of these elements.
+/// Returns a vector with a copy of these elements, such as the words of a value that is a Set.
 pub(crate) fn copied_elements<T: Copy + Default, const N: usize>(items: &[T]) -> ArrayVec<T, N>
     requires { length items.now ≤ N }
     ensures { result.items ≡ items.now }

@@ -11,7 +11,7 @@ use Rattle.value_domain.proofs.CoverLaws.{range_among, among_range}
 use Rattle.value_domain.proofs.ExtentLaws.{append_left, append_right, among_append}
 use Rattle.value_domain.proofs.MeetLaws.{cover_some-same, among_filter, filter_has, in_span_parts, in_span_from, any_among, among_any}
 use Rattle.vd_transfer.specs.Relations.{is_related, Reaches, related_words}
-use Rattle.vd_transfer.specs.Refinement.{IsInInterval}
+use Rattle.vd_transfer.specs.Intervals.{IsInInterval}
 use Rattle.vd_transfer.specs.declared.refinement.Relation.{Relation}
 use Rattle.vd_transfer.specs.declared.refinement.Relation.TheVariants.{Same, Other, Less, AtLeast, More, AtMost}
 use Rattle.vd_transfer.specs.declared.refinement.Interval.{Interval}

@@ -12,7 +12,7 @@ use Rattle.value_domain.proofs.ExtentLaws.{among_append, append_left, append_rig
 use Rattle.value_domain.specs.Meets.{cover_of_meet}
 use Rattle.tc_isa.specs.Arithmetic.{signed_order_place}
 use Rattle.vd_transfer.specs.Relations.{is_related, Reaches}
-use Rattle.vd_transfer.specs.Refinement.{IsInInterval}
+use Rattle.vd_transfer.specs.Intervals.{IsInInterval}
 use Rattle.vd_transfer.specs.Signs.{IsSignedRange, signed_related_words}
 use Rattle.vd_transfer.specs.declared.refinement.Relation.{Relation}
 use Rattle.vd_transfer.specs.declared.refinement.Relation.TheVariants.{Same, Other, Less, AtLeast, More, AtMost}

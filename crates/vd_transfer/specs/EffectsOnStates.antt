@@ -71,8 +71,8 @@ address_of b p (Load dst base offset size signed after) s = access_of b p s base
 address_of b p (Store src base offset size after) s = access_of b p s base offset after
 address_of b p _ s = any_val
 
--- an instruction that saves a lower context has room for a local, and one that restores one has a
--- local
+-- an instruction's effect on a state is defined: there is room for a local if it saves a lower
+-- context, and a local if it restores one
 abbrev pub EffectHasRoom : Limits → Shape → State → Type 0
 EffectHasRoom b Svlcx s = length s.locals.items < b.most_locals
 EffectHasRoom b (Bisr c) s = length s.locals.items < b.most_locals

@@ -35,13 +35,13 @@ words_after (Branch cond x y by lowers) input word = if lowers then words_with_r
 words_after (Mfcr dst number) input word = words_with_register word dst input
 words_after _ input word = word
 
--- CCPN after the instruction: BISR sets it, and restoring contexts is defined elsewhere (TriCore 1
--- architecture manual, volume 2, instruction set)
+-- an instruction's effect on CCPN: BISR sets it, and restoring contexts is defined elsewhere
+-- (TriCore 1 architecture manual, volume 2, instruction set)
 unfoldable pub ccpn_after : Shape → ℕ → ℕ
 ccpn_after (Bisr c) ccpn = c
 ccpn_after _ ccpn = ccpn
 
--- the machine's IE after the instruction: whether interrupts are enabled then
+-- an instruction's effect on IE: whether interrupts are enabled after it
 unfoldable pub ie_after : Shape → Bool → Bool
 ie_after (Bisr c) ie = true
 ie_after Enable ie = true

@@ -1,5 +1,5 @@
 -- Strided intervals: the bounds of values, and the words that an operation's interval covers.
-use Rattle.std.specs.Prelude.{◌+◌, ◌-◌, ◌*◌, ◌/◌, ◌%◌, ◌^◌, ℕ, ◌||◌, nat_lt, nat_le, if◌then◌else◌, min, max, List, ◌∷◌, []}
+use Rattle.std.specs.Prelude.{◌+◌, ◌-◌, ◌*◌, ◌/◌, ◌%◌, ◌^◌, ℕ, ◌||◌, nat_lt, nat_le, if◌then◌else◌, min, max, List, ◌∷◌, ◌≤◌, []}
 use Rattle.tc_isa.specs.declared.shapes.Op.{Op}
 use Rattle.tc_isa.specs.declared.shapes.Op.TheVariants.{Second, Add, Sub, And, Nand, Or, Nor, Xor, Xnor, Andn, Orn, Eq, Ne, Lt, LtU, Ge, GeU, Sh, Sha}
 use Rattle.value_domain.specs.declared.values.Val.{Val}
@@ -8,6 +8,7 @@ use Rattle.value_domain.specs.declared.lattice.Extent.{Extent}
 use Rattle.value_domain.specs.Sets.{least, greatest}
 use Rattle.value_domain.specs.Values.{range, high, low, step}
 use Rattle.vd_transfer.specs.declared.strided_interval.StridedInterval.{StridedInterval}
+use Rattle.vd_transfer.specs.declared.refinement.Interval.{Interval}
 
 -- the words of a strided interval
 abbrev pub range_of : StridedInterval → List ℕ
@@ -89,3 +90,7 @@ runs Sha e f w = by_count signed_shifts e.least e.greatest e.step w
 -- the bounds of a value
 abbrev pub interval_bounds : Val → Extent
 interval_bounds v = record { least = low v; greatest = high v; step = step v }
+
+-- a word is in an interval that refinement by a condition keeps
+abbrev pub IsInInterval : Interval → ℕ → Type 0
+IsInInterval i x = (i.lo ≤ x) × (x ≤ i.last)

@@ -11,7 +11,7 @@ use Rattle.value_domain.specs.Limits.{Limits}
 use Rattle.value_domain.specs.Values.{IsMember, cover, members}
 use Rattle.vd_transfer.specs.Intervals.{interval_bounds, range_of, runs}
 
--- an operation that gives 1 or 0
+-- an operation on values has only the results 1 and 0, as comparisons have
 unfoldable pub gives_truth : Op → Bool
 gives_truth Second = false
 gives_truth Add = false

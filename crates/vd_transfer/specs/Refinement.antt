@@ -1,5 +1,5 @@
 -- Refinement of two values by a condition.
-use Rattle.std.specs.Prelude.{ℕ, Bool, not, if◌then◌else◌, List, filter, ◌≡◌, true, ◌≤◌}
+use Rattle.std.specs.Prelude.{ℕ, Bool, not, if◌then◌else◌, List, filter, ◌≡◌, true}
 use Rattle.std.specs.List.{list_any}
 use Rattle.tc_isa.specs.declared.shapes.Cond.{Cond}
 use Rattle.tc_isa.specs.Arithmetic.{taken_of, signed_order_place}
@@ -7,17 +7,18 @@ use Rattle.value_domain.specs.Sets.{Among, Within}
 use Rattle.vd_transfer.specs.declared.refinement.Relation.{Relation}
 use Rattle.vd_transfer.specs.Relations.{is_related, related_words}
 use Rattle.vd_transfer.specs.Signs.{signed_related_words}
-use Rattle.vd_transfer.specs.declared.refinement.Interval.{Interval}
 
 -- the condition of a refinement goes to a side for two words
 abbrev pub refining_condition_holds : Cond → Bool → ℕ → ℕ → Bool
 refining_condition_holds cond side x y = if side then taken_of cond x y else not (taken_of cond x y)
 
--- the words of vs for which some word of ws makes the condition go to the side
+-- what refinement keeps of the left one of two values: the words of vs for which some word of ws
+-- makes the condition go to the side
 unfoldable pub kept_left : Cond → Bool → List ℕ → List ℕ → List ℕ
 kept_left cond side vs ws = filter (λ x. list_any (λ y. refining_condition_holds cond side x y) ws) vs
 
--- the words of ws for which some word of vs makes the condition go to the side
+-- what refinement keeps of the right one of two values: the words of ws for which some word of vs
+-- makes the condition go to the side
 unfoldable pub kept_right : Cond → Bool → List ℕ → List ℕ → List ℕ
 kept_right cond side vs ws = filter (λ y. list_any (λ x. refining_condition_holds cond side x y) vs) ws
 
@@ -39,7 +40,3 @@ pub record RefinesWell (rel : Relation) : Type 0 where
 -- refinement by each relation keeps this law
 abbrev pub AreRefined : Type 0
 AreRefined = (rel : Relation) → RefinesWell rel
-
--- a word is in an interval that refinement by a condition keeps
-abbrev pub IsInInterval : Interval → ℕ → Type 0
-IsInInterval i x = (i.lo ≤ x) × (x ≤ i.last)

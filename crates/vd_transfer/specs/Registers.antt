@@ -47,7 +47,8 @@ set_at s v None = s
 abbrev pub set_reg : State → ℕ → Val → State
 set_reg s r v = set_at s v (slot r)
 
--- the register of this number, 0 to 15 for D and 16 to 31 for A, is a lower one: D0..D7 or A2..A7
+-- the register of a state with this number, 0 to 15 for D and 16 to 31 for A, is a lower one:
+-- D0..D7 or A2..A7
 abbrev pub is_lower_register : ℕ → Bool
 is_lower_register r = nat_lt r 8 || (nat_le 18 r && nat_le r 23)
 
@@ -74,7 +75,7 @@ abbrev pub HasBaseValue : Arg → Bool → Type 0
 HasBaseValue (Reg r) after = IsTrue after → RegisterHasValue r
 HasBaseValue (Word w) after = Unit {0}
 
--- the instruction writes only registers that a state has values for, and isn't MTCR
+-- all registers that the instruction writes have a value in a state, and it isn't MTCR
 abbrev pub WritesNoFixedRegister : Shape → Type 0
 WritesNoFixedRegister (Compute op dst x y) = RegisterHasValue dst
 WritesNoFixedRegister (Scaled dst base index n) = RegisterHasValue dst

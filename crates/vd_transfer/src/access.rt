@@ -21,8 +21,7 @@ pub(crate) struct Addressing {
 }
 
 impl Addressing {
-    /// Returns the `Addressing` of a load or a store: how its address is computed from this base
-    /// and offset.
+    /// Returns how the address of a load or a store is computed: from this base and offset.
     pub(crate) fn by(base: Arg, offset: u32, after: bool) -> Addressing
         ensures { result ≡ record { base = base; offset = offset; after = after } }
     {

@@ -87,8 +87,8 @@ pub(crate) fn effect_of_scaled_address(
     );
 }
 
-/// Writes the change of a state by a store instruction, or by a load before its result: the base
-/// register is increased by the offset, if the access does that.
+/// Writes the effect of a store, or of a load before its result, on a state: the base register is
+/// increased by the offset, if the access does that.
 pub(crate) fn effect_on_base(b: &Bounds, plan: &Plan, s: &State, at: Addressing, c: &mut Change)
     requires base { IsArg at.base }
     requires values { AreValues b.now s.now.regs }

@@ -251,8 +251,8 @@ fn fill_results_by(op: Op, x: u32, ys: &[u32], row: &mut [u32])
     }
 }
 
-/// Returns the place of a word in `met`: the highest bits of its product with a number that spreads
-/// words at even steps.
+/// Returns where an operation on two sets looks up a result, among those that it added lately: a
+/// hash of the word, below 512.
 fn met_result_slot(z: u32) -> usize
     ensures { result < 512 }
 {
@@ -303,7 +303,8 @@ fn add_result(b: &Bounds, v: &mut Val, met: &mut [u32; 512], z: u32)
     met[k] = z;
 }
 
-/// Overwrites a value with the value of an operation, whose operands may be the state's own values.
+/// Writes the value of an operation on two operands. A value that the state has isn't copied; any
+/// other is built first.
 fn operate_on_own_values(b: &Bounds, plan: &Plan, s: &State, of: Operation, out: &mut Val)
     requires operands { IsArg of.x × IsArg of.y }
     requires values { AreValues b.now s.now.regs }
@@ -333,8 +334,8 @@ fn operate_on_built_right(b: &Bounds, plan: &Plan, s: &State, of: Operation, v: 
     operation(b, of.op, v, &arg(b, plan, s, of.y), out);
 }
 
-/// Writes the value of an operation on two operands, as `operate` does. The left one has no value
-/// in the state, so it is built first.
+/// Writes the value of an operation on two operands, if the state has no value of the left one: it
+/// is built first.
 #[inline(never)]
 fn operate_on_built_left(b: &Bounds, plan: &Plan, s: &State, of: Operation, out: &mut Val)
     requires operands { IsArg of.x × IsArg of.y }

@@ -111,7 +111,8 @@ pub(crate) fn reg_in<'a>(b: &Bounds, plan: &Plan, s: &'a State, r: u8) -> Option
     }
 }
 
-/// Returns true if this place of a state is that of a lower register: D0..D7 or A2..A7.
+/// Returns true if the register whose value has this place in a state is a lower one: D0..D7 or
+/// A2..A7.
 pub fn is_lower_slot(i: usize) -> bool
     ensures { result ≡ is_lower_slot i }
 {

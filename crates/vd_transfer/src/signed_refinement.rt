@@ -4,7 +4,7 @@ ghost use Rattle.value_domain.specs.Values.{IsValue, IsWell, members, range};
 ghost use Rattle.value_domain.specs.declared.values.Val.TheVariants.{Set, Span};
 ghost use Rattle.value_domain.specs.Meets.{cover_of_meet, meet_if};
 ghost use Rattle.tc_isa.specs.Arithmetic.{signed_order_place};
-ghost use Rattle.vd_transfer.specs.Refinement.{IsInInterval};
+ghost use Rattle.vd_transfer.specs.Intervals.{IsInInterval};
 ghost use Rattle.vd_transfer.specs.Signs.{IsSignedRange, signed_related_words, is_signed};
 ghost use Rattle.vd_transfer.specs.declared.refinement.Relation.TheVariants.{Same};
 

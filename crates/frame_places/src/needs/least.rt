@@ -104,7 +104,7 @@ pub fn soon_needs(
     }
 }
 
-/// Returns the first node with a need above the cap.
+/// Returns the first node whose least need is above the cap.
 fn first_above(needs: &[u32], cap: u32) -> Option<usize>
     ensures { MatchOption result
         (EachIndex needs.now (λ k. slice_index needs.now k ≤ cap))

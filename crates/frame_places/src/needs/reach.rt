@@ -42,7 +42,8 @@ pub fn nodes_reaching(
     nodes_reaching_by(alloc, nodes, &sources, node)
 }
 
-/// Returns whether one of these nodes is marked.
+/// Returns whether one of these nodes of the graph of entries is marked, as one from which the
+/// given node is reached.
 pub fn has_reaching_node(marks: &[bool], nodes: &[usize]) -> bool
     ensures { IsTrue result ↔ ((t : ℕ) × Contains nodes.now t × IsNodeMarked marks.now t) }
 {

@@ -11,8 +11,8 @@ use Rattle.tc_link.specs.Linked.{image_of_objects}
 use Rattle.tc_link.specs.Refusals.{Refusal}
 use Rattle.tcd_base.specs.Files.{FileMap}
 use Rattle.tcd_forms.specs.Forms.{IsSource, SourceData}
-use Rattle.tcd_forms.specs.Lines.{bad_link_line, certified_words}
-use Rattle.tcd_driver.specs.Headlines.{HoldsFile, IsBadFile, HoldEachFile, IsOnlyFileWritten, HoldsPlan, IsBestWithNeed, refused_words}
+use Rattle.tcd_forms.specs.Lines.{bad_link_line}
+use Rattle.tcd_driver.specs.Headlines.{certified_words, HoldsFile, IsBadFile, HoldEachFile, IsOnlyFileWritten, HoldsPlan, IsBestWithNeed, refused_words}
 use Rattle.std.specs.FinMap.{get}
 use Rattle.elf_image.specs.ReadElf.{image_of_file}
 use Rattle.tcd_plan.specs.PlanData.{PlanData}

@@ -31,7 +31,8 @@ pub record AreKeptWith (image : ImageData) (plan : PlanData) (list : List Cell) 
   pub keeps : KeepsCells image (with_cells plan list) list cert
   pub safe : SafeWithCells image plan list need
 
--- the line of `cells`: the need, the areas without the reserve, and the number of cells
+-- the line in the headlines of `cells` and `cellcert`: the need, the areas without the reserve, and
+-- the number of cells
 abbrev pub cells_words : ℕ → ℕ → ℕ → List ℕ
 cells_words need areas n =
     codes "certified " ++ (decimal need ++ (codes " of " ++ (decimal areas ++ (codes " areas with " ++ (decimal n ++ (codes " cells" ++ 10 ∷ []))))))
@@ -83,8 +84,8 @@ pub record HeadlineOfCellcert (elf_name plan_name cells_name cert_name : List �
   pub writes : IsOnlyFileWritten before after cert_name (bytes_of_cert cert)
   pub prints : printed ≡ cells_words need (plan.areas - plan.reserve) (length list)
 
--- by each certificate of version 2 that is accepted under the plan in which the cells are devices,
--- a store may leave a cell's bounds; this is the first such store by the least one
+-- what the headline of a refusal by `cellcert` says: by each accepted certificate of version 2 a
+-- store may leave a cell's bounds, and this is the first by the least one
 pub record NoneKeepsCellBounds (image : ImageData) (plan : PlanData) (list : List Cell) (frame : Key) (address : ℕ) : Type 0 where
   pub each : (other : CertData) → IsCert other → other.version ≡ 2 → Accepts image (with_cells plan list) other → KeepsCells image (with_cells plan list) list other → ⊥
   pub cert : CertData

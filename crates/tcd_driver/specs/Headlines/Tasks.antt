@@ -5,7 +5,7 @@ use Rattle.std.specs.FinMap.{get}
 use Rattle.csa_chain.specs.SeveralChains.{sum_over_chains}
 use Rattle.elf_image.specs.Images.{ImageData}
 use Rattle.tcd_plan.specs.PlanData.{PlanData}
-use Rattle.tcd_text.specs.Digits.{hex_word}
+use Rattle.tcd_text.specs.HexNumbers.{hex_word}
 use Rattle.tcd_text.specs.Lines.{text_lines}
 use Rattle.depth_cert.specs.declared.keys.Key.{Key}
 use Rattle.depth_cert.specs.Certs.{CertData, IsCert}
@@ -94,9 +94,8 @@ pub record IsFirstRefusedTask (image : ImageData) (plan : PlanData) (list : Task
       ⊎ ((rule ≡ 17) × Accepts (view_image_of image list u) (view_plan_of plan list u) (cert_of_task certs u)
       × IsTaskFault (view_image_of image list u) (view_plan_of plan list u) list (cert_of_task certs u) frame address)
 
--- What is against the tasks, with its line: the image doesn't have the switch routine; or it does,
--- and a task's certificate is refused; or none is refused, and the needs are together above the
--- areas without the reserve.
+-- Why `tasks` refuses, in its headline, with the line: no switch routine; else a task's certificate
+-- is refused; else the needs are together above the areas without the reserve.
 pub data IsTasksFault (image : ImageData) (plan : PlanData) (list : TasksData) (certs : List CertData) (line : List ℕ) : Type 0 where
   no_switch : (address : ℕ) → IsRoutineFault image plan list address → line ≡ switch_words address → IsTasksFault image plan list certs line
   refused_task :
@@ -163,8 +162,8 @@ pub record IsFirstWithoutCert (image : ImageData) (plan : PlanData) (list : Task
   pub before : (w : ℕ) → w < u → (cert : CertData) × IsAcceptedForTask image plan list w cert × IsLeastForTask image plan list w cert
   pub none : NoCertForTask (view_image_of image list u) (view_plan_of plan list u) list rule frame address
 
--- What `RefusalByTaskcert` says, with its line: the image lacks the switch routine; or a task has
--- no certificate; or the least ones' needs are together above the areas without the reserve.
+-- Why `taskcert` refuses, in its headline, with the line: no switch routine; a task without a
+-- certificate; or the least ones' needs are together above the areas without the reserve.
 pub data IsTaskcertFault (image : ImageData) (plan : PlanData) (list : TasksData) (line : List ℕ) : Type 0 where
   switch_missing : (address : ℕ) → IsRoutineFault image plan list address → line ≡ switch_words address → IsTaskcertFault image plan list line
   without :

@@ -9,7 +9,7 @@ use Rattle.tc_isa.specs.declared.shapes.Arg.{Arg}
 use Rattle.tc_isa.specs.declared.shapes.Target.{Target}
 use Rattle.tc_isa.specs.declared.shapes.Shape.{Shape}
 use Rattle.tc_isa.specs.declared.shapes.Shape.TheVariants.{Branch, Call, Jump, Load, Mtcr, Ret, Rfe, Store, Syscall}
-use Rattle.tc_machine.specs.Machine.{machine_address_ahead}
+use Rattle.tc_machine.specs.Instructions.{machine_address_ahead}
 use Rattle.value_domain.specs.declared.values.Val.{Val}
 use Rattle.value_domain.specs.declared.states.State.{State}
 use Rattle.value_domain.specs.Limits.{Limits}
@@ -20,7 +20,7 @@ use Rattle.depth_cert.specs.declared.points.Exit.{Exit}
 use Rattle.depth_cert.specs.Certs.{CertData}
 use Rattle.depth_cert.specs.Exits.{exit_of}
 use Rattle.cfg_recover.specs.Entries.{aln_entry, aln_key, call_entry, call_key, irq_entry, irq_key, sys_key, irqs_of, entered_key}
-use Rattle.tcd_report.specs.Graphs.Handlers.{irq_entry_vectors}
+use Rattle.tcd_report.specs.Graphs.KnownHandlers.{irq_entry_vectors}
 use Rattle.cfg_recover.specs.LocalRules.{targets_of}
 use Rattle.store_ranges.specs.Accesses.{are_aligned}
 use Rattle.cfg_recover.specs.Duties.{Owed, owed, jump, enter, resume, leave, jump_on, jumps_to, loaded_for_duties, next_of, successors_of, entered_and_back, entries_of, misaligned_at, misaligned_entry, misaligned_of, interrupts_of, leavings_of, duties_of, keys_entered_by_duty}

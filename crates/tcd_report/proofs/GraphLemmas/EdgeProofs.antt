@@ -15,7 +15,8 @@ use Rattle.tc_machine.specs.declared.events.Cause.{Cause}
 use Rattle.tc_machine.specs.declared.events.Cause.TheVariants.{NoCode}
 use Rattle.tc_machine.specs.declared.events.Event.{Event}
 use Rattle.tc_machine.specs.declared.state.Machine.{Machine}
-use Rattle.tc_machine.specs.Machine.{machine_address_ahead, IsMachine}
+use Rattle.tc_machine.specs.Machine.{IsMachine}
+use Rattle.tc_machine.specs.Instructions.{machine_address_ahead, is_trapping_instruction}
 use Rattle.tc_machine.specs.Fetching.{mapped_bytes, fetched_shape, fetched, fetched_size}
 use Rattle.tc_machine.specs.Stepping.{is_taken, step, run}
 use Rattle.tc_machine.specs.Safe.{AllFit, IsAtCode}
@@ -31,7 +32,6 @@ use Rattle.cfg_recover.specs.Code.{IsCode}
 use Rattle.cfg_recover.specs.Entries.{start_key, call_key, handler_key}
 use Rattle.cfg_recover.specs.Duties.{Owed, duties_of}
 use Rattle.cfg_recover.specs.RulesHoldOrFail.{limits_in}
-use Rattle.tc_machine.specs.Instructions.{is_trapping_instruction}
 use Rattle.cfg_recover.specs.Frames.{Standing, frames_by, frames_after, frames_from, frames}
 use Rattle.cfg_recover.specs.EdgesAreOwed.{IsEdgeWayOwed, EdgeOwed}
 use Rattle.cfg_recover.specs.StepEdges.{EdgeWay, to, call, irq, sys, aln, ret, rfe, edge_way_of_shape, edge_way_by_trap, edge_way_in_fetch, edge_way_of_step}

@@ -4,7 +4,7 @@ use Rattle.std.specs.Prelude.{codes, filter, nat_lt, if◌then◌else◌}
 use Rattle.tcd_plan.specs.PlanData.{PlanData}
 use Rattle.value_domain.specs.declared.states.State.{State}
 use Rattle.cfg_recover.specs.Entries.{irqs_of}
-use Rattle.tcd_report.specs.Graphs.Handlers.{irq_entry_vectors, HasHandlerLines, KnowsHandlers}
+use Rattle.tcd_report.specs.Graphs.KnownHandlers.{irq_entry_vectors, HasHandlerLines, KnowsHandlers}
 use Rattle.tcd_report.specs.declared.graphs.handlers.Handlers.{Handlers}
 use Rattle.tcd_report.specs.Graphs.{each_address_once, lines_to}
 

@@ -8,10 +8,10 @@ use Rattle.std.proofs.lemmas.Str.{IsAscii-append}
 use Rattle.std.specs.Prelude.{codes, OnOk}
 use Rattle.std.specs.Str.{IsAscii}
 use Rattle.std.proofs.lemmas.Str.Ascii.{IsAscii-nil, IsAscii-cons}
-use Rattle.tcd_text.specs.Digits.{hex_byte, hex_word}
+use Rattle.tcd_text.specs.HexNumbers.{hex_byte, hex_word}
 use Rattle.tcd_text.proofs.DigitLaws.{hex_word-front}
 use Rattle.tcd_report.specs.Graphs.{line_end_to, lines_to}
-use Rattle.tcd_report.specs.Graphs.Handlers.{with_handler_front}
+use Rattle.tcd_report.specs.Graphs.KnownHandlers.{with_handler_front}
 
 -- an address and a line feed
 pub address_line : (x : ℕ) (w : List ℕ) → w ≡ hex_word x

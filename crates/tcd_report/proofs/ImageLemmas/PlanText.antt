@@ -5,9 +5,8 @@ use Rattle.serde_json.specs.Data.{Data, null}
 use Rattle.serde_json.specs.Read.{read}
 use Rattle.serde_json.proofs.OnLiterals.{serde_json_on_literals}
 use Rattle.tcd_plan.specs.KeyRows.{key_rows}
-use Rattle.tcd_plan.specs.Plans.{GivesPlan, plan_of, plan_in, plan_refusal}
-use Rattle.tcd_plan.specs.PlanData.{too_many_of, has_areas, has_vectors}
-use Rattle.tcd_plan.specs.Regions.{plan_range_overlap}
+use Rattle.tcd_plan.specs.PlanReader.{GivesPlan, plan_of, plan_in, plan_refusal}
+use Rattle.tcd_plan.specs.PlanData.{too_many_of, has_areas, has_vectors, plan_range_overlap}
 use Rattle.tcd_plan.specs.KeyFaults.{first_missing_key, first_unknown_key, first_bad_key}
 use Rattle.tcd_report.specs.Generated.Planned.{generated_plan, generated_text}
 

@@ -18,8 +18,7 @@ use Rattle.depth_cert.specs.Certs.{CertData, IsCert}
 use Rattle.cfg_recover.specs.RulesHoldOrFail.{Accepts}
 use Rattle.cfg_recover.proofs.Members.{contains_map}
 use Rattle.tcd_report.specs.Reports.Calls.{CallsAt, NodeCalls, HasCallChain}
-use Rattle.tcd_report.specs.Reports.Heights.{IsGreatestHeightOf, HasCalleeHeightAt, AreHeightsLow, IsHeight, HasNodeHeight, TellsHeights, HasHeights}
-use Rattle.tcd_report.specs.Reports.{rank_of}
+use Rattle.tcd_report.specs.Reports.Heights.{IsGreatestHeightOf, HasCalleeHeightAt, AreHeightsLow, IsHeight, HasNodeHeight, TellsHeights, HasHeights, rank_of}
 use Rattle.depth_cert.specs.Keys.{key_eq}
 use Rattle.tcd_report.proofs.ReportLemmas.NodeLaws.{map_contains, node_stands, one_node, callee_needs}
 use Rattle.tcd_report.proofs.ReportLemmas.RankLaws.{stands_before}

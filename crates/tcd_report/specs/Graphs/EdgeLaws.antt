@@ -14,8 +14,8 @@ use Rattle.cfg_recover.specs.EdgesAreOwed.{EdgesOwed}
 use Rattle.cfg_recover.specs.StepEdges.{edge_of_step}
 use Rattle.tcd_report.specs.Graphs.{AreGraphLines, goes, line_text}
 
--- one of the graph's lines has the edge of a step of a run: the key of the newest frame, the
--- address of the step and the word of its edge
+-- the edge of a step of a run is on one of the graph's lines: the line has the key of the newest
+-- frame, the address of the step and the word of its edge
 abbrev pub IsOnLine : List (List ℕ) → Machine → Event → List Standing → Type 0
 IsOnLine lines m e [] = ⊥
 IsOnLine lines m e (f ∷ fs) = Contains lines (line_text f.key (edge_of_step m e).at (goes (edge_of_step m e).way))
@@ -26,8 +26,8 @@ EdgesStand image plan cert lines =
     (m : Machine) (es : List Event) (e : Event) → Starts image plan m → AllFit plan m es → Fits plan (run m es) e
     → IsOnLine lines (run m es) e (frames image plan m es)
 
--- If each run is safe and each edge is owed, as for an accepted certificate, each edge is on a line
--- of the graph.
+-- the law of a graph's edges: if each run is safe and each edge is owed, as for an accepted
+-- certificate, each edge is on a line of the graph
 abbrev pub EdgesStandOnLines : Type 0
 EdgesStandOnLines =
     (image : ImageData) (plan : PlanData) (cert : CertData) (lines : List (List ℕ)) → IsPlan plan → IsCert cert → image.entry < 2 ^ 32

@@ -51,3 +51,7 @@ TellsHeights image plan cert heights = (k : Key) (h : ℕ) → get key_eq height
 -- the map has a height for each of these keys
 abbrev pub HasHeights : {S : Type 0} → HashMap Key ℕ S → List (ℕ × Key) → Type 0
 HasHeights heights ranks = (r : ℕ × Key) → Contains ranks r → (h : ℕ) × (get key_eq heights r.1 ≡ Some h)
+
+-- a node's need, and its key, by which the nodes are ordered to find their heights
+abbrev pub rank_of : NodeData → ℕ × Key
+rank_of n = (n.need, n.key)

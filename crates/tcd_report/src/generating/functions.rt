@@ -61,8 +61,8 @@ pub(crate) fn append_handler(out: &mut Vec<u8>, n: u32, p: u8) -> Result<(), NoM
     append_segment_bytes(out, &[0x0d, 0x00, 0x40, 0x02, 0x00, 0x80])
 }
 
-/// Appends the handler of interrupt p to those of the generated image, and zeros up to the next
-/// handler.
+/// Appends to a generated image the handler of interrupt p, which calls the last function, and
+/// zeros up to the next handler.
 #[tactic(auto, using(crate::proofs::ImageLemmas::Lengths::handler_filled))]
 pub(crate) fn append_filled_handler(out: &mut Vec<u8>, n: u32, p: u8) -> Result<(), NoMemory>
     requires some { 1 ≤ n }

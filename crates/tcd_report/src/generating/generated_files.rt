@@ -2,7 +2,7 @@
 ghost use Rattle.std.specs.Prelude.{◌≡◌, ◌≤◌, ◌^◌, IfOk, Ok, length};
 ghost use Rattle.elf_image.specs.ReadElf.{image_of_file};
 ghost use Rattle.elf_image.specs.WrittenElf.{file_of};
-ghost use Rattle.tcd_plan.specs.Plans.{GivesPlan};
+ghost use Rattle.tcd_plan.specs.PlanReader.{GivesPlan};
 ghost use Rattle.tcd_report.specs.Generated.{generated_image};
 ghost use Rattle.tcd_report.specs.Generated.Planned.{generated_plan, generated_text};
 

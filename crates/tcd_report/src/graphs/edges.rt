@@ -4,7 +4,7 @@ ghost use Rattle.tcd_plan.specs.PlanData.{PlanData};
 ghost use Rattle.tc_isa.specs.InBounds.{IsShape};
 ghost use Rattle.value_domain.specs.State.{AreValues};
 ghost use Rattle.tcd_report.specs.Graphs.{AreEdges};
-ghost use Rattle.tcd_report.specs.Graphs.Handlers.{KnowsHandlers};
+ghost use Rattle.tcd_report.specs.Graphs.KnownHandlers.{KnowsHandlers};
 ghost use Rattle.tcd_report.specs.Judging.{duties_at};
 ghost use Rattle.depth_cert.specs.Points.{point_of};
 

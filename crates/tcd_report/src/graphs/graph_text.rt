@@ -5,7 +5,7 @@ ghost use Rattle.std.specs.Str.{IsAscii};
 ghost use Rattle.value_domain.specs.State.{AreValues};
 ghost use Rattle.cfg_recover.specs.LocalFaults.{IsFaultless};
 ghost use Rattle.tcd_report.specs.Graphs.{ArePointLines, AreNodeLines, key_front};
-ghost use Rattle.tcd_report.specs.Graphs.Handlers.{KnowsHandlers};
+ghost use Rattle.tcd_report.specs.Graphs.KnownHandlers.{KnowsHandlers};
 ghost use Rattle.tcd_report.specs.Judging.{IsJudged};
 ghost use Rattle.tcd_report.specs.Texts.{GrowsBy};
 ghost use Rattle.depth_cert.specs.Points.{point_of};

@@ -1,6 +1,6 @@
 // The lines of a point in the graph.
 ghost use Rattle.std.specs.Prelude.{◌≡◌, ◌<◌, ◌++◌, ◌∷◌, [], OnOk, codes, string_bytes};
-ghost use Rattle.tcd_text.specs.Digits.{hex_word};
+ghost use Rattle.tcd_text.specs.HexNumbers.{hex_word};
 ghost use Rattle.tcd_report.specs.Graphs.{line_end_to, key_front, lines_to, ways_text, leaving_text};
 ghost use Rattle.std.specs.Str.{IsAscii};
 

@@ -2,8 +2,7 @@
 ghost use Rattle.std.specs.Prelude.{◌≡◌, ℕ, [], Some, Contains, IfOk, map, unwrap_or};
 ghost use Rattle.std.specs.HashMap.{get};
 ghost use Rattle.depth_cert.specs.Nodes.{NodeData};
-ghost use Rattle.tcd_report.specs.Reports.Heights.{TellsHeights, IsGreatestHeight, IsGreatestHeightOf, HasCalleeHeight, HasCalleeHeightAt, AreHeightsLow};
-ghost use Rattle.tcd_report.specs.Reports.{rank_of};
+ghost use Rattle.tcd_report.specs.Reports.Heights.{TellsHeights, IsGreatestHeight, IsGreatestHeightOf, HasCalleeHeight, HasCalleeHeightAt, AreHeightsLow, rank_of};
 ghost use Rattle.depth_cert.specs.Keys.{key_eq, call_kind};
 ghost use Rattle.tcd_report.specs.Judging.{IsJudged};
 ghost use Rattle.cfg_recover.specs.Entries as entries;

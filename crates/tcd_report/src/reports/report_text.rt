@@ -61,8 +61,8 @@ pub(crate) fn nodes_value(alloc: Global, cert: &PackedCert) -> Result<Value, NoM
     Ok(Value::Array(values))
 }
 
-/// Returns the longest call chains of the priorities as the text of the report has them: an array
-/// of objects.
+/// Returns the array in the report's JSON text of the longest call chains, one object for each
+/// priority.
 pub(crate) fn rows_value(alloc: Global, rows: &[LongestCalls]) -> Result<Value, NoMemory>
     ensures { IfOk result (λ v. view v ≡ rows_data rows.now) }
 {

@@ -3,8 +3,7 @@ use Rattle.tcd_plan.specs.PlanData.{IsPlan}
 use Rattle.value_domain.specs.declared.states.State.{State}
 use Rattle.value_domain.specs.State.{AreWell}
 use Rattle.depth_cert.specs.Keys.{number_of_key}
-use Rattle.depth_cert.specs.Nodes.{NodeData}
-use Rattle.depth_cert.specs.Proper.{IsWellNode}
+use Rattle.depth_cert.specs.Nodes.{NodeData, IsWellNode}
 use Rattle.depth_check.proofs.Deciding.{found_holds}
 use Rattle.depth_check.proofs.WellLaws.{well_start}
 use Rattle.depth_check.proofs.certificates.start_node.Goals as goal

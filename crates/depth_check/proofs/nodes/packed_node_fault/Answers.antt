@@ -5,11 +5,10 @@ use Rattle.std.proofs.lemmas.Bool.{ltb-true}
 use Rattle.std.proofs.lemmas.List.{append-nil}
 use Rattle.value_domain.specs.Limits.{Limits}
 use Rattle.depth_cert.specs.declared.points.Point.{Point}
-use Rattle.depth_cert.specs.Nodes.{NodeData}
+use Rattle.depth_cert.specs.Nodes.{NodeData, IsWellNode}
 use Rattle.cfg_recover.specs.RulesHoldOrFail.{limits_in, HoldsAtEntry, RuleHolds}
 use Rattle.value_domain.specs.State.{AreValues}
 use Rattle.depth_check.specs.declared.nodes.Fault.{Fault}
-use Rattle.depth_cert.specs.Proper.{IsWellNode}
 use Rattle.depth_check.specs.NodeFaults.{IsNodeFault, earlier_node_fault}
 use Rattle.depth_check.proofs.InterruptLaws.{interrupts_at, stack_well, stacks_well}
 use Rattle.depth_check.proofs.CallLaws.{HoldsNext, next_holds, holds_next}

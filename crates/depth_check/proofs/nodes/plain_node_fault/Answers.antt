@@ -3,8 +3,7 @@ use Rattle.std.specs.Prelude.{IsTrue, ◌↔◌, All}
 use Rattle.value_domain.specs.Limits.{Limits}
 use Rattle.depth_cert.specs.declared.points.Point.{Point}
 use Rattle.depth_cert.specs.Points.{ArePoints}
-use Rattle.depth_cert.specs.Nodes.{NodeData}
-use Rattle.depth_cert.specs.Proper.{IsWellNode}
+use Rattle.depth_cert.specs.Nodes.{NodeData, IsWellNode}
 use Rattle.std.proofs.lemmas.List.Elements.{All-contains}
 use Rattle.cfg_recover.specs.RulesHoldOrFail.{HoldsAtEntry, RuleHolds}
 use Rattle.depth_check.specs.declared.nodes.Fault.{Fault}

@@ -1,6 +1,6 @@
 use Rattle.std.proofs.Common.{subst, [], ◌∷◌}
 use Rattle.value_domain.specs.declared.states.State.{State}
-use Rattle.tc_machine.specs.Machine.{machine_address_ahead}
+use Rattle.tc_machine.specs.Instructions.{machine_address_ahead}
 use Rattle.vd_transfer.specs.Changes.{state_after}
 use Rattle.cfg_recover.specs.Duties.{owed, jump}
 use Rattle.depth_check.specs.LeastBroken.{broken_rule_unless, LeastBrokenByDuties}

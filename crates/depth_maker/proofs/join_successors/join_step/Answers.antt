@@ -1,7 +1,7 @@
 use Rattle.std.proofs.Common.{sym, subst, refl, [], ◌∷◌}
 use Rattle.std.specs.Prelude.{OnOk}
 use Rattle.value_domain.specs.declared.states.State.{State}
-use Rattle.tc_machine.specs.Machine.{machine_address_ahead}
+use Rattle.tc_machine.specs.Instructions.{machine_address_ahead}
 use Rattle.cfg_recover.specs.Duties.{owed, jump}
 use Rattle.depth_maker.specs.VisitDuties.{OwesDuty, JoinedBy}
 use Rattle.depth_maker.proofs.PartLemmas.{owes_one}

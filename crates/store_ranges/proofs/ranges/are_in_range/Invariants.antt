@@ -1,5 +1,5 @@
 use Rattle.std.proofs.Common.{ℕ, ◌<◌, get_or}
-use Rattle.tcd_plan.specs.Regions.{IsStoreInRange}
+use Rattle.tcd_plan.specs.MappedAddresses.{IsStoreInRange}
 use Rattle.store_ranges.proofs.ranges.are_in_range.Given as goal
 
 abbrev pub invariant-loop-x : goal.invariant-loop-x

@@ -1,7 +1,7 @@
 use Rattle.std.proofs.Common.{◌∙◌, ap, sym, subst}
 use Rattle.std.specs.Prelude.{All}
 use Rattle.value_domain.specs.Limits.{Limits}
-use Rattle.value_domain.specs.Thresholds.{limits_for}
+use Rattle.value_domain.specs.VersionLimits.{limits_for}
 use Rattle.depth_cert.specs.Nodes.{NodeData}
 use Rattle.depth_cert.specs.Certs.{CertData, IsCert}
 use Rattle.task_chains.specs.Rule17.{HoldsApart, IsTaskFault, HoldsApartIn, IsNodeFault}

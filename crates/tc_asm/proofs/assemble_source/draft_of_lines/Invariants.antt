@@ -1,7 +1,8 @@
 use Rattle.std.proofs.Common.{◌≡◌, true, take, drop, map}
 use Rattle.tc_stmt.specs.Items.{item_of}
 use Rattle.tc_stmt.specs.Lines.{items_in}
-use Rattle.tc_asm.specs.DraftedSources.{KeepsRules, draft_from_lines}
+use Rattle.tc_asm.specs.DraftedSources.{draft_from_lines}
+use Rattle.tc_asm.specs.Rules.{KeepsRules}
 use Rattle.tc_asm.specs.DraftInvariants.{IsDraft}
 use Rattle.tc_asm.specs.KnownSymbols.{kept, are_new}
 use Rattle.tc_stmt.specs.SourceViews.{lines_read, lines_of}

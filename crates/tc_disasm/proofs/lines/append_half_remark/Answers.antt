@@ -1,6 +1,6 @@
 use Rattle.std.proofs.Common.{◌∙◌, ap, sym, subst, arith}
 use Rattle.std.specs.Str.{IsAscii}
-use Rattle.tcd_text.specs.Digits.{hex_byte}
+use Rattle.tcd_text.specs.HexNumbers.{hex_byte}
 use Rattle.tc_disasm.proofs.HexLines.{half_remark, half_remark_ascii, on_text}
 use Rattle.tc_disasm.proofs.lines.append_half_remark.Goals as goal
 

@@ -1,6 +1,6 @@
 use Rattle.std.proofs.Common.{ap, ◌∙◌, ◌++◌}
 use Rattle.std.specs.Prelude.{string_bytes}
-use Rattle.tcd_text.specs.Digits.{hex_byte}
+use Rattle.tcd_text.specs.HexNumbers.{hex_byte}
 use Rattle.tc_disasm.proofs.Appending.{flat_map_on}
 use Rattle.tc_disasm.proofs.lines.append_remark_bytes.Goals as goal
 

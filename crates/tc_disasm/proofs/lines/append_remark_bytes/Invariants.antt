@@ -1,7 +1,7 @@
 use Rattle.std.proofs.Common.{◌≡◌, ◌++◌, take}
 use Rattle.std.specs.Prelude.{string_bytes}
 use Rattle.std.specs.List.{flat_map}
-use Rattle.tcd_text.specs.Digits.{hex_byte}
+use Rattle.tcd_text.specs.HexNumbers.{hex_byte}
 use Rattle.tc_disasm.proofs.lines.append_remark_bytes.Given as goal
 
 abbrev pub invariant-loop-byte : goal.invariant-loop-byte

@@ -4,7 +4,7 @@ use Rattle.std.proofs.lemmas.Bool.{both_ways}
 use Rattle.tc_isa.specs.Rows.{row_of}
 use Rattle.tc_isa.specs.Forms.{bounds}
 use Rattle.tc_isa.specs.InBounds.{IsBelow}
-use Rattle.tc_isa.specs.ValidRows.{are_unused_fields_zero, are_registers_apart, uses_of}
+use Rattle.tc_isa.specs.ValidRowFields.{are_unused_fields_zero, are_registers_apart, uses_of}
 use Rattle.tc_encode.proofs.Gaps.{fields_below}
 use Rattle.tc_encode.proofs.Finds.{stands, makes_of}
 use Rattle.tc_encode.proofs.word_search.find_word_in_row.Goals as goal

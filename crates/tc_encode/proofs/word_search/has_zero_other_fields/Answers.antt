@@ -3,7 +3,7 @@ use Rattle.std.specs.Prelude.{slice_get}
 use Rattle.tc_isa.specs.declared.fields.Uses.{Uses}
 use Rattle.tc_isa.specs.Rows.{row_of, listed}
 use Rattle.tc_isa.specs.Forms.{bounds}
-use Rattle.tc_isa.specs.ValidRows.{uses_of, are_unused_fields_zero}
+use Rattle.tc_isa.specs.ValidRowFields.{uses_of, are_unused_fields_zero}
 use Rattle.tc_encode.proofs.Finds.{plain_zero, plain_at, uses_at}
 use Rattle.tc_encode.proofs.word_search.has_zero_other_fields.Goals as goal
 

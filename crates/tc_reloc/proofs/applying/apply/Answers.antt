@@ -2,7 +2,7 @@ use Rattle.std.proofs.Common.{◌≡◌, ◌+◌, refl, ap, sym, ◌∙◌, [], 
 use Rattle.tcd_base.specs.Bytes.{word_in_bytes}
 use Rattle.tcd_base.proofs.ByteWords.{word_at-bytes_of_word}
 use Rattle.tc_reloc.specs.Fields.{reloc_field_number, reloc_field_bits, bits_outside_reloc_field}
-use Rattle.tc_reloc.specs.Held.{held_reloc_number}
+use Rattle.tc_reloc.specs.ReachedAddresses.{held_reloc_number}
 use Rattle.tc_reloc.proofs.FieldLaws.{held_of-written, rest_of-written, content_below, reached_by-content_of}
 use Rattle.tc_reloc.proofs.applying.apply.Goals as goal
 

@@ -1,5 +1,5 @@
 use Rattle.std.proofs.Common.{◌≡◌, drop}
-use Rattle.tcd_plan.specs.Regions.{overlap_from}
+use Rattle.tcd_plan.specs.PlanData.{overlap_from}
 use Rattle.tcd_plan.proofs.limits.first_overlap.Given as goal
 
 abbrev pub invariant-loop-i : goal.invariant-loop-i

@@ -1,6 +1,6 @@
 use Rattle.std.proofs.Common.{ap, ◌∙◌}
 use Rattle.serde_json.specs.View.{view}
-use Rattle.tcd_plan.specs.Regions.{overlap_from, plan_range_overlap}
+use Rattle.tcd_plan.specs.PlanData.{overlap_from, plan_range_overlap}
 use Rattle.tcd_plan.proofs.Overlaps.{all_gathered}
 use Rattle.tcd_plan.proofs.limits.plan_range_overlap.Goals as goal
 

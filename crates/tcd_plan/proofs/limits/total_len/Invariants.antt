@@ -1,6 +1,6 @@
 use Rattle.std.proofs.Common.{◌≡◌, ◌≤◌, ◌*◌, ◌^◌, map, take, sum_by}
 use Rattle.serde_json.specs.View.{view}
-use Rattle.tcd_plan.specs.Plans.{plan_range_of}
+use Rattle.tcd_plan.specs.PlanReader.{plan_range_of}
 use Rattle.tcd_plan.proofs.limits.total_len.Given as goal
 
 abbrev pub invariant-loop-object : goal.invariant-loop-object

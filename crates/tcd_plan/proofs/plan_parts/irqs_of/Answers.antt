@@ -3,7 +3,7 @@ use Rattle.std.proofs.lemmas.List.{length-map}
 use Rattle.std.proofs.Math.ListN.{get_or-map}
 use Rattle.serde_json.specs.Data.{Data}
 use Rattle.serde_json.specs.View.{view}
-use Rattle.tcd_plan.specs.Plans.{irq_of}
+use Rattle.tcd_plan.specs.PlanReader.{irq_of}
 use Rattle.tcd_plan.proofs.plan_parts.irqs_of.Goals as goal
 
 pub overflow_cast-unwrap_or : goal.overflow_cast-unwrap_or

@@ -1,6 +1,6 @@
 use Rattle.std.proofs.Common.{◌≡◌, map, take}
 use Rattle.serde_json.specs.View.{view}
-use Rattle.tcd_plan.specs.Plans.{irq_of}
+use Rattle.tcd_plan.specs.PlanReader.{irq_of}
 use Rattle.tcd_plan.proofs.plan_parts.irqs_of.Given as goal
 
 abbrev pub invariant-loop-place : goal.invariant-loop-place

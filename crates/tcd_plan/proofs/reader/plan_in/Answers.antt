@@ -2,7 +2,7 @@ use Rattle.std.proofs.Common.{◌≡◌, ◌<◌, ◌^◌, List, None, All, rule
 use Rattle.serde_json.specs.Data.{Data}
 use Rattle.serde_json.specs.View.{view}
 use Rattle.tcd_plan.specs.PlanData.{IsPlan, PlanData}
-use Rattle.tcd_plan.specs.Plans.{HasShortPlanArrays, irq_of, plan_refusal, plan_in}
+use Rattle.tcd_plan.specs.PlanReader.{HasShortPlanArrays, irq_of, plan_refusal, plan_in}
 use Rattle.tcd_plan.proofs.Accepted.{accepted, few_arrays}
 use Rattle.tcd_plan.proofs.Pieces.{irqs_small}
 use Rattle.tcd_plan.proofs.TellsPlan.{ascending, ccpn-lt, tells_plan}

@@ -1,6 +1,6 @@
 use Rattle.std.proofs.Common.{◌≡◌, None, true, sym, ◌∙◌}
 use Rattle.serde_json.specs.View.{view}
-use Rattle.tcd_plan.specs.Plans.{plan_in}
+use Rattle.tcd_plan.specs.PlanReader.{plan_in}
 use Rattle.tcd_plan.specs.PlanData.{has_areas, too_many_of}
 use Rattle.tcd_plan.proofs.Accepted.{few_arrays}
 use Rattle.tcd_plan.proofs.reader.plan_refusal.Goals as goal

@@ -1,6 +1,6 @@
 use Rattle.std.proofs.Common.{[], take, string_bytes}
 use Rattle.tcd_report.specs.Graphs.{AreNodeLines, AreJoinedLines}
-use Rattle.tcd_report.specs.Graphs.Handlers.{KnowsHandlers}
+use Rattle.tcd_report.specs.Graphs.KnownHandlers.{KnowsHandlers}
 use Rattle.tcd_report.specs.Texts.{GrowsBy}
 use Rattle.tcd_report.proofs.graphs.graph_packed.Given as goal
 

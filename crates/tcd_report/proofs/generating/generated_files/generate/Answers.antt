@@ -1,6 +1,6 @@
 use Rattle.std.proofs.Common.{◌≡◌, ◌∙◌, List, ℕ, Ok, sym, subst}
 use Rattle.std.specs.Prelude.{IsUtf8}
-use Rattle.tcd_plan.specs.Plans.{GivesPlan}
+use Rattle.tcd_plan.specs.PlanReader.{GivesPlan}
 use Rattle.tcd_report.specs.Generated.Planned.{generated_plan, generated_text}
 use Rattle.tcd_report.proofs.ImageLemmas.PlanText.{text_tells}
 use Rattle.tcd_report.proofs.generating.generated_files.generate.Goals as goal

@@ -1,7 +1,7 @@
 use Rattle.std.proofs.Common.{◌≡◌, ◌++◌, List, length, string_bytes}
 use Rattle.depth_cert.specs.declared.points.Point.{Point}
 use Rattle.tcd_report.specs.Graphs.{ArePointLines, AreJoinedLines, key_front}
-use Rattle.tcd_report.specs.Graphs.Handlers.{KnowsHandlers}
+use Rattle.tcd_report.specs.Graphs.KnownHandlers.{KnowsHandlers}
 use Rattle.tcd_report.specs.Texts.{GrowsBy}
 use Rattle.tcd_report.proofs.graphs.graph_text.append_node.Given as goal
 

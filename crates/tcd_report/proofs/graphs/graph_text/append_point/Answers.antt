@@ -2,7 +2,7 @@ use Rattle.std.proofs.lemmas.Result.{on_ok_weaker}
 use Rattle.std.proofs.Common.{◌≡◌, ◌∙◌, ◌++◌, ◌∷◌, [], List, ℕ, ap, sym, subst, string_bytes, refl, arith}
 use Rattle.depth_cert.specs.Points.{point_of}
 use Rattle.std.specs.Str.{IsAscii}
-use Rattle.tcd_text.specs.Digits.{hex_word}
+use Rattle.tcd_text.specs.HexNumbers.{hex_word}
 use Rattle.std.specs.Prelude.{codes}
 use Rattle.tcd_report.specs.declared.graphs.edges.Edges.{Edges}
 use Rattle.tcd_report.specs.Graphs.{AreEdges, line_front, lines_to, ways_text, leaving_text}

@@ -1,6 +1,6 @@
 use Rattle.std.proofs.Common.{[], ◌∙◌, ap, refl}
 use Rattle.std.specs.Prelude.{codes}
-use Rattle.tcd_report.specs.Graphs.Handlers.{irq_entry_vectors}
+use Rattle.tcd_report.specs.Graphs.KnownHandlers.{irq_entry_vectors}
 use Rattle.tcd_report.specs.Graphs.{each_address_once, lines_to}
 use Rattle.tcd_report.proofs.GraphLemmas.HandlerLaws.{known_by}
 use Rattle.tcd_report.proofs.graphs.handlers.find_handlers.Goals as goal

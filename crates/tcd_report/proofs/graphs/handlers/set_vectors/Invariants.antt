@@ -1,5 +1,5 @@
 use Rattle.std.proofs.Common.{◌≡◌, take}
-use Rattle.tcd_report.specs.Graphs.Handlers.{irq_entry_vectors}
+use Rattle.tcd_report.specs.Graphs.KnownHandlers.{irq_entry_vectors}
 use Rattle.tcd_report.proofs.graphs.handlers.set_vectors.Given as goal
 
 abbrev pub invariant-loop-irq : goal.invariant-loop-irq

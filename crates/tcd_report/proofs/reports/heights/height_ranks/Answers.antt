@@ -1,7 +1,7 @@
 use Rattle.std.proofs.Common.{◌≡◌, ◌∙◌, ℕ, length, map, ap, arith}
 use Rattle.std.proofs.lemmas.List.{take_all}
 use Rattle.depth_cert.specs.Nodes.{NodeData}
-use Rattle.tcd_report.specs.Reports.{rank_of}
+use Rattle.tcd_report.specs.Reports.Heights.{rank_of}
 use Rattle.packed_cert.proofs.WalkedPoints.{never_none, mapped_more}
 use Rattle.tcd_report.proofs.reports.heights.height_ranks.Goals as goal
 

@@ -1,5 +1,5 @@
 use Rattle.std.proofs.Common.{◌≡◌, map, take}
-use Rattle.tcd_report.specs.Reports.{rank_of}
+use Rattle.tcd_report.specs.Reports.Heights.{rank_of}
 use Rattle.tcd_report.proofs.reports.heights.height_ranks.Given as goal
 
 abbrev pub invariant-loop-i : goal.invariant-loop-i

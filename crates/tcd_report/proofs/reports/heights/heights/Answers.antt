@@ -6,8 +6,7 @@ use Rattle.std.proofs.lemmas.List.Elements.{Contains-get_or}
 use Rattle.depth_cert.specs.declared.keys.Key.{Key}
 use Rattle.depth_cert.specs.Nodes.{NodeData}
 use Rattle.depth_cert.specs.Certs.{CertData, IsCert}
-use Rattle.tcd_report.specs.Reports.Heights.{IsGreatestHeightOf, HasCalleeHeightAt, HasNodeHeight}
-use Rattle.tcd_report.specs.Reports.{rank_of}
+use Rattle.tcd_report.specs.Reports.Heights.{IsGreatestHeightOf, HasCalleeHeightAt, HasNodeHeight, rank_of}
 use Rattle.depth_cert.specs.Keys.{key_cmp}
 use Rattle.tcd_report.proofs.ReportLemmas.HeightLaws.{tells_low, tells_more, has_more, height_is, ranked, callees_known, all_known}
 use Rattle.tcd_report.proofs.reports.heights.heights.Goals as goal

@@ -1,0 +1,33 @@
+use Rattle.std.proofs.Common.{List, [], ◌∷◌, ℕ, Option, sym, subst}
+use Rattle.std.specs.Prelude.{unwrap_or}
+use Rattle.std.specs.List.{flat_map}
+use Rattle.value_domain.specs.declared.states.State.{State}
+use Rattle.cfg_recover.specs.Entries.{call_key, call_entry}
+use Rattle.cfg_recover.specs.LocalRules.{targets_of}
+use Rattle.cfg_recover.specs.Duties.{entered_and_back}
+use Rattle.depth_check.specs.LeastBroken.{FindsLeastBroken}
+use Rattle.depth_check.specs.DutiesHold.{DutiesHold}
+use Rattle.depth_check.proofs.RuleLaws.{values_well}
+use Rattle.depth_check.proofs.duty_rules.broken_by_call.Goals as goal
+
+pub broken_by_calls-requires-clause-entry : goal.broken_by_calls-requires-clause-entry
+broken_by_calls-requires-clause-entry c = values_well c.args.at.now.bounds.now _ c.call_change-entry.ensures.values
+
+pub broken_by_listed_calls-requires-clause-entry : goal.broken_by_listed_calls-requires-clause-entry
+broken_by_listed_calls-requires-clause-entry c = values_well c.args.at.now.bounds.now _ c.call_change-entry.ensures.values
+
+pub returns-in-Some : goal.returns-in-Some
+returns-in-Some c =
+    let t = c.args.at.now in
+    let s = t.point.state.now in
+    let one = (rw c.in-Some.is at c.direct_target.ensures.one) t.plan.now s in
+    subst (λ (o : Option (List ℕ)). FindsLeastBroken (DutiesHold t.cert.now t.node.now s (flat_map (λ t2. entered_and_back 5 (call_key (t.node.now).key t2) (call_entry s) c.args.back) (unwrap_or o []))) c.broken_by_calls.result) (sym one)
+    (subst (λ (u : State). FindsLeastBroken (DutiesHold t.cert.now t.node.now s (flat_map (λ t2. entered_and_back 5 (call_key (t.node.now).key t2) u c.args.back) (c.in-Some.target ∷ []))) c.broken_by_calls.result)
+    c.call_change-entry.ensures.entry c.broken_by_calls.ensures)
+
+pub returns-in-None : goal.returns-in-None
+returns-in-None c =
+    let t = c.args.at.now in
+    let s = t.point.state.now in
+    subst (λ (u : State). FindsLeastBroken (DutiesHold t.cert.now t.node.now s (flat_map (λ t2. entered_and_back 5 (call_key (t.node.now).key t2) u c.args.back) (unwrap_or (targets_of t.plan.now s t.point.addr c.args.to) []))) c.broken_by_listed_calls.result)
+    c.call_change-entry.ensures.entry c.broken_by_listed_calls.ensures

@@ -1,0 +1,26 @@
+use Rattle.std.proofs.Common.{sym, ◌==◌}
+use Rattle.vd_transfer.specs.Changes.{state_after}
+use Rattle.depth_cert.specs.Keys.{number_of_key}
+use Rattle.depth_cert.specs.Nodes.{NodeData, IsWellNode}
+use Rattle.depth_check.proofs.Deciding.{found_holds}
+use Rattle.depth_check.proofs.DutyLaws.{entry_found, entry_missing}
+use Rattle.depth_check.proofs.RuleLaws.{values_well}
+use Rattle.depth_check.proofs.duty_rules.broken_by_entry.Goals as goal
+
+pub returns-in_default : goal.returns-in_default
+returns-in_default c = entry_missing c.args.at.now.cert.now c.args.at.now.node.now c.args.at.now.point.state.now c.args.rule c.args.key.now (state_after c.args.at.now.point.state.now c.args.entry.now) c.args.back (sym c.in_default.ensures) c.requires.rule
+
+pub has_changed_point-requires-clause-node : goal.has_changed_point-requires-clause-node
+has_changed_point-requires-clause-node c = found_holds IsWellNode (λ (n : NodeData). number_of_key n.key == number_of_key c.args.key.now) (c.args.at.now.cert.now).nodes c.in-Some.entered (sym c.in-Some.ensures) c.requires.point.nodes
+
+pub has_point_after_entry-requires-clause-state : goal.has_point_after_entry-requires-clause-state
+has_point_after_entry-requires-clause-state c = values_well c.args.at.now.bounds.now _ c.requires.point.values
+
+pub has_point_after_entry-requires-clause-entered : goal.has_point_after_entry-requires-clause-entered
+has_point_after_entry-requires-clause-entered c = found_holds IsWellNode (λ (n : NodeData). number_of_key n.key == number_of_key c.args.key.now) (c.args.at.now.cert.now).nodes c.in-Some.entered (sym c.in-Some.ensures) c.requires.point.nodes
+
+pub returns : goal.returns
+returns c =
+    rw (c.lesser_broken_rule-2.ensures, c.lesser_broken_rule.ensures, c.rule_unless-into.ensures, c.rule_unless-need.ensures, c.rule_unless-on.ensures)
+    (entry_found c.args.at.now.cert.now c.args.at.now.node.now c.args.at.now.point.state.now c.args.rule c.args.key.now (state_after c.args.at.now.point.state.now c.args.entry.now) c.args.back c.in-Some.entered c.has_changed_point.result c.has_need_for_entry.result c.has_point_after_entry.result
+    (sym c.in-Some.ensures) c.requires.rule c.has_changed_point.ensures c.has_need_for_entry.ensures c.has_point_after_entry.ensures)

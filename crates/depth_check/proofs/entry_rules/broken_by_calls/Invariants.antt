@@ -1,9 +1,0 @@
-use Rattle.std.proofs.Common.{take}
-use Rattle.vd_transfer.specs.Changes.{state_after}
-use Rattle.depth_check.specs.LeastBroken.{FindsLeastBroken}
-use Rattle.depth_check.specs.DutiesHold.{DutiesHold}
-use Rattle.depth_check.proofs.DutyLaws.{told_to, called}
-use Rattle.depth_check.proofs.entry_rules.broken_by_calls.Given as goal
-
-abbrev pub invariant-loop-t : goal.invariant-loop-t
-invariant-loop-t l = FindsLeastBroken (DutiesHold l.at.cert.now l.at.node.now l.at.point.state.now (told_to 5 (l.at.node.now).key (called (state_after l.at.point.state.now l.entry) l.targets l.back) (take l.t-index l.targets))) l.found

@@ -1,0 +1,393 @@
+// The rules of the duties of a point: what it enters, its interrupts, and how it leaves the node.
+ghost use Rattle.std.specs.Prelude.{◌≡◌, length, ◌≤◌, ◌↔◌, IsTrue, ◌+◌, [], ◌∷◌, unwrap_or};
+ghost use Rattle.std.specs.List.{flat_map};
+ghost use Rattle.depth_check.specs.LeastBroken.{FindsLeastBroken, LeastBrokenByDuties};
+ghost use Rattle.depth_cert.specs.Nodes.{IsWellNode};
+ghost use Rattle.depth_check.specs.DutiesHold.{GoesOn, LeavingHolds};
+ghost use Rattle.value_domain.specs.State.{AreWell};
+ghost use Rattle.vd_transfer.specs.Changes.{state_after};
+ghost use Rattle.depth_check.specs.PointChecks.{IsPointCheck};
+ghost use Rattle.tc_isa.specs.InBounds.{IsShape, IsShapeAccessSize, IsTarget};
+ghost use Rattle.vd_transfer.specs.EffectsOnStates.{address_of};
+ghost use Rattle.cfg_recover.specs.LocalFaults.{StandsFaultless};
+ghost use Rattle.cfg_recover.specs.Entries.{call_key, irqs_of};
+ghost use Rattle.cfg_recover.specs.LocalRules.{targets_of};
+ghost use Rattle.cfg_recover.specs.Duties.{owed, enter, entered_and_back, entries_of, misaligned_at, misaligned_of, interrupts_of, duties_of};
+ghost use Rattle.cfg_recover.specs.FlowDuties.{told_flow_return, told_irqs};
+ghost use Rattle.cfg_recover.specs.SetOperations.{HoldsCachedResults};
+ghost use Rattle.depth_check.specs.CheckedRegisters.{RegisterCallsHoldAt, RegistersHoldAt};
+ghost use Rattle.cfg_recover.specs.Entries as entries;
+ghost use Rattle.cfg_recover.specs.FlowDuties as flows;
+
+use crate::any_nodes::AnyNode;
+use crate::node_covers::{has_changed_point, has_covering_exit, has_point_after_return};
+use crate::points::{PointCheck, PointScratch};
+use crate::rules::{
+    NO_EXCEPTION_RETURN, NO_FUNCTION, NO_INTERRUPT, NO_MISALIGNED, NO_POINT, NO_RETURN,
+    NO_SYSTEM_CALL, SMALL_NEED, lesser_broken_rule,
+};
+use crate::successor_rules::broken_by_successors;
+use cfg_recover::{
+    Located, aln_key, call_change, direct_target, entered_key, handler_change, interrupts, irq_key,
+    is_flow_access_aligned, misaligned_change, rule_unless, sys_key, system_change, targets,
+};
+use depth_cert::{CALL, Key, SYS};
+use tc_isa::{Shape, Target};
+use value_domain::State;
+use vd_transfer::{Change, address_by};
+
+/// Returns the least rule that the duties of a point break: what it enters, its interrupts, how it
+/// leaves the node, or its successors. The instruction breaks no rule by itself.
+pub(crate) fn broken_by_duties(
+    at: &PointCheck<'_, '_>,
+    found: &Located,
+    scratch: &mut PointScratch,
+) -> Option<u8>
+    requires point { IsPointCheck at.now }
+    requires found { StandsFaultless at.now.bounds.now at.now.image.now at.now.plan.now
+        at.now.node.now.key at.now.point.addr at.now.point.state.now found.now }
+    requires results { HoldsCachedResults at.now.bounds.now scratch.old.cache }
+    requires registers { RegistersHoldAt at.now scratch.old.registers }
+    ensures found { LeastBrokenByDuties at.now
+        (duties_of at.now.bounds.now at.now.image.now at.now.plan.now at.now.node.now.key
+        at.now.point.addr at.now.point.state.now found.now.shape found.now.size) result }
+    ensures results { HoldsCachedResults at.now.bounds.now scratch.new.cache }
+    ensures registers { RegistersHoldAt at.now scratch.new.registers }
+{
+    let jumps = broken_by_successors(at, found, scratch);
+    let entered = broken_by_entries(at, found.shape, found.size, &mut scratch.registers.called);
+    let misaligned = broken_by_access(at, found);
+    let irqs = broken_by_interrupts(at);
+    let leave = broken_by_leaving(at.node, at.point.state, found.shape);
+    lesser_broken_rule(
+        lesser_broken_rule(
+            lesser_broken_rule(lesser_broken_rule(jumps, entered), misaligned),
+            irqs,
+        ),
+        leave,
+    )
+}
+
+/// Returns the least rule that a point's duties to enter interrupt handlers break. They are passed
+/// over if they are known to hold.
+pub(crate) fn broken_by_interrupts(at: &PointCheck<'_, '_>) -> Option<u8>
+    requires { IsPointCheck at.now }
+    ensures { LeastBrokenByDuties at.now
+        (interrupts_of at.now.plan.now at.now.node.now.key at.now.point.state.now) result }
+{
+    let again = at.point.again;
+    if again {
+        return None;
+    }
+    let enabled = at.point.state.ie;
+    if !enabled {
+        return None;
+    }
+    let irqs = interrupts(at.plan, at.point.state);
+    if irqs.is_empty() {
+        return None;
+    }
+    broken_by_taken(at, irqs.as_slice())
+}
+
+/// The least rule that the entries of these interrupts break. `entry` is their change, except for
+/// its CCPN.
+pub(crate) fn broken_by_irqs(at: &PointCheck<'_, '_>, irqs: &[u8], entry: Change) -> Option<u8>
+    requires point { IsPointCheck at.now }
+    requires entry { AreWell (state_after at.now.point.state.now entry).regs }
+    ensures { LeastBrokenByDuties at.now
+        (told_irqs at.now.plan.now (state_after at.now.point.state.now entry) irqs.now) result }
+{
+    let mut entry = entry;
+    let mut found = None;
+    for p in irqs {
+        entry.ccpn = *p;
+        let one = broken_by_entry(at, NO_INTERRUPT, &irq_key(at.plan, *p), &entry, None);
+        found = lesser_broken_rule(found, one);
+    }
+    found
+}
+
+/// The least rule that the entries of a call or a system call break.
+fn broken_by_entries(
+    at: &PointCheck<'_, '_>,
+    shape: Shape,
+    size: u32,
+    called: &mut Option<u8>,
+) -> Option<u8>
+    requires point { IsPointCheck at.now }
+    requires shape { IsShape shape }
+    requires called { RegisterCallsHoldAt at.now called.old }
+    ensures found { LeastBrokenByDuties at.now
+        (entries_of at.now.plan.now at.now.node.now.key at.now.point.addr at.now.point.state.now
+        shape size) result }
+    ensures called { RegisterCallsHoldAt at.now called.new }
+{
+    let back = at.point.addr.wrapping_add(size);
+    match shape {
+        Shape::Call { to } => broken_by_call_kept(at, to, back, called),
+        Shape::Syscall { tin } => broken_by_system(at, tin, back),
+        _ => None,
+    }
+}
+
+/// The least rule that the trap of a misaligned access breaks. Without that trap in the plan no
+/// entry is owed, since rule 10 holds.
+fn broken_by_access(at: &PointCheck<'_, '_>, found: &Located) -> Option<u8>
+    requires point { IsPointCheck at.now }
+    requires found { StandsFaultless at.now.bounds.now at.now.image.now at.now.plan.now
+        at.now.node.now.key at.now.point.addr at.now.point.state.now found.now }
+    ensures { LeastBrokenByDuties at.now
+        (misaligned_of at.now.bounds.now at.now.plan.now at.now.node.now.key at.now.point.state.now
+        found.now.shape) result }
+{
+    let plan = at.plan;
+    if !plan.aln {
+        return None;
+    }
+    match found.shape {
+        Shape::Load { size, .. } => broken_by_misaligned(at, found.shape, size),
+        Shape::Store { size, .. } => broken_by_misaligned(at, found.shape, size),
+        _ => None,
+    }
+}
+
+/// Returns the least rule that a point's duty to leave its node breaks: by RET, or by RFE in the
+/// handler of system calls.
+#[tactic(auto, unfolding(cfg_recover::specs::FlowDuties::flow_leave_of))]
+fn broken_by_leaving(node: &AnyNode<'_>, s: &State, shape: Shape) -> Option<u8>
+    requires node { IsWellNode node.now }
+    requires state { AreWell s.now.regs }
+    ensures { FindsLeastBroken (LeavingHolds node.now s.now (flows.flow_leave_of shape)) result }
+{
+    match shape {
+        Shape::Ret => rule_unless(has_covering_exit(node, s), NO_RETURN),
+        Shape::Rfe => {
+            if node.key.kind == SYS {
+                rule_unless(has_covering_exit(node, s), NO_EXCEPTION_RETURN)
+            } else {
+                None
+            }
+        }
+        _ => None,
+    }
+}
+
+/// The least rule that a call breaks. Calls by the register `called` are passed over if the point
+/// after them has the current state; if calls by another register hold, that one is kept.
+fn broken_by_call_kept(
+    at: &PointCheck<'_, '_>,
+    to: Target,
+    back: u32,
+    called: &mut Option<u8>,
+) -> Option<u8>
+    requires point { IsPointCheck at.now }
+    requires target { IsTarget to }
+    requires called { RegisterCallsHoldAt at.now called.old }
+    ensures found { LeastBrokenByDuties at.now
+        (flat_map (λ t. entered_and_back 5 (call_key at.now.node.now.key t)
+        (entries.call_entry at.now.point.state.now) back)
+        (unwrap_or (targets_of at.now.plan.now at.now.point.state.now at.now.point.addr to) []))
+        result }
+    ensures called { RegisterCallsHoldAt at.now called.new }
+{
+    let Target::Reg(r) = to else {
+        return broken_by_call(at, to, back);
+    };
+    let call = Target::Reg(r);
+    if at.point.next != Some(back) {
+        return broken_by_call(at, call, back);
+    }
+    if *called == Some(r) {
+        return None;
+    }
+    let found = broken_by_call(at, call, back);
+    if found.is_none() {
+        *called = Some(r);
+    }
+    found
+}
+
+/// Returns the least rule that the entry of the handler of the system call `tin` breaks, with the
+/// point to which it returns.
+#[inline(never)]
+fn broken_by_system(at: &PointCheck<'_, '_>, tin: u8, back: u32) -> Option<u8>
+    requires { IsPointCheck at.now }
+    ensures { LeastBrokenByDuties at.now
+        (entered_and_back 12 (entries.sys_key at.now.plan.now at.now.node.now.key)
+        (entries.sys_entry at.now.plan.now at.now.node.now.key at.now.point.state.now tin) back)
+        result }
+{
+    let node = at.node;
+    let entry = system_change(at.bounds, at.plan, &node.key, at.point.state, tin);
+    let key = sys_key(at.plan, &node.key);
+    broken_by_entry(at, NO_SYSTEM_CALL, &key, &entry, Some(back))
+}
+
+/// Returns the least rule that the entries of a call's functions break, with the points to which
+/// they return.
+#[inline(never)]
+fn broken_by_call(at: &PointCheck<'_, '_>, to: Target, back: u32) -> Option<u8>
+    requires point { IsPointCheck at.now }
+    requires target { IsTarget to }
+    ensures { LeastBrokenByDuties at.now
+        (flat_map (λ t. entered_and_back 5 (call_key at.now.node.now.key t)
+        (entries.call_entry at.now.point.state.now) back)
+        (unwrap_or (targets_of at.now.plan.now at.now.point.state.now at.now.point.addr to) []))
+        result }
+{
+    let entry = call_change(at.bounds, at.point.state);
+    match direct_target(at.point.addr, to) {
+        Some(target) => broken_by_calls(at, &entry, &[target], back),
+        None => broken_by_listed_calls(at, &entry, to, back),
+    }
+}
+
+/// The least rule that calls of these targets break. They return to `back`.
+fn broken_by_calls(
+    at: &PointCheck<'_, '_>,
+    entry: &Change,
+    targets: &[u32],
+    back: u32,
+) -> Option<u8>
+    requires point { IsPointCheck at.now }
+    requires entry { AreWell (state_after at.now.point.state.now entry.now).regs }
+    ensures { LeastBrokenByDuties at.now
+        (flat_map (λ t. entered_and_back 5 (call_key at.now.node.now.key t)
+        (state_after at.now.point.state.now entry.now) back) targets.now) result }
+{
+    let node = at.node;
+    let mut found = None;
+    for t in targets {
+        let key = entered_key(&node.key, CALL, *t);
+        let one = broken_by_entry(at, NO_FUNCTION, &key, entry, Some(back));
+        found = lesser_broken_rule(found, one);
+    }
+    found
+}
+
+/// The least rule that a call breaks whose targets are those of a register.
+#[inline(never)]
+fn broken_by_listed_calls(
+    at: &PointCheck<'_, '_>,
+    entry: &Change,
+    to: Target,
+    back: u32,
+) -> Option<u8>
+    requires point { IsPointCheck at.now }
+    requires target { IsTarget to }
+    requires entry { AreWell (state_after at.now.point.state.now entry.now).regs }
+    ensures { LeastBrokenByDuties at.now
+        (flat_map (λ t. entered_and_back 5 (call_key at.now.node.now.key t)
+        (state_after at.now.point.state.now entry.now) back)
+        (unwrap_or (targets_of at.now.plan.now at.now.point.state.now at.now.point.addr to) []))
+        result }
+{
+    let targets = targets(at.plan, at.point.state, at.point.addr, to);
+    broken_by_calls(at, entry, targets.as_slice(), back)
+}
+
+/// The least rule that the entry of a key's node with a changed state breaks. `rule` asks for the
+/// entry; the frame returns to `back`.
+fn broken_by_entry(
+    at: &PointCheck<'_, '_>,
+    rule: u8,
+    key: &Key,
+    entry: &Change,
+    back: Option<u32>,
+) -> Option<u8>
+    requires rule { rule ≤ 14 }
+    requires point { IsPointCheck at.now }
+    requires entry { AreWell (state_after at.now.point.state.now entry.now).regs }
+    ensures { LeastBrokenByDuties at.now
+        (owed rule (enter key.now (state_after at.now.point.state.now entry.now))
+        ∷ told_flow_return key.now back) result }
+{
+    let cert = at.cert;
+    let node = at.node;
+    let s = at.point.state;
+    let Some(entered) = cert.node(key) else {
+        return Some(rule);
+    };
+    let into = rule_unless(has_changed_point(&entered, key.entry, s, entry), rule);
+    let need = rule_unless(has_need_for_entry(node, s, &entered), SMALL_NEED);
+    let on = rule_unless(
+        has_point_after_entry(node, s, &entered, key.kind, back),
+        NO_POINT,
+    );
+    lesser_broken_rule(lesser_broken_rule(into, need), on)
+}
+
+/// Whether the need of a node is at least the areas of its locals, one for the entry, and the
+/// entered node's need.
+fn has_need_for_entry(node: &AnyNode<'_>, s: &State, entered: &AnyNode<'_>) -> bool
+    ensures { IsTrue result ↔ (length s.now.locals.items + 1 + entered.now.need ≤ node.now.need) }
+{
+    s.locals.len() + 1 + usize::from(entered.need) <= usize::from(node.need)
+}
+
+/// Tests rule 4 of an entry: whether the node goes on at `back` after a frame of the entered node
+/// has returned. True if `back` is no address.
+fn has_point_after_entry(
+    node: &AnyNode<'_>,
+    s: &State,
+    entered: &AnyNode<'_>,
+    kind: u8,
+    back: Option<u32>,
+) -> bool
+    requires node { IsWellNode node.now }
+    requires entered { IsWellNode entered.now }
+    requires state { AreWell s.now.regs }
+    ensures { IsTrue result ↔ GoesOn node.now s.now entered.now kind back }
+{
+    match back {
+        Some(at) => has_point_after_return(node, at, s, entered, kind),
+        None => true,
+    }
+}
+
+/// Returns the least rule that the trap of a misaligned access of this size breaks, if it may be
+/// taken. The address is computed here, so that other instructions need no room for a value.
+#[inline(never)]
+fn broken_by_misaligned(at: &PointCheck<'_, '_>, shape: Shape, size: u8) -> Option<u8>
+    requires point { IsPointCheck at.now }
+    requires shape { IsShape shape }
+    requires size { IsShapeAccessSize size }
+    ensures { LeastBrokenByDuties at.now
+        (misaligned_at at.now.plan.now at.now.node.now.key at.now.point.state.now
+        (address_of at.now.bounds.now at.now.plan.now shape at.now.point.state.now) size) result }
+{
+    let accessed = address_by(at.bounds, at.plan, shape, at.point.state);
+    if is_flow_access_aligned(at.bounds, &accessed, size) {
+        return None;
+    }
+    broken_by_trap(at)
+}
+
+/// The least rule that the entry of the handler of misaligned accesses breaks.
+#[inline(never)]
+fn broken_by_trap(at: &PointCheck<'_, '_>) -> Option<u8>
+    requires { IsPointCheck at.now }
+    ensures { LeastBrokenByDuties at.now
+        (owed 10 (enter (entries.aln_key at.now.plan.now at.now.node.now.key)
+        (entries.aln_entry at.now.plan.now at.now.node.now.key at.now.point.state.now)) ∷ [])
+        result }
+{
+    let node = at.node;
+    let entry = misaligned_change(at.bounds, at.plan, &node.key, at.point.state);
+    let key = aln_key(at.plan, &node.key);
+    broken_by_entry(at, NO_MISALIGNED, &key, &entry, None)
+}
+
+/// The least rule that the entries of these interrupts break, which are all that may be taken.
+#[inline(never)]
+fn broken_by_taken(at: &PointCheck<'_, '_>, irqs: &[u8]) -> Option<u8>
+    requires point { IsPointCheck at.now }
+    requires irqs { irqs.now ≡ irqs_of at.now.plan.now at.now.point.state.now }
+    ensures { LeastBrokenByDuties at.now
+        (interrupts_of at.now.plan.now at.now.node.now.key at.now.point.state.now) result }
+{
+    let node = at.node;
+    let entry = handler_change(at.bounds, at.plan, &node.key, at.point.state, 0);
+    broken_by_irqs(at, irqs, entry)
+}

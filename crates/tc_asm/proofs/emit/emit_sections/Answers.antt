@@ -1,8 +1,0 @@
-use Rattle.std.proofs.Common.{[], arith}
-use Rattle.tc_asm.specs.DraftViews.{part_of}
-use Rattle.tc_asm.specs.Objects.{section_of}
-use Rattle.tc_stmt.proofs.LoopLaws.{pushed_seen}
-use Rattle.tc_asm.proofs.emit.emit_sections.Goals as goal
-
-pub loop-i-preserved : goal.loop-i-preserved
-loop-i-preserved c = pushed_seen part_of section_of [] c.args.parts.now c.loop-i.i c.index-parts-i.result _ _ _ (omega arith) c.index-parts-i.is c.in_ok-push.ensures.items c.in_ok-made.ensures c.loop-i.invariant

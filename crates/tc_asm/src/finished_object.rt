@@ -1,0 +1,180 @@
+// Turns a draft into an object.
+ghost use Rattle.std.specs.Prelude.{◌≡◌, ◌<◌, ◌++◌, ◌+◌, ◌^◌, map, length, All, IfOk, OnOk, is_some, true, string_bytes, ◌≤◌};
+ghost use Rattle.tc_object.specs.Names.{object_name_of as name_in};
+ghost use Rattle.tc_stmt.specs.Items.{reference_of};
+ghost use Rattle.tc_asm.specs.DraftViews.{use_of, part_of};
+ghost use Rattle.tc_asm.specs.Objects.{section_of, symbol_of, assembled_addend, reloc_of, object_of, relocs_from};
+ghost use Rattle.tc_asm.specs.Symbols.{symbol as known_as};
+ghost use Rattle.tc_asm.specs.DraftInvariants.{IsDraft, IsSmallLabelPlace};
+
+use crate::draft::Draft;
+use crate::sections::{Part, Use, part_len};
+use crate::symbols::{Entry, Symbols};
+use std::alloc::{AllocError, Global};
+use tc_object::{
+    GLOBAL_SYMBOL, LOCAL_SYMBOL, Object, Reloc, Section, Symbol, UNDEFINED_SYMBOL, object_name_of,
+};
+use tc_stmt::Reference;
+
+/// The symbols of the object, in the order of the draft.
+pub(crate) fn emit_symbols(alloc: Global, known: &Symbols) -> Result<Vec<Symbol>, AllocError>
+    requires names { All (λ s. is_some (name_in s.name) ≡ true) known.now }
+    requires small { All (λ s. IsSmallLabelPlace s.entry.place) known.now }
+    ensures { IfOk result (λ v. v.items ≡ map symbol_of known.now) }
+{
+    let mut out = Vec::new(alloc);
+    for i in 0..known.len() {
+        let (name, entry) = known.at(i);
+        let made = emit_symbol(alloc, name, entry)?;
+        out.push(made)?;
+    }
+    Ok(out)
+}
+
+/// Turns the uses in a draft's section into relocations of the object, and adds them to the list.
+pub(crate) fn emit_section_relocs(
+    out: &mut Vec<Reloc>,
+    known: &Symbols,
+    section: usize,
+    uses: &[Use<'_>],
+) -> Result<(), AllocError>
+    requires symbols { length known.now < 2 ^ 16 }
+    requires section { section < 2 ^ 16 }
+    requires offsets { All (λ u. u.offset < 2 ^ 32) uses.now }
+    ensures { OnOk result
+        (out.new.items ≡ out.old.items ++ map (reloc_of known.now section) (map use_of uses.now)) }
+{
+    for i in 0..uses.len() {
+        out.push(emit_reloc(known, section, uses[i]))?;
+    }
+    Ok(())
+}
+
+/// The object of a draft.
+pub(crate) fn emit_object(alloc: Global, draft: Draft<'_>) -> Result<Object, AllocError>
+    requires { IsDraft draft }
+    ensures { IfOk result (λ o. o ≡ object_of draft.entry) }
+{
+    let sections = emit_sections(alloc, &draft.parts)?;
+    let symbols = emit_symbols(alloc, &draft.symbols)?;
+    let relocs = emit_relocs(alloc, &draft.symbols, &draft.parts)?;
+    Ok(Object {
+        sections,
+        symbols,
+        relocs,
+    })
+}
+
+/// The relocations of the object: one for each use of a symbol, in the order of the sections.
+pub(crate) fn emit_relocs(
+    alloc: Global,
+    known: &Symbols,
+    parts: &[Part],
+) -> Result<Vec<Reloc>, AllocError>
+    requires symbols { length known.now < 2 ^ 16 }
+    requires few { length parts.now ≤ 64 }
+    requires offsets { All (λ p. All (λ u. u.offset < 2 ^ 32) p.uses.items) parts.now }
+    ensures { IfOk result (λ v. v.items ≡ relocs_from known.now 0 (map part_of parts.now)) }
+{
+    let mut out = Vec::new(alloc);
+    for i in 0..parts.len() {
+        emit_section_relocs(&mut out, known, i, &parts[i].uses)?;
+    }
+    Ok(out)
+}
+
+/// A symbol of the draft as one of the object.
+fn emit_symbol(alloc: Global, name: &[u8], entry: Entry) -> Result<Symbol, AllocError>
+    requires name { is_some (name_in name.now) ≡ true }
+    requires small { IsSmallLabelPlace entry.place }
+    ensures { IfOk result (λ s. s ≡ symbol_of (known_as name.now entry)) }
+{
+    let name = emit_name(alloc, name)?;
+    match entry.place {
+        None => Ok(Symbol {
+            name,
+            kind: UNDEFINED_SYMBOL,
+            section: 0,
+            offset: 0,
+        }),
+        Some(place) => Ok(Symbol {
+            name,
+            kind: if entry.is_global {
+                GLOBAL_SYMBOL
+            } else {
+                LOCAL_SYMBOL
+            },
+            section: place.section as u16,
+            offset: place.offset as u32,
+        }),
+    }
+}
+
+// A name as an owned text.
+fn emit_name(alloc: Global, name: &[u8]) -> Result<String, AllocError>
+    requires { is_some (name_in name.now) ≡ true }
+    ensures { IfOk result (λ s. string_bytes s ≡ name.now) }
+{
+    String::from_str(alloc, object_name_of(name).unwrap())
+}
+
+/// The relocation for a use of a symbol in the section of this number.
+fn emit_reloc(known: &Symbols, section: usize, u: Use<'_>) -> Reloc
+    requires symbols { length known.now < 2 ^ 16 }
+    requires section { section < 2 ^ 16 }
+    requires offset { u.offset < 2 ^ 32 }
+    ensures { result ≡ reloc_of known.now section (use_of u.entry) }
+{
+    Reloc {
+        section: section as u16,
+        offset: u.offset as u32,
+        kind: u.reference.kind,
+        symbol: known.number(u.reference.name) as u16,
+        addend: assembled_addend(u.reference),
+    }
+}
+
+/// Returns the addend of a relocation of the finished object: the number that the source adds to
+/// the symbol, modulo 2^32.
+fn assembled_addend(r: Reference<'_>) -> u32
+    ensures { result ≡ assembled_addend (reference_of r.entry) }
+{
+    if r.minus {
+        r.size.wrapping_neg()
+    } else {
+        r.size
+    }
+}
+
+/// The sections of the object, in the order of the draft.
+fn emit_sections(alloc: Global, parts: &[Part]) -> Result<Vec<Section>, AllocError>
+    requires { All (λ p. is_some (name_in p.name.now) ≡ true) parts.now }
+    ensures { IfOk result (λ v. v.items ≡ map section_of (map part_of parts.now)) }
+{
+    let mut out = Vec::new(alloc);
+    for i in 0..parts.len() {
+        let made = emit_section(alloc, &parts[i])?;
+        out.push(made)?;
+    }
+    Ok(out)
+}
+
+/// A section of the draft as one of the object.
+fn emit_section(alloc: Global, part: &Part) -> Result<Section, AllocError>
+    requires { is_some (name_in part.now.name.now) ≡ true }
+    ensures { IfOk result (λ s. s ≡ section_of (part_of part.now)) }
+{
+    let name = emit_name(alloc, part.name)?;
+    let bytes = emit_part_bytes(alloc, part)?;
+    Ok(Section { name, bytes })
+}
+
+/// The bytes that the object gets from a section of the draft, with the zeros that are only
+/// counted.
+fn emit_part_bytes(alloc: Global, part: &Part) -> Result<Vec<u8>, AllocError>
+    ensures { IfOk result (λ v. v.items ≡ (part_of part.now).bytes) }
+{
+    let mut bytes = Vec::from_slice(alloc, &part.bytes)?;
+    bytes.resize(part_len(part), 0)?;
+    Ok(bytes)
+}

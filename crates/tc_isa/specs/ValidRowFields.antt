@@ -1,0 +1,76 @@
+-- Valid rows: the fields that a row has, the fields that fit it, and that no two rows clash.
+use Rattle.std.specs.Prelude.{◌≡◌, ◌<◌, ◌==◌, ◌&&◌, ◌||◌, not, ℕ, List, ◌∷◌, Bool, true, false, nat_lt, if◌then◌else◌, []}
+use Rattle.std.specs.List.{list_any}
+use Rattle.tc_isa.specs.Rows.{RowData, is_long}
+use Rattle.tc_isa.specs.declared.fields.Fields.{Fields}
+use Rattle.tc_isa.specs.declared.fields.Uses.{Uses}
+use Rattle.tc_isa.specs.Forms.{bounds, second_bound, fields, is_long_form, form_index}
+use Rattle.tc_isa.specs.InBounds.{IsBelow, is_below_test}
+
+-- a row has the field whose name these two letters are, such as s1: they stand side by side in the
+-- text of its operands
+abbrev pub has_operand_pair : ℕ → ℕ → List ℕ → Bool
+has_operand_pair a b [] = false
+has_operand_pair a b (x ∷ []) = false
+has_operand_pair a b (x ∷ y ∷ rest) = x == a && y == b || has_operand_pair a b (y ∷ rest)
+
+-- a row has the field whose name this letter is, such as c: it stands in the text of its operands
+abbrev pub has_operand_byte : ℕ → List ℕ → Bool
+has_operand_byte a xs = list_any (λ x. x == a) xs
+
+-- which fields are valid in a row, by the text of its operands: c, s1, s2 (or the constant k4 kept
+-- there), n, and k or a target
+abbrev pub uses_of : RowData → Uses
+uses_of r = record {
+  c = has_operand_byte 99 r.operands;
+  s1 = has_operand_pair 115 49 r.operands;
+  s2 = has_operand_pair 115 50 r.operands || has_operand_pair 107 52 r.operands;
+  n = has_operand_byte 110 r.operands;
+  k = has_operand_byte 107 r.operands || has_operand_byte 84 r.operands || has_operand_byte 85 r.operands;
+}
+
+-- a condition of fields that are valid for a row: each field that the row doesn't have is 0
+abbrev pub are_unused_fields_zero : Uses → Fields → Bool
+are_unused_fields_zero u f = (u.c || f.c == 0) && (u.s1 || f.s1 == 0) && (u.s2 || f.s2 == 0) && (u.n || f.n == 0) && (u.k || f.k == 0)
+
+-- the registers are valid for the row: an address register that is loaded or stored with
+-- post-increment isn't the base too
+abbrev pub are_registers_apart : RowData → Fields → Bool
+are_registers_apart r f = not ((r.op1 == 9 || r.op1 == 137) && r.op2 == 6) || not (f.s1 == f.s2)
+
+-- the fields are valid for the row: below the bounds of its form, 0 if the row doesn't have them,
+-- and with its registers apart
+pub record FieldsFitRow (r : RowData) (f : Fields) : Type 0 where
+  pub below : IsBelow f (bounds r.form)
+  pub zero : are_unused_fields_zero (uses_of r) f ≡ true
+  pub apart : are_registers_apart r f ≡ true
+
+-- both truth values hold, or neither, as for the sizes of a valid row and of its form
+abbrev pub are_bools_equal : Bool → Bool → Bool
+are_bools_equal true b = b
+are_bools_equal false b = not b
+
+-- the least fields that fit a valid row: all 0, except an address register that can't be the base
+abbrev pub least_fields : RowData → Fields
+least_fields r = if are_registers_apart r (fields 0 0 0 0 0) then fields 0 0 0 0 0 else fields 0 1 0 0 0
+
+-- the codes fit the form, and the least fields the row
+pub record IsRow (r : RowData) : Type 0 where
+  pub first : r.op1 < 256
+  pub second : r.op2 < second_bound r.form
+  pub has_least : FieldsFitRow r (least_fields r)
+  pub size : is_long r ≡ is_long_form r.form
+
+-- the test of IsRow
+unfoldable pub is_row : RowData → Bool
+is_row r = nat_lt r.op1 256 && nat_lt r.op2 (second_bound r.form) && is_below_test (least_fields r) (bounds r.form) && are_unused_fields_zero (uses_of r) (least_fields r) && are_registers_apart r (least_fields r) && are_bools_equal (is_long r) (is_long_form r.form)
+
+-- two rows clash if some word could be both: they have one first code, and different forms or equal
+-- second codes
+abbrev pub clash : RowData → RowData → Bool
+clash r s = r.op1 == s.op1 && (not (form_index r.form == form_index s.form) || r.op2 == s.op2)
+
+-- no two rows clash
+abbrev pub none_clash : List RowData → Bool
+none_clash [] = true
+none_clash (r ∷ rs) = not (list_any (clash r) rs) && none_clash rs

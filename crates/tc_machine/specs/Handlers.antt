@@ -1,0 +1,36 @@
+-- Entries of handlers of traps and interrupts.
+use Rattle.std.specs.Prelude.{ℕ, ◌+◌, ◌*◌, ◌/◌, ◌%◌, ◌^◌, true, false, if◌then◌else◌, slice_set, bit_or}
+use Rattle.tc_machine.specs.declared.state.Machine.{Machine}
+use Rattle.tc_machine.specs.Machine.{a10, is_interrupt_stack_used, then_}
+use Rattle.tc_machine.specs.SavesAndRestores.{save}
+
+-- A10 in a handler of a trap or an interrupt: the interrupt stack's pointer, or A10 as it is if
+-- that stack is in use already
+abbrev pub handler_stack : Machine → ℕ
+handler_stack m = if is_interrupt_stack_used m.psw then a10 m else m.isp
+
+-- PSW in a handler of a trap or an interrupt: IO (bits 11:10) is 2, PRS (bits 13:12) 0, IS (bit 9)
+-- 1 and GW (bit 8) 0; the other bits stay
+abbrev pub handler_psw : ℕ → ℕ
+handler_psw psw = psw / 2 ^ 14 * 2 ^ 14 + 2 * 2 ^ 10 + 2 ^ 9 + psw % 2 ^ 8
+
+-- the machine at the entry of a handler, after the save s: A11 is the address to return to, A10 and
+-- PSW are the handler's, IE is off, and pc is the entry
+abbrev pub at_handler : Machine → Machine → ℕ → ℕ → Machine
+at_handler m s back entry = record s {
+  a = slice_set (slice_set s.a 11 back) 10 (handler_stack m);
+  psw = handler_psw m.psw;
+  ie = false;
+  pc = entry;
+}
+
+-- what a trap does, as of an instruction syscall or a misaligned access: the upper context is
+-- saved, the handler of its class entered, and D15 set to the trap's number
+abbrev pub trap : Machine → ℕ → ℕ → ℕ → Machine
+trap m class tin back =
+    then_ (save m true) (λ s. record (at_handler m s back (bit_or m.btv (class * 2 ^ 5))) { d = slice_set s.d 15 tin })
+
+-- an interrupt: volume 1, interrupts
+abbrev pub interrupt : Machine → ℕ → Machine
+interrupt m irq =
+    then_ (save m true) (λ s. record (at_handler m s m.pc (bit_or m.biv (irq * 2 ^ 5))) { ccpn = irq })

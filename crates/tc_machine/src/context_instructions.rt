@@ -1,0 +1,129 @@
+// Executes the instructions that save or restore a context: calls, returns, system calls and more.
+ghost use Rattle.std.specs.Prelude.{◌≡◌};
+ghost use Rattle.tc_isa.specs.InBounds.{IsShape, IsTarget};
+ghost use Rattle.tc_machine.specs.declared.events.Event.{Event};
+ghost use Rattle.tc_machine.specs.Instructions.{does};
+ghost use Rattle.tc_machine.specs.InstructionKinds.{OnContextInstruction};
+
+use crate::operand_addresses::machine_address_ahead;
+use crate::{End, Event, Machine};
+use csa_chain::pcxi_parts;
+use tc_isa::{Shape, Target};
+
+/// The class of traps that system calls take.
+const SYSTEM_CALLS: u8 = 6;
+
+impl Machine {
+    /// Executes an instruction that saves or restores a context.
+    #[tactic(auto, unfolding(crate::specs::Instructions::does))]
+    pub(crate) fn execute_context(&mut self, event: &Event, shape: Shape, n: u32)
+        requires { IsShape shape }
+        ensures { OnContextInstruction shape (self.new ≡ does self.old event.now shape n) }
+    {
+        match shape {
+            Shape::Call { to } => self.call(to, n),
+            Shape::Ret => self.go_back(n),
+            Shape::Rfe => self.leave_handler(n),
+            Shape::Svlcx => self.save_lower(n),
+            Shape::Rslcx => self.take_lower(n),
+            Shape::Bisr { c } => self.begin_interruptible(c, n),
+            Shape::Syscall { tin } => self.trap(
+                SYSTEM_CALLS,
+                tin,
+                machine_address_ahead(self.pc, n),
+            ),
+            _ => {}
+        }
+    }
+
+    /// Executes a call: saves the upper context, and goes to the function with the return address
+    /// in A11.
+    #[tactic(auto, unfolding(crate::specs::Instructions::does))]
+    fn call(&mut self, to: Target, n: u32)
+        requires { IsShape (Shape.Call to) }
+        ensures { (event : Event) → self.new ≡ does self.old event (Shape.Call to) n }
+    {
+        let entry = self.target(to);
+        let back = machine_address_ahead(self.pc, n);
+        self.save(true);
+        match self.end {
+            End::Running => {
+                self.a[11] = back;
+                self.pc = entry;
+            }
+            End::Dead(_) => {}
+        }
+    }
+
+    /// Executes the instruction `ret`: restores the upper context, and returns from a call.
+    #[tactic(auto, unfolding(crate::specs::Instructions::does))]
+    fn go_back(&mut self, n: u32)
+        ensures { (event : Event) → self.new ≡ does self.old event Shape.Ret n }
+    {
+        let back = self.a[11] / 2 * 2;
+        self.restore(true);
+        match self.end {
+            End::Running => self.pc = back,
+            End::Dead(_) => {}
+        }
+    }
+
+    /// Executes the instruction `rfe`: restores the upper context, and IE and CCPN from PCXI, and
+    /// returns from a handler.
+    #[tactic(auto, unfolding(crate::specs::Instructions::does))]
+    fn leave_handler(&mut self, n: u32)
+        ensures { (event : Event) → self.new ≡ does self.old event Shape.Rfe n }
+    {
+        let back = self.a[11] / 2 * 2;
+        let parts = pcxi_parts(self.core, self.pcxi);
+        self.restore(true);
+        match self.end {
+            End::Running => {
+                self.pc = back;
+                self.ie = parts.pie;
+                self.ccpn = parts.pcpn;
+            }
+            End::Dead(_) => {}
+        }
+    }
+
+    /// Executes the instruction `svlcx`: saves the lower context, and goes on after it.
+    #[tactic(auto, unfolding(crate::specs::Instructions::does))]
+    fn save_lower(&mut self, n: u32)
+        ensures { (event : Event) → self.new ≡ does self.old event Shape.Svlcx n }
+    {
+        self.save(false);
+        match self.end {
+            End::Running => self.advance(n),
+            End::Dead(_) => {}
+        }
+    }
+
+    /// Executes the instruction `rslcx`: restores the lower context, and goes on after it.
+    #[tactic(auto, unfolding(crate::specs::Instructions::does))]
+    fn take_lower(&mut self, n: u32)
+        ensures { (event : Event) → self.new ≡ does self.old event Shape.Rslcx n }
+    {
+        self.restore(false);
+        match self.end {
+            End::Running => self.advance(n),
+            End::Dead(_) => {}
+        }
+    }
+
+    /// Executes `bisr`: saves the lower context, sets CCPN and enables interrupts.
+    #[tactic(auto, unfolding(crate::specs::Instructions::does))]
+    fn begin_interruptible(&mut self, c: u8, n: u32)
+        ensures { (event : Event) → self.new ≡ does self.old event (Shape.Bisr c) n }
+    {
+        self.save(false);
+        match self.end {
+            End::Running => {
+                self.advance(n);
+                self.ccpn = c;
+                self.ie = true;
+            }
+            End::Dead(_) => {}
+        }
+    }
+}

@@ -1,0 +1,166 @@
+// The values of `.byte`, `.half`, `.word` and `.space`.
+ghost use Rattle.std.specs.Prelude.{◌≡◌, ◌≤◌, ◌<◌, ◌+◌, ◌^◌, ◌*◌, take, true, if◌then◌else◌, ◌⊎◌, map, length, ◌==◌, ◌++◌, OnOk, IfOk, min};
+ghost use Rattle.tcd_base.specs.Bytes.{four_bytes};
+ghost use Rattle.tc_lex.specs.Operands.{operand_of};
+ghost use Rattle.tc_stmt.specs.Items.{reference_of, item_of};
+ghost use Rattle.tc_stmt.specs.OperandForms.{shape_index, operand_number_modulo};
+ghost use Rattle.tc_stmt.specs.DataValues.{is_value_within_width, value_rule, value_item, space_rule, space_item, values_rule};
+ghost use Rattle.tc_stmt.specs.SourceRules.{no_rule};
+ghost use Rattle.tc_stmt.specs.SourceViews.{Adds};
+
+use crate::item::Item;
+use crate::shape_numbers::{HIGH, HUGE, LOW, NUMBER, SUM, WORD};
+use crate::source_rules::{MISPLACED_SYMBOL, NO_RULE, PAST_LIMITS, WIDE_NUMBER, WRONG_OPERANDS};
+use crate::{shape_index, symbol_rule};
+use std::alloc::AllocError;
+use tc_lex::Operand;
+
+/// The least rule that a value of `width` bytes breaks, or no rule.
+#[tactic(auto, unfolding(crate::specs::DataValues::value_rule))]
+pub(crate) fn value_rule(width: u8, o: &Operand<'_>) -> u8
+    requires { (width ≡ 1) ⊎ ((width ≡ 2) ⊎ (width ≡ 4)) }
+    ensures value { result ≡ value_rule width (operand_of o.now) }
+    ensures small { result ≡ no_rule → o.now.value.size < 2 ^ 32 }
+{
+    let shape = shape_index(o.value.shape);
+    if o.is_memory {
+        WRONG_OPERANDS
+    } else if shape == NUMBER {
+        if is_value_within_width(width, o.value.minus, o.value.size) {
+            NO_RULE
+        } else {
+            WIDE_NUMBER
+        }
+    } else if shape == HUGE {
+        WIDE_NUMBER
+    } else if shape == WORD || shape == SUM {
+        let rule = symbol_rule(&o.value);
+        if width == 4 {
+            rule
+        } else {
+            rule.min(MISPLACED_SYMBOL)
+        }
+    } else if shape == HIGH || shape == LOW {
+        symbol_rule(&o.value).min(MISPLACED_SYMBOL)
+    } else {
+        WRONG_OPERANDS
+    }
+}
+
+/// The item for a value of `width` bytes; `rule` is the least rule that the value breaks, or no
+/// rule. If it breaks one, its bytes are zeros.
+#[tactic(auto, unfolding(crate::specs::DataValues::value_item))]
+pub(crate) fn value_item<'a>(rule: u8, width: u8, o: &Operand<'a>) -> Item<'a>
+    requires rule { rule ≡ value_rule width (operand_of o.now) }
+    requires small { rule ≡ no_rule → o.now.value.size < 2 ^ 32 }
+    ensures { item_of result ≡ value_item width (operand_of o.now) }
+{
+    if rule != NO_RULE {
+        return Item::Zeros(u32::from(width));
+    }
+    let size = o.value.size as u32;
+    if shape_index(o.value.shape) == NUMBER {
+        return Item::Data(width, data_word_bytes(o.value.minus, size));
+    }
+    Item::Word(width, o.value.minus, size, o.value.name)
+}
+
+/// Returns the least rule that the number N of the data `.space N` breaks by itself, or no rule: N
+/// may be negative, too large or no number.
+#[tactic(auto, unfolding(crate::specs::DataValues::space_rule))]
+pub(crate) fn space_rule(o: &Operand<'_>) -> u8
+    ensures value { result ≡ space_rule (operand_of o.now) }
+    ensures small { result ≡ no_rule → o.now.value.size ≤ 2 ^ 24 }
+{
+    let shape = shape_index(o.value.shape);
+    if o.is_memory {
+        WRONG_OPERANDS
+    } else if shape == NUMBER {
+        if o.value.minus && o.value.size != 0 {
+            WIDE_NUMBER
+        } else if o.value.size <= 0x100_0000 {
+            NO_RULE
+        } else {
+            PAST_LIMITS
+        }
+    } else if shape == HUGE {
+        WIDE_NUMBER
+    } else if shape == WORD || shape == SUM || shape == HIGH || shape == LOW {
+        symbol_rule(&o.value).min(MISPLACED_SYMBOL)
+    } else {
+        WRONG_OPERANDS
+    }
+}
+
+/// The item for `.space`: zeros, and none of them if the operand breaks a rule.
+#[tactic(auto, unfolding(crate::specs::DataValues::space_item))]
+pub(crate) fn space_item<'a>(o: &Operand<'a>) -> Item<'a>
+    ensures { item_of result ≡ space_item (operand_of o.now) }
+{
+    if space_rule(o) == NO_RULE {
+        Item::Zeros(o.value.size as u32)
+    } else {
+        Item::Zeros(0)
+    }
+}
+
+/// The rule that a `.byte`, `.half` or `.word` without values breaks, or no rule.
+pub(crate) fn empty_values_rule(os: &[Operand<'_>]) -> u8
+    ensures { result ≡ (if length (map operand_of os.now) == 0 then 3 else 15) }
+{
+    if os.is_empty() {
+        WRONG_OPERANDS
+    } else {
+        NO_RULE
+    }
+}
+
+/// Adds the items of these values of `.byte`, `.half` or `.word`, and returns the least rule that
+/// they break.
+#[tactic(auto, unfolding(crate::specs::DataValues::values_rule))]
+pub(crate) fn add_values<'a>(
+    width: u8,
+    os: &[Operand<'a>],
+    items: &mut Vec<Item<'a>>,
+) -> Result<u8, AllocError>
+    requires { (width ≡ 1) ⊎ ((width ≡ 2) ⊎ (width ≡ 4)) }
+    ensures rule { IfOk result (λ rule. rule ≡ values_rule width (map operand_of os.now)) }
+    ensures items { OnOk result (map item_of items.new.items
+        ≡ map item_of items.old.items ++ map (value_item width) (map operand_of os.now)) }
+{
+    let mut rule = empty_values_rule(os);
+    for o in os {
+        let broken = value_rule(width, o);
+        items.push(value_item(broken, width, o))?;
+        rule = rule.min(broken);
+    }
+    Ok(rule)
+}
+
+// Whether a number fits `width` bytes, signed or unsigned.
+fn is_value_within_width(width: u8, minus: bool, size: u128) -> bool
+    requires { (width ≡ 1) ⊎ ((width ≡ 2) ⊎ (width ≡ 4)) }
+    ensures value { result ≡ is_value_within_width (8 * width) minus size }
+    ensures small { result ≡ true → size < 2 ^ 32 }
+{
+    let bound: u128 = if width == 1 {
+        0x100
+    } else if width == 2 {
+        0x1_0000
+    } else {
+        0x1_0000_0000
+    };
+    if minus {
+        size <= bound / 2
+    } else {
+        size < bound
+    }
+}
+
+// A number of at most 32 bits, modulo 2^32, as little-endian bytes.
+fn data_word_bytes(minus: bool, size: u32) -> [u8; 4]
+    ensures { result ≡ four_bytes (operand_number_modulo (2 ^ 32) minus size) }
+{
+    let word = if minus { size.wrapping_neg() } else { size };
+    word.to_le_bytes()
+}
