@@ -5,6 +5,7 @@ pub mod Keeps
 pub mod Writes
 pub mod Points
 pub mod DutyView
+pub mod AccessDuties
 pub mod PointLaws
 pub mod MoveLaws
 pub mod CodeLaws

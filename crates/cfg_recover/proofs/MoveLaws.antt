@@ -3,7 +3,6 @@ use Rattle.std.proofs.Common.{◌≡◌, ℕ, ◌*◌, ◌/◌, ◌%◌, ◌^◌
 use Rattle.std.specs.Prelude.{IfSome, IsSome, IsSomeAnd, Contains}
 use Rattle.std.specs.FinMap as memory_map
 use Rattle.std.proofs.lemmas.Bool.{cases_Bool, and_parts, both_ways, not-true, ltb-true, lt-ltb, eq-eqb, false≢true, cond_both}
-use Rattle.std.proofs.lemmas.List.Elements.{Contains-append_left, Contains-append_right}
 use Rattle.csa_chain.specs.MemoryBytes.{Memory, load_number, with_bytes, extend_loaded_bytes}
 use Rattle.elf_image.specs.Images.{ImageData}
 use Rattle.tcd_plan.specs.PlanData.{PlanData, IsPlan}
@@ -48,17 +47,18 @@ use Rattle.store_ranges.specs.Loads.{HoldsLoads, loaded_of}
 use Rattle.store_ranges.proofs.Covers.{map_has}
 use Rattle.store_ranges.proofs.Sound.{set_sound, span_sound}
 use Rattle.depth_cert.specs.declared.keys.Key.{Key}
-use Rattle.cfg_recover.specs.Entries.{aln_key, aln_entry, irq_key, irq_entry, call_key, call_entry, entry_stack_of, sys_entry, irqs_of}
+use Rattle.cfg_recover.specs.Entries.{entry_stack_of, sys_entry, irqs_of}
 use Rattle.cfg_recover.specs.LocalRules.{targets_named_by, targets_of}
 use Rattle.store_ranges.specs.Accesses.{are_aligned}
-use Rattle.cfg_recover.specs.Duties.{owed, jump, enter, entered_and_back, loaded_for_duties, successors_of, jump_on, misaligned_at, duties_of}
+use Rattle.cfg_recover.specs.Duties.{owed, jump, loaded_for_duties, successors_of, next_of, duties_of}
 use Rattle.cfg_recover.specs.MovesAreOwed.{InState, IsAtPoint, MovesTo, IsMoveOwed, MovesInFrame, TrapsOwed, InterruptsOwed, StoresHeld, CallsOwed, SystemCallsOwed}
 use Rattle.cfg_recover.proofs.EntryLaws.{reg_lt}
 use Rattle.cfg_recover.proofs.Points.{setting, bounded, writes, fetched_at}
-use Rattle.cfg_recover.proofs.Members.{contains_first, contains_among, contains_map, contains_flat, contains_filter, passes_each, contains_jump, owes_successor, owes_entry, owes_misaligned, owes_interrupt}
+use Rattle.cfg_recover.proofs.Members.{contains_first, contains_among, contains_filter, passes_each}
 use Rattle.cfg_recover.proofs.Went.{reg_in, address-is, Went, does-compute, does-scaled, does-mfcr, does-enable, does-disable, does-nop, does-goto, does-load, does-store, does-branch}
 use Rattle.cfg_recover.proofs.Keeps.{KeepsLower, GoesOn, IsKept, keeps_lower, keeps_valueless, keeps_locals, keeps_branch}
 use Rattle.cfg_recover.proofs.Writes.{store_keeps_areas, store_keeps_rom, store_keeps_mapped}
+use Rattle.cfg_recover.proofs.DutyView.{DutyAt, next, straight, taken as branch_taken, target as jump_target, called, called_back, system, system_back, misaligned, interrupt, duty_listed}
 use Rattle.tc_mem.specs.PlanMemory.{HoldsRom, IsPlanMemory}
 
 -- ---- one step
@@ -109,25 +109,26 @@ module _ {b : Limits} {image : ImageData} {plan : PlanData} {key : Key} {m : Mac
 
   -- the machine goes where the point owes a jump
   moved_to : (t : State) (word : ℕ → ℕ) (pc : ℕ) (ie : Bool) (mem : Memory) → Went m (does m e shape n) word pc ie mem → Holds plan word ie m.ccpn t → KeepsLower (reg m) word s t → t.locals.items ≡ s.locals.items
-      → word 27 ≡ reg m 27 → IsSparing image plan m.mem mem → Contains (successors_of b image plan m.pc s shape n) (owed 4 (jump pc t)) → IsMoveOwed b image plan key m e s shape n
+      → word 27 ≡ reg m 27 → IsSparing image plan m.mem mem → Contains (duties_of b image plan key m.pc s shape n) (owed 4 (jump pc t)) → IsMoveOwed b image plan key m e s shape n
   moved_to t word pc ie mem w h lower locals a11 sparing owes = record {
     state = t;
-    owes = subst (λ q. Contains (duties_of b image plan key m.pc s shape n) (owed 4 (jump q t))) (sym (ap (λ (x : Machine). x.pc) w.is)) (owes_successor b image plan key m.pc s shape n (owed 4 (jump pc t)) owes);
+    owes = subst (λ q. Contains (duties_of b image plan key m.pc s shape n) (owed 4 (jump q t))) (sym (ap (λ (x : Machine). x.pc) w.is)) owes;
     moves = moves_to image plan m (does m e shape n) s t word pc ie mem at.running w h lower locals a11 sparing;
   }
 
   -- the machine goes to the next instruction
   moved_on : (input : ℕ) (mem : Memory) → GoesOn shape → input < 2 ^ 32 → ReadsSoundly shape input (loaded_for_duties b image plan s shape) → ccpn_after shape m.ccpn ≡ m.ccpn → IsSparing image plan m.mem mem
-      → Contains (successors_of b image plan m.pc s shape n) (owed 4 (jump (machine_address_ahead m.pc n) (transfer_of b plan shape s (loaded_for_duties b image plan s shape))))
+      → ((t : State) → successors_of b image plan m.pc t shape n ≡ next_of b image plan m.pc t shape n)
       → Went m (does m e shape n) (words_after shape input (reg m)) (machine_address_ahead m.pc n) (ie_after shape m.ie) mem → IsMoveOwed b image plan key m e s shape n
-  moved_on input mem goes small reads ccpn sparing owes w =
+  moved_on input mem goes small reads ccpn sparing next_only w =
       let read = loaded_for_duties b image plan s shape in
       let t = transfer_of b plan shape s read in
       let h : Holds plan (words_after shape input (reg m)) (ie_after shape m.ie) (ccpn_after shape m.ccpn) t =
       transfer_holds b plan shape s read (reg m) m.ie m.ccpn input (setting at) (bounded at) (writes at) goes.1 small reads at.inside
       in
       moved_to t (words_after shape input (reg m)) (machine_address_ahead m.pc n) (ie_after shape m.ie) mem w (subst (λ c. Holds plan (words_after shape input (reg m)) (ie_after shape m.ie) c t) ccpn h)
-      (keeps_lower b plan shape s read (reg m) input goes) (keeps_locals b plan shape s read goes) (keeps_valueless shape (reg m) input 27 (writes at) no_a11) sparing owes
+      (keeps_lower b plan shape s read (reg m) input goes) (keeps_locals b plan shape s read goes) (keeps_valueless shape (reg m) input 27 (writes at) no_a11) sparing
+      (duty_listed b image plan key m.pc s n shape _ (next shape next_only))
 
 -- ---- accesses
 -- the value of an address is within the limits
@@ -187,12 +188,10 @@ some_at None P Q p q = absurd p
 some_at (Some x) P Q p q = (x, refl, p, q)
 
 -- that side is owed
-owes_side : (b : Limits) (image : ImageData) (plan : PlanData) (p : ℕ) (s : State) (test : Cond) (x : ℕ) (y : Arg) (by : ℕ) (lowers : Bool) (n : ℕ) (side : Bool) (t : State) → refine_of b plan (Branch test x y by lowers) s side ≡ Some t
-    → Contains (successors_of b image plan p s (Branch test x y by lowers) n) (owed 4 (jump (cond side (machine_address_ahead p by) (machine_address_ahead p n)) t))
-owes_side b image plan p s test x y by lowers n false t e =
-    Contains-append_left (jump_on (machine_address_ahead p n) (refine_of b plan (Branch test x y by lowers) s false)) (jump_on (machine_address_ahead p by) (refine_of b plan (Branch test x y by lowers) s true)) (owed 4 (jump (machine_address_ahead p n) t)) (contains_jump (machine_address_ahead p n) _ t e)
-owes_side b image plan p s test x y by lowers n true t e =
-    Contains-append_right (jump_on (machine_address_ahead p n) (refine_of b plan (Branch test x y by lowers) s false)) (jump_on (machine_address_ahead p by) (refine_of b plan (Branch test x y by lowers) s true)) (owed 4 (jump (machine_address_ahead p by) t)) (contains_jump (machine_address_ahead p by) _ t e)
+owes_side : (b : Limits) (image : ImageData) (plan : PlanData) (key : Key) (p : ℕ) (s : State) (test : Cond) (x : ℕ) (y : Arg) (by : ℕ) (lowers : Bool) (n : ℕ) (side : Bool) (t : State) → refine_of b plan (Branch test x y by lowers) s side ≡ Some t
+    → Contains (duties_of b image plan key p s (Branch test x y by lowers) n) (owed 4 (jump (cond side (machine_address_ahead p by) (machine_address_ahead p n)) t))
+owes_side b image plan key p s test x y by lowers n false t e = duty_listed b image plan key p s n _ _ (straight test x y by lowers t e)
+owes_side b image plan key p s test x y by lowers n true t e = duty_listed b image plan key p s n _ _ (branch_taken test x y by lowers t e)
 
 moves_branch : (b : Limits) (image : ImageData) (plan : PlanData) (key : Key) (m : Machine) (e : Event) (s : State) (test : Cond) (x : ℕ) (y : Arg) (by : ℕ) (lowers : Bool) (n : ℕ) (side : Bool)
     → IsAtPoint b image plan key m s (Branch test x y by lowers) n → taken_of test (reg m x) (word_of (reg m) y) ≡ side → IsMoveOwed b image plan key m e s (Branch test x y by lowers) n
@@ -207,7 +206,7 @@ moves_branch b image plan key m e s test x y by lowers n side at goes =
     moved_to e at t.0 word (cond side (machine_address_ahead m.pc by) (machine_address_ahead m.pc n)) m.ie m.mem
     (subst (λ u. Went m (does m e (Branch test x y by lowers) n) word (cond u (machine_address_ahead m.pc by) (machine_address_ahead m.pc n)) m.ie m.mem) goes (does-branch m at.machine e n test x y by lowers is.0))
     t.2 (t.3).lower (t.3).locals (keeps_valueless (Branch test x y by lowers) (reg m) 0 27 (writes at) no_a11) (same_memory e at)
-    (owes_side b image plan m.pc s test x y by lowers n side t.0 t.1)
+    (owes_side b image plan key m.pc s test x y by lowers n side t.0 t.1)
 
 mfcr_word : (dst number w : ℕ) (word : ℕ → ℕ) → words_after (Mfcr dst number) w word dst ≡ w
 unfolding words_after
@@ -228,9 +227,9 @@ core_small b image plan key m e s dst number n at fits none =
 pub moves_in_frame : MovesInFrame
 unfolding ie_after ccpn_after
 moves_in_frame b image plan key m e s (Compute op dst x y) n at fits none stays quiet =
-    moved_on e at 0 m.mem (tt, tt) (omega arith) tt refl (same_memory e at) (contains_first _ []) (does-compute m at.machine e n op dst x y 0 (bounded at).0)
+    moved_on e at 0 m.mem (tt, tt) (omega arith) tt refl (same_memory e at) (λ t. refl) (does-compute m at.machine e n op dst x y 0 (bounded at).0)
 moves_in_frame b image plan key m e s (Scaled dst base index j) n at fits none stays quiet =
-    moved_on e at 0 m.mem (tt, tt) (omega arith) tt refl (same_memory e at) (contains_first _ []) (does-scaled m at.machine e n dst base index j 0 (bounded at).0)
+    moved_on e at 0 m.mem (tt, tt) (omega arith) tt refl (same_memory e at) (λ t. refl) (does-scaled m at.machine e n dst base index j 0 (bounded at).0)
 moves_in_frame b image plan key m e s (Load dst base offset size signed after) n at fits none stays quiet =
     let is = bounded at in
     let x = access_address m base offset after in
@@ -240,7 +239,7 @@ moves_in_frame b image plan key m e s (Load dst base offset size signed after) n
     loads_hold b image plan address size signed at.is_plan (load_value base offset size after dst signed at).well m.mem x e.input at.machine.bytes at.memory at.rom fits.input
     (answered plan m e (Load dst base offset size signed after) n fits none (fetched_at at)) (load_member base offset size after dst signed at)
     in
-    moved_on e at (extend_loaded_bytes signed size (load_number m.mem e.input x size)) m.mem (tt, tt) small member refl (same_memory e at) (contains_first _ [])
+    moved_on e at (extend_loaded_bytes signed size (load_number m.mem e.input x size)) m.mem (tt, tt) small member refl (same_memory e at) (λ t. refl)
     (does-load m at.machine e n base offset size after is.1 quiet dst signed is.0)
 moves_in_frame b image plan key m e s (Store src base offset size after) n at fits none stays quiet =
     let x = access_address m base offset after in
@@ -251,17 +250,17 @@ moves_in_frame b image plan key m e s (Store src base offset size after) n at fi
       rom = store_keeps_rom plan at.is_plan image m.mem x (reg m src) size range at.rom;
       memory = store_keeps_mapped plan at.is_plan image m.mem x (reg m src) size range at.memory;
     } in
-    moved_on e at 0 (with_bytes m.mem x (reg m src) size) (tt, tt) (omega arith) tt refl sparing (contains_first _ []) (does-store m at.machine e n base offset size after (bounded at).1 quiet src 0)
+    moved_on e at 0 (with_bytes m.mem x (reg m src) size) (tt, tt) (omega arith) tt refl sparing (λ t. refl) (does-store m at.machine e n base offset size after (bounded at).1 quiet src 0)
 moves_in_frame b image plan key m e s (Branch test x y by lowers) n at fits none stays quiet =
     moves_branch b image plan key m e s test x y by lowers n (taken_of test (reg m x) (word_of (reg m) y)) at refl
 moves_in_frame b image plan key m e s (Jump to) n at fits none stays quiet =
     moved_to e at s (reg m) (target_of m to) m.ie m.mem (does-goto m at.machine e n to) at.inside (λ t. (t, λ r low. refl)) refl refl (same_memory e at)
-    (contains_map (λ t. owed 4 (jump t s)) _ (target_of m to) (goes_to plan m s to ((at.own 5).targets refl) (bounded at) at.inside))
-moves_in_frame b image plan key m e s Enable n at fits none stays quiet = moved_on e at 0 m.mem (tt, tt) (omega arith) tt refl (same_memory e at) (contains_first _ []) (does-enable m at.machine e n 0)
-moves_in_frame b image plan key m e s Disable n at fits none stays quiet = moved_on e at 0 m.mem (tt, tt) (omega arith) tt refl (same_memory e at) (contains_first _ []) (does-disable m at.machine e n 0)
+    (duty_listed b image plan key m.pc s n _ _ (jump_target to (target_of m to) (goes_to plan m s to ((at.own 5).targets refl) (bounded at) at.inside)))
+moves_in_frame b image plan key m e s Enable n at fits none stays quiet = moved_on e at 0 m.mem (tt, tt) (omega arith) tt refl (same_memory e at) (λ t. refl) (does-enable m at.machine e n 0)
+moves_in_frame b image plan key m e s Disable n at fits none stays quiet = moved_on e at 0 m.mem (tt, tt) (omega arith) tt refl (same_memory e at) (λ t. refl) (does-disable m at.machine e n 0)
 moves_in_frame b image plan key m e s (Mfcr dst number) n at fits none stays quiet =
-    moved_on e at (core_register m e number) m.mem (tt, tt) (core_small b image plan key m e s dst number n at fits none) tt refl (same_memory e at) (contains_first _ []) (does-mfcr m at.machine e n dst number (bounded at).0)
-moves_in_frame b image plan key m e s Nothing n at fits none stays quiet = moved_on e at 0 m.mem (tt, tt) (omega arith) tt refl (same_memory e at) (contains_first _ []) (does-nop m at.machine e n 0)
+    moved_on e at (core_register m e number) m.mem (tt, tt) (core_small b image plan key m e s dst number n at fits none) tt refl (same_memory e at) (λ t. refl) (does-mfcr m at.machine e n dst number (bounded at).0)
+moves_in_frame b image plan key m e s Nothing n at fits none stays quiet = moved_on e at 0 m.mem (tt, tt) (omega arith) tt refl (same_memory e at) (λ t. refl) (does-nop m at.machine e n 0)
 moves_in_frame b image plan key m e s _ n at fits none stays quiet = absurd stays
 
 -- ---- traps
@@ -276,26 +275,20 @@ unaligned b v x size aln value m traps =
       | inr some ↦ some
     ]
 
-owes_aln : (plan : PlanData) (key : Key) (s : State) (v : Val) (size : ℕ) → are_aligned v size ≡ false → Contains (misaligned_at plan key s v size) (owed 10 (enter (aln_key plan key) (aln_entry plan key s)))
-owes_aln plan key s v size f = rw f (contains_first _ [])
-
 pub traps_owed : TrapsOwed
 traps_owed b image plan key m e s (Load dst base offset size signed after) n at t =
-    owes_misaligned b image plan key m.pc s (Load dst base offset size signed after) n _
-    (owes_aln plan key s (address_of b plan (Load dst base offset size signed after) s) size (unaligned b (address_of b plan (Load dst base offset size signed after) s) (access_address m base offset after) size e.aln (load_value base offset size after dst signed at) (load_member base offset size after dst signed at) t))
+    duty_listed b image plan key m.pc s n _ _ (misaligned (Load dst base offset size signed after) size (λ u. refl) (unaligned b (address_of b plan (Load dst base offset size signed after) s) (access_address m base offset after) size e.aln (load_value base offset size after dst signed at) (load_member base offset size after dst signed at) t))
 traps_owed b image plan key m e s (Store src base offset size after) n at t =
-    owes_misaligned b image plan key m.pc s (Store src base offset size after) n _
-    (owes_aln plan key s (address_of b plan (Store src base offset size after) s) size (unaligned b (address_of b plan (Store src base offset size after) s) (access_address m base offset after) size e.aln (store_value base offset size after src at) (store_member base offset size after src at) t))
+    duty_listed b image plan key m.pc s n _ _ (misaligned (Store src base offset size after) size (λ u. refl) (unaligned b (address_of b plan (Store src base offset size after) s) (access_address m base offset after) size e.aln (store_value base offset size after src at) (store_member base offset size after src at) t))
 traps_owed b image plan key m e s shape n at t = absurd (false≢true t)
 
 -- ---- calls
 pub calls_owed : CallsOwed
 calls_owed b image plan key m s to n at =
     let known = goes_to plan m s to ((at.own 5).targets refl) (bounded at) at.inside in
-    let both = λ (t : ℕ). entered_and_back 5 (call_key key t) (call_entry s) (machine_address_ahead m.pc n) in
     record {
-      entered = owes_entry b image plan key m.pc s (Call to) n _ (contains_flat both _ (target_of m to) _ known (0, omega arith, refl));
-      back = owes_entry b image plan key m.pc s (Call to) n _ (contains_flat both _ (target_of m to) _ known (1, omega arith, refl));
+      entered = duty_listed b image plan key m.pc s n _ _ (called to (target_of m to) known);
+      back = duty_listed b image plan key m.pc s n _ _ (called_back to (target_of m to) known);
     }
 
 -- ---- system calls
@@ -308,8 +301,8 @@ system_calls_owed b image plan key m s tin n at =
     let long : length t.regs ≡ 27 = same_length s sp (slot 26) ∙ at.regs in
     record {
       state = u;
-      entered = owes_entry b image plan key m.pc s (Syscall tin) n _ (0, omega arith, refl);
-      back = owes_entry b image plan key m.pc s (Syscall tin) n _ (1, omega arith, refl);
+      entered = duty_listed b image plan key m.pc s n _ _ (system tin);
+      back = duty_listed b image plan key m.pc s n _ _ (system_back tin);
       number = reg_of-here plan t 15 (word_val tin) (slot 15) long refl refl;
       stack = reg_of-other plan t 15 26 (word_val tin) (slot 15) (slot 26) refl refl (λ e. omega arith) ∙ reg_of-here plan s 26 sp (slot 26) at.regs refl refl;
       others = λ r n15 n26. reg_of-other plan t 15 r (word_val tin) (slot 15) (slot r) refl refl n15 ∙ reg_of-other plan s 26 r sp (slot 26) (slot r) refl refl n26;
@@ -327,7 +320,7 @@ interrupts_owed b image plan key m e s shape n at fits taken =
     let stated : Contains plan.irqs e.irq = elim fits.irq [ inl none ↦ absurd (omega arith) | inr c ↦ c ] in
     let enabled : s.ie ≡ true = at.inside.enabled on.0 in
     let reached : Contains (irqs_of plan s) e.irq = rw enabled (contains_filter (ltb s.ccpn) e.irq plan.irqs stated (lt-ltb s.ccpn e.irq (omega (arith, at.inside.priority)))) in
-    owes_interrupt b image plan key m.pc s shape n _ (contains_map (λ p. owed 11 (enter (irq_key plan p) (irq_entry plan key s p))) (irqs_of plan s) e.irq reached)
+    duty_listed b image plan key m.pc s n shape _ (interrupt shape e.irq reached)
 
 -- ---- stores
 -- a step that takes an interrupt stores nothing

@@ -1,7 +1,5 @@
 -- The duties of an instruction, and what it does if its contexts exist.
-use Rattle.std.proofs.Common.{◌≡◌, ℕ, ◌*◌, ◌/◌, ◌^◌, Bool, true, false, cond, [], ◌∷◌, ◌++◌, set, refl, sym, ap, ◌∙◌, subst, arith, Contains}
-use Rattle.std.proofs.lemmas.Bool.{eq-eqb}
-use Rattle.std.proofs.lemmas.List.Elements.{Contains-append_right}
+use Rattle.std.proofs.Common.{◌≡◌, ℕ, ◌*◌, ◌/◌, ◌^◌, Bool, true, false, cond, set, refl, ap, ◌∙◌, Contains}
 use Rattle.std.specs.Prelude.{bit_or}
 use Rattle.csa_chain.specs.ContextWords.{pie_of, pcpn_of}
 use Rattle.elf_image.specs.Images.{ImageData}
@@ -24,41 +22,36 @@ use Rattle.vd_transfer.specs.EffectsOnStates.{saved_lower, restored_lower, trans
 use Rattle.depth_cert.specs.declared.keys.Key.{Key}
 use Rattle.cfg_recover.specs.Entries.{sys_key, sys_entry}
 use Rattle.depth_cert.specs.Exits.{exit_of}
-use Rattle.cfg_recover.specs.Duties.{jump, enter, resume, leave, owed, interrupts_of, duties_of}
+use Rattle.cfg_recover.specs.Duties.{jump, enter, resume, leave, owed, duties_of}
+use Rattle.cfg_recover.proofs.DutyView.{DutyAt, next, system, system_back, returns, resumes, duty_listed}
 use Rattle.depth_check.proofs.Enter.{begun}
 use Rattle.depth_check.proofs.Handlers.{handler_a}
 
 -- ---- duties
 module _ (b : Limits) (image : ImageData) (plan : PlanData) (key : Key) (p : ℕ) (s : State) (n : ℕ) where
   pub owes-svlcx : Contains (duties_of b image plan key p s Svlcx n) (owed 4 (jump (machine_address_ahead p n) (saved_lower s)))
-  unfolding duties_of transfer_of
-  owes-svlcx = (0, omega arith, refl)
+  unfolding transfer_of
+  owes-svlcx = duty_listed b image plan key p s n Svlcx _ (next Svlcx (λ t. refl))
 
   pub owes-bisr : (c : ℕ) → Contains (duties_of b image plan key p s (Bisr c) n) (owed 4 (jump (machine_address_ahead p n) (record (saved_lower s) { ie = true; ccpn = c })))
-  unfolding duties_of transfer_of
-  owes-bisr c = (0, omega arith, refl)
+  unfolding transfer_of
+  owes-bisr c = duty_listed b image plan key p s n (Bisr c) _ (next (Bisr c) (λ t. refl))
 
   pub owes-rslcx : Contains (duties_of b image plan key p s Rslcx n) (owed 4 (jump (machine_address_ahead p n) (restored_lower s)))
-  unfolding duties_of transfer_of
-  owes-rslcx = (0, omega arith, refl)
+  unfolding transfer_of
+  owes-rslcx = duty_listed b image plan key p s n Rslcx _ (next Rslcx (λ t. refl))
 
   pub owes-syscall : (tin : ℕ) → Contains (duties_of b image plan key p s (Syscall tin) n) (owed 12 (enter (sys_key plan key) (sys_entry plan key s tin)))
-  unfolding duties_of
-  owes-syscall tin = (0, omega arith, refl)
+  owes-syscall tin = duty_listed b image plan key p s n (Syscall tin) _ (system tin)
 
   pub owes-syscall_back : (tin : ℕ) → Contains (duties_of b image plan key p s (Syscall tin) n) (owed 4 (resume (sys_key plan key) (machine_address_ahead p n)))
-  unfolding duties_of
-  owes-syscall_back tin = (1, omega arith, refl)
+  owes-syscall_back tin = duty_listed b image plan key p s n (Syscall tin) _ (system_back tin)
 
   pub owes-ret : Contains (duties_of b image plan key p s Ret n) (owed 6 (leave (exit_of s)))
-  unfolding duties_of
-  owes-ret = Contains-append_right (interrupts_of plan key s) (owed 6 (leave (exit_of s)) ∷ []) (owed 6 (leave (exit_of s))) (0, omega arith, refl)
+  owes-ret = duty_listed b image plan key p s n Ret _ returns
 
   pub owes-rfe : key.kind ≡ 3 → Contains (duties_of b image plan key p s Rfe n) (owed 7 (leave (exit_of s)))
-  unfolding duties_of
-  owes-rfe sys =
-      subst (λ t. Contains (interrupts_of plan key s ++ cond t (owed 7 (leave (exit_of s)) ∷ []) []) (owed 7 (leave (exit_of s)))) (sym (eq-eqb key.kind 3 sys))
-      (Contains-append_right (interrupts_of plan key s) (owed 7 (leave (exit_of s)) ∷ []) (owed 7 (leave (exit_of s))) (0, omega arith, refl))
+  owes-rfe sys = duty_listed b image plan key p s n Rfe _ (resumes sys)
 
 -- ---- what is done
 -- after a successful save, and after a restore

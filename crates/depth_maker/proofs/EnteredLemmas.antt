@@ -23,6 +23,7 @@ use Rattle.cfg_recover.specs.LocalRules.{MayAccess, targets_of}
 use Rattle.store_ranges.specs.Accesses.{are_aligned}
 use Rattle.cfg_recover.specs.Duties.{Duty, jump, enter, resume, leave, Owed, owed, entered_and_back, entries_of, jump_on, jumps_to, leavings_of, misaligned_at, misaligned_of, interrupts_of, successors_of, duties_of}
 use Rattle.cfg_recover.proofs.Members.{contains_flat}
+use Rattle.cfg_recover.proofs.AccessDuties.{misaligned_turned, owes_no_access}
 use Rattle.depth_maker.specs.EnteredFrames.{entered_by, entered_in}
 
 pub entered_calls : (key : Key) (s : State) (back : ℕ) (ts : List ℕ) → entered_in (flat_map (λ t. entered_and_back 5 (call_key key t) s back) ts) ≡ map (call_key key) ts
@@ -99,27 +100,9 @@ entries_none plan key p s (Call to) n call sys = absurd (call to refl)
 entries_none plan key p s (Syscall tin) n call sys = absurd (sys tin refl)
 entries_none plan key p s _ n call sys = refl
 
--- only loads and stores access memory
-pub owes_no_access : (b : Limits) (plan : PlanData) (key : Key) (s : State) (shape : Shape) → ((dst : ℕ) (base : Arg) (offset size : ℕ) (signed after : Bool) → shape ≡ Load dst base offset size signed after → ⊥)
-    → ((src : ℕ) (base : Arg) (offset size : ℕ) (after : Bool) → shape ≡ Store src base offset size after → ⊥) → misaligned_of b plan key s shape ≡ []
-owes_no_access b plan key s (Load dst base offset size signed after) load store = absurd (load dst base offset size signed after refl)
-owes_no_access b plan key s (Store src base offset size after) load store = absurd (store src base offset size after refl)
-owes_no_access b plan key s _ load store = refl
-
 pub access_none : (b : Limits) (plan : PlanData) (key : Key) (s : State) (shape : Shape) → ((dst : ℕ) (base : Arg) (offset size : ℕ) (signed after : Bool) → shape ≡ Load dst base offset size signed after → ⊥)
     → ((src : ℕ) (base : Arg) (offset size : ℕ) (after : Bool) → shape ≡ Store src base offset size after → ⊥) → entered_in (misaligned_of b plan key s shape) ≡ []
 access_none b plan key s shape load store = ap entered_in (owes_no_access b plan key s shape load store)
-
--- if each address is aligned nothing is owed, otherwise the entry of the handler
-misaligned_turned : (plan : PlanData) (key : Key) (s : State) (at : Val) (size : ℕ) (r : Bool) → r ≡ not (are_aligned at size)
-    → misaligned_at plan key s at size ≡ (if r then owed 10 (enter (aln_key plan key) (aln_entry plan key s)) ∷ [] else [])
-misaligned_turned plan key s at size r e = turned (are_aligned at size) ∙ sym (ap (λ (t : Bool). if t then entry ∷ [] else []) e) where
-  entry : Owed
-  entry = owed 10 (enter (aln_key plan key) (aln_entry plan key s))
-
-  turned : (t : Bool) → (if t then [] else entry ∷ []) ≡ (if not t then entry ∷ [] else [])
-  turned true = refl
-  turned false = refl
 
 pub load_turned : (b : Limits) (plan : PlanData) (key : Key) (s : State) (shape : Shape) (dst : ℕ) (base : Arg) (offset size : ℕ) (signed after : Bool) (r : Bool)
     → shape ≡ Load dst base offset size signed after → r ≡ not (are_aligned (address_of b plan shape s) size)

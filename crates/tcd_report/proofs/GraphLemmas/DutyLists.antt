@@ -24,6 +24,7 @@ use Rattle.tcd_report.specs.Graphs.KnownHandlers.{irq_entry_vectors}
 use Rattle.cfg_recover.specs.LocalRules.{targets_of}
 use Rattle.store_ranges.specs.Accesses.{are_aligned}
 use Rattle.cfg_recover.specs.Duties.{Owed, owed, jump, enter, resume, leave, jump_on, jumps_to, loaded_for_duties, next_of, successors_of, entered_and_back, entries_of, misaligned_at, misaligned_entry, misaligned_of, interrupts_of, leavings_of, duties_of, keys_entered_by_duty}
+use Rattle.cfg_recover.proofs.AccessDuties.{misaligned_turned}
 use Rattle.tcd_report.specs.Graphs.{jump_by, entry_by, entries_in, back_by, each_address_once, jumped_in, returned_in, called_of, systems_of}
 use Rattle.tcd_report.specs.Reports.Calls.{called_by}
 
@@ -204,28 +205,15 @@ none_returns cert plan key p s (Syscall tin) n call sys = absurd (sys tin refl)
 none_returns cert plan key p s shape n call sys = refl
 
 -- ---- misaligned accesses
-turned : (plan : PlanData) (key : Key) (s : State) (at : Val) (size : ℕ) (r : Bool) → r ≡ not (are_aligned at size) → misaligned_at plan key s at size ≡ (if r then misaligned_entry plan key s ∷ [] else [])
-turned plan key s at size r e = other (are_aligned at size) ∙ sym (ap (λ t. if t then misaligned_entry plan key s ∷ [] else []) e) where
-  other : (t : Bool) → (if t then [] else misaligned_entry plan key s ∷ []) ≡ (if not t then misaligned_entry plan key s ∷ [] else [])
-  other true = refl
-  other false = refl
-
 pub load_turned : (b : Limits) (plan : PlanData) (key : Key) (s : State) (shape : Shape) (dst : ℕ) (base : Arg) (offset size : ℕ) (signed after : Bool) (r : Bool) → shape ≡ Load dst base offset size signed after
     → r ≡ not (are_aligned (address_of b plan (Load dst base offset size signed after) s) size) → misaligned_of b plan key s shape ≡ (if r then misaligned_entry plan key s ∷ [] else [])
 load_turned b plan key s shape dst base offset size signed after r is e =
-    subst (λ x. misaligned_of b plan key s x ≡ (if r then misaligned_entry plan key s ∷ [] else [])) (sym is) (turned plan key s (address_of b plan (Load dst base offset size signed after) s) size r e)
+    subst (λ x. misaligned_of b plan key s x ≡ (if r then misaligned_entry plan key s ∷ [] else [])) (sym is) (misaligned_turned plan key s (address_of b plan (Load dst base offset size signed after) s) size r e)
 
 pub store_turned : (b : Limits) (plan : PlanData) (key : Key) (s : State) (shape : Shape) (src : ℕ) (base : Arg) (offset size : ℕ) (after : Bool) (r : Bool) → shape ≡ Store src base offset size after
     → r ≡ not (are_aligned (address_of b plan (Store src base offset size after) s) size) → misaligned_of b plan key s shape ≡ (if r then misaligned_entry plan key s ∷ [] else [])
 store_turned b plan key s shape src base offset size after r is e =
-    subst (λ x. misaligned_of b plan key s x ≡ (if r then misaligned_entry plan key s ∷ [] else [])) (sym is) (turned plan key s (address_of b plan (Store src base offset size after) s) size r e)
-
--- instructions other than loads and stores have no access
-pub no_access : (b : Limits) (plan : PlanData) (key : Key) (s : State) (shape : Shape) → ((dst : ℕ) (base : Arg) (offset size : ℕ) (signed after : Bool) → shape ≡ Load dst base offset size signed after → ⊥)
-    → ((src : ℕ) (base : Arg) (offset size : ℕ) (after : Bool) → shape ≡ Store src base offset size after → ⊥) → misaligned_of b plan key s shape ≡ []
-no_access b plan key s (Load dst base offset size signed after) load store = absurd (load dst base offset size signed after refl)
-no_access b plan key s (Store src base offset size after) load store = absurd (store src base offset size after refl)
-no_access b plan key s shape load store = refl
+    subst (λ x. misaligned_of b plan key s x ≡ (if r then misaligned_entry plan key s ∷ [] else [])) (sym is) (misaligned_turned plan key s (address_of b plan (Store src base offset size after) s) size r e)
 
 -- ---- lists of one entry at most
 pub systems_once : (plan : PlanData) (key : Key) (shape : Shape) → each_address_once (systems_of plan key shape) ≡ systems_of plan key shape

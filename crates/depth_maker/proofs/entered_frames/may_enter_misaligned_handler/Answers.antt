@@ -1,6 +1,7 @@
 use Rattle.std.proofs.Common.{refl, sym, ap, ◌∙◌}
 use Rattle.tcd_plan.specs.PlanData.{PlanData}
-use Rattle.depth_maker.proofs.EnteredLemmas.{aligned_owes_none, load_turned, owes_no_access, store_turned}
+use Rattle.cfg_recover.proofs.AccessDuties.{owes_no_access}
+use Rattle.depth_maker.proofs.EnteredLemmas.{aligned_owes_none, load_turned, store_turned}
 use Rattle.depth_maker.proofs.entered_frames.may_enter_misaligned_handler.Goals as goal
 
 pub returns-then-not-plan : goal.returns-then-not-plan

@@ -1,4 +1,5 @@
-use Rattle.tcd_report.proofs.GraphLemmas.DutyLists.{load_turned, no_access, store_turned}
+use Rattle.cfg_recover.proofs.AccessDuties.{owes_no_access}
+use Rattle.tcd_report.proofs.GraphLemmas.DutyLists.{load_turned, store_turned}
 use Rattle.tcd_report.proofs.graphs.entries.is_misaligned.Goals as goal
 
 pub returns-in-Load : goal.returns-in-Load
@@ -14,4 +15,4 @@ returns-in-Store c key =
 pub returns-in_default : goal.returns-in_default
 returns-in_default c key =
     let j = c.args.judged.now in
-    no_access j.bounds.now j.plan.now key c.args.s.now c.args.shape c.in_default.not-Load c.in_default.not-Store
+    owes_no_access j.bounds.now j.plan.now key c.args.s.now c.args.shape c.in_default.not-Load c.in_default.not-Store
