@@ -117,7 +117,7 @@ class Repository(unittest.TestCase):
 
     def test_all_below_safe_is_in_the_first_part(self):
         shown = {it.key for it in self.parts[0][1].items}
-        for name in ("Safe.Safe", "Safe.Starts", "Safe.Fits", "Safe.AllFit", "Stepping.step"):
+        for name in ("Safe.Safe", "Starting.Starts", "Safe.Fits", "Safe.AllFit", "Stepping.step"):
             self.assertIn(f"tc_machine.specs.{name}", shown)
         below = claim.Part(self.sources, [self.sources.root("tc_machine.specs.Safe.Safe")], set())
         self.assertGreater(len(below.items), 150)

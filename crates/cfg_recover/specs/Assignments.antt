@@ -130,7 +130,7 @@ pub record Closed (b : Limits) (image : ImageData) (plan : PlanData) (a : Assign
 abbrev pub AllFaultless : Limits → ImageData → PlanData → Assignment → Type 0
 AllFaultless b image plan a = (k : Key) (p : ℕ) (s : State) → a (point k p) ≡ Some (state s) → IsFaultless b image plan k p s
 
--- by an assignment, what is known at the point p of frame k is this state, and one of that point's
+-- in an assignment, the point p of frame k has this state and no fault of its own, and one of its
 -- duties is to enter the frame t
 pub record EntersInAssignment (b : Limits) (image : ImageData) (plan : PlanData) (a : Assignment) (k : Key) (p : ℕ) (s : State) (t : Key) : Type 0 where
   pub entered : State

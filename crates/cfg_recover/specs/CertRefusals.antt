@@ -35,8 +35,8 @@ pub record HasManyPoints (a : Assignment) : Type 0 where
 abbrev pub IsPastCertLimits : Assignment → Type 0
 IsPastCertLimits a = HasManyNodes a ⊎ HasManyPoints a
 
--- why no certificate passes: one step of the analysis passes a limit of certificates, by the point
--- that it adds
+-- why no certificate can be made: one step of a derivation takes an assignment past a limit of
+-- certificates, by the point that it adds
 pub record PassesCertLimit (b : Limits) (image : ImageData) (plan : PlanData) (k : Key) (p : ℕ) : Type 0 where
   pub before : Assignment
   pub after : Assignment
@@ -68,8 +68,8 @@ pub record IsLeastAssignment (b : Limits) (image : ImageData) (plan : PlanData) 
 
 -- ---- needs
 
--- numbers of areas by which a certificate with too great a need is refused: they suffice at each
--- point of an assignment for the locals, and at each entry for one more and the entered frame's
+-- numbers of areas, for a refusal by too great a need: they suffice at each point of an assignment
+-- for the locals, and at each entry also for one more and the entered frame's number
 pub record MeetsNeeds (b : Limits) (image : ImageData) (plan : PlanData) (a : Assignment) (need : Key → ℕ) : Type 0 where
   pub locals : (k : Key) (p : ℕ) (s : State) → a (point k p) ≡ Some (state s) → length s.locals.items ≤ need k
   pub entered : (k : Key) (p : ℕ) (s : State) (t : Key) → EntersInAssignment b image plan a k p s t → length s.locals.items + 1 + need t ≤ need k

@@ -35,8 +35,8 @@ pub record StepMeetsShape (m : Machine) (e : Event) (shape : Shape) (n : ℕ) : 
   pub free : is_taken m e ≡ false
   pub there : fetched m ≡ Ok (shape, n)
 
--- an instruction of this shape neither enters nor leaves a frame, so that by the law of edges it
--- goes on inside
+-- an instruction of this shape neither enters nor leaves a frame by itself; by the law of edges it
+-- goes on inside its frame unless it traps
 abbrev pub KeepsFrame : Shape → Type 0
 KeepsFrame (Call x) = ⊥
 KeepsFrame Ret = ⊥
@@ -44,8 +44,8 @@ KeepsFrame Rfe = ⊥
 KeepsFrame (Syscall tin) = ⊥
 KeepsFrame _ = Unit {0}
 
--- the law of one step's edge, from pc to the new pc: in the frame, or into one by an interrupt, a
--- call, a system call, or a misaligned access if the event says so; RET and RFE have no address
+-- the law of one step's edge, from pc to the new pc: inside the frame, or into a new one by an
+-- interrupt, a call, a system call, or a misaligned access that traps; RET and RFE name no address
 pub record EdgeIs (m : Machine) (e : Event) : Type 0 where
   pub load :
       (dst : ℕ) (base : Arg) (offset size : ℕ) (signed after : Bool)
@@ -69,8 +69,8 @@ EdgesAre = (m : Machine) (e : Event) → EdgeIs m e
 
 -- ---- frames
 
--- the law of frames at one step: calls and system calls return past pc, interrupts and traps to pc;
--- handlers run on the interrupt stack, and only an interrupt brings another priority
+-- the law of frames at one step: calls and system calls return past pc, interrupts and misaligned
+-- accesses to pc; handlers use the interrupt stack, and only interrupts change the priority
 pub record FramesNext (m : Machine) (e : Event) (f : Standing) (older next : List Standing) : Type 0 where
   pub interrupted : is_taken m e ≡ true → next ≡ entered_frame_at 2 (step m e).pc e.irq true ∷ frame_going_on f m.pc ∷ older
   pub misaligned :
@@ -145,8 +145,8 @@ pub record StepOwed (ds : List Owed) (newest : Standing) (older : List Standing)
       (shape : Shape) (n : ℕ) → StepMeetsShape m e shape n → is_trapping_instruction m e shape ≡ false → KeepsFrame shape
       → (t : State) × Contains ds (record { rule = 4; duty = jump (step m e).pc t })
 
--- the law of owed edges at one step: the newest frame is at a point at pc, where the image has an
--- instruction, and that point owes the step
+-- the law of owed edges at one step: the newest frame's node has a point at pc, the image has an
+-- instruction there, and the point owes the step, unless it goes back to the frame before
 pub record EdgeSays (image : ImageData) (plan : PlanData) (cert : CertData) (m : Machine) (e : Event) (all : List Standing) : Type 0 where
   pub newest : Standing
   pub older : List Standing
@@ -161,8 +161,8 @@ pub record EdgeSays (image : ImageData) (plan : PlanData) (cert : CertData) (m :
   pub code : IsCode image plan m.pc shape size
   pub owed : StepOwed (duties_of (limits_in plan cert) image plan newest.key m.pc point.state shape size) newest older m e
 
--- one of the laws of edges and frames: where each step of every run from every start state goes is
--- owed by the newest frame's point, or goes back to the frame before
+-- one of the laws of edges and frames: if edges are owed, each step of every run from every start
+-- state is owed by the newest frame's point, or goes back to the frame before
 abbrev pub OwedEdgesSay : Type 0
 OwedEdgesSay =
     (image : ImageData) (plan : PlanData) (cert : CertData) → EdgesOwed image plan cert

@@ -83,7 +83,7 @@ irqs_of plan s = if s.ie then filter (λ p. nat_lt s.ccpn p) plan.irqs else []
 abbrev pub entry_stack_with : PlanData → Key → Val → Val
 entry_stack_with plan key sp = if key.is then sp else word_val plan.isp
 
--- the key of a frame that is entered at an address: by a call it runs on the same stack, in any
--- other way on the interrupt stack; the priority stays
+-- the key of a frame that is entered at an address: by a call it runs on its caller's stack, in any
+-- other way on the interrupt stack; its priority is that of the frame that enters it
 abbrev pub entered_key : Key → ℕ → ℕ → Key
 entered_key key kind target = record { kind = kind; entry = target; prio = key.prio; is = if kind == call_kind then key.is else true }

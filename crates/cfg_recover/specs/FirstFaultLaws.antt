@@ -19,8 +19,8 @@ pub data IsFaultPlace (image : ImageData) (plan : PlanData) (cert : CertData) : 
       (node : NodeData) (point : Point) (r : ℕ) → Contains cert.nodes node → Contains node.points point
       → (RuleHolds image plan cert node point r → ⊥) → IsFaultPlace image plan cert r node.key point.addr
 
--- the order in which the first fault is the first: one comes before another, or has its place and
--- rule, by key (kind, entry, prio, is), then by address, then by rule
+-- the order in which the first fault is the first: one is before another, or equal to it, by key
+-- (kind, entry, prio, is), then by address, then by rule
 abbrev pub IsFaultBefore : ℕ → Key → ℕ → ℕ → Key → ℕ → Type 0
 IsFaultBefore r k p q j x =
     (number_of_key k < number_of_key j) ⊎ (number_of_key k ≡ number_of_key j) × ((p < x) ⊎ (p ≡ x) × (r ≤ q))

@@ -76,8 +76,8 @@ pub record AreFramesHeld (plan : PlanData) (cert : CertData) (m : Machine) (f : 
   pub point : FrameLiesAtPoint plan cert m f
   pub is : is_interrupt_stack_used m.psw ≡ (f.key).is
 
--- the frames of a run are held: there is a newest one, at pc and at a point that holds the machine,
--- and each frame has a node in the certificate
+-- the frames of a run are held: there is a newest one, at pc, with PSW.IS in its key and at a point
+-- that holds the machine, and each frame has a node in the certificate
 abbrev pub HoldFrames : PlanData → CertData → Machine → List Standing → Type 0
 HoldFrames plan cert m [] = ⊥
 HoldFrames plan cert m (f ∷ fs) = AreFramesHeld plan cert m f fs

@@ -21,8 +21,8 @@ use Rattle.depth_cert.specs.declared.keys.Key.{Key}
 use Rattle.cfg_recover.specs.Code.{IsCode, HasCode}
 
 -- ---- targets
--- the targets that rule 5's own part asks of a jump or a call by register: the words of its value,
--- with bit 0 cleared, in ascending order, each once; none for a span
+-- the targets of a jump or a call by register, which rule 5's own part asks to be known: the words
+-- of the register's value with bit 0 cleared, ascending, each once; none for a span
 abbrev pub targets_named_by : Val → Option (List ℕ)
 targets_named_by (Set ws) = Some (sorted_set_of (map (λ w. w / 2 * 2) ws))
 targets_named_by (Span lo last step) = None
@@ -102,7 +102,7 @@ pub record LocalHolds (b : Limits) (image : ImageData) (plan : PlanData) (key : 
 -- ---- rules 9 and 10, by the addresses of the access
 
 -- what rule 9 asks of a point's instruction alone, by the addresses of its access: each possible
--- store is in one ram range or one device range as a whole
+-- store is in one ram range or one device range as a whole, and doesn't pass 2^32
 abbrev pub StoresInRangeAt : PlanData → Val → Shape → Type 0
 StoresInRangeAt plan at (Store src base offset size after) = AreStoresInRange plan at size
 StoresInRangeAt plan at _ = Unit {0}

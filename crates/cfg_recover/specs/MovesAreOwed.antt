@@ -76,8 +76,8 @@ pub record IsMoveOwed (b : Limits) (image : ImageData) (plan : PlanData) (key : 
   pub owes : Contains (duties_of b image plan key m.pc s shape n) (owed 4 (jump (does m e shape n).pc state))
   pub moves : MovesTo image plan m (does m e shape n) s state
 
--- an instruction of this shape makes a move that is owed as a jump: its effect leaves the frame and
--- its contexts as they are
+-- an instruction of this shape makes a move that is owed as a jump: it stays in its frame, and
+-- keeps the contexts as they are
 abbrev pub StaysInFrame : Shape → Type 0
 StaysInFrame (Call target) = ⊥
 StaysInFrame Ret = ⊥
@@ -105,12 +105,12 @@ TrapsOwed =
     → Contains (duties_of b image plan key m.pc s shape n) (owed 10 (enter (aln_key plan key) (aln_entry plan key s)))
 
 -- the key of the handler to which a machine moves by a system call: its entry is BTV with class 6
--- in bits 7:5, its priority that of the calling frame, on the interrupt stack
+-- in bits 7:5, its priority the calling frame's, and it runs on the interrupt stack
 abbrev pub owed_system_handler : PlanData → Key → Key
 owed_system_handler plan key = record { kind = 3; entry = bit_or plan.btv (6 * 2 ^ 5); prio = key.prio; is = true }
 
 -- a law of moves: a point with a system call owes the entry of its handler (rule 12), where D15,
--- A10, IE and the locals are set and the rest stays, and the return from it (rule 4)
+-- A10, IE, `lower` and the locals are set and the rest stays, and the return (rule 4)
 pub record SystemCallOwed (b : Limits) (image : ImageData) (plan : PlanData) (key : Key) (m : Machine) (s : State) (tin n : ℕ) : Type 0 where
   pub state : State
   pub entered : Contains (duties_of b image plan key m.pc s (Syscall tin) n) (owed 12 (enter (owed_system_handler plan key) state))

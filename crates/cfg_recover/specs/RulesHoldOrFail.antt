@@ -39,8 +39,8 @@ IsMet cert node s (resume k q) = IfSome (find_node k cert.nodes) (λ n. IfSome n
 IsMet cert node s (leave x) = IsSomeAnd node.exit (λ y. ExitCovers y x)
 
 -- ---- needs
--- rule 14 of certificates holds at an entry, else it fails: the node's need is at least its locals'
--- areas, one for the entry, and the entered node's need
+-- rule 14 of certificates holds at an entry, else it fails: the node's need is at least the sum of
+-- the state's locals, one for the entry, and the entered node's need
 abbrev pub EntryNeedRuleHolds : CertData → NodeData → State → Duty → Type 0
 EntryNeedRuleHolds cert node s (enter k t) = IfSome (find_node k cert.nodes) (λ n. length s.locals.items + 1 + n.need ≤ node.need)
 EntryNeedRuleHolds cert node s _ = Unit {0}
@@ -54,7 +54,7 @@ pub record NeedRuleHolds (image : ImageData) (plan : PlanData) (cert : CertData)
 
 -- ---- rules
 -- rule r of certificates holds at a point, else it fails there. A value outside the plan's lattice
--- fails rule 2 alone; where the own part of a rule fails, other points and needs aren't asked
+-- fails rule 2 alone; where a rule's own part fails, nothing is asked of other points or needs
 pub record RuleHolds (image : ImageData) (plan : PlanData) (cert : CertData) (node : NodeData) (point : Point) (r : ℕ) : Type 0 where
   pub values : r ≡ 2 → AreValues (limits_in plan cert) (point.state).regs
   pub own : AreValues (limits_in plan cert) (point.state).regs → LocalHolds (limits_in plan cert) image plan node.key point.addr point.state r
@@ -72,8 +72,8 @@ pub record RuleHolds (image : ImageData) (plan : PlanData) (cert : CertData) (no
 abbrev pub HoldsAtStart : ImageData → PlanData → CertData → Type 0
 HoldsAtStart image plan cert = IsSomeAnd (find_node (start_key image plan) cert.nodes) (λ n. HasPoint n image.entry (start_state plan))
 
--- rule 2 of certificates holds at a node's entry, else it fails: there is a point, and the exit's
--- values are of the plan's lattice
+-- rule 2 of certificates holds at a node's entry, else it fails: there is a point, and the values
+-- of the exit, if the node has one, are of the plan's lattice
 pub record HoldsAtEntry (b : Limits) (node : NodeData) : Type 0 where
   pub point : IsSome (find_point (node.key).entry node.points)
   pub exit : IfSome node.exit (λ x. AreValues b x.lower)
@@ -100,8 +100,8 @@ pub record Accepts (image : ImageData) (plan : PlanData) (cert : CertData) : Typ
   pub nodes : All (HoldsAtNode image plan cert) cert.nodes
 
 -- ---- the first fault
--- rules that fail in a certificate as numbers, the least for the first fault: by key, then by
--- address, then by rule
+-- a rule that fails in a certificate, as a number: by key, then by address, then by rule; if rule 1
+-- holds, the first fault has the least number
 abbrev pub fault_number : ℕ → Key → ℕ → ℕ
 fault_number r k p = (number_of_key k * 2 ^ 32 + p) * 2 ^ 4 + r
 

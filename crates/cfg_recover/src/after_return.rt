@@ -8,8 +8,8 @@ ghost use Rattle.depth_cert.specs.Exits.{state_after_exit, with_lower_from};
 use depth_cert::{CALL, Exit};
 use value_domain::{State, Val, are_flags_implied, copy_locals, covers_context, leq};
 
-/// Returns the state of a frame after a return to it by `exit`, from a call (`kind` is CALL) or a
-/// system call (SYS): the exit's lower registers, all others stay; `kind` settles IE and CCPN.
+/// Returns the state of a frame after a return to it by `exit` from a call (`kind` is CALL) or a
+/// system call (SYS): lower registers are the exit's, all others stay; `kind` settles IE and CCPN.
 pub fn after(s: &State, exit: &Exit, kind: u8) -> State
     ensures { result ≡ state_after_exit s.now exit.now kind }
 {

@@ -86,8 +86,8 @@ pub fn is_flow_access_aligned(b: &Bounds, at: &Val, size: u8) -> bool
     aligned(at, size)
 }
 
-/// Returns, beside the entries of other frames in a Flow, how an instruction leaves its own frame:
-/// by RET, by RFE, or not at all.
+/// Returns how an instruction leaves its own frame, which a Flow has beside the entries of other
+/// frames: by RET, by RFE, or not at all.
 #[tactic(auto, unfolding(crate::specs::FlowDuties::flow_leave_of))]
 pub(crate) fn flow_leave(key: &Key, s: &State, inst: &Inst) -> Leave
     ensures told { told_leaving key.now s.now result

@@ -22,8 +22,8 @@ use tcd_plan::Plan;
 use value_domain::{Bounds, State};
 use vd_transfer::state_after_change;
 
-/// Computes, from a point and its state, all that a certificate must have because of this point,
-/// its Flow. If a rule's own part fails at the point, gives the least such rule.
+/// Computes the Flow of a point with its state: all that a certificate must have because of this
+/// point. If a rule's own part fails there, returns the least such rule.
 pub fn flow(
     b: &Bounds,
     image: &Image,

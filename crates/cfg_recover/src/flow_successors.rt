@@ -59,8 +59,8 @@ pub(crate) fn successors(
     }
 }
 
-/// Writes into `c`, whatever it was, the change from a point's state to its successor's. The
-/// instruction is no branch or jump. What it saves has room, what it restores is there.
+/// Writes into `c`, whatever it was, a point's change to its successor by an instruction that isn't
+/// a branch or a jump. What the instruction saves has room, and what it restores is there.
 pub fn successor_change(
     b: &Bounds,
     image: &Image,
@@ -147,7 +147,7 @@ fn keep_successor_state(s: &State, c: &mut Change)
 }
 
 /// Writes into `out` what a point's instruction loads from these addresses before it goes on to its
-/// successor, or any value if its shape isn't that of a load.
+/// successor, or the value that holds all words if it isn't a load.
 fn write_flow_load(b: &Bounds, image: &Image, plan: &Plan, shape: Shape, at: &Val, out: &mut Val)
     requires shape { IsShape shape }
     requires value { IsValue b.now at.now }

@@ -61,7 +61,8 @@ pub(crate) fn code_byte_at(image: &Image, addr: u32, near: &mut usize) -> Option
     code_byte_anywhere(image, addr, near)
 }
 
-/// Returns the instruction that these bytes of code from rom begin with, and its length.
+/// Returns the instruction that these bytes of code from rom begin with, and its length, if there
+/// is one.
 #[inline(always)]
 fn code_in_bytes(bytes: &[u8]) -> Option<(Inst, u32)>
     ensures { FindsCodeInBytes bytes.now result }
@@ -181,8 +182,8 @@ fn code_byte_of(segment: &Segment, addr: u32) -> Option<u8>
     Some(bytes[at])
 }
 
-/// Returns the byte at an address of code in rom, as the image has it. All segments are tried. If
-/// one holds the byte, `near` becomes its number.
+/// Returns the byte of code at an address of the image, if one of its segments holds it: all are
+/// tried, and `near` becomes the number of that one.
 #[inline(never)]
 fn code_byte_anywhere(image: &Image, addr: u32, near: &mut usize) -> Option<u8>
     ensures { result ≡ image_byte image.now addr }

@@ -93,7 +93,7 @@ abbrev pub is_lower_d : ℕ → Bool
 is_lower_d r = nat_lt r 8
 
 -- the words of an upper context have the register Ar, for r from 10 on; A11 is in both contexts,
--- A0, A1, A8 and A9 are in none
+-- A0, A1, A8 and A9 are in neither
 abbrev pub is_upper_a : ℕ → Bool
 is_upper_a r = nat_le 10 r
 

@@ -25,8 +25,8 @@ sys_kind = 3
 abbrev pub aln_kind : ℕ
 aln_kind = 4
 
--- each of the five kinds of keys of a certificate's nodes in letters: start, call, irq for
--- interrupts, sys for system calls, or aln for misaligned accesses; a blank ends it
+-- the kind of a key of a certificate's nodes in letters: start, call, irq for interrupts, sys for
+-- system calls, or aln for misaligned accesses; a blank ends it
 abbrev pub key_kind_words : ℕ → List ℕ
 key_kind_words kind =
     if kind == start_kind then codes "start "
@@ -35,7 +35,7 @@ key_kind_words kind =
     else if kind == sys_kind then codes "sys "
     else codes "aln "
 
--- each of the five kinds of keys of a certificate's nodes in letters, with a blank at its end
+-- the kind of a key of a certificate's nodes in letters, with a blank at its end
 unfoldable pub key_kind_text : ℕ → List ℕ
 key_kind_text kind = key_kind_words kind
 

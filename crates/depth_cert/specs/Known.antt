@@ -19,8 +19,8 @@ CoversKnown (leaving y) (leaving x) = ExitCovers y x
 CoversKnown (state u) (leaving x) = ⊥
 CoversKnown (leaving y) (state s) = ⊥
 
--- what is known at a place of a frame, joined from two: the least that covers both states or both
--- exits; none for states with different numbers of locals
+-- what is known at a place of a frame, joined from two: the least that covers both; none for a
+-- state and an exit, or for states with different numbers of locals
 abbrev pub joined_known : Limits → Known → Known → Option Known
 joined_known b (state s) (state t) = option_map state (joined_states b s t)
 joined_known b (leaving x) (leaving y) = Some (leaving (joined_exit b x y))

@@ -16,8 +16,8 @@ pub record NodeData : Type 0 where
   pub exit : Option Exit
   pub points : List Point
 
--- what holds of a certificate's node: a valid key and need, points in order, and an exit only for a
--- call or a system call
+-- what holds of a certificate's node: a valid key and need, valid points in order, and a valid
+-- exit, if any, only for a call or a system call
 pub record IsNode (version : ℕ) (n : NodeData) : Type 0 where
   pub key : IsKey n.key
   pub need : n.need ≤ 4096
@@ -38,7 +38,7 @@ count_points ns = sum_by (λ n. length n.points) ns
 abbrev pub key_numbers : List NodeData → List ℕ
 key_numbers ns = map (λ n. number_of_key n.key) ns
 
--- the one of these nodes that has this key, if there is one
+-- the first of these nodes that has this key, if there is one
 abbrev pub find_node : Key → List NodeData → Option NodeData
 find_node k ns = find (λ n. number_of_key n.key == number_of_key k) ns
 

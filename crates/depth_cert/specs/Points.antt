@@ -10,8 +10,8 @@ use Rattle.value_domain.specs.Values.{count_in}
 use Rattle.value_domain.specs.VersionLimits.{most_words_of, most_locals_of}
 use Rattle.depth_cert.specs.declared.points.Point.{Point}
 
--- a value that a certificate's point or exit can have: a Set of at most the version's greatest
--- number of words, or a well-formed Span of more members than that
+-- a value that a certificate's point or exit can have: a well-formed Set of at most as many words
+-- as the version allows, or a well-formed Span of more members
 abbrev pub IsWellCertValue : ℕ → Val → Type 0
 IsWellCertValue version (Set ws) = AreWords ws × (length ws ≤ most_words_of version)
 IsWellCertValue version (Span lo last step) = (step ≤ 2) × (most_words_of version < count_in lo last step) × (last < 2 ^ 32)

@@ -35,8 +35,8 @@ impl Cert {
     ghost use Rattle.depth_cert.specs.Grammar.{certificate_of};
     ghost use Rattle.depth_cert.specs.Spelling.{bytes_of_cert};
 
-    /// Makes the type `Cert`, a certificate in memory, of the bytes that spell it, or returns their
-    /// first fault.
+    /// Makes a `Cert`, a certificate in memory, of the bytes that spell it, or returns their first
+    /// fault or `NoMemory`.
     pub fn read(alloc: Global, bytes: &[u8]) -> Result<Cert, CertErr>
         requires { length bytes.now ≤ 2 ^ 30 }
         ensures ok { IfOk result (λ c. certificate_of bytes.now ≡ Ok c) }
@@ -49,8 +49,7 @@ impl Cert {
         Ok(Cert { version, nodes })
     }
 
-    /// Writes this `Cert`, a certificate in memory, as the bytes that spell it: at most
-    /// 1,073,741,824.
+    /// Returns the bytes that spell this `Cert`, a certificate in memory: at most 1,073,741,824.
     pub fn write(&self, alloc: Global) -> Result<Vec<u8>, CertErr>
         ensures ok { IfOk result (λ out. out.items ≡ bytes_of_cert self.now) }
         ensures small { IfOk result (λ out. length out.items ≤ 2 ^ 30) }
@@ -75,8 +74,8 @@ impl Cert {
         looked_up_node(nodes, number, at)
     }
 
-    /// Returns the bytes of this `Cert`, a certificate in memory: those of its version, of the
-    /// number of its nodes and of these.
+    /// Returns the bytes of this `Cert`, a certificate in memory: the magic word, its version, the
+    /// number of its nodes, and the nodes.
     #[tactic(auto, unfolding(crate::specs::Spelling::bytes_of_cert))]
     fn spell(&self, alloc: Global) -> Result<Vec<u8>, tcd_base::NoMemory>
         ensures { IfOk result (λ out. out.items ≡ bytes_of_cert self.now) }

@@ -17,8 +17,7 @@ pub const SYS: u8 = 3;
 /// The kind of frames of handlers of misaligned accesses.
 pub const ALN: u8 = 4;
 
-/// Returns one of the five kinds of keys of a certificate's nodes in letters, with a blank at its
-/// end.
+/// Returns the kind of a key of a certificate's nodes in letters, with a blank at its end.
 #[tactic(auto, unfolding(crate::specs::Keys::key_kind_text))]
 #[inline]
 pub fn key_kind_text(kind: u8) -> &'static str

@@ -42,7 +42,7 @@ impl Node {
     }
 }
 
-/// Returns an exit for a `Node` that knows nothing: IE is off, CCPN is 0, and each lower register
+/// Returns an exit that knows nothing, for a `Node`: IE is off, CCPN is 0, and each lower register
 /// may have any value.
 pub fn no_exit() -> Exit
     ensures ie { result.ie ≡ false }

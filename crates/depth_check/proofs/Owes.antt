@@ -23,7 +23,7 @@ use Rattle.depth_cert.specs.declared.keys.Key.{Key}
 use Rattle.cfg_recover.specs.Entries.{sys_key, sys_entry}
 use Rattle.depth_cert.specs.Exits.{exit_of}
 use Rattle.cfg_recover.specs.Duties.{jump, enter, resume, leave, owed, duties_of}
-use Rattle.cfg_recover.proofs.DutyView.{DutyAt, next, system, system_back, returns, resumes, duty_listed}
+use Rattle.cfg_recover.proofs.DutyView.{next as goes_next, system, system_back, returns, resumes, duty_listed}
 use Rattle.depth_check.proofs.Enter.{begun}
 use Rattle.depth_check.proofs.Handlers.{handler_a}
 
@@ -31,15 +31,15 @@ use Rattle.depth_check.proofs.Handlers.{handler_a}
 module _ (b : Limits) (image : ImageData) (plan : PlanData) (key : Key) (p : ℕ) (s : State) (n : ℕ) where
   pub owes-svlcx : Contains (duties_of b image plan key p s Svlcx n) (owed 4 (jump (machine_address_ahead p n) (saved_lower s)))
   unfolding transfer_of
-  owes-svlcx = duty_listed b image plan key p s n Svlcx _ (next Svlcx (λ t. refl))
+  owes-svlcx = duty_listed b image plan key p s n Svlcx _ (goes_next Svlcx (λ t. refl))
 
   pub owes-bisr : (c : ℕ) → Contains (duties_of b image plan key p s (Bisr c) n) (owed 4 (jump (machine_address_ahead p n) (record (saved_lower s) { ie = true; ccpn = c })))
   unfolding transfer_of
-  owes-bisr c = duty_listed b image plan key p s n (Bisr c) _ (next (Bisr c) (λ t. refl))
+  owes-bisr c = duty_listed b image plan key p s n (Bisr c) _ (goes_next (Bisr c) (λ t. refl))
 
   pub owes-rslcx : Contains (duties_of b image plan key p s Rslcx n) (owed 4 (jump (machine_address_ahead p n) (restored_lower s)))
   unfolding transfer_of
-  owes-rslcx = duty_listed b image plan key p s n Rslcx _ (next Rslcx (λ t. refl))
+  owes-rslcx = duty_listed b image plan key p s n Rslcx _ (goes_next Rslcx (λ t. refl))
 
   pub owes-syscall : (tin : ℕ) → Contains (duties_of b image plan key p s (Syscall tin) n) (owed 12 (enter (sys_key plan key) (sys_entry plan key s tin)))
   owes-syscall tin = duty_listed b image plan key p s n (Syscall tin) _ (system tin)

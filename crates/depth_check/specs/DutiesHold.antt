@@ -15,8 +15,8 @@ use Rattle.depth_cert.specs.Exits.{exit_of, state_after_exit, ExitCovers}
 use Rattle.cfg_recover.specs.Duties.{Owed}
 use Rattle.cfg_recover.specs.RulesHoldOrFail.{HasPoint, IsMet, EntryNeedRuleHolds}
 
--- what the checker tests of one duty of a point for rule q: that it is met and, for rule 14, that
--- the need has room for the entered node
+-- what the checker tests of a point's duty for rule q: that it is met, if q is its rule, and for
+-- rule 14 that the need has room for the entered node
 pub record DutyHolds (cert : CertData) (node : NodeData) (s : State) (q : ℕ) (d : Owed) : Type 0 where
   pub met : d.rule ≡ q → IsMet cert node s d.duty
   pub need : q ≡ 14 → EntryNeedRuleHolds cert node s d.duty

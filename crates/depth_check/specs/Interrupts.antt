@@ -39,8 +39,8 @@ pub record IsBelowContext (context : InterruptContext) (node : NodeData) (s : St
 abbrev pub InterruptsHold : PlanData → CertData → NodeData → State → Type 0
 InterruptsHold plan cert node s = (q : ℕ) → DutiesHold cert node s (interrupts_of plan node.key s) q
 
--- the duties by interrupts in a context that the checker keeps: to enter the handlers of all that
--- may be taken in a state, with this A10 of the context instead of the state's
+-- the duties to enter handlers of interrupts, for a context that the checker keeps: those of all
+-- that may be taken in a state, with this A10 instead of the state's
 abbrev pub interrupt_entries_with : PlanData → Key → State → Val → List Owed
 interrupt_entries_with plan key s sp = map (λ p. owed 11 (enter (irq_key plan p) (entry_state_with (entry_stack_with plan key sp) false p true))) (irqs_of plan s)
 

@@ -45,7 +45,7 @@ pub(crate) fn has_points(at: &PointCheck<'_, '_>, targets: &[u32]) -> bool
 }
 
 /// Returns true if the node has a point at this address that covers the checked point's own state.
-/// A walk compares nothing at points with the same state.
+/// If both have the same state in the file, a walk compares no values.
 pub(crate) fn has_next(at: &PointCheck<'_, '_>, addr: u32) -> bool
     requires { IsPointCheck at.now }
     ensures { IsTrue result ↔ HasPoint at.now.node.now addr at.now.point.state.now }
@@ -60,7 +60,7 @@ pub(crate) fn has_next(at: &PointCheck<'_, '_>, addr: u32) -> bool
 }
 
 /// Returns true if the node has a point at this address that covers the checked point's state, kept
-/// as it is. `c` is overwritten with the change that keeps it.
+/// as it is. `c` may be overwritten with the change that keeps it.
 pub(crate) fn has_kept_next(at: &PointCheck<'_, '_>, addr: u32, c: &mut Change) -> bool
     requires { IsPointCheck at.now }
     ensures { IsTrue result ↔ HasPoint at.now.node.now addr at.now.point.state.now }

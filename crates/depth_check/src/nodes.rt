@@ -65,7 +65,7 @@ pub(crate) fn node_fault<'a>(
     }
 }
 
-/// Returns true if a node in memory keeps rule 2 by itself: it has a point at its entry, and the
+/// Returns true if rule 2 holds at the entry of a node in memory: it has a point there, and the
 /// values of its exit, if it has one, are the plan's.
 pub(crate) fn plain_holds_at_entry(b: &Bounds, node: &Node) -> bool
     ensures { IsTrue result ↔ HoldsAtEntry b.now node.now }

@@ -272,8 +272,8 @@ fn are_point_values(b: &Bounds, point: CurrentPoint<'_>) -> bool
     are_plan_values(b, &point.state.regs)
 }
 
-/// Returns the least rule that fails at a point whose values are values of the plan. The point's
-/// instruction is decoded, and then its duties and its need are checked.
+/// Returns the least rule that fails at a point whose values are values of the plan. Its
+/// instruction is decoded and checked by itself, and then its duties and its need are checked.
 #[inline(never)]
 fn broken_by_decoded_point(at: &PointCheck<'_, '_>, scratch: &mut PointScratch) -> Option<u8>
     requires point { IsPointCheck at.now }

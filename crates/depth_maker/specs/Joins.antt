@@ -95,8 +95,8 @@ JoinsOn g s t y v (Err e) = AnsweredOn g e
 abbrev pub JoinedOn : Ground → made.Table → made.Table → Spot → Known → Type 0
 JoinedOn g s t y v = Joined g.bounds.now g.image.now g.plan.now s t y v
 
--- what a join at y does to the maker's marks: y and its readers are queued, and each other mark
--- stays
+-- what a join at y does to the maker's marks: y and its readers are queued, each other place is
+-- queued or keeps its marks, and readers stay readers
 pub record Marks (a b : TableView) (y : Place) : Type 0 where
   pub each :
       (q : Place) → ((b.queued q ≡ true) × (b.idle q ≡ false))

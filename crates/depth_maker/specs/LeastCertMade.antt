@@ -21,8 +21,8 @@ use Rattle.cfg_recover.specs.CertRefusals.{IsLeastAssignment, MeetsNeeds, need}
 use Rattle.depth_cert.specs.Spelling.{bytes_of_cert}
 use Rattle.value_domain.specs.Limits.{Limits}
 
--- the needs of frames in the certificate that is made, which are to be the least; a frame without a
--- node needs nothing
+-- the needs that a certificate states for its frames, which are the least in the least certificate;
+-- a frame without a node needs nothing
 abbrev pub needs_in : CertData → Key → ℕ
 needs_in cert k = need_of (find (λ n. same_key n.key k) cert.nodes)
 

@@ -41,8 +41,8 @@ FaultsRefute =
     (b : Limits) (image : ImageData) (plan : PlanData) (c : Assignment) (r : ℕ) (k : Key) (p : ℕ) → IsGround b image plan → Closed b image plan c → AllFaultless b image plan c → AllProper b c
     → (IsPastCertLimits c → ⊥) → IsRefusalFault b image plan r k p → ⊥
 
--- what the maker's laws speak of, like an accepted certificate: a closed assignment at the limits,
--- without faults of its own, and needs that are met
+-- a solution, as the maker's laws call it, such as an accepted certificate: a closed assignment
+-- within the limits, without faults of its own, and needs that are met
 pub record IsMakerSolution (b : Limits) (image : ImageData) (plan : PlanData) (a : Assignment) (need : Key → ℕ) : Type 0 where
   pub closed : Closed b image plan a
   pub faultless : AllFaultless b image plan a

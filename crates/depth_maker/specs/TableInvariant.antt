@@ -41,14 +41,14 @@ TableReadsExits readers = (k : Key) (p : ℕ) (q : Spot) → IsAmongReaders (get
 abbrev pub ArePlainInTable : {S : Type 0} → ImageData → PlanData → IndexMap Spot (Marked Known) S → Type 0
 ArePlainInTable image plan places = (q : Spot) → mark_for places q ≡ Some Plain → IsPlainIn image plan q
 
--- part of the invariant of the maker's table: the point after a return is covered, by what is known
--- of the exit
+-- part of the invariant of the maker's table: the state after a return, by what is known of the
+-- exit, is covered at the point to return to
 abbrev pub IsResumed : TableView → Key → State → Key → ℕ → Known → Type 0
 IsResumed t key s k q (leaving x) = CoversAt t.cells (point key q) (state (state_after_exit s x k.kind))
 IsResumed t key s k q (state u) = Unit {0}
 
 -- part of the invariant of the maker's table: a duty of a point is covered, and the point reads the
--- exit that the duty depends on
+-- exit, if any, that the duty depends on
 abbrev pub Settled : TableView → Key → ℕ → State → Duty → Type 0
 Settled t key p s (jump q u) = CoversAt t.cells (point key q) (state u)
 Settled t key p s (enter k u) = CoversAt t.cells (point k k.entry) (state u)
@@ -74,7 +74,8 @@ pub record IsFine (b : Limits) (image : ImageData) (plan : PlanData) (t : made.T
   pub readers : (z : Spot) → AreKnown t.places (IsAmongReaders (get spot_eq t.readers z))
   pub plain : ArePlainInTable image plan t.places
 
--- the maker's table at the end: no place has work, so it is the least closed assignment
+-- the maker's table at the end: its assignment is derived, closed and without faults, so it is the
+-- least of the closed ones without faults
 pub record IsDone (g : Ground) (t : made.Table) : Type 0 where
   pub derived : Derived g.bounds.now g.image.now g.plan.now (seen t).cells
   pub closed : Closed g.bounds.now g.image.now g.plan.now (seen t).cells
@@ -87,7 +88,7 @@ pub record IsDone (g : Ground) (t : made.Table) : Type 0 where
 abbrev pub FineOn : Ground → made.Table → Type 0
 FineOn g t = IsFine g.bounds.now g.image.now g.plan.now t
 
--- part of the invariant of the maker's table between two steps: each known state or exit is at the
--- limits
+-- what the invariant of the maker's table gives between two steps: each known state or exit is at
+-- the limits
 abbrev pub CellsProper : {S : Type 0} → Limits → IndexMap Spot (Marked Known) S → Type 0
 CellsProper b places = (q : Spot) (v : Known) → value_for places q ≡ Some v → IsProperKnown b v

@@ -56,7 +56,8 @@ pub record IsVisited (b : Limits) (image : ImageData) (plan : PlanData) (t : mad
   pub at : is_queued (mark_for t.places (spot_of (point k p))) ≡ false → (seen t).cells (point k p) ≡ Some (state u)
   pub stands : PlaceHasNumber t.places t.near (spot_of (point k p))
 
--- a visit of the point x: it found no fault of the point's own, and what the point owes was joined
+-- a visit of the point x: it found no fault of the point's own, and joined what the point owes,
+-- unless the point has new work
 abbrev pub VisitJoinsPointOn : Ground → made.Table → made.Table → Spot → Type 0
 VisitJoinsPointOn g s t x = VisitJoinsPoint g.bounds.now g.image.now g.plan.now s t x
 

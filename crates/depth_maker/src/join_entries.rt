@@ -54,8 +54,8 @@ pub(crate) fn join_entries(
     }
 }
 
-/// Joins the entry that the visited point's access may enter: that of the handler of misaligned
-/// accesses, if an address may be misaligned.
+/// Joins the entry of the frame that the visited point's access may enter: that of the handler of
+/// misaligned accesses, if an address may be misaligned and the plan has such traps.
 pub(crate) fn join_access_entry(
     alloc: Global,
     table: &mut Table,
@@ -220,8 +220,8 @@ fn join_misaligned_entry(alloc: Global, table: &mut Table, v: &Visit) -> Result<
     join_entry(alloc, table, v, aln_key(g.plan, &v.key), &entry)
 }
 
-/// Joins the entries that the visited point enters by these interrupts, which may be taken. It is a
-/// call of its own, since it has room for a change.
+/// Joins the entries of the frames that the visited point enters by these interrupts, which may be
+/// taken. It is a call of its own, since it has room for a change.
 #[inline(never)]
 fn join_interrupt_entries(
     alloc: Global,

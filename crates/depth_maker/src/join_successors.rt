@@ -123,8 +123,8 @@ pub(crate) fn join_first_jump(
     join_at_place(alloc, table, v, &Spot::Point(v.key, to), &incoming)
 }
 
-/// Joins what follows if the visited point leaves its frame: instead of a successor, its state goes
-/// to the frame's exit.
+/// Joins the visited point's state at the exit of its frame, which the point leaves instead of
+/// going on to a successor.
 pub(crate) fn join_exit(alloc: Global, table: &mut Table, v: &Visit) -> Result<(), Refusal>
     requires visited { VisitedBy v.now table.old }
     requires owes { OwesDuty v.now (leave (exit_of v.now.state.now)) }
@@ -140,8 +140,8 @@ pub(crate) fn join_exit(alloc: Global, table: &mut Table, v: &Visit) -> Result<(
     join_at_place(alloc, table, v, &Spot::Exit(v.key), &incoming)
 }
 
-/// Joins the state after a frame returned at a successor of the visited point, `back`, if the exit
-/// of that frame is known.
+/// Joins the state after the return of a frame that the visited point entered, at the successor
+/// `back`, if the exit of that frame is known.
 pub(crate) fn join_return(
     alloc: Global,
     table: &mut Table,

@@ -3,8 +3,8 @@ ghost use Rattle.depth_maker.specs.DutiesGrow.{AddressesGrow, AfterGrows, Duties
 ghost use Rattle.depth_maker.specs.ProperAssignments.{AfterIsProper, DutiesAreProper};
 ghost use Rattle.depth_maker.specs.MakerLaws.{RefusalsHold, AcceptedIsClosed, DerivedIsBelow, FaultsRefute, RefusalsRefute, SolutionIsAccepted, RefusedIsNone, WrittenIsMade, MadeIsLeast};
 
-/// Laws of the maker: what a point owes grows with its state. A point without a fault of its own
-/// has none with a smaller state.
+/// Laws of the maker: what a point owes grows with its state, and is at the limits. A point without
+/// a fault of its own has none with a smaller state.
 pub fn growth_laws()
     ensures faults { FaultsFall }
     ensures duties { DutiesGrow }
@@ -33,8 +33,8 @@ pub fn derived_laws()
     ensures faults { FaultsRefute }
 {}
 
-/// Laws of the maker: an accepted certificate is a closed assignment without faults, and then no
-/// refusal of the maker holds. A certificate of a maker's solution is accepted.
+/// Laws of the maker: an accepted certificate is a closed assignment without faults, and no refusal
+/// holds then. One of a maker's solution, whose nodes have their entry points, is accepted.
 pub fn accepted_laws()
     ensures closed { AcceptedIsClosed }
     ensures refusals { RefusalsRefute }

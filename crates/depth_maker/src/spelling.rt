@@ -19,7 +19,8 @@ use tcd_base::{NoMemory, put_u32};
 /// The magic bytes 54 43 44 43 of a certificate, as a little-endian word.
 const MAGIC: u32 = 0x4344_4354;
 
-/// A CCPN of the table, which the maker spells in a certificate, fits a byte: it is below 256.
+/// Establishes that a CCPN of the maker's table is below 256, as its type says, so that it can be
+/// spelled as a byte.
 pub(crate) fn ccpn_fits_byte(_byte: u8)
     ensures { _byte < 2 ^ 8 }
 {}

@@ -14,7 +14,7 @@ pub struct Segment {
     pub bytes: Vec<u8>,
 }
 
-/// Returns true if this one segment of an executable holds an address.
+/// Returns true if this segment of an executable holds an address.
 pub(crate) fn is_held_by_segment(segment: &Segment, addr: u32) -> bool
     ensures { result ≡ is_held_by_segment (segment_data segment.now) addr }
 {

@@ -27,7 +27,8 @@ abbrev pub with_point : List Spot → Spot → List Spot
 with_point ps (Point k p) = ps ++ Point k p ∷ []
 with_point ps (Exit k) = ps
 
--- the counted points after a place y flows in and is counted; a known place is counted already
+-- the counted points after a state flows into the place y: a point y is counted too, unless it is
+-- known and so counted already
 abbrev pub counted_points_after : Bool → List Spot → Spot → List Spot
 counted_points_after known ps y = if known then ps else with_point ps y
 

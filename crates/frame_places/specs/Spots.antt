@@ -45,6 +45,6 @@ abbrev pub is_point : Spot → Bool
 is_point (Point k p) = true
 is_point (Exit k) = false
 
--- a place that stands where there is none: the exit of a frame whose key is all zeros
+-- a place of a frame that stands in where there is none: the exit of a frame whose key is all zeros
 abbrev pub nowhere : Spot
 nowhere = Exit (record { kind = 0; entry = 0; prio = 0; is = false })

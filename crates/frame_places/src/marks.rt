@@ -112,8 +112,8 @@ pub fn end_visit<V>(places: &mut IndexMap<Spot, Marked<V>>, number: usize, plain
     }
 }
 
-/// Marks the known place `x` as queued unless it is, with its number in the work for the next
-/// round, or as the next.
+/// Marks the known place `x` as queued, unless it is, and lists its number as work: it waits for
+/// the next round, or is next.
 pub(crate) fn requeue<V>(
     places: &mut IndexMap<Spot, Marked<V>>,
     work: &mut Work,
@@ -147,7 +147,7 @@ fn mark_after(mark: Mark, plain: bool) -> Mark
     }
 }
 
-/// Returns the mark of a place that isn't queued: plain or idle.
+/// Returns the mark of a place that has no work after its visit: plain or idle.
 #[inline(always)]
 fn mark_without_work(plain: bool) -> Mark
     ensures { result ≡ idle_mark plain }

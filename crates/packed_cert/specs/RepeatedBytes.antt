@@ -1,4 +1,4 @@
--- Values at their places in the bytes.
+-- Bytes that come again at another place, and the values that they hold.
 use Rattle.std.specs.Prelude.{◌≡◌, ℕ, List, take, drop, ◌+◌, ◌≤◌, length, ◌*◌}
 use Rattle.packed_cert.specs.declared.places.RepeatedState.{RepeatedState}
 use Rattle.tcd_base.specs.Place.{Place}
@@ -16,12 +16,14 @@ pub record IsRepeated (bytes : List ℕ) (place : ℕ) (p : RepeatedState) : Typ
   pub second : place + p.same ≤ length bytes
   pub alike : SameBytesAtPlaces bytes (p.at).start place p.same
 
--- a cursor moved over n bytes that come again: the same are from x on
+-- a cursor moved over n bytes of a packed certificate that come again: they equal the n bytes from
+-- x on
 abbrev pub MovesOverRepeated : List ℕ → ℕ → ℕ → Place → Place → Type 0
 MovesOverRepeated bytes x n before after =
     (after ≡ record before { place = before.place + n }) × (before.place + n ≤ length bytes) × (take n (drop x bytes) ≡ take n (drop before.place bytes))
 
--- a state in the bytes has these values, and so many of its bytes come again at another place
+-- a state in the bytes has these values, and its first bytes, as many as p counts, come again at
+-- this place
 pub record StateComesAgain (version : ℕ) (bytes : List ℕ) (vs : List Val) (place : ℕ) (p : RepeatedState) : Type 0 where
   pub values : ValuesStandFrom version bytes vs (p.at).values (p.at).end
   pub repeated : IsRepeated bytes place p

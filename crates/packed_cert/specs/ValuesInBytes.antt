@@ -52,11 +52,12 @@ abbrev pub place_after_values : List ℕ → ℕ → ℕ → ℕ
 place_after_values bytes place zero = place
 place_after_values bytes place (suc n) = place_after_values bytes (place_after_value bytes place) n
 
--- these values are in the bytes, one after another, from a place to another
+-- these values are in the bytes, one after another, from one place to another
 abbrev pub ValuesStandBetween : ℕ → List ℕ → ℕ → List Val → ℕ → Type 0
 ValuesStandBetween version bytes place [] end = place ≡ end
 ValuesStandBetween version bytes place (v ∷ vs) end = (value_at version (place_in_bytes bytes place) ≡ Ok (v, place_in_bytes bytes (place_after_value bytes place))) × ValuesStandBetween version bytes (place_after_value bytes place) vs end
 
--- these values are in the bytes, one after another, from a place within them to another
+-- these values are in the bytes, one after another, from one place to another; the first place
+-- isn't past the end of the bytes
 abbrev pub ValuesStandFrom : ℕ → List ℕ → List Val → ℕ → ℕ → Type 0
 ValuesStandFrom version bytes vs x end = (x ≤ length bytes) × ValuesStandBetween version bytes x vs end

@@ -58,8 +58,8 @@ pub(crate) fn read_node(
     })
 }
 
-/// Returns the number of the last key that the reader of nodes has read, as the key of its next
-/// node must be above it; `None` if no node was read.
+/// Returns the number of the key that the reader of nodes read last, which the next key's number
+/// must be above; `None` if no node was read.
 fn last_read_node_number(nodes: &[NodePlaces]) -> Option<u64>
     ensures { result ≡ last_number_read (map (λ n. n.number) nodes.now) }
 {

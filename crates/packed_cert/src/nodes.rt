@@ -68,8 +68,7 @@ impl<'a> PackedNode<'a> {
         self.points.len()
     }
 
-    /// Puts this `PackedNode`'s walk before the first of its points, which are by ascending
-    /// address.
+    /// Puts a walk before the first of this `PackedNode`'s points, which are by ascending address.
     pub fn walk(&self, walk: &mut PointWalk<'a>)
         ensures all { walk.new.left ≡ self.now.points }
         ensures points { walk.new.points ≡ self.now.points }

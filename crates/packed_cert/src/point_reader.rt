@@ -44,8 +44,8 @@ pub(crate) struct ExitRoom {
     pub(crate) last: Option<ExitPlaces>,
 }
 
-/// Returns a state that knows nothing, as room for the first state of a point that is read from a
-/// packed certificate.
+/// Returns a state of which no value is known, as room for the first state of a point that is read
+/// from a packed certificate.
 pub(crate) fn blank_state_for_reading() -> State {
     State {
         regs: std::array::from_fn(|_| Val::any()),
@@ -171,8 +171,8 @@ pub(crate) fn read_state_fields(
     Ok((at, row))
 }
 
-/// Reads the state of a point that is read, over that of the point before; its bytes don't all come
-/// again.
+/// Reads a point's state over that of the point before, if there is one, when not all bytes of that
+/// state come again.
 #[inline(never)]
 pub(crate) fn read_state_after(
     c: &mut Cursor<'_>,

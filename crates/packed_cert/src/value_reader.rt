@@ -83,7 +83,7 @@ pub(crate) fn value_length_by_tag(tag: u8) -> usize
     }
 }
 
-/// Moves the reader of values on to a place, past values that it doesn't read.
+/// Moves the reader of values on to a place, past bytes that it doesn't read.
 #[inline(always)]
 pub(crate) fn pass_unread_values_to(c: &mut Cursor<'_>, place: usize)
     requires order { c.old.place ≤ place }

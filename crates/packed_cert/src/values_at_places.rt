@@ -67,8 +67,8 @@ pub(crate) fn value_at_place(bytes: &[u8], version: u8, place: usize) -> Val
     out
 }
 
-/// Reads the value that is at a place in the bytes, without a cursor, over another value. A set
-/// that is there already isn't written.
+/// Reads the value that is at a place in the bytes, without a cursor, over `out`. Nothing is
+/// written if `out` is that set of two or more words already.
 pub(crate) fn read_value_at_place(bytes: &[u8], version: u8, place: usize, out: &mut Val)
     requires short { length bytes.now ≤ 2 ^ 30 }
     requires stands { HasValueInBytes version bytes.now place }

@@ -111,7 +111,7 @@ impl<'a> PointWalk<'a> {
     }
 
     /// Returns true if the walk's next point has this address and is seen to cover the changed
-    /// state. Only values put or in its row are compared; a change on another base gives false.
+    /// state. Only values put or in its row are compared; a base other than `Same` gives false.
     pub fn covers_next(&self, addr: u32, c: &Change) -> bool
         requires hand { AreWell self.now.current.regs }
         requires changed { AreWell (state_after self.now.current c.now).regs }

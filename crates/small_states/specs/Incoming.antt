@@ -50,13 +50,13 @@ incoming_exit_with values k = record { ie = k.ie; ccpn = k.ccpn; lower = values 
 abbrev pub known_by : Incoming → Context → Known
 known_by incoming k = if is_incoming_exit incoming then leaving (incoming_exit_with (incoming_values incoming) k) else state (incoming_state_with (incoming_values incoming) k)
 
--- the bytes of what is known at a place, into which other states flow, are appended if it is a
--- state whose CCPN is a byte; nothing is said of an exit
+-- if what is known at a place, into which other states flow, is a state, its bytes are appended and
+-- its CCPN is a byte; nothing is said of an exit
 abbrev pub AddsKnownState : Known → List ℕ → List ℕ → Type 0
 AddsKnownState (state s) old new = (new ≡ old ++ bytes_of_state s) × (s.ccpn < 2 ^ 8)
 AddsKnownState (leaving x) old new = Unit {0}
 
--- the value that an incoming one stands for, which is given whole or in compact form
+-- the value that an incoming value stands for, whether it is given whole or in compact form
 abbrev pub given_of : Given → Val
 given_of (Whole v) = v.now
 given_of (Packed v) = v.now

@@ -69,8 +69,8 @@ fn may_be_above_known(known: &KnownForm, incoming: &Incoming) -> bool {
         && has_known_grown(known, &c.third)
 }
 
-/// Returns whether what is known at a place, in compact form, is the value that is put there or has
-/// fewer words. If none is put, it returns true. The answer is only a hint.
+/// Returns true if nothing is put, or if the known value at its place, in compact form, is the put
+/// value or has fewer words. The answer is only a hint.
 fn has_known_grown(known: &SmallState, put: &Put) -> bool {
     let Some(at) = put.at else {
         return true;

@@ -311,7 +311,7 @@ impl Small {
         }
     }
 
-    /// Appends the only bytes that spell this one small value. It makes the whole value first.
+    /// Appends the only bytes that spell this small value. It makes the whole value first.
     #[inline(never)]
     pub(crate) fn spell(&self, out: &mut Vec<u8>) -> Result<(), NoMemory>
         requires { IsWell self.now }

@@ -27,8 +27,8 @@ pub fn store_ok(plan: &Plan, at: &Val, size: u8) -> bool
     }
 }
 
-/// Checks stores and other accesses at the members of a value: returns true if each is aligned, a
-/// multiple of 1, 2 or 4 (`size`).
+/// Returns true if each store or other access of 1, 2 or 4 bytes (`size`) at a member of the value
+/// is aligned: its address is a multiple of `size`.
 pub fn aligned(at: &Val, size: u8) -> bool
     requires well { IsWell at.now }
     requires size { IsAccessSize size }

@@ -19,12 +19,12 @@ use Rattle.cfg_recover.specs.RulesHoldOrFail.{limits_in}
 use Rattle.task_chains.specs.Tasks.{TasksData}
 use Rattle.task_chains.specs.SwitchRoutine.{routine_size, switch_key, IsRoutineStep}
 
--- rule 17 of one access of a task, of n bytes from x on, which can wrap at 2^32: it has none of the
--- len bytes from an address on
+-- rule 17 for one access of a task: its n bytes from x on, which can wrap at 2^32, are none of the
+-- `len` bytes from `from` on
 abbrev pub IsAccessApart : ℕ → ℕ → ℕ → ℕ → Type 0
 IsAccessApart x n from len = (i : ℕ) → i < n → ((x + i) % 2 ^ 32 < from) ⊎ (from + len ≤ (x + i) % 2 ^ 32)
 
--- rule 17 of a load by a task: no access of n bytes, at an address that is a word of the value,
+-- rule 17 for a load of a task: no access of n bytes, at an address that is a word of the value,
 -- shares a byte with the `len` bytes from `from` on
 abbrev pub AreAccessesApart : Val → ℕ → ℕ → ℕ → Type 0
 AreAccessesApart v n from len = (x : ℕ) → IsMember x v → IsAccessApart x n from len

@@ -21,8 +21,8 @@ use Rattle.task_chains.specs.Rule17.{KeepsApart}
 use Rattle.task_chains.specs.TaskStarts.{TasksStart, block_word, current_task}
 
 -- ---- the owner
--- the task before this one in the round of n: it owns the chain of PCXI while the routine switches
--- to this one
+-- the task before this one in the round of n: it owns the chain of PCXI while the routine has made
+-- this one the current task, but hasn't set PCXI yet
 abbrev pub task_before : ℕ → ℕ → ℕ
 task_before n u = if u == 0 then n - 1 else u - 1
 
@@ -53,8 +53,7 @@ pub record AreAreasShared (plan : PlanData) (tasks : TasksData) (needs : ℕ →
 abbrev pub MissesBlock : TasksData → ℕ × ℕ → Type 0
 MissesBlock tasks at = (at.0 + at.1 ≤ tasks.block) ⊎ (tasks.block + block_size tasks ≤ at.0)
 
--- what a safe run of all tasks may store: in range, and not in the block, unless the routine does
--- it
+-- where a safe run of all tasks may store: in range, and in the block only by the routine
 abbrev pub IsTaskStore : PlanData → TasksData → ℕ → ℕ × ℕ → Type 0
 IsTaskStore plan tasks pc at = IsStoreInRange plan at × ((IsInRoutine tasks pc → ⊥) → MissesBlock tasks at)
 
@@ -78,8 +77,8 @@ need_of_task image plan tasks certs u =
     let n = certified_need (view_image_of image tasks u) (view_plan_of plan tasks u) (certs u) in
     if u == 0 then n else max n 2
 
--- the theorem of safe tasks needs this of a task's certificate: it is accepted for its view, keeps
--- rule 17, and the view's runs are safe and have the certificate's frames
+-- what the theorem of safe tasks needs of a task's certificate: it is accepted for the task's view
+-- and keeps rule 17, and the view's runs are safe and have the certificate's frames
 pub record IsJudged (image : ImageData) (plan : PlanData) (tasks : TasksData) (cert : CertData) (u : ℕ) : Type 0 where
   pub is_cert : IsCert cert
   pub accepted : Accepts (view_image_of image tasks u) (view_plan_of plan tasks u) cert
@@ -87,8 +86,8 @@ pub record IsJudged (image : ImageData) (plan : PlanData) (tasks : TasksData) (c
   pub frames : FramesHeld (view_image_of image tasks u) (view_plan_of plan tasks u) cert
   pub apart : KeepsApart (view_image_of image tasks u) (view_plan_of plan tasks u) tasks cert
 
--- The theorem of safe tasks: if the image has the routine, each task is judged well, and the sum of
--- the needs is at most the areas without the reserve, all runs are safe.
+-- the theorem of safe tasks: if the image has the routine, each task is judged well, and the sum of
+-- the needs is at most the areas without the reserve, all runs are safe
 abbrev pub TasksAreSafe : Type 0
 TasksAreSafe =
     (image : ImageData) (plan : PlanData) (tasks : TasksData) (certs : ℕ → CertData) → IsPlan plan → AreTasks tasks → FitPlan plan tasks → HasRoutine image plan tasks

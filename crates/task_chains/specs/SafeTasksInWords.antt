@@ -18,9 +18,8 @@ use Rattle.task_chains.specs.declared.task_lists.Task.{Task}
 use Rattle.task_chains.specs.TaskStarts.{TasksStart}
 use Rattle.task_chains.specs.SafeTasks.{SafeTasks}
 
--- Task u of n owns PCXI's chain, in plain equations: the block's last word is u, but at the
--- routine's 13th to 15th instructions u + 1, or 0 if u is the last, as PCXI is still the old
--- task's.
+-- task u of n owns PCXI's chain, in plain equations: the block's last word is u, but at the
+-- routine's 13th to 15th instructions u + 1, or 0 if u is the last, as PCXI is still task u's
 pub record OwnsChain (switch block n : ℕ) (m : Machine) (u : ℕ) : Type 0 where
   pub one : u < n
   pub now : m.pc ≢ switch + 48 → m.pc ≢ switch + 52 → m.pc ≢ switch + 56 → word_at m.mem (block + 4 * n) ≡ u
@@ -28,8 +27,8 @@ pub record OwnsChain (switch block n : ℕ) (m : Machine) (u : ℕ) : Type 0 whe
       (m.pc ≡ switch + 48) ⊎ ((m.pc ≡ switch + 52) ⊎ (m.pc ≡ switch + 56))
       → (word_at m.mem (block + 4 * n) ≡ u + 1) ⊎ ((u + 1 ≡ n) × (word_at m.mem (block + 4 * n) ≡ 0))
 
--- safe tasks, in plain equations: the link has this place in the list of task u of n, or in the
--- free list, which is list n
+-- safe tasks, in plain equations: the link has this place in list u, which is that of task u if u
+-- is below n, and the free list if u is n
 abbrev pub LinkStandsInTask : ℕ → (ℕ → List ℕ) → List ℕ → ℕ → ℕ → ℕ → Type 0
 LinkStandsInTask n used free link u place = ((u < n) × (slice_get (used u) place ≡ Some link)) ⊎ ((u ≡ n) × (slice_get free place ≡ Some link))
 

@@ -36,8 +36,8 @@ routine_of n b =
     rslcx ∷
     ret ∷ []
 
--- the instructions of the switch routine in its other form, for a task's view: what it reads of the
--- block and of PCXI is an input, and it writes neither
+-- the switch routine's instructions in a task's view: where the routine itself reads the block or
+-- PCXI, this form takes an input, and where it writes them, there is a NOP
 abbrev pub view_routine_of : ℕ → ℕ → List InstData
 view_routine_of n b =
     disable ∷
@@ -69,8 +69,8 @@ bytes_of_routine is = flat_map instruction_bytes is
 abbrev pub routine_bytes : TasksData → List ℕ
 routine_bytes tasks = bytes_of_routine (routine_of (count tasks) tasks.block)
 
--- the bytes of the switch routine's other form, beside those of the routine itself: as a task's
--- view has it
+-- the bytes that a task's view has in place of those of the switch routine: the bytes of the
+-- routine's other form
 abbrev pub view_routine_bytes : TasksData → List ℕ
 view_routine_bytes tasks = bytes_of_routine (view_routine_of (count tasks) tasks.block)
 
@@ -101,7 +101,7 @@ pub record IsRoutineFault (image : ImageData) (plan : PlanData) (tasks : TasksDa
 abbrev pub IsRoutineStep : TasksData → ℕ → Type 0
 IsRoutineStep tasks p = (i : ℕ) × (i < 18) × (p ≡ tasks.switch + 4 * i)
 
--- the key of the switch routine's own frame: called at no priority and not on the interrupt stack
+-- the key of the switch routine's own frame: called at priority 0, and not on the interrupt stack
 abbrev pub switch_key : TasksData → Key
 switch_key tasks = record { kind = call_kind; entry = tasks.switch; prio = 0; is = false }
 

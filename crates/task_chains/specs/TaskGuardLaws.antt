@@ -17,8 +17,8 @@ use Rattle.task_chains.specs.Tasks.{AreTasks}
 use Rattle.task_chains.specs.Views.{FitPlan}
 use Rattle.task_chains.specs.TaskStarts.{IsReady, TasksStart}
 
--- Guard law of a premise: task i + 1 is ready if areas 2 i and 2 i + 1 are its contexts (PCXI 0, IO
--- 2, IS 0, stack pointer; link, UL 1, entry), and the block has the latter's link.
+-- guard law of a premise: task i + 1 is ready if areas 2 i and 2 i + 1 are its contexts (PCXI 0, IO
+-- 2, IS 0, stack pointer; link, UL 1, entry), and the block has the latter's link
 abbrev pub EveryTaskIsReady : Type 0
 EveryTaskIsReady =
     (core : Core) (plan : PlanData) (switch block : ℕ) (list : List Task) (mem : Memory) (i : ℕ) (t : Task) → slice_get list (i + 1) ≡ Some t
@@ -32,8 +32,8 @@ EveryTaskIsReady =
     → word_at mem (block + 4 * (i + 1)) ≡ first_link plan + (2 * i + 1)
     → IsReady core plan (record { switch = switch; block = block; list = list }) mem (i + 1)
 
--- Guard law of a premise: tasks fit a plan with at most 15 ram ranges and devices, the block inside
--- one ram range, and no start on the interrupt stack. The block leaves at most one range more.
+-- guard law of a premise: tasks fit a plan with at most 15 devices and ram ranges together, the
+-- block inside one ram range (it can add one more), and no start on the interrupt stack
 abbrev pub EveryPlanFits : Type 0
 EveryPlanFits =
     (plan : PlanData) (switch block : ℕ) (list : List Task) (r : Range) → IsPlan plan → Contains plan.ram r

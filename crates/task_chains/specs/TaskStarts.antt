@@ -16,11 +16,11 @@ use Rattle.task_chains.specs.Tasks.{TasksData, count, task_at}
 
 -- ---- the block
 -- the word of task u in the block; where the tasks start, that of a task that is ready names its
--- contexts
+-- lower context
 abbrev pub block_word : TasksData → Memory → ℕ → ℕ
 block_word tasks mem u = word_at mem (tasks.block + 4 * u)
 
--- the number of the task that runs, the block's last word; it is 0 in each state in which the tasks
+-- the number of the current task, the block's last word; it is 0 in each state in which the tasks
 -- start
 abbrev pub current_task : TasksData → Memory → ℕ
 current_task tasks mem = block_word tasks mem (count tasks)

@@ -137,7 +137,8 @@ fn has_byte(image: &Image, plan: &Plan, tasks: &Tasks, i: u32, byte: u8) -> bool
     image.has_byte(tasks.switch + i, byte)
 }
 
-/// Returns whether the switch routine, the `n` addresses from `x` on, is inside one rom range.
+/// Returns whether the first `n` bytes of the switch routine, which begins at `x`, are inside one
+/// rom range.
 fn is_routine_in_rom(plan: &Plan, x: u32, n: u32) -> bool
     ensures decides { IsTrue result ↔ IsInOneRange x n plan.now.rom }
     ensures fits { IsTrue result → x + n ≤ 2 ^ 32 }
@@ -145,8 +146,8 @@ fn is_routine_in_rom(plan: &Plan, x: u32, n: u32) -> bool
     is_in_any_range(plan.rom.as_slice(), x, n)
 }
 
-/// Returns the words of the switch routine's instructions in its other form, as a task's view has
-/// it.
+/// Returns the words of the switch routine's other form, as a task's view has it, for `n` tasks
+/// whose block is at `b`.
 fn view_routine_words(n: u32, b: u32) -> [u32; 18]
     requires { n ≤ 7 }
     ensures { flat_map four_bytes result ≡ bytes_of_routine (view_routine_of n b) }

@@ -49,8 +49,8 @@ pub(crate) fn holds_apart(
     }
 }
 
-/// Returns whether a load keeps rule 17: no access of `size` bytes (1, 2 or 4), at an address that
-/// is a word of the value, shares a byte with the `len` bytes from `from` on.
+/// Returns whether no access of `size` bytes (1, 2 or 4), at an address that is a word of the
+/// value, shares a byte with the `len` bytes from `from` on, as rule 17 asks of a load.
 pub(crate) fn are_accesses_apart(at: &Val, size: u8, from: u32, len: u32) -> bool
     requires at { IsWell at.now }
     requires size { IsAccessSize size }

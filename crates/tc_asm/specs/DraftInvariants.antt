@@ -14,7 +14,7 @@ abbrev pub EachInDraft : {A : Type 0} → (A → Type 0) → List A → Type 0
 EachInDraft P [] = Unit {0}
 EachInDraft P (x ∷ xs) = P x × EachInDraft P xs
 
--- these names, which a valid draft has in its sections or symbols, hold this name
+-- one of these names, those of a draft's sections or of its symbols, is this name
 abbrev pub is_drafted_name : List (List ℕ) → List ℕ → Bool
 is_drafted_name names name = list_any (λ n. bytes_eq name n) names
 

@@ -1,4 +1,4 @@
--- The draft of a source, and the rules that its lines break.
+-- The draft of a source.
 use Rattle.std.specs.Prelude.{ℕ, List, fold, []}
 use Rattle.tc_stmt.specs.Lines.{LineData, lines_in}
 use Rattle.tc_asm.specs.Symbols.{SymbolData}

@@ -98,16 +98,16 @@ with_bytes d bs =
 unfoldable pub with_part_use : List PartData → ℕ → UseData → List PartData
 with_part_use parts i u = option_map_or (λ p. slice_set parts i (record p { uses = p.uses ++ u ∷ [] })) (slice_get parts i) parts
 
--- the draft of an object with a use of a symbol in its next four bytes, for a relocation, if it has
--- fewer than 65,535
+-- the draft of an object with a use of a symbol for a relocation, if its next bytes are four for
+-- which its section has room, and it has fewer than 65,535 relocations
 unfoldable pub with_use : DraftData → ℕ → ReferenceData → DraftData
 with_use d size r =
     if has_section d && has_room d size && size == 4 && is_reloc r.kind && nat_lt d.count 65535
     then record d { parts = with_part_use d.parts d.section (record { offset = draft_place d; reference = r }); count = d.count + 1 }
     else d
 
--- the draft of an object with the symbol of its next bytes, of which there are this many, in its
--- table and, if it needs a relocation, among its uses
+-- the draft of an object with the symbol of its next `size` bytes in its table and, if these bytes
+-- need a relocation, among its uses; a bad name changes nothing
 unfoldable pub with_reference : DraftData → ℕ → Option ReferenceData → DraftData
 with_reference d size None = d
 with_reference d size (Some r) = if is_source_name r.name then with_use (record d { symbols = seen d.symbols r.name }) size r else d
@@ -129,13 +129,12 @@ label_distance labels d r =
     else None)
     (place_in labels r.name) None
 
--- the fields with which a draft spells an instruction, where no rule is broken and no symbol is
--- waited for
+-- these fields, with which a draft spells an instruction, with no broken rule and no symbol noted
 abbrev pub drafted_fields : Fields → RowFieldsData
 drafted_fields f = record { fields = f; rule = no_rule; reference = None }
 
--- the fields with which a draft spells its next instruction: the displacement is the distance from
--- the draft's current place to a label; and the least rule that the target breaks
+-- the fields with which a draft spells its next instruction, and the least rule that the target
+-- breaks: the displacement is the distance from the draft's current place to the target
 unfoldable pub fields_with_label_distance : List SymbolData → DraftData → RowData → Fields → ReferenceData → RowFieldsData
 fields_with_label_distance labels d row f r = option_map_or (λ n. with_displacement row n.0 n.1 (drafted_fields f)) (label_distance labels d r) (with_rule misplaced_symbol (drafted_fields f))
 
@@ -146,7 +145,7 @@ fields_with_target labels d row f None = drafted_fields f
 fields_with_target labels d row f (Some r) = if r.kind == 0 then fields_with_label_distance labels d row f r else drafted_fields f
 
 -- the bytes that the assembler's draft of an object gets from an instruction of this row: its
--- spelling, if the fields fit it
+-- spelling if the fields fit the row, else none
 unfoldable pub assembled_row_code : RowData → Fields → List ℕ
 assembled_row_code row f = if are_fitting_fields row f then spelling row f else []
 
@@ -197,7 +196,7 @@ bytes_at [] s = []
 bytes_at (p ∷ ps) zero = p.bytes
 bytes_at (p ∷ ps) (suc s) = bytes_at ps s
 
--- the size in bytes of an instruction in a draft, of the row with this number, and 0 if there is no
--- such row
+-- the size in bytes that an instruction of the row with this number has in a draft, and 0 if there
+-- is no such row
 unfoldable pub assembled_code_size : ℕ → ℕ
 assembled_code_size k = option_map_or (λ row. if is_long row then 4 else 2) (slice_get listed k) 0

@@ -20,8 +20,8 @@ reloc_at symbols section offset (Some r) =
     then record { section = section; offset = offset; kind = r.kind; symbol = symbol_number symbols r.name; addend = assembled_addend r } ∷ []
     else []
 
--- the relocations that a source's statements need in this section, in order; the first statement is
--- at this offset
+-- the relocations that a source's statements need in this section, in order; the first of them in
+-- the section is at this offset
 abbrev pub relocs_behind : List SymbolData → ℕ → ℕ → List StatementData → List Reloc
 relocs_behind symbols section offset [] = []
 relocs_behind symbols section offset (t ∷ ts) =

@@ -42,7 +42,8 @@ statements_from labels d (i ∷ is) = standing_statement d (content_of labels d 
 abbrev pub statements : List SymbolData → List LineData → List StatementData
 statements labels lines = statements_from labels start (items_in lines)
 
--- the bytes that a source's statements give their section: those of each of them, in order
+-- the bytes that a source's statements give the section of this number: those of each statement in
+-- it, in order
 abbrev pub section_bytes : ℕ → List StatementData → List ℕ
 section_bytes s ts = flat_map (λ (t : StatementData). if t.section == s then t.bytes else []) ts
 
@@ -55,7 +56,7 @@ abbrev pub SectionLaw : Type 0
 SectionLaw = (labels : List SymbolData) (lines : List LineData) (s : ℕ) → bytes_at (draft_from_lines labels lines).parts s ≡ section_bytes s (statements labels lines)
 
 -- each statement of a source is found in its section: its bytes are there at its offset, the size
--- of the statements before it
+-- of the section's statements before it
 abbrev pub OffsetLaw : Type 0
 OffsetLaw = (ts : List StatementData) (place : ℕ) (t : StatementData) → slice_get ts place ≡ Some t
     → take (length t.bytes) (drop (offset_of ts place t.section) (section_bytes t.section ts)) ≡ t.bytes

@@ -101,7 +101,7 @@ fn draft_with_known_symbols<'a>(draft: Draft<'a>, known: bool, symbols: Symbols<
 }
 
 /// Adds items in the first of the two passes over a source, as far as symbols depend on them.
-/// Returns whether there is room for all symbols, and no label is there twice.
+/// Returns whether there was room for one more symbol before each, and no label is there twice.
 fn count_items<'a>(
     alloc: Global,
     draft: &mut Draft<'a>,

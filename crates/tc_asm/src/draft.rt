@@ -107,8 +107,8 @@ impl<'a> Draft<'a> {
         Ok(())
     }
 
-    /// Notes in the draft that its next bytes, of which there are `size`, will need a relocation,
-    /// if they are four and there is room for it.
+    /// Notes in the draft that its next bytes, of which there are `size`, use a symbol, if that
+    /// needs a relocation, the bytes are four, and there is room for them and for it.
     #[inline(always)]
     #[tactic(auto, unfolding(crate::specs::Drafts::with_use))]
     pub(crate) fn add_use(&mut self, size: usize, r: Reference<'a>) -> Result<(), AllocError>
@@ -251,8 +251,8 @@ impl<'a> Draft<'a> {
         Ok(before.is_none())
     }
 
-    /// Makes the section of this name the draft's current one. If there is none, and there are
-    /// fewer than 64, a new one begins. A bad name changes nothing.
+    /// Makes the section of this name the draft's current one, or begins it if there is none and
+    /// there are fewer than 64. A bad name changes nothing.
     #[inline(never)]
     #[tactic(auto, unfolding(crate::specs::Drafts::with_current_section))]
     fn enter(&mut self, alloc: Global, name: &'a [u8]) -> Result<(), AllocError>
@@ -311,7 +311,8 @@ impl<'a> Draft<'a> {
         self.add_content(first_assembled_bytes(&code.bytes, code.len), r)
     }
 
-    /// Extends the draft by zeros at the end of its current section, which are only counted.
+    /// Adds `n` zeros at the end of the draft's current section, if they are within the limit. They
+    /// are only counted.
     #[inline(always)]
     #[tactic(auto, unfolding(crate::specs::Drafts::with_bytes))]
     fn add_zeros(&mut self, n: usize) -> Result<(), AllocError>

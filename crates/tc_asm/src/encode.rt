@@ -47,8 +47,8 @@ pub(crate) fn assembled_code_size(row: u8) -> u8
     }
 }
 
-/// Returns the fields of an instruction that is encoded as it is: without a symbol or a broken
-/// rule.
+/// Returns these fields, with which an instruction is encoded, with no broken rule and no symbol
+/// noted.
 #[inline(always)]
 fn unbroken_fields<'a>(fields: Fields) -> RowFields<'a>
     ensures { row_fields_of result ≡ found_in fields }
@@ -137,8 +137,8 @@ impl<'a> Draft<'a> {
         }
     }
 
-    /// The fields with which a jump of 16 bits to a label is encoded, and the least rule that its
-    /// target breaks.
+    /// Returns the fields with which a jump of 16 bits to a label is encoded, and the least rule
+    /// that its target breaks.
     #[inline(never)]
     #[tactic(auto, unfolding(crate::specs::Drafts::fields_with_label_distance))]
     fn resolve_jump(
@@ -162,8 +162,8 @@ impl<'a> Draft<'a> {
         }
     }
 
-    /// The distance in bytes from the instruction to encode to the target of its jump, and whether
-    /// the target is before it. None if the symbol is no label of the current section.
+    /// Returns the distance in bytes from the instruction to encode to the target of its jump, and
+    /// whether the target is before it. None if the symbol is no label of the current section.
     #[tactic(auto, unfolding(crate::specs::Drafts::label_distance))]
     fn label_distance(&self, labels: &Symbols<'a>, r: Reference<'a>) -> Option<(bool, u128)>
         ensures { result ≡ label_distance labels.now self.now (reference_of r.entry) }

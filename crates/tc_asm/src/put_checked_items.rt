@@ -102,8 +102,8 @@ impl<'a> Draft<'a> {
         }
     }
 
-    /// Puts the item of a label into a draft whose symbols are known: adds nothing, and returns the
-    /// least rule that it breaks, if it isn't defined twice and has room.
+    /// Returns the least rule that a label breaks as it is put into a draft whose symbols are
+    /// known, so that nothing is added, there is room, and it isn't defined twice.
     fn known_label_rule(&self, labels: &Symbols<'a>, name: &[u8]) -> u8
         ensures { result ≡ item_rule labels.now (nameless self.now) (label name.now) }
     {
@@ -111,8 +111,8 @@ impl<'a> Draft<'a> {
         section.min(Self::name_rule(name).min(NO_RULE))
     }
 
-    /// Puts the item of a global name into a draft whose symbols are known: adds nothing, and
-    /// returns the least rule that the name breaks, if there is room for it.
+    /// Returns the least rule that a global name breaks as it is put into a draft whose symbols are
+    /// known, so that nothing is added and there is room.
     fn known_global_rule(&self, labels: &Symbols<'a>, name: &[u8]) -> u8
         ensures { result ≡ item_rule labels.now (nameless self.now) (global name.now) }
     {
@@ -238,7 +238,8 @@ impl<'a> Draft<'a> {
         Ok(())
     }
 
-    /// Puts bytes with a symbol into the draft, checked: returns the least rule that they break.
+    /// Checks bytes with a symbol, puts them into the draft, and returns the least rule that they
+    /// break.
     #[inline(never)]
     fn put_named(&mut self, bytes: &[u8], r: &Option<Reference<'a>>) -> Result<u8, AllocError>
         ensures draft { OnOk result

@@ -21,8 +21,8 @@ lexed_listing [] room skip = Some []
 lexed_listing (c ∷ cs) room zero = lexed_listing_after (token_front_of (c ∷ cs)) (c ∷ cs) room (lexed_listing cs)
 lexed_listing (c ∷ cs) room (suc skip) = lexed_listing cs room skip
 
--- where a token ends as a listing is lexed: the text is over, or goes on with a byte that no name
--- has
+-- where a word or a number can end as a listing is lexed: the text is over, or goes on with a byte
+-- that no name has
 abbrev pub IsListingStop : List ℕ → Type 0
 IsListingStop [] = Unit {0}
 IsListingStop (c ∷ cs) = is_name_byte c ≡ false

@@ -13,7 +13,7 @@ abbrev pub StaysRefused : RowFieldsData → Option RowFieldsData → Type 0
 StaysRefused acc None = Unit {0}
 StaysRefused acc (Some f) = f.rule ≤ acc.rule
 
--- printed operands that another row refuses stay refused after a further operand; a record of this,
--- which stays folded
+-- printed operands that another row refuses stay refused after a further operand: a record of
+-- StaysRefused, which stays folded
 pub record StaysRefusedFolded (acc : RowFieldsData) (o : Option RowFieldsData) : Type 0 where
   pub is : StaysRefused acc o

@@ -200,7 +200,7 @@ fn append_base(text: &mut String, plus: bool, n: u32) -> Result<(), NoMemory>
     append_listing_text(text, if plus { "+]" } else { "]" })
 }
 
-/// Appends the texts of all operands after the first one, each with a comma before it.
+/// Appends the texts of all operands after the first one, each after a comma and a blank.
 fn append_other_operands(
     text: &mut String,
     form: Form,

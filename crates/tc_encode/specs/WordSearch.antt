@@ -42,8 +42,8 @@ pub record GoesOn (n part : ℕ) (i : InstData) : Type 0 where
   pub longer : n < decoded_row_length inst.row
   pub is : word_of inst.row (fields_in i) % word_part_span n ≡ part
 
--- in the search by a word: the index range of its first byte starts at a row, and that has the form
--- of this row
+-- in the search by a word: there is a row at the start of an index range, and it has the form of
+-- this row
 abbrev pub has_same_form : RowData → Option RowData → Bool
 has_same_form r None = false
 has_same_form r (Some s) = form_index s.form == form_index r.form
@@ -55,8 +55,8 @@ is_in_index_range place r None end = false
 is_in_index_range place r (Some start) None = false
 is_in_index_range place r (Some start) (Some end) = nat_le start place && nat_lt place end && has_same_form r (slice_get listed start)
 
--- for the search by a word: each row, numbered from here on, is in the range that the index has for
--- its first byte
+-- for the search by a word: each row, numbered from `place` on, is in the index range of its first
+-- byte, and the row at the start of that range has its form
 abbrev pub are_in_index_ranges : List ℕ → List ℕ → ℕ → List RowData → Bool
 are_in_index_ranges starts ends place [] = true
 are_in_index_ranges starts ends place (r ∷ rs) = is_in_index_range place r (slice_get starts r.op1) (slice_get ends r.op1) && are_in_index_ranges starts ends (suc place) rs
@@ -71,8 +71,8 @@ abbrev pub is_at_index_place : List ℕ → ℕ → RowData → Option ℕ → B
 is_at_index_place places place r None = false
 is_at_index_place places place r (Some base) = is_index_place place (slice_get places (base + r.op2))
 
--- the index by first byte and second code, for the search by a word, has each row at its place,
--- numbered from here on
+-- for the search by a word: the index has the place of each row, numbered from `place` on, by its
+-- first byte and second code
 abbrev pub are_at_index_places : List ℕ → List ℕ → ℕ → List RowData → Bool
 are_at_index_places bases places place [] = true
 are_at_index_places bases places place (r ∷ rs) = is_at_index_place places place r (slice_get bases r.op1) && are_at_index_places bases places (suc place) rs

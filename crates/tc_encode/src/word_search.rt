@@ -87,7 +87,8 @@ fn second_by(first: u8, w: u32) -> u8
     second_code(form_by(first), w)
 }
 
-/// Returns true if the word that is searched is 0 in all bits that its form has for no field.
+/// Returns true if the word of the search is 0 in all bits that its form has for no field and no
+/// code.
 #[tactic(auto, unfolding(crate::specs::WordSearch::has_zero_word_gaps))]
 fn has_zero_word_gaps(form: Form, w: u32) -> bool
     ensures { result ≡ has_zero_word_gaps form w }

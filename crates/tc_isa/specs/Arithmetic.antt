@@ -11,8 +11,8 @@ use Rattle.tc_isa.specs.declared.shapes.Cond.TheVariants as cond
 abbrev pub sign_extended : ℕ → ℕ → ℕ
 sign_extended n x = sext_of x n
 
--- arithmetic of the signed comparisons that instructions do: a word plus 2^31, modulo 2^32, so that
--- these numbers compare as the signed words do
+-- a word plus 2^31, modulo 2^32, for signed comparisons in the arithmetic of instructions: these
+-- numbers compare as the signed words do
 abbrev pub signed_order_place : ℕ → ℕ
 signed_order_place x = (x + 2 ^ 31) % 2 ^ 32
 

@@ -4,8 +4,8 @@ use Rattle.tc_isa.specs.declared.fields.Fields.{Fields}
 use Rattle.tc_isa.specs.declared.table.Form.{Form}
 use Rattle.tc_isa.specs.declared.table.Form.TheVariants.{Rlc, Rr, Rc, Bol, Bo, Brr, Brc, B, Abs, Sys, Sr, Sc, Sb, Sbr, Src, Srr, Slr, Ssr}
 
--- the fields c, s1, s2, n and k in one record, as each form of instructions has places and bounds
--- for some of them
+-- the numbers c, s1, s2, n and k in one record: the fields of an instruction, or the bounds that
+-- its form has for them
 abbrev pub fields : ℕ → ℕ → ℕ → ℕ → ℕ → Fields
 fields c s1 s2 n k = record { c = c; s1 = s1; s2 = s2; n = n; k = k }
 
@@ -149,7 +149,8 @@ is_b form = form_index form == 7
 abbrev pub is_abs : Form → Bool
 is_abs form = form_index form == 8
 
--- the form of an instruction word is SB, that of jumps of 16 bits that go both ways
+-- the form of an instruction word is SB, that of calls, jumps and branches of 16 bits that go both
+-- ways
 abbrev pub is_sb : Form → Bool
 is_sb form = form_index form == 12
 

@@ -21,11 +21,12 @@ use Rattle.tc_isa.specs.declared.shapes.Shape.{Shape}
 use Rattle.tc_isa.specs.declared.shapes.Shape.TheVariants.{Compute, Scaled, Load, Store, Branch, Jump, Call, Bisr, Syscall, Mfcr, Mtcr}
 use Rattle.tc_isa.specs.Arithmetic.{sign_extended}
 
--- the number of the data register Dn, for n from a field of an instruction: n itself
+-- the number of the data register Dn, for n from a field of an instruction or fixed: n itself
 abbrev pub d : ℕ → ℕ
 d n = n
 
--- the number of the address register An, for n from a field of an instruction: 16 more than n
+-- the number of the address register An, for n from a field of an instruction or fixed: 16 more
+-- than n
 abbrev pub a : ℕ → ℕ
 a n = 16 + n
 

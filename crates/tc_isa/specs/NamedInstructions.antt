@@ -109,6 +109,6 @@ abbrev pub lower_half : ℕ → ℕ
 lower_half x = x % 2 ^ 16
 
 -- the constant of a named instruction movh or movh.a: the upper half of a word, plus one if the
--- lower half is negative. With the signed lower half added, it is the word
+-- lower half is negative, so that adding the signed lower half gives the word
 abbrev pub upper_half : ℕ → ℕ
 upper_half x = (x + 0x8000) / 2 ^ 16 % 2 ^ 16

@@ -7,19 +7,20 @@ use Rattle.tc_isa.specs.declared.fields.Uses.{Uses}
 use Rattle.tc_isa.specs.Forms.{bounds, second_bound, fields, is_long_form, form_index}
 use Rattle.tc_isa.specs.InBounds.{IsBelow, is_below_test}
 
--- a row has the field whose name these two letters are, such as s1: they stand side by side in the
--- text of its operands
+-- these two characters stand side by side in the text of a row's operands: s1 or s2 for the field
+-- of that name, or k4 for a constant, which is in s2
 abbrev pub has_operand_pair : ℕ → ℕ → List ℕ → Bool
 has_operand_pair a b [] = false
 has_operand_pair a b (x ∷ []) = false
 has_operand_pair a b (x ∷ y ∷ rest) = x == a && y == b || has_operand_pair a b (y ∷ rest)
 
--- a row has the field whose name this letter is, such as c: it stands in the text of its operands
+-- this letter stands in the text of a row's operands: c, n or k for the field of that name, T or U
+-- for a target, which is in k
 abbrev pub has_operand_byte : ℕ → List ℕ → Bool
 has_operand_byte a xs = list_any (λ x. x == a) xs
 
--- which fields are valid in a row, by the text of its operands: c, s1, s2 (or the constant k4 kept
--- there), n, and k or a target
+-- which fields a row has, by the text of its operands: c, s1, s2 (or the constant k4 kept there),
+-- n, and k (or a target kept there)
 abbrev pub uses_of : RowData → Uses
 uses_of r = record {
   c = has_operand_byte 99 r.operands;
@@ -29,7 +30,7 @@ uses_of r = record {
   k = has_operand_byte 107 r.operands || has_operand_byte 84 r.operands || has_operand_byte 85 r.operands;
 }
 
--- a condition of fields that are valid for a row: each field that the row doesn't have is 0
+-- each field that the row doesn't have is 0, as is required of fields that are valid for it
 abbrev pub are_unused_fields_zero : Uses → Fields → Bool
 are_unused_fields_zero u f = (u.c || f.c == 0) && (u.s1 || f.s1 == 0) && (u.s2 || f.s2 == 0) && (u.n || f.n == 0) && (u.k || f.k == 0)
 
@@ -45,7 +46,7 @@ pub record FieldsFitRow (r : RowData) (f : Fields) : Type 0 where
   pub zero : are_unused_fields_zero (uses_of r) f ≡ true
   pub apart : are_registers_apart r f ≡ true
 
--- both truth values hold, or neither, as for the sizes of a valid row and of its form
+-- two truth values are equal, as those must be that say whether a valid row and its form are long
 abbrev pub are_bools_equal : Bool → Bool → Bool
 are_bools_equal true b = b
 are_bools_equal false b = not b

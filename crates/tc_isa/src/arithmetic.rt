@@ -63,8 +63,8 @@ fn word_of_truth(b: bool) -> u32
     if b { 1 } else { 0 }
 }
 
-/// Returns a word plus 2^31, modulo 2^32: as unsigned numbers these compare as the signed words do,
-/// which is how the conditions of instructions compare them.
+/// Returns a word plus 2^31, modulo 2^32, for signed comparisons. As unsigned numbers, these
+/// compare as the signed words do.
 fn signed_order_place(x: u32) -> u32
     ensures { result ≡ signed_order_place x }
 {

@@ -1,4 +1,4 @@
-// Builds instructions from the number of a row and the row's fields.
+// Builds an instruction from the number of a row, if the fields fit the row.
 ghost use Rattle.std.specs.Prelude.{◌≡◌, ◌↔◌, IsTrue, IsSome, IfSome};
 ghost use Rattle.tc_isa.specs.Rows.{row_of};
 ghost use Rattle.tc_isa.specs.ValidRowFields.{FieldsFitRow, uses_of, are_registers_apart};
@@ -17,8 +17,8 @@ const STORE_AFTER: u8 = 0x89;
 /// The second code of both with post-increment for an address register (`ld.a`, `st.a`).
 const OF_ADDRESS: u8 = 0x06;
 
-/// Returns the instruction of the row with this number if these raw fields fit it, else `None`, as
-/// also without such a row. A field that the row doesn't have has to be 0.
+/// Returns the instruction with these raw fields, or `None` if there is no row with this number or
+/// they don't fit it. A field that the row doesn't have has to be 0.
 pub fn inst(row: u8, c: u8, s1: u8, s2: u8, n: u8, k: u32) -> Option<Inst>
     ensures listed { IsSome result
         ↔ IsInst (record { row = row; c = c; s1 = s1; s2 = s2; n = n; k = k }) }

@@ -33,8 +33,8 @@ pub fn shape_laws()
     ensures names { map (λ l. l.name) meanings ≡ map (λ r. r.name) listed }
 {}
 
-/// Returns the word that a constant has in what an instruction does (its shape), by the meaning of
-/// its row.
+/// Returns the word of a constant in what an instruction does (its shape), from its fields by the
+/// meaning of its row.
 pub(crate) fn shape_constant(constant: Immediate, f: &Fields) -> u32
     ensures { result ≡ shape_constant constant f.now }
 {

@@ -40,7 +40,8 @@ global_data bases s = record { name = s.name; address = address_in_section bases
 unfoldable pub globals_of : List PlacedData → List GlobalData
 globals_of placed = flat_map (λ p. map (global_data p.bases) (filter is_global p.object.symbols)) placed
 
--- the address of the global symbol with this name, if one is among those of the linked objects
+-- the address of the first global symbol with this name among those of the linked objects, if there
+-- is one
 abbrev pub global_address : List GlobalData → List ℕ → Option ℕ
 global_address globals name = option_map (λ g. g.address) (find (λ g. bytes_eq name g.name) globals)
 

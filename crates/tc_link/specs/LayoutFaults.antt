@@ -30,13 +30,13 @@ unfoldable pub first_fault : List (List ℕ) → List (List ℕ) → Option Layo
 first_fault before [] = None
 first_fault before (line ∷ lines) = option_or (fault_after before line) (first_fault (before ++ line ∷ []) lines)
 
--- the first fault of a layout's lines, that of the first line that has one, or else the layout that
--- the lines spell
+-- the fault of the first of a layout's lines that has one, or else the layout that the lines spell.
+-- If no line is an entry, that is a fault at the line after the last
 abbrev pub layout_in : List (List ℕ) → Result LayoutData LayoutErr
 layout_in lines = unless_refused (first_fault [] lines) (with_entry (length lines) (layout_entries lines) (places_of lines))
 
--- the first fault of a layout's text, at the first line that has one, or else the layout that the
--- text spells
+-- the first fault of a layout's text, or else the layout that the text spells. If no line is an
+-- entry, that is a fault at the line after the last
 abbrev pub layout_of : List ℕ → Result LayoutData LayoutErr
 layout_of text = layout_in (text_lines text)
 

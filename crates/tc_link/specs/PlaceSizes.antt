@@ -13,8 +13,8 @@ round_up_place_size n = (n + 3) / 4 * 4
 abbrev pub place_size_with_section : List ℕ → ℕ → SectionData → ℕ
 place_size_with_section name n s = if bytes_eq name s.name then round_up_place_size n + length s.bytes else n
 
--- the size that the sections of this name use of their place in the layout, in bytes, each at a
--- multiple of 4
+-- the number of bytes that the sections of this name, each at a multiple of 4, use of their place
+-- in the layout
 unfoldable pub taken_place_size : List ℕ → List SectionData → ℕ
 taken_place_size name sections = fold (place_size_with_section name) 0 sections
 

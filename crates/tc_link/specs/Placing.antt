@@ -33,8 +33,8 @@ placed_after places before (o ∷ os) = record { object = o; bases = bases_after
 
 -- ---- symbols
 
--- the address of an offset in a section of this number, if the linker places the sections of its
--- object at these addresses
+-- the address of an offset in the section with this number, if the linker places the sections of
+-- its object at these addresses
 abbrev pub address_in_section : List ℕ → ℕ → ℕ → ℕ
 address_in_section bases section offset = (slice_index bases section + offset) % 2 ^ 32
 

@@ -41,8 +41,8 @@ twice_of objects number s = then_some (is_global s && nat_lt 1 (globals_named ob
 unfoldable pub twice_in : List ObjectData → Option Refusal
 twice_in objects = first_refusal_over (λ _ o. first_refusal_over (twice_of objects) o.symbols) objects
 
--- a reason why the linker refuses objects with a missing symbol: a relocation uses the symbol of
--- this number
+-- a relocation uses the symbol with this number, so that the linker refuses the objects if the
+-- symbol is missing
 abbrev pub is_used_by_relocs : List Reloc → ℕ → Bool
 is_used_by_relocs relocs number = list_any (λ r. r.symbol == number) relocs
 
@@ -54,8 +54,8 @@ missing_of objects relocs number s = then_some (s.kind == undefined_symbol && is
 unfoldable pub missing_in : List ObjectData → Option Refusal
 missing_in objects = first_refusal_over (λ _ o. first_refusal_over (missing_of objects o.relocs) o.symbols) objects
 
--- a reason why the linker refuses a section without a place: a symbol is defined in the section of
--- this number
+-- a symbol is defined in the section with this number, so that the linker refuses the section if it
+-- has no place
 abbrev pub has_symbol : List SymbolData → ℕ → Bool
 has_symbol symbols number = list_any (λ s. not (s.kind == undefined_symbol) && s.section == number) symbols
 
@@ -76,7 +76,7 @@ unfoldable pub no_room_after : List PlaceData → List SectionData → List Sect
 no_room_after places before [] = None
 no_room_after places before (s ∷ ss) = option_or (no_room_of places before s) (no_room_after places (before ++ s ∷ []) ss)
 
--- why the linker refuses a relocation: the reason why it can't be written, if there is one
+-- the reason why a relocation can't be written, so that the linker refuses it, if there is one
 abbrev pub reloc_refusal : List GlobalData → PlacedData → Reloc → Option RelocErr
 reloc_refusal globals p r = reloc_value_refusal r.kind (field_place p r) (reloc_value globals p r)
 

@@ -93,8 +93,8 @@ fn addresses_in(
     Ok(addresses)
 }
 
-/// Computes the address of a symbol of an object whose sections begin at `bases`: its own, or that
-/// of the global symbol with its name, and 0 if it has none.
+/// Computes the address of a symbol of an object whose sections begin at `bases`: its own or, if it
+/// is undefined, that of the global symbol with its name, and 0 if there is none.
 fn symbol_address(
     names: &HashMap<&str, Definition>,
     placed: &[Placed<'_, '_>],

@@ -19,8 +19,8 @@ use std::collections::HashMap;
 use tc_object::Reloc;
 use tc_reloc::{RelocErr, apply};
 
-/// Returns the relocated sections of all objects, with their relocations written, or the first
-/// relocation that is refused.
+/// Returns the sections of all objects, with their relocations written, or the first relocation
+/// that is refused.
 #[tactic(auto, unfolding(crate::specs::Relocated::contents_of, crate::specs::Refusals::reloc_in))]
 pub(crate) fn contents_of<'a>(
     alloc: Global,
@@ -41,8 +41,8 @@ pub(crate) fn contents_of<'a>(
     Ok(contents)
 }
 
-/// Returns the value that the linker writes into a section for a relocation: the address of its
-/// symbol plus the addend.
+/// Returns the value of a relocation, with which the linker fills its field in a section: the
+/// address of its symbol plus the addend, modulo 2^32.
 pub(crate) fn reloc_value(addresses: &[u32], reloc: &Reloc) -> u32
     ensures { (all : List GlobalData) (p : PlacedData) → addresses.now ≡ symbol_addresses all p
         → result ≡ reloc_value all p reloc.now }

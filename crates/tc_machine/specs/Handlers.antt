@@ -24,8 +24,8 @@ at_handler m s back entry = record s {
   pc = entry;
 }
 
--- what a trap does, as of an instruction syscall or a misaligned access: the upper context is
--- saved, the handler of its class entered, and D15 set to the trap's number
+-- what a trap does, such as that of syscall or of a misaligned access: the upper context is saved,
+-- the handler of its class is entered, and D15 is set to the trap's number
 abbrev pub trap : Machine → ℕ → ℕ → ℕ → Machine
 trap m class tin back =
     then_ (save m true) (λ s. record (at_handler m s back (bit_or m.btv (class * 2 ^ 5))) { d = slice_set s.d 15 tin })

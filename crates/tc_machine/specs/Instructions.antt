@@ -22,7 +22,8 @@ abbrev pub arg : Machine → Arg → ℕ
 arg m (Reg r) = reg m r
 arg m (Word w) = w
 
--- the address by bytes after another, modulo 2 ^ 32, as instructions add to pc and to addresses
+-- the sum of an address and a number of bytes, modulo 2 ^ 32, as instructions add to pc and to
+-- registers
 abbrev pub machine_address_ahead : ℕ → ℕ → ℕ
 machine_address_ahead at by = (at + by) % 2 ^ 32
 
@@ -90,8 +91,8 @@ does m e (Mfcr dst number) n = advanced n (with_reg m dst (core_register m e num
 does m e (Mtcr src number) n = advanced n (with_core_register m number (reg m src))
 does m e Nothing n = advanced n m
 
--- executing this instruction takes a trap: it is a load or a store whose access is misaligned, and
--- the event says that such accesses trap
+-- this instruction is a load or a store whose access is misaligned, and the event says that such
+-- accesses trap
 abbrev pub is_trapping_instruction : Machine → Event → Shape → Bool
 is_trapping_instruction m e (Load dst base offset size signed after) = is_trapping_access e (access_address m base offset after) size
 is_trapping_instruction m e (Store src base offset size after) = is_trapping_access e (access_address m base offset after) size

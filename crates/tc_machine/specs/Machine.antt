@@ -32,8 +32,7 @@ is_interrupt_stack_used psw = psw / 2 ^ 9 % 2 == 1
 abbrev pub died : Cause → Machine → Machine
 died cause m = record m { end = Dead cause }
 
--- what comes next for a machine in this state: if its end says that it runs, the next change of it;
--- a dead machine stays as it is
+-- the machine after its next change, if its end says that it runs; a dead machine stays as it is
 abbrev pub goes_on : End → Machine → (Machine → Machine) → Machine
 goes_on Running m next = next m
 goes_on (Dead cause) m next = m
@@ -77,8 +76,8 @@ pub record IsMachine (m : Machine) : Type 0 where
 abbrev pub icr_of : Machine → ℕ → ℕ
 icr_of m input = input / 2 ^ 9 * 2 ^ 9 + (if m.ie then 2 ^ 8 else 0) + m.ccpn
 
--- the word in the core register with this number, such as PSW or FCX; with any other number, the
--- event's input
+-- the word that is read from the core register with this number, such as PSW or FCX; if the machine
+-- has none with this number, the event's input
 abbrev pub core_register : Machine → Event → ℕ → ℕ
 core_register m e number =
     if number == 0xfe00 then m.pcxi

@@ -34,8 +34,8 @@ use Rattle.std.specs.FinMap as bytes
 abbrev pub StartsWhole : Type 0
 StartsWhole = (image : ImageData) (plan : PlanData) (m : Machine) → IsPlan plan → Starts image plan m → ChainsAreWhole plan 0 m
 
--- law for all programs: if the machine's memory has the image's bytes in rom, a spelling in rom at
--- an even pc is fetched as its instruction
+-- law for all programs: if the machine's memory has the image's bytes in rom, bytes in rom at an
+-- even pc that spell an instruction are fetched as that instruction
 abbrev pub FetchesSpelled : Type 0
 FetchesSpelled =
     (image : ImageData) (plan : PlanData) (m : Machine) (bytes : List ℕ) (inst : InstData) → IsPlan plan → HoldsRom image plan m.mem →
@@ -125,8 +125,8 @@ EveryStartStarts =
     })
 
 -- ---- what is safe
--- what the guard law of safety says of a chain: the links that a word leads to, each of a mapped
--- area of 64 bytes whose word 0 leads to the next; the last has 0 there
+-- what the guard law of safety says of a chain: the links from a word on, each of a mapped area of
+-- 64 bytes whose word 0 has the next link; the link after the last is 0
 abbrev pub IsAreaWalk : Memory → ℕ → List ℕ → Type 0
 IsAreaWalk mem word [] = word % 2 ^ 20 ≡ 0
 IsAreaWalk mem word (l ∷ ls) =
@@ -141,8 +141,8 @@ pub record LiesInRange (ranges : List Range) (x n : ℕ) : Type 0 where
   pub from : range.at ≤ x
   pub to : x + n ≤ range.at + range.len
 
--- what the guard law of safety says of a state and its next event: it runs, its areas are whole, at
--- most `most` are used, its code is in rom, and its store is in range
+-- what the guard law of safety says of a state and its next event: the machine runs, its areas are
+-- whole, at most `most` are used, its code is in rom, and its store is in range
 pub record HasFiveParts (image : ImageData) (plan : PlanData) (most : ℕ) (m : Machine) (e : Event) : Type 0 where
   pub running : m.end ≡ Running
   pub used : List ℕ
@@ -160,8 +160,8 @@ pub record HasFiveParts (image : ImageData) (plan : PlanData) (most : ℕ) (m : 
   pub there : (i : ℕ) → i < length code → bytes.get m.mem (m.pc + i) ≡ Some (slice_index code i)
   pub store : (x n : ℕ) → stored m e ≡ Some (x, n) → (x + n ≤ 2 ^ 32) × (LiesInRange plan.ram x n ⊎ LiesInRange (map (λ d. d.range) plan.devices) x n)
 
--- guard law of safety: in each state of each run that is written out, and for each next event that
--- fits, what is safe has these five parts
+-- guard law of safety: if the image is safe under the plan, each state of a run from a start state,
+-- under events that fit, has these five parts with each next event that fits
 abbrev pub SafeHasFiveParts : Type 0
 SafeHasFiveParts =
     (image : ImageData) (plan : PlanData) (most : ℕ) (states : ℕ → Machine) (events : ℕ → Event) (n : ℕ) (e : Event) → Safe image plan most

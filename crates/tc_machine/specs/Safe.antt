@@ -1,4 +1,4 @@
--- Start states, events that fit, and what safe means: the definitions under the headline.
+-- Events that fit, and what safe means: the definitions under the headline.
 use Rattle.std.specs.Prelude.{◌≡◌, ℕ, ◌+◌, ◌^◌, ◌<◌, ◌≤◌, ◌⊎◌, false, List, ◌∷◌, ◌++◌, length, reverse, slice_index, Some, IfSome, Contains, []}
 use Rattle.std.specs.FinMap as map
 use Rattle.csa_chain.specs.Chain.{chain}

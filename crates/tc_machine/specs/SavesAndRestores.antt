@@ -45,7 +45,7 @@ released m =
       fcx = word_with_link m.fcx used;
     }
 
--- the 16 words that the machine reads from the area of a link when it restores a context
+-- the 16 words in the area of a link, from which the machine restores a context
 abbrev pub saved_area_words : Memory → ℕ → List ℕ
 saved_area_words mem link = map (area_word mem link) (0 ∷ 1 ∷ 2 ∷ 3 ∷ 4 ∷ 5 ∷ 6 ∷ 7 ∷ 8 ∷ 9 ∷ 10 ∷ 11 ∷ 12 ∷ 13 ∷ 14 ∷ 15 ∷ [])
 

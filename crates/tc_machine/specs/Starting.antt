@@ -1,4 +1,4 @@
--- The state that a machine starts in, and how its memory is filled.
+-- Start states: how their memory is filled, and which states a run may start in.
 use Rattle.std.specs.Prelude.{◌≡◌, ℕ, zero, suc, ◌+◌, ◌*◌, ◌^◌, ◌<◌, ◌≤◌, ◌⊎◌, Bool, true, nat_lt, if◌then◌else◌, List, ◌∷◌, ◌++◌, slice_index, Option, Some, None, ◌-◌, ◌/◌, ◌%◌, []}
 use Rattle.std.specs.FinMap as map
 use Rattle.csa_chain.specs.MemoryBytes.{Memory, is_mapped, with_byte, with_words, HasBytes}
@@ -79,8 +79,8 @@ IsLinkedUp plan mem =
 abbrev pub HasGlobals : PlanData → List ℕ → Type 0
 HasGlobals plan a = slice_index a 0 ∷ slice_index a 1 ∷ slice_index a 8 ∷ slice_index a 9 ∷ [] ≡ plan.globals
 
--- The machine is in a start state of the image under the plan: pc, the lists of areas, memory and
--- the stated registers. All that isn't stated here can be anything.
+-- the machine is in a start state of the image under the plan: pc, the lists of areas, memory and
+-- the stated registers. All that isn't stated here can be anything
 pub record Starts (image : ImageData) (plan : PlanData) (m : Machine) : Type 0 where
   pub machine : IsMachine m
   pub memory : IsPlanMemory plan m.mem

@@ -44,14 +44,14 @@ abbrev pub where_running : End → Option (ℕ × ℕ) → Option (ℕ × ℕ)
 where_running Running found = found
 where_running (Dead cause) found = None
 
--- what the machine loads in a step with this fetched instruction: the address and the size, if it
--- is a load
+-- what the machine loads in a step with this fetched instruction, unless its access traps: the
+-- address and the size, if it is a load
 abbrev pub load_in : Machine → Result (Shape × ℕ) Cause → Option (ℕ × ℕ)
 load_in m (Ok (Load dst base offset size signed after, n)) = Some (access_address m base offset after, size)
 load_in m _ = None
 
--- what the machine's next step loads: the address and the size of the load that the instruction at
--- pc does
+-- what the machine's next step may load: the address and the size, if the instruction at pc is a
+-- load; none at an odd pc
 abbrev pub load_at_pc : Machine → Option (ℕ × ℕ)
 load_at_pc m = load_in m (fetched m)
 
@@ -72,11 +72,12 @@ store_in m e (Ok (Store src base offset size after, n)) =
     if is_trapping_access e (access_address m base offset after) size then None else Some (access_address m base offset after, size)
 store_in m e _ = None
 
--- What the machine's step of this event stores at: address and size. None if it is dead, an
--- interrupt or a misaligned access's trap is taken, or it does no store.
+-- what the machine's step under this event stores at: address and size. It is none if the machine
+-- is dead, takes an interrupt or a misaligned access's trap, or executes no store
 unfoldable pub stored : Machine → Event → Option (ℕ × ℕ)
 stored m e = where_running m.end (if is_taken m e then None else store_in m e (fetched m))
 
--- a run of a machine as a sequence of states: each is the step of the one before, under its event
+-- a run of a machine as a sequence of states: a step under its event leads from each state to the
+-- next
 abbrev pub IsRun : (ℕ → Machine) → (ℕ → Event) → Type 0
 IsRun states events = (k : ℕ) → states (suc k) ≡ step (states k) (events k)

@@ -36,8 +36,8 @@ impl Machine {
         }
     }
 
-    /// Executes a call: saves the upper context, and goes to the function with the return address
-    /// in A11.
+    /// Executes a call: saves the upper context, puts the return address in A11, and goes to the
+    /// function.
     #[tactic(auto, unfolding(crate::specs::Instructions::does))]
     fn call(&mut self, to: Target, n: u32)
         requires { IsShape (Shape.Call to) }

@@ -13,8 +13,8 @@ use crate::{Cause, End, Event, Machine};
 use csa_chain::address_of;
 use tc_isa::Shape;
 
-/// Returns true if the number of a machine's used areas stays under each instruction of this shape,
-/// as it never changes the memory or PCXI.
+/// Returns true if an instruction of this shape never changes the memory or PCXI under this event,
+/// so that the number of the machine's used areas stays as it is.
 fn is_area_keeping_shape(event: &Event, shape: Shape) -> bool
     ensures { result ≡ is_area_keeping_shape event.now shape }
 {
@@ -45,8 +45,8 @@ impl Machine {
         }
     }
 
-    /// Returns the machine's next load, the address and size at which the instruction at pc would
-    /// read: `None` if the machine is dead, the bytes don't decode, or it is no load.
+    /// Returns the address and the size of the machine's next load, by the bytes at pc, or `None`
+    /// if the machine is dead, the bytes don't decode, or they are no load.
     pub fn next_load(&self) -> Option<(u32, u8)>
         ensures { result ≡ next_load_of self.now }
     {
@@ -90,8 +90,8 @@ impl Machine {
         Some(count)
     }
 
-    /// Returns the next load, address and size in bytes, if an instruction of this shape is at pc,
-    /// or `None` if it is no load.
+    /// Returns the address and the size in bytes of the next load if an instruction of this shape
+    /// is at pc, or `None` if it is no load.
     fn load_of(&self, shape: Shape) -> Option<(u32, u8)>
         requires { IsShape shape }
         ensures { result ≡ load_in self.now (Ok (shape, 0)) }

@@ -21,8 +21,8 @@ impl Machine {
         }
     }
 
-    /// Increases the address in the register of a base operand by the offset, after an access with
-    /// post-increment.
+    /// Increases the address in the register of a base operand by the offset, if the access is one
+    /// with post-increment.
     pub(crate) fn move_base(&mut self, base: Arg, offset: u32, after: bool)
         requires { IsArg base }
         ensures { self.new ≡ with_base self.old base offset after }
@@ -50,7 +50,7 @@ impl Machine {
         }
     }
 
-    /// Writes the register that a branch compares: decrements it by 1, if the branch does that.
+    /// Decrements by 1 the register that a branch compares, if the branch does that.
     pub(crate) fn lower(&mut self, x: u8, lowers: bool)
         requires { x < 32 }
         ensures { self.new ≡ lowered self.old x lowers }

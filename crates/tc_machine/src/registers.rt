@@ -44,7 +44,7 @@ impl Machine {
         }
     }
 
-    /// Writes the register pc: the address after the instruction, which has `n` bytes.
+    /// Sets the register pc to the address after the instruction, which has `n` bytes.
     pub(crate) fn advance(&mut self, n: u32)
         ensures { self.new ≡ advanced n self.old }
     {

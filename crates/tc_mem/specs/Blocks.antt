@@ -23,7 +23,7 @@ memory_half_at m x = byte_at m x + 2 ^ 8 * byte_at m (x + 1)
 abbrev pub mapped_block_half : Memory → ℕ → Option ℕ
 mapped_block_half m x = if are_in_block m x 2 then Some (memory_half_at m x) else None
 
--- the memory after an access inside a block of 64 bytes wrote the halfword h: in the two bytes from
+-- the memory after an access inside a block of 64 bytes wrote the halfword h to the two bytes from
 -- an address on, the lower byte first
 abbrev pub with_half : Memory → ℕ → ℕ → Memory
 with_half m x h = with_byte (with_byte m x (h % 2 ^ 8)) (x + 1) (h / 2 ^ 8 % 2 ^ 8)

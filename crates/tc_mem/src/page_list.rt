@@ -145,8 +145,8 @@ pub(crate) fn write_half(pages: &mut [Page], addr: u32, half: u16, near: usize) 
     put_mapped_half(&mut pages[i], (addr % 4096) as usize, half)
 }
 
-/// Returns the first word of an area of a whole memory, for `Mem::first_word`, if all of it is
-/// mapped. The search for its page begins at `near`, which becomes the place of the page.
+/// Returns the first word of an area of a whole memory, for `Mem::first_word`, if all 64 bytes are
+/// mapped. The search begins at `near`, which becomes the place of the page if there is one.
 pub(crate) fn read_area_first_word(pages: &[Page], addr: u32, near: &mut usize) -> Option<u32>
     requires pages { IsMem pages.now }
     requires aligned { addr % 64 ≡ 0 }
@@ -191,8 +191,8 @@ pub(crate) fn write_area(pages: &mut [Page], addr: u32, words: &[u32; 16], near:
     put_area(&mut pages[i], (addr % 4096) as usize, words)
 }
 
-/// Returns the pages of a whole new memory for these ranges, for `Mem::of`, all bytes zero. Room
-/// for all pages is reserved first, so that each is written where it stays.
+/// Returns the pages of a whole new memory in which these ranges are mapped, all zero, for
+/// `Mem::of`. Room for all pages is reserved first, so that each is written where it stays.
 pub(crate) fn pages_of(alloc: Global, ranges: &[Range]) -> Result<Vec<Page>, NoMemory>
     ensures pages { IfOk result (λ v. IsMem v.items) }
     ensures bytes { IfOk result (λ v. HasBytes (memory_of v.items)) }

@@ -86,7 +86,7 @@ pub record IsSymbol (sections : List SectionData) (before : List SymbolData) (s 
   pub word : s.offset < 2 ^ 32
 
 -- ---- relocations
--- the last of an object's relocations, if there is one; the next one's place must come after it
+-- the last of an object's relocations, if there is one; the next one must come after it
 abbrev pub last_reloc : List Reloc → Option Reloc
 last_reloc rs = slice_get rs (length rs - 1)
 

@@ -50,8 +50,8 @@ impl Object {
         Ok(object.into_object(alloc)?)
     }
 
-    /// Returns this object, which owns its names and contents, as the bytes that spell it: `read`
-    /// reads the same object from them.
+    /// Returns the bytes that spell this object, which owns its names and contents. From them
+    /// `read` reads the object back.
     #[tactic(auto, unfolding(crate::specs::Spelling::bytes_of, crate::specs::Spelling::bytes_of_header))]
     pub fn write(&self, alloc: Global) -> Result<Vec<u8>, ObjErr>
         ensures bytes { IfOk result (λ out. out.items ≡ bytes_of self.now) }

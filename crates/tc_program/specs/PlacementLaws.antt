@@ -21,7 +21,8 @@ use Rattle.tc_program.specs.Placed.{placed_segment_span, place_span, Placed, pla
 use Rattle.tc_asm.specs.InstructionLaws.{InstructionSpellsRow}
 use Rattle.tc_asm.specs.ShortJumpLaws.{short_jump_displacement}
 
--- what the laws of placement ask of objects: there is one for each source, which breaks no rule
+-- what the laws of placement ask of objects: there is one for each source, in order, the source
+-- breaks no rule, and the object is assembled from it
 abbrev pub AreProgramObjects : List (List ℕ) → List ObjectData → Type 0
 AreProgramObjects [] [] = Unit {0}
 AreProgramObjects [] (o ∷ os) = ⊥
@@ -49,8 +50,8 @@ abbrev pub SourceSymbolsLaw : Type 0
 SourceSymbolsLaw = (source : List ℕ) → symbols_of (lines_in source) ≡ symbols_in source
 
 -- ---- filled fields
--- by law of statements to place: the bytes spell an instruction of a listed row, and with a number
--- in the field of this kind, the one with that constant
+-- the law of placing a source, at one statement: the bytes spell an instruction of a listed row,
+-- and with any number that the field of this kind can hold, the one with that constant
 pub record SourceFieldFillsRow (kind : ℕ) (bytes : List ℕ) : Type 0 where
   pub place : ℕ
   pub row : RowData
@@ -61,7 +62,7 @@ pub record SourceFieldFillsRow (kind : ℕ) (bytes : List ℕ) : Type 0 where
   pub filled : (n : ℕ) → n < reloc_field_bound kind → FieldsFitRow row (record fields { k = n }) × (with_reloc_field kind bytes n ≡ spelling row (record fields { k = n }))
 
 -- law of placing a source: the bytes of a statement that waits for an address are a word of data,
--- or an instruction with the constant to fill
+-- or an instruction whose constant is to be filled
 abbrev pub SourceFieldsLaw : Type 0
 SourceFieldsLaw = (source : List ℕ) (index : ℕ) (t : StatementData) (r : ReferenceData) → slice_get (statements_in source) index ≡ Some t → t.reference ≡ Some r → is_reloc r.kind ≡ true → (r.kind ≡ 7) ⊎ SourceFieldFillsRow r.kind t.bytes
 

@@ -4,8 +4,8 @@ use Rattle.std.specs.Prelude.{◌+◌, ◌*◌, ◌/◌, ◌%◌, ◌^◌, ◌==
 use Rattle.tc_isa.specs.Relocations.{rel24, abs24, rel15, hi16, lo16, offset16, word32}
 use Rattle.tcd_base.specs.Bytes.{word_in_bytes, bytes_of_word}
 
--- the distance from a relocation's place to its value, modulo 2^32, which the fields of jumps hold
--- in halfwords
+-- the distance from a relocation's place to its value, modulo 2^32, which the fields of jumps,
+-- calls and branches hold in halfwords
 abbrev pub reloc_distance : ℕ → ℕ → ℕ
 reloc_distance place value = (value + 2 ^ 32 - place) % 2 ^ 32
 

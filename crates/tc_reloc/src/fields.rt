@@ -53,7 +53,7 @@ pub(crate) fn reloc_field_bits(kind: u8, content: u32) -> u32
 }
 
 /// Returns the distance from a relocation's place to its value, modulo 2^32, which the fields of
-/// jumps hold in halfwords.
+/// jumps, calls and branches hold in halfwords.
 pub(crate) fn reloc_distance(place: u32, value: u32) -> u32
     ensures { result ≡ reloc_distance place value }
 {

@@ -38,16 +38,16 @@ pub record HasSaved (m after : Machine) : Type 0 where
   pub mem : after.mem ≡ (saved m upper).mem
   pub pcxi : after.pcxi ≡ (saved m upper).pcxi
 
--- how an event frees the newest of the consecutive areas in use: the machine after a restore of a
--- context, up to changes that keep the memory and PCXI
+-- an event frees the newest of the consecutive areas in use: afterwards the memory and PCXI are
+-- those of a restore of a context
 pub record HasRestored (m after : Machine) : Type 0 where
   pub upper : Bool
   pub some : link_in m.pcxi ≢ 0
   pub mem : after.mem ≡ (restored m upper).mem
   pub pcxi : after.pcxi ≡ (restored m upper).pcxi
 
--- an event that acts on the consecutive areas in use as a store does: the machine after a store of
--- size bytes, up to changes that keep the memory and PCXI
+-- an event acts on the consecutive areas in use as a store does: afterwards the memory is that of a
+-- store of `size` bytes at x, and PCXI is as it was
 pub record HasStored (x size : ℕ) (m after : Machine) : Type 0 where
   pub word : ℕ
   pub mem : after.mem ≡ with_bytes m.mem x word size
@@ -59,14 +59,15 @@ pub record HasStayed (m after : Machine) : Type 0 where
   pub mem : after.mem ≡ m.mem
   pub pcxi : after.pcxi ≡ m.pcxi
 
--- What an effect says of consecutive areas in use after an event, by the count of those before it.
+-- what an effect says of the areas in use after an event, by the count of those before it, which
+-- can say that they are consecutive
 abbrev pub AreaEffectHolds : Effect → AreasUsed → Machine → Type 0
 AreaEffectHolds Stays u after = IsCounted u after
 AreaEffectHolds Saves u after = (u.count < 4096) × IsCounted (record u { count = u.count + 1 }) after
 AreaEffectHolds Restores u after = (1 ≤ u.count) × IsCounted (record u { count = u.count - 1 }) after
 AreaEffectHolds Unknown u after = Unit {0}
 
--- what this effect says of consecutive areas in use is true of an instruction that leaves the
--- machine running
+-- what this effect says of the areas in use, which can be consecutive, is true after an instruction
+-- if that leaves the machine running
 abbrev pub IsAreaEffectOf : Effect → AreasUsed → Machine → Event → Shape → Type 0
 IsAreaEffectOf effect u m e shape = (n : ℕ) → (does m e shape n).end ≡ Running → AreaEffectHolds effect u (does m e shape n)

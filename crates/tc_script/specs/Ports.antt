@@ -18,7 +18,8 @@ abbrev pub ArePortsBounded : (ℕ → ℕ → ℕ → Type 0) → List Device �
 ArePortsBounded gives devices =
     All (λ d. (addr t w : ℕ) → IsWithinRange addr 1 d.range → t < 2 ^ 32 → w < 2 ^ 32 → gives addr t w → (d.lo ≤ w) × (w ≤ d.hi)) devices
 
--- the bounds of the answers of a device whose port no script speaks of: its `lo` alone
+-- the bounds of the answers of a device's port until a line of the script states others: its `lo`
+-- alone
 abbrev pub own_bounds : Device → AnswerRange
 own_bounds d = record { lo = d.lo; hi = d.lo }
 

@@ -69,8 +69,8 @@ pub(crate) fn effect_of_event(
     }
 }
 
-/// Updates the script's count of areas in use after an event that has this effect, if the machine
-/// still runs.
+/// Updates the script's count of areas in use after an event that has this effect if the machine
+/// still runs. If it is dead, they are counted again.
 pub(crate) fn used_after(m: &Machine, used: &mut AreasUsed, effect: Effect)
     requires { m.now.end ≡ End.Running → AreaEffectHolds effect used.old m.now }
     ensures { IsCounted used.new m.now }
@@ -139,7 +139,8 @@ fn area_effect_of_save(m: &Machine, used: AreasUsed) -> Effect
     Effect::Saves
 }
 
-/// Returns how the script's count of areas changes by an instruction. The machine runs after it.
+/// Returns how an instruction changes the script's count of areas in use, if they are consecutive.
+/// The machine runs after it.
 fn area_effect_of_shape(m: &Machine, event: &Event, shape: Shape, used: AreasUsed) -> Effect
     requires counted { IsCounted used m.now }
     requires row { used.in_row ≡ true }
@@ -220,8 +221,8 @@ fn area_effect_of_trapping_store(
     }
 }
 
-/// Returns how the script's count of areas changes by an instruction that accesses no memory except
-/// that of an area. The machine runs after it.
+/// Returns how an instruction that accesses no memory except that of an area changes the script's
+/// count of areas. The machine runs after it.
 fn area_effect_of_other(m: &Machine, event: &Event, shape: Shape, used: AreasUsed) -> Effect
     requires counted { IsCounted used m.now }
     requires row { used.in_row ≡ true }

@@ -22,7 +22,7 @@ pub(crate) struct KnownWords {
 }
 
 /// Returns the place of a word in the cache of known words that a script's run keeps: the highest
-/// ten bits of its product with 2^32 divided by the golden ratio.
+/// ten of the 32 bits of its product with 2^32 divided by the golden ratio.
 fn known_word_place(word: u32) -> usize
     ensures { result < 1024 }
 {

@@ -30,8 +30,8 @@ unfoldable pub with_displacement : RowData → Bool → ℕ → RowFieldsData �
 with_displacement r minus size acc =
     if displacement_rule r minus size == no_rule then with_value K (operand_number_modulo (bounds r.form).k minus (size / 2)) acc else with_rule (displacement_rule r minus size) acc
 
--- the relocation of an operand that names a jump's target instead of a displacement: rel24 in a B
--- row, rel15 in other rows of 32 bits, and none in rows of 16 bits
+-- the relocation of an operand that names the target of a jump or call instead of giving a
+-- displacement: rel24 in a B row, rel15 in other rows of 32 bits, and none in rows of 16 bits
 unfoldable pub target_operand_relocation : RowData → ℕ
 target_operand_relocation r = if is_long r then (if is_b r.form then rel24 else rel15) else 0
 

@@ -35,8 +35,8 @@ behind is l = line_data l.rule (is ++ l.items)
 unfoldable pub is_named_line_operand : OperandData → Bool
 is_named_line_operand o = if o.is_memory then false else is_name_operand o.value.shape
 
--- the meaning of a line `.section NAME` or `.global NAME` needs this: its name, if that is the
--- line's only operand
+-- the name that gives a line `.section NAME` or `.global NAME` its meaning, if it is the line's
+-- only operand
 unfoldable pub only_operand_name : List OperandData → Option (List ℕ)
 only_operand_name [] = None
 only_operand_name (o ∷ []) = if is_named_line_operand o then Some o.value.name else None
@@ -58,8 +58,8 @@ space_line (o ∷ p ∷ os) = line_data wrong_operands (zeros 0 ∷ [])
 unfoldable pub values_line : ℕ → List OperandData → LineData
 values_line width os = line_data (values_rule width os) (map (value_item width) os)
 
--- the zeros that a line adds if its instruction breaks a rule: as many bytes as the instructions
--- with its name have, or 0 if there are none
+-- the number of zeros that a line adds if its instruction breaks a rule: the size in bytes of the
+-- instructions with its name, or 0 if there are none
 unfoldable pub size_of_name : List ℕ → ℕ
 size_of_name name = option_map_or (λ r. if is_long r then 4 else 2) (find (λ r. bytes_eq r.name name) listed) 0
 

@@ -40,8 +40,8 @@ is_high_operand s = shape_index s == 4
 abbrev pub is_huge_operand : Shape → Bool
 is_huge_operand s = shape_index s == 7
 
--- the number of the register that an operand's value is: d0 to d15 are 0 to 15, a0 to a15 are 16 to
--- 31; any other operand gives 64 or more
+-- the number of the register that an operand's value names: 0 to 15 for d0 to d15, 16 to 31 for a0
+-- to a15, and 64 or more for any other name
 unfoldable pub register_by_name : List ℕ → ℕ
 register_by_name name =
     (if slice_index name 0 == 100 then 0 else (if slice_index name 0 == 97 then 16 else 64))

@@ -21,7 +21,7 @@ pub record AreRead (lines : List Line) (items : List Item) (ls : List LineData) 
   pub counts : map (λ (l : Line). l.count) lines ≡ map (λ (l : LineData). length l.items) ls
   pub items_are : map item_of items ≡ items_in ls
 
--- the plain data of a source's items after the code read one more line: the line's rule is
--- returned, and its items come after those before
+-- the code read one more line of a source: it returned the line's rule, and in the plain data the
+-- line's items come after those before
 abbrev pub Adds : {E : Type 0} → LineData → Result ℕ E → List Item → List Item → Type 0
 Adds l result old new = IfOk result (λ rule. line_data rule (map item_of new) ≡ behind (map item_of old) l)

@@ -65,7 +65,7 @@ pub(crate) fn value_item<'a>(rule: u8, width: u8, o: &Operand<'a>) -> Item<'a>
     Item::Word(width, o.value.minus, size, o.value.name)
 }
 
-/// Returns the least rule that the number N of the data `.space N` breaks by itself, or no rule: N
+/// Returns the least rule that the operand of the data `.space N` breaks by itself, or no rule: N
 /// may be negative, too large or no number.
 #[tactic(auto, unfolding(crate::specs::DataValues::space_rule))]
 pub(crate) fn space_rule(o: &Operand<'_>) -> u8

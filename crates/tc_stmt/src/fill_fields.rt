@@ -138,7 +138,7 @@ fn operand_number_modulo(bound: u32, minus: bool, size: u32) -> u32
 }
 
 /// Returns the bound of the field that a statement's target fills, in rows of this form: the number
-/// of constants that it can have.
+/// of values that the field can have.
 #[tactic(auto, unfolding(tc_isa::specs::Forms::bounds))]
 fn target_operand_bound(form: Form) -> u32
     ensures value { result ≡ (bounds form).k }
@@ -332,8 +332,8 @@ fn put_register(bank: bool, field: Field, name: &[u8], acc: &mut RowFields<'_>)
     }
 }
 
-/// Returns the number by which a register fills a field of a row: 0 to 15 for d0 to d15, 16 to 31
-/// for a0 to a15, and `NO_REGISTER` or more for other names.
+/// Returns the number of the register of this name, by which a field is filled: 0 to 15 for d0 to
+/// d15, 16 to 31 for a0 to a15, and `NO_REGISTER` or more for other names.
 #[tactic(auto, unfolding(crate::specs::OperandForms::register_by_name, tc_lex::specs::Bytes::is_digit))]
 fn register_by_name(name: &[u8]) -> u8
     ensures value { result ≡ register_by_name name.now }
@@ -349,8 +349,8 @@ fn register_by_name(name: &[u8]) -> u8
     }
 }
 
-/// Returns the number of register 0 in the bank that a name's first letter gives, d or a, or
-/// `NO_REGISTER`. The operand's register fills a field by it.
+/// Returns the number of register 0 in the bank that the first letter of an operand's register
+/// gives, d or a, or `NO_REGISTER` for any other letter.
 fn bank_first_register(c: u8) -> u8
     ensures { result ≡ (if c == 100 then 0 else (if c == 97 then 16 else 64)) }
 {
@@ -435,8 +435,8 @@ fn is_named_row(row: &Row, name: &str) -> bool
     is_same_text(row.name.as_bytes(), name)
 }
 
-/// Returns the relocation of a symbol that an operand gives as the target of a jump or call,
-/// instead of filling the field, or `NO_RELOC` in rows of 16 bits.
+/// Returns the relocation that fills the field of a jump or call whose target is a symbol, or
+/// `NO_RELOC` in rows of 16 bits.
 #[tactic(auto, unfolding(crate::specs::Displacements::target_operand_relocation))]
 fn target_operand_relocation(row: &Row) -> u8
     ensures { result ≡ target_operand_relocation (row_of row.now) }

@@ -260,8 +260,8 @@ fn values_line<'a>(
     Ok(rule)
 }
 
-/// Reads a whole line `.space N`: adds its zeros to the items of the source, and returns the rule
-/// that the line breaks.
+/// Reads a line that is `.space`, with any operands: adds the item of its zeros, and returns the
+/// rule that the line breaks.
 fn space_line<'a>(os: &[Operand<'a>], items: &mut Vec<Item<'a>>) -> Result<u8, AllocError>
     ensures { Adds (space_line (map operand_of os.now)) result items.old.items items.new.items }
 {
@@ -328,8 +328,8 @@ fn space_operand_line<'a>(o: &Operand<'a>, items: &mut Vec<Item<'a>>) -> Result<
     add_item(space_rule(o), space_item(o), items)
 }
 
-/// Returns the item that a line of an instruction adds to its source: its row, its fields, and
-/// their symbol.
+/// Returns the item that the line of an instruction adds to its source: its row, its fields, and
+/// its symbol, if it has one.
 fn code_item<'a>(row: u8, found: &RowFields<'a>) -> Item<'a>
     ensures { item_of result
         ≡ code row found.now.fields (option_map reference_of found.now.reference) }

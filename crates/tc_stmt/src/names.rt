@@ -1,4 +1,4 @@
-// Names, and symbols as values of operands.
+// Names in a source, and the rule that a symbol as an operand breaks.
 ghost use Rattle.std.specs.Prelude.{◌≡◌, ◌<◌, ◌^◌};
 ghost use Rattle.tc_stmt.specs.Names.{is_source_name, symbol_rule};
 ghost use Rattle.tc_stmt.specs.SourceRules.{no_rule};
@@ -20,8 +20,8 @@ pub fn is_source_name(bytes: &[u8]) -> bool
         && !is_same_text(bytes, ".")
 }
 
-/// Returns the least rule that the name of an operand's symbol breaks in every place, by itself or
-/// by a wide number added to it, or `NO_RULE`.
+/// Returns the least rule that an operand's symbol breaks in every place, by its name or by a wide
+/// number added to it, or `NO_RULE`.
 #[tactic(auto, unfolding(crate::specs::Names::symbol_rule))]
 pub fn symbol_rule(v: &Value<'_>) -> u8
     ensures value { result ≡ symbol_rule (value_of v.now) }

@@ -30,8 +30,8 @@ pub struct Reference<'a> {
     pub minus: bool,
 }
 
-/// Returns the reference that is kept with a row's fields: of this kind, to the symbol of an
-/// operand, with the number that is added to its address.
+/// Returns a reference of this kind, as a row's fields keep one: to the symbol of this name, with
+/// the number that is added to its address or subtracted from it.
 pub fn reference_to(kind: u8, name: &[u8], minus: bool, size: u32) -> Reference<'_>
     ensures { reference_of result ≡ reference_to kind name.now minus size }
 {
@@ -93,7 +93,7 @@ pub(crate) fn set_field(field: Field, v: u32, f: &mut Fields)
     }
 }
 
-/// Returns this one of a row's fields, C, S1, S2, N or K, as the operands of a statement filled it.
+/// Returns the value in this one of a row's fields: C, S1, S2, N or K.
 #[tactic(auto, unfolding(crate::specs::RowFields::field_of))]
 pub fn field_of(field: Field, f: &Fields) -> u32
     ensures { result ≡ field_of field f.now }

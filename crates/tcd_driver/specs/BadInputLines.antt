@@ -22,8 +22,8 @@ bad_words_line = codes "bad words" ++ 10 ∷ []
 abbrev pub IsNoLayout : List ℕ → List ℕ → Type 0
 IsNoLayout bytes line = (e : LayoutErr) × (layout_of bytes ≡ Err e) × (line ≡ bad_layout_line e)
 
--- the bad-input line on bytes that are no object: it has the number of the first fault, the place
--- of the object among the words, and the offset of the fault
+-- the bad-input line on bytes that are no object: it has the number of the first fault, the
+-- object's place among the objects that are named, and the offset of the fault
 abbrev pub IsNoObject : ℕ → List ℕ → List ℕ → Type 0
 IsNoObject place bytes line =
     (e : FormErr) × (object_of bytes ≡ Err e)
@@ -36,8 +36,8 @@ bad_cells_line (cells.NotRam n) = codes "bad cells 2" ++ line_end_at_one n
 bad_cells_line (cells.Twice n) = codes "bad cells 3" ++ line_end_at_one n
 bad_cells_line (cells.TooMany n) = codes "bad cells 4" ++ line_end_at_one n
 
--- the driver's bad-input line `bad tasks`, for a file that isn't in the form of tasks: the number
--- of the fault, and for the first two its line
+-- the driver's bad-input line `bad tasks`, on a fault in a file of tasks or in the count of
+-- certificates: the number of the fault, and for the first two its line
 unfoldable pub bad_tasks_line : TasksErr → List ℕ
 bad_tasks_line (tasks.BadLine n) = codes "bad tasks 1" ++ line_end_at_one n
 bad_tasks_line (tasks.TooMany n) = codes "bad tasks 2" ++ line_end_at_one n
@@ -47,12 +47,12 @@ bad_tasks_line tasks.NoRoom = codes "bad tasks 5" ++ 10 ∷ []
 bad_tasks_line tasks.OnIsp = codes "bad tasks 6" ++ 10 ∷ []
 bad_tasks_line tasks.Count = codes "bad tasks 7" ++ 10 ∷ []
 
--- the driver's bad-input line `bad source`: the rule that a source breaks, the place of the source
--- among the words, and the line in it
+-- the driver's bad-input line `bad source`: the rule that a source breaks, its place among the
+-- sources that are named, and the number of the line in it
 abbrev pub bad_source_words : ℕ → ℕ → ℕ → List ℕ
 bad_source_words rule place line = codes "bad source " ++ (decimal rule ++ (codes " at " ++ (decimal place ++ (codes " " ++ (decimal line ++ 10 ∷ [])))))
 
--- the bad-input line on bytes that are a source with a line that breaks a rule: it has the first
--- such line, and the least rule that it breaks
+-- the bad-input line on a source of which a line breaks a rule: it has the first such line, and the
+-- least rule that it breaks
 abbrev pub SourceBreaksRule : List ℕ → List ℕ → Type 0
 SourceBreaksRule bytes printed = (line : ℕ) × (rule : ℕ) × IsLeastBrokenLine (lines_in bytes) line rule × (printed ≡ bad_source_words rule 0 line)

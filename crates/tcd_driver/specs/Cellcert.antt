@@ -27,8 +27,8 @@ pub record CellcertNames : Type 0 where
   pub cells : List ℕ
   pub cert : List ℕ
 
--- why `cellcert` makes no certificate: each one of version 2 that is accepted under the plan in
--- which the cells are devices breaks rule 16
+-- a reason why `cellcert` writes no certificate: each one of version 2 that is accepted under the
+-- plan in which the cells are devices breaks rule 16
 abbrev pub NoneKeepsCells : ImageData → PlanData → List Cell → Type 0
 NoneKeepsCells image plan cells =
     (cert : CertData) → IsCert cert → cert.version ≡ 2 → Accepts image (with_cells plan cells) cert → KeepsCells image (with_cells plan cells) cells cert → ⊥

@@ -18,8 +18,8 @@ pub record CfgNames : Type 0 where
   pub elf : List ℕ
   pub plan : List ℕ
 
--- The text that `cfg` reports: the graph of the best certificate, so every run is safe. Its lines
--- have the edge of each step of each run, with its address and the key of its frame.
+-- The text that `cfg` reports: the graph of the best certificate, by which every run is safe. Its
+-- lines have the edge of each step of each run, with its address and the key of its frame.
 pub record IsCfgText (image : ImageData) (plan : PlanData) (text : List ℕ) : Type 0 where
   pub cert : CertData
   pub certified : IsAcceptedBestCert image plan cert

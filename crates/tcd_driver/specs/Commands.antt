@@ -174,8 +174,8 @@ command_of_value (words.Taskcert elf plan list certs) = taskcert (record { elf =
 command_of_value (words.Tasks elf plan list certs) = tasks (record { elf = elf.now; plan = plan.now; tasks = list.now; certs = map string_bytes certs.now })
 command_of_value (words.Gen functions) = generate functions
 
--- A command that words ask for is within limits: at most 65,535 objects or sources, a boot sequence
--- that doesn't pass 2^32, and 1 to 500 functions to generate.
+-- a command that words ask for is within limits: at most 65,535 objects or sources, and to generate
+-- a boot sequence that doesn't pass 2^32, or 1 to 500 functions
 abbrev pub CommandKeepsLimits : Words → Type 0
 CommandKeepsLimits (words.Check elf plan cert) = Unit {0}
 CommandKeepsLimits (words.Cert elf plan cert) = Unit {0}

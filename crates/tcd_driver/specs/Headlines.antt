@@ -95,8 +95,8 @@ pub record IsAcceptedWithNeed (image : ImageData) (plan : PlanData) (cert : Cert
   pub start_is : find_node (start_key image plan) cert.nodes ≡ Some start
   pub need_is : need ≡ start.need
 
--- What headlines say of a made certificate: it is accepted, safe with its need, the best of its
--- version, of 2 only if each of 1 is refused, and its bytes read back as it.
+-- What headlines say of a made certificate: it is accepted, each run is safe with its need, and its
+-- bytes read back as it. It is the least of its version, 2 only if each of 1 is refused.
 pub record IsBestWithNeed (image : ImageData) (plan : PlanData) (cert : CertData) (need : ℕ) : Type 0 where
   pub accepted : IsAcceptedWithNeed image plan cert need
   pub safe : Safe image plan need
@@ -116,7 +116,8 @@ frame_words frame =
 abbrev pub refused_words : ℕ → Key → ℕ → List ℕ
 refused_words rule frame address = codes "refused K" ++ (decimal rule ++ (codes " at " ++ (hex_word address ++ (codes " in " ++ frame_words frame))))
 
--- the printed words of `check` on a certified image: the need, and the areas without the reserve
+-- the line in the headlines of `check`, `cert` and `ship`: the need, and the areas without the
+-- reserve
 abbrev pub certified_words : ℕ → ℕ → List ℕ
 certified_words need areas = codes "certified " ++ (decimal need ++ (codes " of " ++ (decimal areas ++ (codes " areas" ++ 10 ∷ []))))
 
@@ -150,8 +151,8 @@ pub record RefusalByCheck (elf_name plan_name cert_name : List ℕ) (before afte
   pub stays : after ≡ before
 
 -- ---- cert
--- The second main headline, after that of `check`: `cert` is done, and CERT now holds the best
--- certificate for the executable and the plan.
+-- the second main headline, after that of `check`: `cert` is done, and CERT now holds the best
+-- certificate for the executable and the plan
 pub record HeadlineOfCert (elf_name plan_name cert_name : List ℕ) (before after : FileMap) (printed : List ℕ) : Type 0 where
   pub image : ImageData
   pub plan : PlanData
@@ -175,8 +176,8 @@ pub record RefusalByCert (elf_name plan_name : List ℕ) (before after : FileMap
   pub stays : after ≡ before
 
 -- ---- run
--- The third main headline, after `check` and `cert`: `run` ran the script's events from a start
--- with 0 for all that the plan leaves open. The line: events, most areas in use, and the end.
+-- The third main headline: `run` ran the script's events from a start with 0 for all that the plan
+-- leaves open. Its line has their number, the most areas in use, and the end.
 pub record HeadlineOfRun (elf_name plan_name script_name : List ℕ) (before after : FileMap) (printed : List ℕ) : Type 0 where
   pub image : ImageData
   pub plan : PlanData

@@ -38,7 +38,7 @@ objects_of_sources sources = map (λ s. s.object) sources
 abbrev pub texts_of_sources : List SourceData → List (List ℕ)
 texts_of_sources sources = map (λ s. s.text) sources
 
--- the image that `ship` writes and reports on: it is linked by the layout from the objects of the
+-- the image that `ship` makes and reports on: it is linked by the layout from the objects of the
 -- sources that `ship` reads, and has the bytes of each statement
 pub record IsImageOfSources (layout : LayoutData) (sources : List SourceData) (image : ImageData) : Type 0 where
   pub linked_is : image_of_objects (objects_of_sources sources) layout ≡ Ok image

@@ -54,8 +54,8 @@ JudgesTask image plan tasks cert u (Yes n) =
 JudgesTask image plan tasks cert u (No rule key addr) = IsTaskRefused image plan tasks cert u rule key addr
 
 -- ---- all tasks
--- the needs that the command `tasks` adds up for its certificates: at least two areas for each task
--- except the first
+-- the needs that the commands `tasks` and `taskcert` add up for certificates: at least two areas
+-- for each task except the first
 abbrev pub needs_of : ImageData → PlanData → TasksData → List CertData → ℕ → ℕ
 needs_of image plan tasks certs = need_of_task image plan tasks (cert_of_task certs)
 
@@ -103,8 +103,8 @@ abbrev pub tasks_reading_if : Bool → Reading → Reading
 tasks_reading_if true reading = reading
 tasks_reading_if false reading = answer (λ report. report ≡ says BadInput (bad_tasks_line Count))
 
--- what the command `tasks` reads next, if it has as many names of certificates as tasks, else its
--- line of bad input; `taskcert` does so too
+-- what the commands `tasks` and `taskcert` read next if they have as many names of certificates as
+-- tasks; else their line of bad input is printed
 abbrev pub with_name_per_task : List (List ℕ) → TasksData → Reading → Reading
 with_name_per_task names tasks reading = tasks_reading_if (length names == count tasks) reading
 

@@ -19,8 +19,8 @@ pub record EndsWithBadWords (files files' : FilesSeen) (sink sink' : SinkSeen) (
   pub files_stay : files' ≡ files
   pub prints : PrintsWithStatus BadWords bad_words_line sink sink' result
 
--- how one call of the driver's tool ends: its words, the files and the sink before and after it,
--- and its status
+-- one call of the driver's tool: its words, the files and the sink before and after it, and its
+-- status
 pub record ToolCall : Type 0 where
   pub words : List (List ℕ)
   pub files : FilesSeen
@@ -29,8 +29,8 @@ pub record ToolCall : Type 0 where
   pub sink_after : SinkSeen
   pub status : Status
 
--- What a `ToolCall` with these words and this status means: `Holds` of the files before and after,
--- if they reveal their contents, and of the text by which the sink grew.
+-- what a `ToolCall` with these words and this status means, if its files reveal their contents:
+-- `Holds` is true of the files before and after, and of the text by which the sink grew
 abbrev pub ToolCallMeans : ToolCall → List (List ℕ) → Status → (FileMap → FileMap → List ℕ → Type 0) → Type 0
 ToolCallMeans call words status Holds =
     (before : FileMap) → call.words ≡ words → call.status ≡ status → (call.files).held ≡ Some before

@@ -124,8 +124,8 @@ run_line events peak m = codes "events " ++ (decimal events ++ (codes " peak " +
 unfoldable pub long_source_line : ℕ → List ℕ
 long_source_line place = codes "bad source 0" ++ line_end_at_one place
 
--- the printed line on a file in the form of sources that breaks a rule: the rule, the place of the
--- source, and the line
+-- the printed line on a source file that breaks a rule: the rule, the place of the file among the
+-- sources, and the line in it
 unfoldable pub bad_source_line : ℕ → ℕ → ℕ → List ℕ
 bad_source_line place rule line = codes "bad source " ++ (decimal rule ++ line_end_at_two place line)
 
@@ -177,11 +177,11 @@ bad_link_line no_entry = codes "bad link 6" ++ 10 ∷ []
 unfoldable pub linked_line : ℕ → List ℕ
 linked_line bytes = codes "image " ++ (decimal bytes ++ (codes " bytes" ++ 10 ∷ []))
 
--- one of the printed lines: for a file of cells above its limit
+-- the printed line for a file of cells above its limit
 unfoldable pub long_cells_line : List ℕ
 long_cells_line = codes "bad cells 0" ++ 10 ∷ []
 
--- one of the printed lines for files of every form: for a file of tasks above its limit
+-- the printed line for a file of tasks above its limit
 unfoldable pub long_tasks_line : List ℕ
 long_tasks_line = codes "bad tasks 0" ++ 10 ∷ []
 
@@ -201,8 +201,8 @@ unfoldable pub certified_cells_line : ℕ → ℕ → ℕ → List ℕ
 certified_cells_line need areas count =
     codes "certified " ++ (decimal need ++ (codes " of " ++ (decimal areas ++ (codes " areas with " ++ (decimal count ++ (codes " cells" ++ 10 ∷ []))))))
 
--- one of the printed lines: for an image without the switch routine, the first address at which it
--- lacks it
+-- the printed line on an image without the switch routine in rom: the first address where a byte of
+-- the routine is missing
 unfoldable pub refused_switch_line : ℕ → List ℕ
 refused_switch_line addr = codes "refused switch at " ++ (hex_word addr ++ 10 ∷ [])
 
@@ -214,12 +214,12 @@ line_with_task line u = take (length line - 1) line ++ (codes " of task " ++ (de
 abbrev pub refused_task_line : ℕ → Key → ℕ → ℕ → List ℕ
 refused_task_line rule key addr u = line_with_task (refused_line rule key addr) u
 
--- the printed line on tasks whose needs together exceed the CSAs of the plan
+-- the printed line on tasks whose needs together exceed the CSAs of the plan without its reserve
 unfoldable pub refused_sum_line : ℕ → ℕ → List ℕ
 refused_sum_line sum areas = codes "refused sum " ++ (decimal sum ++ (codes " of " ++ (decimal areas ++ (codes " areas" ++ 10 ∷ []))))
 
--- one of the lines that the tool prints: that tasks are certified, with the CSAs that all tasks
--- need together, those of the plan, and the number of tasks
+-- the printed line on certified tasks: the CSAs that they need together, those of the plan without
+-- its reserve, and the number of tasks
 unfoldable pub certified_tasks_line : ℕ → ℕ → ℕ → List ℕ
 certified_tasks_line sum areas n =
     codes "certified " ++ (decimal sum ++ (codes " of " ++ (decimal areas ++ (codes " areas in " ++ (decimal n ++ (codes " tasks" ++ 10 ∷ []))))))

@@ -21,7 +21,8 @@ pub fn append_to_printed_line(line: &mut Vec<u8>, bytes: &[u8]) -> Result<(), No
     Ok(())
 }
 
-/// Returns a copy of a fixed printed line, such as the one on a malformed file.
+/// Returns a copy of a fixed printed line, such as the one on a malformed file, or of the fixed
+/// start of one.
 pub fn copy_printed_line(alloc: Global, text: &[u8]) -> Result<Vec<u8>, NoMemory>
     ensures { IfOk result (λ line. line.items ≡ text.now) }
 {

@@ -140,7 +140,8 @@ pub fn refused_switch_line(alloc: Global, addr: u32) -> Result<Vec<u8>, NoMemory
     Ok(line)
 }
 
-/// Returns the printed line on one of the results: a rule that fails in a task's certificate.
+/// Returns the printed line on a rule that fails in a task's certificate, with the address, the key
+/// and the number of the task.
 #[tactic(auto, unfolding(crate::specs::Lines::line_with_task))]
 pub fn refused_task_line(
     alloc: Global,

@@ -13,8 +13,8 @@ use Rattle.tcd_report.specs.Graphs.EdgeLaws.{EdgesStand}
 abbrev pub printed_graph_lines : List ℕ → List (List ℕ)
 printed_graph_lines text = map (λ l. l ++ 10 ∷ []) (text_lines text)
 
--- The edges of runs are on lines of text: for an accepted certificate's graph, that of each step
--- after a planned start and fitting events, with its frame's key and its address.
+-- the law that the edges of runs are on lines of the text of an accepted certificate's graph: that
+-- of each step of each run, with its address and the key of its frame
 abbrev pub AcceptedEdgesStand : Type 0
 AcceptedEdgesStand =
     (image : ImageData) (plan : PlanData) (cert : CertData) (text : List ℕ) → image.entry < 2 ^ 32 → IsPlan plan → IsCert cert

@@ -16,8 +16,8 @@ use Rattle.tc_link.specs.Linked.{image_of_objects}
 abbrev pub IsByte : ℕ → Type 0
 IsByte b = b < 2 ^ 8
 
--- one of the limits that assembling, writing and linking keep: what a section holds are bytes,
--- numbers of eight bits
+-- a limit that assembling keeps, and that writing and linking rely on: a section holds bytes,
+-- numbers of at most eight bits
 abbrev pub SectionHoldsBytes : SectionData → Type 0
 SectionHoldsBytes s = All IsByte s.bytes
 

@@ -25,7 +25,8 @@ lacks_key r o = not (may_key_be_absent r.form) && is_none (get r.name o)
 abbrev pub is_key_value_bad : KeyRow → Data → Bool
 is_key_value_bad r o = not (has_value_form r.form r.name o)
 
--- a key with this name is no unknown key, as faults go, in the objects that a holder names
+-- in the objects that a holder names, a key of this name isn't refused as unknown: a row of the
+-- table of keys has it
 abbrev pub is_known_key : Holder → List ℕ → Bool
 is_known_key h name = list_any (is_row_of_key h name) key_rows
 

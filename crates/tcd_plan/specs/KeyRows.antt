@@ -75,8 +75,8 @@ holder_key Csa = 12
 holder_key Start = 22
 holder_key Globals = 26
 
--- a row of the table of keys has the printed key of its number: its name, after the key of the
--- objects that it is in
+-- a row of the table of keys has the printed key of its number: its name, with the key of its
+-- objects and a dot before it unless it is in the root object
 abbrev pub is_printed : KeyRow → Bool
 is_printed r = bytes_eq (key_text_of r.key) (if holder_key r.holder == 0 then r.name else key_text_of (holder_key r.holder) ++ codes "." ++ r.name)
 

@@ -12,8 +12,8 @@ use Rattle.tcd_plan.specs.ValueForms.{is_present_and_passing}
 abbrev pub plan_objects_at : List ℕ → Data → List Data
 plan_objects_at name d = if is_present_and_passing (list_all is_object) (json_elements_at name d) then unwrap_or (json_elements_at name d) [] else []
 
--- the objects of a plan's document at one key: the object there, as a list of one; none if the
--- value is no object
+-- the objects of a plan's document at one key: the object there, as a list of one; none if no
+-- object is there
 abbrev pub plan_object_at : List ℕ → Data → List Data
 plan_object_at name d = if is_present_and_passing is_object (get name d) then option_to_list (get name d) else []
 

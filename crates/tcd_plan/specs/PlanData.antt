@@ -62,8 +62,8 @@ plan_data p = record {
 abbrev pub is_range : Range → Bool
 is_range r = (r.at % 4 == 0) && (r.len % 4 == 0) && nat_lt 0 r.len && nat_le (r.at + r.len) (2 ^ 32)
 
--- what holds of each device in every plan's data: its range is one, and the bounds of the words
--- that it answers are in order
+-- what holds of each device in every plan's data: its range is valid, and the bounds of the words
+-- that it answers are in order and below 2^32
 abbrev pub is_device : Device → Bool
 is_device d = is_range d.range && nat_le d.lo d.hi && nat_lt d.hi (2 ^ 32)
 
@@ -98,8 +98,8 @@ pub record AreRanges (p : PlanData) : Type 0 where
   pub small_rom : sum_by (λ r. r.len) p.rom ≤ 2 ^ 22
   pub small_ram : sum_by (λ r. r.len) p.ram ≤ 2 ^ 22
 
--- a limit on every plan's data: its save areas are whole areas in one segment of 2^22 bytes, and
--- their first link isn't 0
+-- the limits of the save areas in every plan's data: 1 to 4096 at a multiple of 64, in a segment of
+-- 2^22 bytes, first link not 0, 1 or more of them in reserve
 pub record AreAreas (p : PlanData) : Type 0 where
   pub some : 1 ≤ p.areas
   pub few : p.areas ≤ 4096
@@ -174,7 +174,7 @@ abbrev pub overlap_from : ℕ → List Range → Option PlanErr
 overlap_from i [] = None
 overlap_from i (r ∷ rs) = option_map_or (λ k. Some (Overlap i (i + 1 + k))) (position (λ s. not (are_ranges_apart r s)) rs) (overlap_from (i + 1) rs)
 
--- what doesn't hold of a plan's data, if two of its ranges overlap: the first pair that shares a
--- byte
+-- the refusal of a plan's data if two of its ranges overlap: the numbers of the first pair that
+-- shares a byte
 unfoldable pub plan_range_overlap : PlanData → Option PlanErr
 plan_range_overlap p = overlap_from 0 (all_ranges p)

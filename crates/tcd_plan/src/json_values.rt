@@ -96,7 +96,8 @@ fn json_text_word(text: &[u8]) -> Option<u32>
     }
 }
 
-/// Returns the number that a JSON text has after its `0x`, in up to 8 hex digits of either case.
+/// Returns the number that a JSON text has after its `0x`, in up to 8 hex digits of either case;
+/// `None` if another character is there.
 fn json_hex_digits(digits: &[u8]) -> Option<u32>
     requires { length digits.now ≤ 8 }
     ensures { result ≡

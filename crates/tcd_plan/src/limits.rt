@@ -87,8 +87,8 @@ fn total_len(objects: &[Value]) -> u64
     total
 }
 
-/// Returns true if a plan's save areas are within their limits: from `at` on whole, in one segment
-/// of 2^22 bytes, and the first link isn't 0.
+/// Returns true if a plan's save areas are within their limits: 1 to 4096 from `at` on, whole, in a
+/// segment of 2^22 bytes, first link not 0, 1 or more of them in reserve.
 fn are_areas(at: u32, areas: u32, reserve: u32) -> bool
     ensures { result ≡ are_areas at areas reserve }
 {

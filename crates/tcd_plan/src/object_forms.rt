@@ -54,7 +54,7 @@ pub fn has_value_form(form: Form, name: &str, object: &Value) -> bool
 }
 
 /// Returns the objects of a document in the array at a key, so that their values can be tested;
-/// none if an element is no object.
+/// none unless the value is an array of objects alone.
 fn plan_objects_at<'a>(value: &'a Value, name: &str) -> &'a [Value]
     ensures { map view result.now ≡ plan_objects_at name.now (view value.now) }
 {

@@ -52,8 +52,8 @@ fn plan_of(value: &Value) -> Result<Plan, PlanErr>
     }
 }
 
-/// Returns why the reader of plans refuses a document: the first refusal in the order of their
-/// numbers.
+/// Returns why the reader of plans refuses a document, if it does: the first refusal that applies,
+/// in the order of the refusals' numbers.
 #[tactic(auto, unfolding(crate::specs::PlanReader::plan_refusal))]
 fn plan_refusal(value: &Value) -> Option<PlanErr>
     ensures { result ≡ plan_refusal (view value.now) }

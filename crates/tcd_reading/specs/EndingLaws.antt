@@ -12,16 +12,16 @@ use Rattle.tcd_reading.specs.declared.status.Status.TheVariants.{Done, Refused, 
 use Rattle.tcd_base.specs.FailingCalls.{FaultCounted}
 
 -- ---- files and faults
--- A law of endings says this of a name: it holds the bytes of the last of these files with that
--- name. If no file has it, it holds what it held before.
+-- a law of endings says this of a name: it holds the bytes of the last of these files with that
+-- name or, if none has it, what it held before
 pub record HoldsLastWritten (old new : FileMap) (writes : List ReportFile) (name : List ℕ) : Type 0 where
   pub last :
       (i : ℕ) (bytes : List ℕ) → slice_get writes i ≡ Some (record { name = name; bytes = bytes })
       → ((j : ℕ) (w : ReportFile) → i < j → slice_get writes j ≡ Some w → w.name ≢ name) → get new name ≡ Some bytes
   pub other : ((i : ℕ) (w : ReportFile) → slice_get writes i ≡ Some w → w.name ≢ name) → get new name ≡ get old name
 
--- A law of endings says this if writing a report's files failed at one of them: each other name
--- holds the last of the earlier files with that name, or what it held before.
+-- a law of endings says this if writing a report's files failed at one of them: each other name
+-- holds the last of the earlier files with that name, or what it held before
 pub record WritingBreaksOff (old new : FileMap) (writes : List ReportFile) : Type 0 where
   pub front : List ReportFile
   pub at : ReportFile
@@ -29,7 +29,7 @@ pub record WritingBreaksOff (old new : FileMap) (writes : List ReportFile) : Typ
   pub are : writes ≡ front ++ at ∷ behind
   pub others : (name : List ℕ) → name ≢ at.name → HoldsLastWritten old new front name
 
--- a law of endings says this of the files, if a command writes none: each name holds at its end
+-- a law of endings says this of the files, if a command writes none: each name holds at the end
 -- what it held before
 abbrev pub AllFilesStay : FileMap → FileMap → Type 0
 AllFilesStay old new = (name : List ℕ) → get new name ≡ get old name

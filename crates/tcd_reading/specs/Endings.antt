@@ -17,7 +17,7 @@ abbrev pub HasRoomForReports : Reading → Option FileMap → SinkSeen → Type 
 HasRoomForReports reading held sink = (report : Report) → ReadingSays reading held report → HasRoomFor sink report.text
 
 -- how a command ends that prints: the text is whole in the sink, and its status returned; or the
--- sink, which lacks room for it, failed within it
+-- sink, which wasn't sure to have room for it, failed within it, which is a fault
 pub data PrintsWithStatus (s : Status) (text : List ℕ) (old new : SinkSeen) (result : Status) : Type 0 where
   whole : result ≡ s → IsPrinted text old new → PrintsWithStatus s text old new result
   cut :
@@ -33,8 +33,8 @@ pub record ReportWritingStopped (held held' : Option FileMap) (writes : List Rep
   pub are : writes ≡ front ++ at ∷ rest
   pub others : OthersStay at.name (with_report_files held front) held'
 
--- How a command that has a report ends: its files are written and its text printed; or nothing is
--- printed, as a write failed, so the files aren't steady, or memory ran out in a write.
+-- how a command that has a report ends: its files are written and its text goes to the sink; or a
+-- write failed, over files that aren't steady, or ran out of memory, and nothing is printed
 pub data IsReported (report : Report) (files files' : FilesSeen) (sink sink' : SinkSeen) (result : Status) : Type 0 where
   printed : files'.held ≡ with_report_files files.held report.writes → PrintsWithStatus report.status report.text sink sink' result → IsReported report files files' sink sink' result
   unwritten :

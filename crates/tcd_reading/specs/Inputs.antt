@@ -25,8 +25,8 @@ pub record IsHeldAs {A : Type 0} (form : FormSeen A) (m : FileMap) (name : List 
   pub short : length bytes ≤ form.limit
   pub is : form.Is bytes x
 
--- the files hold an input of a command that isn't in its form: its bytes are above the limit, with
--- this line; or they have no value, with one of the lines for that
+-- the files hold an input of a command that isn't in its form, and this is a line for it: the one
+-- for bytes above the limit, or one of those for bytes without a value
 pub data IsHeldBad {A : Type 0} (form : FormSeen A) (m : FileMap) (name line : List ℕ) : Type 0 where
   above_limit : (bytes : List ℕ) → get m name ≡ Some bytes → form.limit < length bytes → line ≡ form.long_line → IsHeldBad form m name line
   without_value : (bytes : List ℕ) → get m name ≡ Some bytes → length bytes ≤ form.limit → form.IsBad bytes line → IsHeldBad form m name line
@@ -68,8 +68,8 @@ pub record AreSureOf (reading : Reading) (files : FilesSeen) : Type 0 where
   pub steady : IsTrue files.steady
   pub hold : HoldsAsked reading files.held
 
--- an input of a command couldn't be read: a fault was counted, and the files weren't sure of its
--- inputs
+-- an input of a command couldn't be read: a fault was counted, and the files weren't steady or
+-- lacked an input that it needs
 pub record HasNotRead (reading : Reading) (old new : FilesSeen) : Type 0 where
   pub counted : FaultCounted old.faults new.faults
   pub unsure : AreSureOf reading old → ⊥

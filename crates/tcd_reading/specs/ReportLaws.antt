@@ -20,8 +20,8 @@ ReportsOfTwoSay {A} {B} first second IsReport =
     (a b : List ℕ) (m : FileMap) (report : Report)
     → ReadingSays (input A first a (λ x. input B second b (λ y. answer (IsReport x y)))) (Some m) report → IsSaidOfTwo first second a b IsReport m report
 
--- Guard law of a command that reads two files: it needs the first, and the second if the first has
--- a value. If both are there, so are all needed inputs.
+-- guard law of a command that reads two files: all inputs that it needs are there if the first is
+-- and, where the first has a value, the second is too
 pub record InputsOfTwoSay {A B : Type 0} (first : FormSeen A) (second : FormSeen B) (IsReport : A → B → Report → Type 0) : Type 0 where
   pub asks :
       (a b : List ℕ) (m : FileMap) (bytes : List ℕ) → get m a ≡ Some bytes → ((x : A) → IsHeldAs first m a x → (more : List ℕ) × (get m b ≡ Some more))

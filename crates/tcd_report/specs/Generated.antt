@@ -22,8 +22,8 @@ generated_code name f = option_map_or (λ r. spelling r f) (find (λ r. bytes_eq
 abbrev pub generated_function_at : ℕ → ℕ
 generated_function_at i = 0x80008000 + 32 * i
 
--- the call instruction at an address of the generated image, of later code in it: the displacement
--- is in halfwords
+-- the call instruction at an address of the generated image that calls later code in it: the
+-- displacement is in halfwords
 abbrev pub call_from : ℕ → ℕ → List ℕ
 call_from at to = generated_code (codes "call") (fields 0 0 0 0 ((to - at) / 2))
 

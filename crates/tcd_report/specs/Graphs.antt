@@ -47,8 +47,8 @@ line_front key p = key_front key ++ (hex_word p ++ 32 ∷ [])
 abbrev pub line_end_to : List ℕ → ℕ → List ℕ
 line_end_to word q = word ++ (hex_word q ++ 10 ∷ [])
 
--- how a line of the graph ends that is printed for the way of a step: its word and an address, or
--- the word alone for a return
+-- the end of the graph's line for the way of a step: its word and an address, or the word alone for
+-- a return
 abbrev pub way_end : EdgeWay → List ℕ
 way_end (to q) = line_end_to (codes "to ") q
 way_end (call q) = line_end_to (codes "call ") q
@@ -125,8 +125,8 @@ calls_in ds = sorted_set_of (entries_in call_rule ds)
 abbrev pub backs_in : CertData → List Owed → List ℕ
 backs_in cert ds = each_address_once (flat_map (λ d. back_by cert d.duty) ds)
 
--- the rule behind the `sys` lines of a graph: the number of the one that asks for the entry of the
--- handler of system calls
+-- the number of the rule whose duties give the `sys` lines of a graph: they ask for the entry of
+-- the handler of system calls
 abbrev pub system_call_rule : ℕ
 system_call_rule = 12
 

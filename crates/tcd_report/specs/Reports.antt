@@ -23,8 +23,8 @@ reported_count n = number (unsigned n)
 abbrev pub reported_node : NodeData → Data
 reported_node n = object (member (codes "key") (string (key_text n.key)) (member (codes "need") (reported_count n.need) (member (codes "points") (reported_count (length n.points)) no_members)))
 
--- how the report's JSON has a row of the longest call chains: as an object of the priority and the
--- length of its longest call chain
+-- a row of the longest call chains in the report's JSON: an object of a priority and the length of
+-- its longest call chain
 abbrev pub row_data : LongestCalls → Data
 row_data r = object (member (codes "longest") (reported_count r.longest) (member (codes "prio") (reported_count r.prio) no_members))
 
@@ -37,7 +37,7 @@ whole_data areas calls certified nodes reserve =
     (member (codes "calls") calls
     (member (codes "certified") (reported_count certified) (member (codes "nodes") nodes (member (codes "reserve") (reported_count reserve) no_members)))))
 
--- how the report's JSON has the longest call chains: as an array of one object for each priority
+-- the longest call chains in the report's JSON: an array of one object for each priority
 abbrev pub rows_data : List LongestCalls → Data
 rows_data rows = array (items_of (map row_data rows))
 

@@ -1,8 +1,8 @@
 // What the graph of an accepted certificate says of runs.
 ghost use Rattle.tcd_report.specs.Graphs.EdgeLaws.{EdgesStandOnLines};
 
-/// The lines of a graph, before they are text, have the edge of each step of each run, with its
-/// address and the key of its frame, if each run is safe and each edge is owed.
+/// States the law of a graph's lines: they have the edge of each step of each run, with its address
+/// and the key of its frame, if each run is safe and each edge is owed.
 pub fn graph_law()
     ensures { EdgesStandOnLines }
 {}

@@ -15,7 +15,8 @@ pub(crate) fn extend_text(text: &mut String, more: &str) -> Result<(), NoMemory>
     Ok(())
 }
 
-/// Appends the text of a key to one of the texts that grow at their end, the graph or the report.
+/// Appends the text of a key to a text that grows at its end, as at the front of the graph's lines
+/// and in the report.
 #[tactic(auto, unfolding(crate::specs::Texts::key_text))]
 pub(crate) fn append_key(text: &mut String, key: &Key) -> Result<(), NoMemory>
     ensures { OnOk result (string_bytes text.new ≡ string_bytes text.old ++ key_text key.now) }

@@ -1,4 +1,4 @@
--- Numbers of eight upper-case hex digits.
+-- Hex digits, and numbers of eight upper-case ones.
 use Rattle.std.specs.Prelude.{◌==◌, ◌&&◌, ℕ, List, length, Option, nat_lt, Bool, ◌+◌, ◌/◌, ◌%◌, ◌^◌, if◌then◌else◌, ◌∷◌, ◌++◌, []}
 use Rattle.std.specs.Bool.{then_some}
 use Rattle.std.specs.List.{list_all}
@@ -22,6 +22,6 @@ hex_digit n = if nat_lt n 10 then 48 + n else 55 + n
 unfoldable pub hex_byte : ℕ → List ℕ
 hex_byte b = hex_digit (b / 16) ∷ hex_digit (b % 16) ∷ []
 
--- a word as digits: eight in upper-case hex, two for each byte, the highest byte first
+-- a word as eight upper-case hex digits, two for each byte, the highest byte first
 unfoldable pub hex_word : ℕ → List ℕ
 hex_word x = hex_byte (x / 2 ^ 24) ++ (hex_byte (x / 2 ^ 16 % 256) ++ (hex_byte (x / 2 ^ 8 % 256) ++ hex_byte (x % 256)))

@@ -9,7 +9,7 @@ use Rattle.value_domain.specs.Values.{IsWell, IsValue, IsBelow, any_val, join_of
 abbrev pub AreWell : List Val → Type 0
 AreWell vs = (r : ℕ) → r < length vs → IsWell (slice_index_or vs r any_val)
 
--- each of a state's registers has a value of the plan's lattice at the limits of the version
+-- each of a state's registers has a value that is in the lattice of these limits
 abbrev pub AreValues : Limits → List Val → Type 0
 AreValues b vs = (r : ℕ) → r < length vs → IsValue b (slice_index_or vs r any_val)
 

@@ -1,4 +1,4 @@
--- The thresholds of a plan, those next to a word, and the limits of a version.
+-- The thresholds of a plan, and those next to a word.
 use Rattle.std.specs.Prelude.{◌^◌, ℕ, zero, suc, List, ◌∷◌, ◌++◌, ◌+◌, ◌<◌, []}
 use Rattle.tcd_plan.specs.PlanData.{PlanData, all_ranges}
 use Rattle.tcd_base.specs.declared.range.Range.{Range}

@@ -35,8 +35,8 @@ abbrev pub IsWell : Val → Type 0
 IsWell (Set ws) = AreWords ws
 IsWell (Span lo last step) = (step ≤ 2) × (64 < count_in lo last step) × (last < 2 ^ 32)
 
--- the value of ascending words: the Set of them if they are few enough, else the least Span that
--- holds them
+-- the value of ascending words: the Set of them if they are few enough, else the lattice's least
+-- Span that holds them
 abbrev pub value_of_words : Limits → List ℕ → Val
 value_of_words b ws =
     if nat_le (length ws) b.most_words

@@ -253,8 +253,8 @@ fn extent_step(words: &[u32]) -> u8
     alignment_log2(extent_bits(words))
 }
 
-/// Returns the bits that are set in at least one word of a Set. The lattice takes the step of the
-/// Set's extent from them.
+/// Returns the bits that are set in at least one of these words, from which the step of the words'
+/// extent in the lattice follows.
 fn extent_bits(words: &[u32]) -> u32
     ensures { sets.alignment_log2 result ≡ step_of_set words.now }
 {
@@ -341,7 +341,7 @@ fn add_span(b: &Bounds, v: &mut Val, lo: u32, last: u32, step: u8)
 }
 
 /// Joins two Sets in the lattice: widens the first to the least value that holds the words of both.
-/// A function of its own, so that its callers need no stack for the words.
+/// It is a function of its own, so that its callers need no stack for the words.
 #[inline(never)]
 fn join_set_with_set(b: &Bounds, v: &mut Val, words: &Words)
     requires { IsSome (words_of v.old) }

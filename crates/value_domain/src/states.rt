@@ -77,7 +77,7 @@ pub fn covers_context(upper: &State, ie: bool, ccpn: u8, lower: bool) -> bool
 }
 
 /// Returns true if two states have equally many flags of locals, and each of `flags` implies the
-/// other at its place.
+/// one at its place in `others`.
 pub fn are_flags_implied(flags: &[bool], others: &[bool]) -> bool
     ensures { IsTrue result ↔ FlagsImpliedBy flags.now others.now }
 {

@@ -158,8 +158,8 @@ pub(crate) fn copied_elements<T: Copy + Default, const N: usize>(items: &[T]) ->
     copy
 }
 
-/// Returns true if a value has words, and all of them, which ascend, are below `x`: then `x` is no
-/// member.
+/// Returns true if a value's list of ascending words isn't empty and all its words are below `x`:
+/// then `x` is no member.
 fn are_words_below(words: &[u32], x: u32) -> bool
     requires { Rising words.now }
     ensures { IsTrue result → (k : ℕ) → k < length words.now → slice_index words.now k < x }

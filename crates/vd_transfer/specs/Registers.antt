@@ -75,7 +75,8 @@ abbrev pub HasBaseValue : Arg → Bool → Type 0
 HasBaseValue (Reg r) after = IsTrue after → RegisterHasValue r
 HasBaseValue (Word w) after = Unit {0}
 
--- all registers that the instruction writes have a value in a state, and it isn't MTCR
+-- each register that the instruction names and writes has a value in a state, and the instruction
+-- isn't MTCR
 abbrev pub WritesNoFixedRegister : Shape → Type 0
 WritesNoFixedRegister (Compute op dst x y) = RegisterHasValue dst
 WritesNoFixedRegister (Scaled dst base index n) = RegisterHasValue dst

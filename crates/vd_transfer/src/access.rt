@@ -21,7 +21,8 @@ pub(crate) struct Addressing {
 }
 
 impl Addressing {
-    /// Returns how the address of a load or a store is computed: from this base and offset.
+    /// Returns how the address of a load or a store is computed: from this base and offset, or from
+    /// the base alone if `after`.
     pub(crate) fn by(base: Arg, offset: u32, after: bool) -> Addressing
         ensures { result ≡ record { base = base; offset = offset; after = after } }
     {

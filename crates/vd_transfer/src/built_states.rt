@@ -26,8 +26,8 @@ pub fn address(b: &Bounds, plan: &Plan, inst: &Inst, s: &State) -> Val
     address_by(b, plan, shape(inst), s)
 }
 
-/// Builds the whole state of the point after a branch, on one of the branch's sides, or gives
-/// `None` if that side isn't possible.
+/// Builds the whole state after a branch, on one of the branch's sides, or returns `None` if that
+/// side isn't possible.
 pub fn refine(b: &Bounds, plan: &Plan, inst: &Inst, s: &State, side: bool) -> Option<State>
     requires { AreValues b.now s.now.regs }
     ensures refine { result ≡ refine_of b.now plan.now (shape_of inst.now) s.now side }
@@ -42,7 +42,7 @@ pub fn refine(b: &Bounds, plan: &Plan, inst: &Inst, s: &State, side: bool) -> Op
 }
 
 /// Builds the whole state after an instruction that stays in its frame and isn't a branch or a
-/// jump. What it saves has room, what it restores is there. Only a load uses `loaded`.
+/// jump; only a load uses `loaded`. A local that it saves has room, one that it restores is there.
 pub fn transfer(b: &Bounds, plan: &Plan, inst: &Inst, s: &State, loaded: &Val) -> State
     requires values { AreValues b.now s.now.regs }
     requires loaded { IsValue b.now loaded.now }

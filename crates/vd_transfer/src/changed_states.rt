@@ -62,7 +62,7 @@ pub fn covers_changed(upper: &State, s: &State, c: &Change) -> bool
     are_changed_below(s, c, &upper.regs)
 }
 
-/// Returns true if a changed state has the put's value at this place.
+/// Returns true if this put of a change is at this place of the changed state.
 #[inline(always)]
 fn is_changed_at(put: &Put, i: usize) -> bool
     ensures { IsTrue result ↔ (put.now.at ≡ Some i) }

@@ -104,7 +104,8 @@ pub fn soon_needs(
     }
 }
 
-/// Returns the first node whose least need is above the cap.
+/// Returns the first node whose need is above the cap, if there is one: then the least needs aren't
+/// all within the cap.
 fn first_above(needs: &[u32], cap: u32) -> Option<usize>
     ensures { MatchOption result
         (EachIndex needs.now (λ k. slice_index needs.now k ≤ cap))

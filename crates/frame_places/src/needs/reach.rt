@@ -73,8 +73,8 @@ pub fn first_recurring(
     Ok(first)
 }
 
-/// Adds the edges of a node to the graph of entries, one to each node that it enters. Along edges,
-/// nodes are reached from others.
+/// Adds the edges of a node to the graph of entries, one to each node that it enters, which is thus
+/// reached from it.
 fn add_edges(
     edges: &mut IndexSet<FrameEdge>,
     node: usize,

@@ -62,8 +62,8 @@ pub record HeadlineOfLink (layout_name elf_name : List ℕ) (object_names : List
   pub writes : IsOnlyFileWritten before after elf_name (file_of image)
   pub prints : printed ≡ codes "image " ++ (decimal (length (file_of image)) ++ (codes " bytes" ++ 10 ∷ []))
 
--- why `link` refuses, if its layout is good: the first of the object files that is bad, and the
--- line on it
+-- a reason why `link` refuses, if its layout is good: the first of the object files that is bad,
+-- and the line on it
 pub record IsFirstBadObject (before : FileMap) (object_names : List (List ℕ)) (line : List ℕ) : Type 0 where
   pub good_names : List (List ℕ)
   pub name : List ℕ

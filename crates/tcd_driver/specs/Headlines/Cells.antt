@@ -84,8 +84,8 @@ pub record HeadlineOfCellcert (elf_name plan_name cells_name cert_name : List �
   pub writes : IsOnlyFileWritten before after cert_name (bytes_of_cert cert)
   pub prints : printed ≡ cells_words need (plan.areas - plan.reserve) (length list)
 
--- what the headline of a refusal by `cellcert` says: by each accepted certificate of version 2 a
--- store may leave a cell's bounds, and this is the first by the least one
+-- in the headline of a refusal by `cellcert`: by each accepted certificate of version 2 a store may
+-- leave a cell's bounds, and here is the first such store by the least one
 pub record NoneKeepsCellBounds (image : ImageData) (plan : PlanData) (list : List Cell) (frame : Key) (address : ℕ) : Type 0 where
   pub each : (other : CertData) → IsCert other → other.version ≡ 2 → Accepts image (with_cells plan list) other → KeepsCells image (with_cells plan list) list other → ⊥
   pub cert : CertData

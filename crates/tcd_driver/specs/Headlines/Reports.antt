@@ -63,8 +63,7 @@ pub record HeadlineOfDis (elf_name : List ℕ) (before after : FileMap) (printed
   pub prints : printed ≡ listing_of image
   pub stays : after ≡ before
 
--- `dis`, which only reports, refuses: it has no listing, as its file is bad: it is too long, or it
--- is no executable.
+-- `dis`, which only reports, refuses: its file is too long, or it is no executable.
 pub record RefusalByDis (elf_name : List ℕ) (before after : FileMap) (printed : List ℕ) : Type 0 where
   pub bad :
       IsBadFile before elf_name (2 ^ 24) (codes "bad elf 0" ++ 10 ∷ []) (λ bytes line. (e : ImageErr) × (image_of_file bytes ≡ Err e) × (line ≡ bad_elf_line e)) printed

@@ -67,6 +67,7 @@ certified_tasks_words sum areas n =
     codes "certified " ++ (decimal sum ++ (codes " of " ++ (decimal areas ++ (codes " areas in " ++ (decimal n ++ (codes " tasks" ++ 10 ∷ []))))))
 
 -- the line in the refusals by `tasks` and `taskcert` if the needs are together above the areas
+-- without the reserve, with both numbers
 abbrev pub refused_sum_words : ℕ → ℕ → List ℕ
 refused_sum_words sum areas = codes "refused sum " ++ (decimal sum ++ (codes " of " ++ (decimal areas ++ (codes " areas" ++ 10 ∷ []))))
 
@@ -94,8 +95,8 @@ pub record IsFirstRefusedTask (image : ImageData) (plan : PlanData) (list : Task
       ⊎ ((rule ≡ 17) × Accepts (view_image_of image list u) (view_plan_of plan list u) (cert_of_task certs u)
       × IsTaskFault (view_image_of image list u) (view_plan_of plan list u) list (cert_of_task certs u) frame address)
 
--- Why `tasks` refuses, in its headline, with the line: no switch routine; else a task's certificate
--- is refused; else the needs are together above the areas without the reserve.
+-- why `tasks` refuses, and the line of its headline: no switch routine; else a refused certificate
+-- of a task; else needs that are together above the areas without the reserve
 pub data IsTasksFault (image : ImageData) (plan : PlanData) (list : TasksData) (certs : List CertData) (line : List ℕ) : Type 0 where
   no_switch : (address : ℕ) → IsRoutineFault image plan list address → line ≡ switch_words address → IsTasksFault image plan list certs line
   refused_task :
@@ -162,8 +163,8 @@ pub record IsFirstWithoutCert (image : ImageData) (plan : PlanData) (list : Task
   pub before : (w : ℕ) → w < u → (cert : CertData) × IsAcceptedForTask image plan list w cert × IsLeastForTask image plan list w cert
   pub none : NoCertForTask (view_image_of image list u) (view_plan_of plan list u) list rule frame address
 
--- Why `taskcert` refuses, in its headline, with the line: no switch routine; a task without a
--- certificate; or the least ones' needs are together above the areas without the reserve.
+-- why `taskcert` refuses, and the line of its headline: no switch routine; a task without a
+-- certificate; or the needs of the least ones are together above the areas without the reserve
 pub data IsTaskcertFault (image : ImageData) (plan : PlanData) (list : TasksData) (line : List ℕ) : Type 0 where
   switch_missing : (address : ℕ) → IsRoutineFault image plan list address → line ≡ switch_words address → IsTaskcertFault image plan list line
   without :

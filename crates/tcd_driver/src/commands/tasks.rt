@@ -74,8 +74,8 @@ pub(crate) fn check_tasks<F: Files>(
     read_task_certs(alloc, &image, &board, &list, certs, files)
 }
 
-/// Returns the need that counts for a task in the sum that the command `tasks` prints: all tasks
-/// except the first start with two areas.
+/// Returns the need that counts for a task in the sum that `tasks` and `taskcert` print: at least
+/// two areas, with which each task except the first starts.
 pub(crate) fn task_need_to_count(u: usize, need: u32) -> u32
     ensures { result ≡ (if u == 0 then need else max need 2) }
 {

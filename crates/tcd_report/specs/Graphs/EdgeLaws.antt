@@ -15,7 +15,7 @@ use Rattle.cfg_recover.specs.StepEdges.{edge_of_step}
 use Rattle.tcd_report.specs.Graphs.{AreGraphLines, goes, line_text}
 
 -- the edge of a step of a run is on one of the graph's lines: the line has the key of the newest
--- frame, the address of the step and the word of its edge
+-- frame, the address of the step and the way of its edge
 abbrev pub IsOnLine : List (List ℕ) → Machine → Event → List Standing → Type 0
 IsOnLine lines m e [] = ⊥
 IsOnLine lines m e (f ∷ fs) = Contains lines (line_text f.key (edge_of_step m e).at (goes (edge_of_step m e).way))

@@ -23,8 +23,8 @@ IsGreatestHeightOf {A = A} Has xs n = IsGreatestHeight (λ m. (x : A) × (Contai
 abbrev pub HasCalleeHeight : {S : Type 0} → HashMap Key ℕ S → Key → ℕ → Type 0
 HasCalleeHeight heights k m = (h : ℕ) × ((get key_eq heights k ≡ Some h) × (m ≡ suc h))
 
--- a height in reach of a point: the number is the height in the map of a key that the point calls,
--- plus 1
+-- the number is the height in the map, plus 1, of the key of a function that the instruction at a
+-- point calls
 abbrev pub HasCalleeHeightAt : {S : Type 0} → ImageData → PlanData → CertData → HashMap Key ℕ S → Key → Point → ℕ → Type 0
 HasCalleeHeightAt image plan cert heights key point m = (k : Key) × (CallsAt image plan cert key point k × HasCalleeHeight heights k m)
 

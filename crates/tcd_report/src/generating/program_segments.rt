@@ -15,8 +15,8 @@ pub(crate) fn system_code() -> [u8; 2]
     [0x00, 0x80]
 }
 
-/// Returns the segment of the generated program that has the handlers of the interrupts 10, 20 ..
-/// 160.
+/// Returns the bytes of the segment of a generated image that has the handlers of the interrupts
+/// 10, 20 .. 160.
 pub(crate) fn generated_vectors(alloc: Global, n: u32) -> Result<Vec<u8>, NoMemory>
     requires some { 1 ≤ n }
     requires few { n ≤ 500 }

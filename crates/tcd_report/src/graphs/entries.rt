@@ -37,8 +37,8 @@ pub(crate) fn push_called(
     }
 }
 
-/// Sets the entries of a point's `sys` line in the graph's text: the one of the frame that its
-/// instruction enters if it is a system call, else nothing. What the list held is gone.
+/// Fills the list, instead of what it held, with the entry on a point's `sys` line in the graph:
+/// that of the frame that a system call enters, or nothing for other instructions.
 pub(crate) fn set_system_call(
     all: &mut Vec<u32>,
     plan: &Plan,

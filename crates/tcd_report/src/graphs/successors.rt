@@ -176,8 +176,8 @@ fn push_return(all: &mut Vec<u32>, cert: &PackedCert, key: &Key, back: u32) -> R
     Ok(())
 }
 
-/// Returns whether the graph has a return from a called function as a successor of its call: the
-/// node of this key has an exit.
+/// Returns true if the node of this key has an exit, so that the address after the call or system
+/// call that enters it is a successor in the graph.
 fn can_node_return(cert: &PackedCert, key: &Key) -> bool
     ensures { result
         ≡ option_map_or (λ n. is_some n.exit) (find_node key.now cert.now.nodes) false }

@@ -61,8 +61,7 @@ pub(crate) fn nodes_value(alloc: Global, cert: &PackedCert) -> Result<Value, NoM
     Ok(Value::Array(values))
 }
 
-/// Returns the array in the report's JSON text of the longest call chains, one object for each
-/// priority.
+/// Returns the array of the longest call chains in the report's JSON, one object for each priority.
 pub(crate) fn rows_value(alloc: Global, rows: &[LongestCalls]) -> Result<Value, NoMemory>
     ensures { IfOk result (λ v. view v ≡ rows_data rows.now) }
 {
