@@ -7,16 +7,18 @@
     tools/claim.py --root tc_machine.specs.Safe.Safe        what one definition rests on
 
 The statement of a command is a record `HeadlineOf..` of crates/tcd_driver/specs/Headlines.antt,
-or of a file of the folder of that name.
+or of a file of the folder of that name. When it holds, the field of the command in `ToolSays` says
+(crates/tcd_driver/specs/Tool.antt). The page begins with this field.
 The page shows the definitions below it, each once, with its file and line and the comment above
 it. A definition comes before those that it uses. The page has two parts:
 
-1. What a Done means: the record and all that it rests on.
+1. What a Done means: the field, the record, and all that they rest on.
 2. When it comes: which files are taken, and which certificates are accepted. Part 1 names these
    definitions and doesn't follow them.
 
 Above both parts a table says how definitions are written. A type of src/ is shown as it is declared
-there. The rows of the instruction table are shown beside their meanings. The words of the kit are
+there, and so is a constant. The rows of the instruction table are shown beside their meanings. If
+two definitions of a page have one name, their modules are beside it. The words of the kit are
 listed after each part and not followed.
 
 The script reads the text of the sources and knows no types. A name counts if it is in a definition
@@ -36,6 +38,9 @@ import sys
 
 TOP = pathlib.Path(__file__).resolve().parent.parent
 HEADLINES = "tcd_driver.specs.Headlines"
+#: What the tool says of each command: a field of this record.
+SAYS = ("tcd_driver.specs.Tool", "ToolSays")
+OTHER_FIELDS = "  -- the fields of other commands are left out here"
 #: What part 2 begins with: which certificates are accepted, and which files are taken.
 LATER = (
     "Accepts", "IsAcceptedWithNeed", "IsAcceptedForTask", "IsLeastOfItsVersion", "EachIsRefused",
@@ -85,6 +90,7 @@ HEAD = re.compile(
 OPERATOR = re.compile(r"◌(\S+?)◌")
 ROW = re.compile(r'    row \(codes "(.*?)"\) (?:\(codes "(.*?)"\)|\[\]) (.*?) ∷')
 MEANING = re.compile(r'    line \(codes "(.*?)"\) (.*?) ∷$')
+NOTE = re.compile(r" *(?://|--)")
 TOKEN = re.compile(r"(?<![.\w])" + NAME + r"(?:\." + NAME + r")*")
 
 
@@ -94,7 +100,7 @@ class Wrong(Exception):
 
 @dataclasses.dataclass(eq=False)
 class Item:
-    """A definition of specs/, or a type of src/."""
+    """A definition of specs/, or a type or a constant of src/."""
 
     module: str
     name: str
@@ -128,14 +134,18 @@ class Module:
 
     def read_line(self, number, line):
         """Adds one line to what was read so far."""
+        line = line.removeprefix("unfoldable ") if " use Rattle." in line else line
         if line.startswith(("use ", "pub use ")):
             self.read_use(line)
+        elif line.startswith(("mod ", "pub mod ")):
+            self.comment, self.current = [], None
         elif line.startswith("--"):
             self.comment = [] if line.startswith("-- ----") else self.comment + [line]
             self.current = None
         elif not line.strip():
             self.comment, self.current = [], None
-        elif line.startswith((" ", "unfolding", "infix")):
+        elif line.startswith((" ", "}", "(", "unfolding", "infix")):
+            # more of the definition at hand: "(" begins an equation of an operator
             if self.current:
                 self.current.text.append(line)
         else:
@@ -178,7 +188,7 @@ class Module:
 
 
 class Sources:
-    """All definitions of specs/, and all public types of src/."""
+    """All definitions of specs/, and all public types and constants of src/."""
 
     def __init__(self, top):
         self.top, self.modules, self.types = top, {}, {}
@@ -193,13 +203,13 @@ class Sources:
                 self.read_types(crate.name, path)
 
     def read_types(self, crate, path):
-        """The types that a file of src/ declares for itself and others."""
+        """The types and constants that a file of src/ declares for itself and others."""
         text = path.read_text(encoding="utf-8")
         lines = text.split("\n")
         uses = re.findall(r"^use [\w:]+::(\{[^}]*\}|\w+);", text, re.M)
         brought = frozenset(re.findall(r"\w+", " ".join(uses)))
         for at, line in enumerate(lines):
-            found = re.match(r"pub(?:\(crate\))? (?:struct|enum) (\w+)", line)
+            found = re.match(r"pub(?:\(crate\))? (?:struct|enum|const) (\w+)", line)
             if found:
                 shown = [*folded(declaration(lines, at)), *model_value(text, found[1])]
                 notes = notes_above(lines, at)
@@ -217,7 +227,7 @@ class Sources:
         path = module.removeprefix("Rattle.")
         parts = path.split(".")
         if "declared" in parts:
-            kind = parts[-2] if parts[-1] == "TheVariants" else parts[-1]
+            kind = {"TheVariants": parts[-2], "TheConstants": name}.get(parts[-1], parts[-1])
             return self.type_named(parts[0], kind) or f"{path}.{name}"
         if path in self.modules:
             at = self.modules[path]
@@ -247,6 +257,21 @@ class Sources:
                 for name in filter(lambda it: it.startswith(begin), module.items):
                     found[name[len(begin):].lower()] = module.items[name]
         return found
+
+    def saying(self, record):
+        """What the tool says of a command: of the record of all commands, the fields that name this
+        record."""
+        module, name = SAYS
+        whole, fields = self.root(f"{module}.{name}"), []
+        for line in whole.text[1:]:
+            if re.match(r"  (?:pub )?" + NAME + r" :", line):
+                fields.append([])
+            fields[-1].append(line)
+        word = re.compile(rf"\b{record.name}\b")
+        said = [line for field in fields if word.search("\n".join(field)) for line in field]
+        if not said or self.resolve(whole, record.name) is not record:
+            raise Wrong(f"{name} has no field of {record.name}")
+        return dataclasses.replace(whole, text=[whole.text[0], *said, OTHER_FIELDS])
 
     def resolve(self, item, token, is_left=False):
         """What a token of a definition means; None if it is a name of the definition's own."""
@@ -332,15 +357,16 @@ def bound_names(item):
 
 def two_sides(item, line):
     """The left side of an equation, and the rest; the left one is empty in other lines."""
-    begins = line.startswith((item.name + " ", "◌")) and not line.startswith(item.name + " :")
-    if item.kind == "function" and begins and " = " in line:
-        left, _, right = line.partition(" = ")
-        return left, right
+    begins = line.startswith((item.name + " ", "◌", "(")) and not line.startswith(item.name + " :")
+    parts = re.split(r" =(?: |$)", line, maxsplit=1)
+    if item.kind == "function" and begins and len(parts) == 2:
+        return parts[0], parts[1]
     return "", line
 
 
 def used_by_type(sources, item):
-    body = "\n".join(re.sub(r"//.*", "", line) for line in item.text)
+    """What a type of src/ uses; the name of a variant is no type of that name."""
+    body = "\n".join(re.sub(r"^    \w+(?=,| \{|\()|//.*", "", line) for line in item.text)
     for token in re.findall(r"\w+", body):
         yield sources.resolve(item, token)
 
@@ -407,14 +433,19 @@ class Part:
             return [f"{item.name}: at the end of each row of {BESIDE[0]}"]
         return [*(line for line in item.text if line[0] != " "), *self.rows]
 
+    def lines_of(self, item):
+        """How many lines of a definition the page has, without comments."""
+        return sum(not NOTE.match(line) for line in self.shown(item))
+
     @property
     def lines(self):
-        """How many lines of definitions the page has, without comments."""
-        return sum(len(self.shown(it)) for it in self.items)
+        return sum(map(self.lines_of, self.items))
 
     @property
     def notes(self):
-        return sum(len(it.comment) for it in self.items)
+        """How many lines of comments the page has, above definitions and inside them."""
+        inside = sum(len(self.shown(it)) for it in self.items) - self.lines
+        return sum(len(it.comment) for it in self.items) + inside
 
     def users(self, item):
         return [it.name for it in self.items if any(used is item for used in self.edges[it.key])]
@@ -458,24 +489,30 @@ def source_of(item):
     return f"{item.path.relative_to(TOP)}:{item.line}"
 
 
-def said_by(sources, root):
-    """The definitions of the root's crate that say a record of its command."""
-    crate, word = root.module.split(".")[0], re.compile(rf"\b{root.name}\b")
-    return [
-        item
-        for module in sources.modules.values()
-        for item in module.items.values()
-        if module.name.startswith(crate + ".") and item is not root
-        and word.search("\n".join(item.text)) and sources.resolve(item, root.name) is root
-    ]
+def places_of_twice(parts):
+    """Of each name that two definitions of a page have: their keys."""
+    keys = collections.defaultdict(list)
+    for _, part in parts:
+        for item in part.items:
+            keys[item.name].append(item.key)
+    return {name: found for name, found in keys.items() if len(found) > 1}
 
 
-def as_markdown(title, parts, said):
+def heading(item, twice):
+    """The name above a definition, with its module if another one has the same name."""
+    return f"{item.name}, in {item.module}" if item.name in twice else item.name
+
+
+def told_apart(part, item, twice):
+    """Which definitions are meant by the names in this one that others have as well."""
+    used = dict.fromkeys(it.key for it in part.edges[item.key] if it.name in twice)
+    return ["here {} is {}".format(key.rsplit(".", 1)[1], key) for key in used]
+
+
+def as_markdown(title, parts):
     """The page in Markdown."""
-    page = [f"# {title}", ""]
-    if said:
-        page += ["Said by " + ", ".join(f"`{it.name}` ({source_of(it)})" for it in said) + ".", ""]
-    page += ["| Written | Means |", "|---|---|"]
+    twice = places_of_twice(parts)
+    page = [f"# {title}", "", "| Written | Means |", "|---|---|"]
     page += ["| `{}` | {} |".format(it.replace("|", "\\|"), means) for it, means in NOTATION]
     page.append("")
     for name, part in parts:
@@ -486,7 +523,8 @@ def as_markdown(title, parts, said):
         for item in part.items:
             users = ", ".join(f"`{it}`" for it in part.users(item)[:4])
             place = source_of(item) + (f", used by {users}" if users else "")
-            page.append(f"**{item.name}** ({place})")
+            place = "; ".join([place, *told_apart(part, item, twice)])
+            page.append(f"**{heading(item, twice)}** ({place})")
             page += ["", "```", *item.comment, *part.shown(item), "```", ""]
         page += ["Words of the kit: " + ", ".join(f"`{it}`" for it in sorted(part.kit)) + ".", ""]
     return "\n".join(page)
@@ -500,13 +538,11 @@ def linked(text, targets):
     return TOKEN.sub(link, html.escape(text, quote=False))
 
 
-def as_html(title, parts, said):
+def as_html(title, parts):
     """The page in HTML, which needs no network."""
+    twice = places_of_twice(parts)
     page = [f'<!doctype html><meta charset="utf-8"><title>{html.escape(title)}</title>']
     page.append(f"<style>{STYLE}</style><h1>{html.escape(title)}</h1>")
-    if said:
-        names = ", ".join(f"{it.name} ({source_of(it)})" for it in said)
-        page.append(f"<p>Said by {names}.</p>")
     page.append("<table><tr><th>Written<th>Means")
     for written, means in NOTATION:
         page.append(f"<tr><td><code>{html.escape(written)}</code><td>{html.escape(means)}")
@@ -521,7 +557,9 @@ def as_html(title, parts, said):
             targets = {it.name: it.key for it in part.edges[item.key] if it.key in shown}
             note = "".join(html.escape(line, quote=False) + "\n" for line in item.comment)
             body = "\n".join(linked(line, targets) for line in part.shown(item))
-            page.append(f'<h4 id="{item.key}">{item.name} <small>{source_of(item)}</small></h4>')
+            place = "; ".join([source_of(item), *told_apart(part, item, twice)])
+            name = heading(item, twice)
+            page.append(f'<h4 id="{item.key}">{name} <small>{place}</small></h4>')
             page.append(f'<pre><span class="note">{note}</span>{body}</pre>')
         page.append(f"<p>Words of the kit: {html.escape(', '.join(sorted(part.kit)))}.</p>")
     return "\n".join(page) + "\n"
@@ -548,7 +586,7 @@ def print_counts(parts):
         lines, count = collections.Counter(), collections.Counter()
         for item in part.items:
             crate = item.module.split(".")[0]
-            lines[crate] += len(part.shown(item))
+            lines[crate] += part.lines_of(item)
             count[crate] += 1
         for crate, number in lines.most_common():
             print(f"  {crate:14} {count[crate]:4} definitions {number:5} lines")
@@ -573,28 +611,29 @@ def asked(words):
 
 
 def roots_of(sources, wanted):
+    """What the page is about, and what it begins with."""
     if wanted.root and wanted.command:
         raise Wrong("a command or --root, not both")
     if wanted.root:
-        return [sources.root(it) for it in wanted.root]
+        roots = [sources.root(it) for it in wanted.root]
+        return roots, roots
     headlines = sources.headlines()
     command = wanted.command or "check"
     if command not in headlines:
         raise Wrong(f"no headline of {command}; there are {', '.join(sorted(headlines))}")
-    return [headlines[command]]
+    return [headlines[command]], [sources.saying(headlines[command])]
 
 
 def main(words):
     wanted = asked(words)
     try:
         sources = Sources(TOP)
-        roots = roots_of(sources, wanted)
+        about, roots = roots_of(sources, wanted)
         parts = parts_of(sources, roots, set(wanted.stop or (() if wanted.root else LATER)))
         if wanted.page:
-            title = "What is claimed: " + ", ".join(it.name for it in roots)
+            title = "What is claimed: " + ", ".join(it.name for it in about)
             make = as_html if wanted.page.endswith(".html") else as_markdown
-            said = [it for root in roots for it in said_by(sources, root)]
-            pathlib.Path(wanted.page).write_text(make(title, parts, said), encoding="utf-8")
+            pathlib.Path(wanted.page).write_text(make(title, parts), encoding="utf-8")
     except Wrong as wrong:
         print(f"claim.py: {wrong}", file=sys.stderr)
         return 5

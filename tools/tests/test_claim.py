@@ -5,16 +5,20 @@
 import contextlib
 import io
 import pathlib
+import re
 import sys
 import tempfile
 import unittest
+from unittest import mock
 
 sys.path.insert(0, str(pathlib.Path(__file__).resolve().parents[1]))
 import claim  # noqa: E402 (the script is beside the tests' folder)
 
 SMALL = """-- What is tried here.
 use Rattle.std.specs.Prelude.{◌+◌, ℕ}
-use Rattle.b.specs.Lower.{twice, Kind}
+use Rattle.b.specs.Lower.{◌⊕◌, twice, Kind}
+use Rattle.b.specs.Lower as lower
+use Rattle.b.specs.declared.kinds.TheConstants.{LEAST}
 
 -- a statement
 pub record Top (n : ℕ) : Type 0 where
@@ -28,9 +32,33 @@ IsFour n = n ≡ twice 2
 -- it is in no statement
 abbrev pub unused : ℕ → ℕ
 unused n = n + 1
+
+-- a record that ends with a brace of its own
+unfoldable pub opened : Pair
+opened = record {
+  left = twice LEAST;
+  right = 3 ⊕ 4;
+}
+
+-- said of all commands
+pub record Says (n : ℕ) : Type 0 where
+  pub top : (a : ℕ)
+      → Top a
+  pub other : IsFour n
 """
 LOWER = """use Rattle.std.specs.Prelude.{◌+◌, ℕ}
+use Rattle.b.specs.declared.kinds.TheConstants.{LEAST}
 pub use Rattle.b.specs.declared.kinds.Kind.{Kind}
+
+-- an operator, whose equations begin with a parenthesis
+infixl 10 ◌⊕◌
+abbrev pub ◌⊕◌ : ℕ → ℕ → ℕ
+(zero) ⊕ n = n
+(suc m) ⊕ n = twice (m ⊕ n)
+
+-- another one of this name
+abbrev pub IsFour : ℕ → Type 0
+IsFour n = n ≡ LEAST
 
 -- two times n; the local name `unused` is no definition
 abbrev pub twice : ℕ → ℕ
@@ -39,12 +67,20 @@ twice unused = unused + unused
 KINDS = """/// A kind.
 #[derive(Clone)]
 pub enum Kind {
+    /// One of them.
     One {
         place: u32,
         size: u8,
     },
     Two,
+    Gone,
 }
+
+/// No case of `Kind`.
+pub struct Gone;
+
+/// The least.
+pub const LEAST: u8 = 1;
 
 impl Model for Kind {
     ghost Value = Kind
@@ -100,8 +136,42 @@ class SmallSources(unittest.TestCase):
 
     def test_a_type_is_shown_short(self):
         kind = self.part().items[1]
-        self.assertEqual(kind.text[1], "    One { place: u32, size: u8 },")
+        self.assertEqual(kind.text[2], "    One { place: u32, size: u8 },")
         self.assertEqual(kind.text[-1], "    ghost Value = Kind")
+
+    def test_comments_inside_a_type_are_no_lines(self):
+        part = self.part(["IsFour"])
+        self.assertEqual((part.lines, part.notes), (3 + 6, 1 + 1 + 1))
+
+    def test_a_case_is_no_type_of_its_name(self):
+        self.assertNotIn("Gone", [it.name for it in self.part().items])
+
+    def below(self, name):
+        part = claim.Part(self.sources, [self.sources.root(f"a.specs.Small.{name}")], set())
+        return {it.name: it for it in part.items}
+
+    def test_a_definition_is_whole(self):
+        found = self.below("opened")
+        self.assertEqual(set(found), {"opened", "◌⊕◌", "twice", "LEAST"})
+        self.assertEqual(found["opened"].text[-1], "}")
+        self.assertEqual(len(found["◌⊕◌"].text), 3)
+        self.assertEqual(found["LEAST"].text, ["pub const LEAST: u8 = 1;"])
+
+    def test_the_field_of_a_record(self):
+        with mock.patch.object(claim, "SAYS", ("a.specs.Small", "Says")):
+            said = self.sources.saying(self.sources.root("a.specs.Small.Top"))
+            text = ["  pub top : (a : ℕ)", "      → Top a", claim.OTHER_FIELDS]
+            self.assertEqual(said.text[1:], text)
+            with self.assertRaises(claim.Wrong):
+                self.sources.saying(self.sources.root("b.specs.Lower.twice"))
+
+    def test_two_definitions_of_a_name(self):
+        roots = [self.sources.root(it) for it in ("a.specs.Small.Top", "b.specs.Lower.IsFour")]
+        with mock.patch.object(claim, "TOP", self.top):
+            page = claim.as_markdown("two", [("both", claim.Part(self.sources, roots, set()))])
+        self.assertIn("**IsFour, in a.specs.Small** (", page)
+        self.assertIn("**IsFour, in b.specs.Lower** (", page)
+        self.assertIn("; here IsFour is a.specs.Small.IsFour)", page)
 
     def test_an_unknown_root(self):
         with self.assertRaises(claim.Wrong):
@@ -112,8 +182,30 @@ class Repository(unittest.TestCase):
     @classmethod
     def setUpClass(cls):
         cls.sources = claim.Sources(claim.TOP)
-        root = cls.sources.headlines()["check"]
-        cls.parts = claim.parts_of(cls.sources, [root], set(claim.LATER))
+        cls.root = cls.sources.saying(cls.sources.headlines()["check"])
+        cls.parts = claim.parts_of(cls.sources, [cls.root], set(claim.LATER))
+
+    def test_definitions_are_whole(self):
+        for module in self.sources.modules.values():
+            for item in module.items.values():
+                text = re.sub(r'"(?:[^"\\]|\\.)*"', "", "\n".join(item.text))
+                for opens, closes in ("{}", "()", "[]"):
+                    with self.subTest(item=item.key, opens=opens):
+                        self.assertEqual(text.count(opens), text.count(closes))
+                if item.kind == "function":
+                    with self.subTest(item=item.key):
+                        self.assertTrue(any(claim.two_sides(item, it)[0] for it in item.text))
+
+    def test_each_command_has_its_field(self):
+        for record in self.sources.headlines().values():
+            with self.subTest(record=record.name):
+                text = "\n".join(self.sources.saying(record).text)
+                self.assertIn("ToolCallMeans call (codes ", text)
+
+    def test_a_page_begins_with_its_field(self):
+        names = [it.name for it in self.parts[0][1].items]
+        self.assertEqual(names[:3], ["ToolSays", "ToolCallMeans", "ToolCall"])
+        self.assertIn("HeadlineOfCheck", names)
 
     def test_all_below_safe_is_in_the_first_part(self):
         shown = {it.key for it in self.parts[0][1].items}
@@ -124,8 +216,7 @@ class Repository(unittest.TestCase):
         self.assertLessEqual({it.key for it in below.items}, shown)
 
     def test_both_parts_are_all(self):
-        root = self.sources.headlines()["check"]
-        whole = claim.Part(self.sources, [root], set())
+        whole = claim.Part(self.sources, [self.root], set())
         apart = [it.key for _, part in self.parts for it in part.items]
         self.assertEqual(sorted(apart), sorted(it.key for it in whole.items))
 
@@ -147,7 +238,7 @@ class Repository(unittest.TestCase):
                 self.assertIn("what a done means: ", out)
                 text = page.read_text(encoding="utf-8")
                 self.assertTrue(text.startswith(begin))
-                self.assertIn("Said by ", text)
+                self.assertLess(text.index("ToolCallMeans"), text.index("HeadlineOfCheck "))
 
     def test_statuses(self):
         for status, words in (
