@@ -43,7 +43,7 @@ SAYS = ("tcd_driver.specs.Tool", "ToolSays")
 OTHER_FIELDS = "  -- the fields of other commands are left out here"
 #: What part 2 begins with: which certificates are accepted, and which files are taken.
 LATER = (
-    "Accepts", "IsAcceptedWithNeed", "IsAcceptedForTask", "IsLeastOfItsVersion", "EachIsRefused",
+    "Accepts", "IsAcceptedWithNeed", "IsAcceptedForTask", "IsLeastOfItsVersion", "NoneAccepted",
     "KeepsCells", "KeepsApart", "CertData", "certificate_of",
     "bytes_of", "bytes_of_cert", "bytes_of_routine", "assembled_code",
     "refusal_of", "plan_refusal", "image_refusal", "reloc_value_refusal", "ImageErr", "PlanErr",

@@ -75,10 +75,10 @@ certified_report i fields p c need r same accepted is safe e =
 
 -- ---- run
 run_status : (i : ImageData) (p : PlanData) (s : ScriptData) (r : Report) → IsRunReport i p s r → r.status ≡ Done
-run_status i p s r (ran m starts e) = status_is r _ e
+run_status i p s r (ran m starts fits e) = status_is r _ e
 
 run_writes : (i : ImageData) (p : PlanData) (s : ScriptData) (r : Report) → IsRunReport i p s r → r.writes ≡ []
-run_writes i p s r (ran m starts e) = writes_are r _ e
+run_writes i p s r (ran m starts fits e) = writes_are r _ e
 
 run_alike : (i : ImageData) (p : PlanData) (s : ScriptData) → AreAlike (IsRunReport i p s)
 run_alike i p s = record {

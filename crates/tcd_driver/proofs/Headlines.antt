@@ -421,7 +421,7 @@ run_is events peak last = refl
 module _ (names : RunNames) (m : FileMap) (i : ImageData) (p : PlanData) (s : ScriptData)
     (elf : HoldsInput elf_form (Some m) names.elf i) (plan : HoldsInput plan_form (Some m) names.plan p) (script : HoldsInput (script_form p) (Some m) names.script s) (r : Report) where
   run_done : IsRunReport i p s r → Leaves m r (HeadlineOfRun names.elf names.plan names.script)
-  run_done (runs.ran start starts e) =
+  run_done (runs.ran start starts fits e) =
       let es = script_events p s start in
       record {
         after = m;
@@ -438,6 +438,7 @@ module _ (names : RunNames) (m : FileMap) (i : ImageData) (p : PlanData) (s : Sc
           starts = starts.starts;
           in_zeros = starts;
           events_are = refl;
+          fits = fits;
           last_is = refl;
           prints = text_of r _ _ e (run_is (length es) (driven_peak start es) (run start es));
           stays = refl;

@@ -82,8 +82,8 @@ by_prints : (text : List ℕ) (sink sink' : SinkSeen) (status : Status) → IsTo
 by_prints text sink sink' status is_told (whole e p) = is_told.good_words e
 by_prints text sink sink' status is_told (cut e front counted full) = is_told.no_fault e
 
-pub bad_end : (files files' : FilesSeen) (sink sink' : SinkSeen) (status : Status) (line : List ℕ) → files' ≡ files → line ≡ bad_words_line → PrintsWithStatus BadWords line sink sink' status → EndsWithBadWords files files' sink sink' status
-bad_end files files' sink sink' status line same is prints = record { files_stay = same; prints = subst (λ (t : List ℕ). PrintsWithStatus BadWords t sink sink' status) is prints }
+pub bad_end : (files files' : FilesSeen) (sink sink' : SinkSeen) (status : Status) (line : List ℕ) → files' ≡ files → line ≡ bad_words_line → PrintsWithStatus BadWords line sink sink' status → sink.faults ≤ sink'.faults → EndsWithBadWords files files' sink sink' status
+bad_end files files' sink sink' status line same is prints later = record { files_stay = same; prints = subst (λ (t : List ℕ). PrintsWithStatus BadWords t sink sink' status) is prints; later = later }
 
 -- ---- words
 -- a command that words ask for if a test holds

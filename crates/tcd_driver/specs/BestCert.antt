@@ -55,10 +55,6 @@ MakesBestCert image plan (making.Certified bytes need) = SpellBestWithNeed image
 MakesBestCert image plan (making.Refused rule key addr) = HaveNoBestCert image plan rule key addr
 MakesBestCert image plan making.NoMemory = Unit {0}
 
--- each certificate of this version is refused, so that none of them can be the best certificate
-abbrev pub EachIsRefused : ImageData → PlanData → ℕ → Type 0
-EachIsRefused image plan version = (other : CertData) → IsCert other → other.version ≡ version → Accepts image plan other → ⊥
-
 -- the best certificate is the least of its version: no accepted one of that version states a lesser
 -- need of a frame, or less of what is known at a point
 pub record IsLeastOfItsVersion (image : ImageData) (plan : PlanData) (cert : CertData) : Type 0 where

@@ -16,7 +16,7 @@ use Rattle.tcd_plan.specs.PlanReader.{GivesPlan}
 use Rattle.tc_machine.specs.declared.events.Event.{Event}
 use Rattle.tc_machine.specs.declared.state.Machine.{Machine}
 use Rattle.tc_machine.specs.Stepping.{run}
-use Rattle.tc_machine.specs.Safe.{Safe}
+use Rattle.tc_machine.specs.Safe.{AllFit, Safe}
 use Rattle.tc_machine.specs.Starting.{Starts, StartsInZeros}
 use Rattle.tc_script.specs.ScriptData.{ScriptData}
 use Rattle.tc_script.specs.ScriptText.{script_of}
@@ -33,7 +33,8 @@ use Rattle.cfg_recover.specs.RulesHoldOrFail.{Accepts, IsFirstFault}
 use Rattle.tcd_base.specs.Files.{FileMap}
 use Rattle.tcd_forms.specs.Lines.{run_end_text}
 use Rattle.tcd_report.specs.Texts.{key_kind_words}
-use Rattle.tcd_driver.specs.BestCert.{EachIsRefused, IsLeastOfItsVersion, NoneIsAccepted}
+use Rattle.depth_maker.specs.Answers.{NoneAccepted}
+use Rattle.tcd_driver.specs.BestCert.{IsLeastOfItsVersion, NoneIsAccepted}
 
 -- ---- files
 -- the name was held, and its bytes are at most `most` and of this form
@@ -100,7 +101,7 @@ pub record IsAcceptedWithNeed (image : ImageData) (plan : PlanData) (cert : Cert
 pub record IsBestWithNeed (image : ImageData) (plan : PlanData) (cert : CertData) (need : ℕ) : Type 0 where
   pub accepted : IsAcceptedWithNeed image plan cert need
   pub safe : Safe image plan need
-  pub version : (cert.version ≡ 1) ⊎ ((cert.version ≡ 2) × EachIsRefused image plan 1)
+  pub version : (cert.version ≡ 1) ⊎ ((cert.version ≡ 2) × NoneAccepted image plan 1)
   pub least : IsLeastOfItsVersion image plan cert
   pub reads : certificate_of (bytes_of_cert cert) ≡ Ok cert
 
@@ -177,7 +178,8 @@ pub record RefusalByCert (elf_name plan_name : List ℕ) (before after : FileMap
 
 -- ---- run
 -- The third main headline: `run` ran the script's events from a start with 0 for all that the plan
--- leaves open. Its line has their number, the most areas in use, and the end.
+-- leaves open. They fit the plan, so `Safe` speaks of this run. Its line has their number, the most
+-- areas in use, and the end.
 pub record HeadlineOfRun (elf_name plan_name script_name : List ℕ) (before after : FileMap) (printed : List ℕ) : Type 0 where
   pub image : ImageData
   pub plan : PlanData
@@ -190,6 +192,7 @@ pub record HeadlineOfRun (elf_name plan_name script_name : List ℕ) (before aft
   pub starts : Starts image plan start
   pub in_zeros : StartsInZeros image plan start
   pub events_are : events ≡ script_events plan script start
+  pub fits : AllFit plan start events
   pub last_is : last ≡ run start events
   pub prints :
       printed

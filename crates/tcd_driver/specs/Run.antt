@@ -5,6 +5,7 @@ use Rattle.tcd_plan.specs.PlanData.{PlanData}
 use Rattle.tc_machine.specs.declared.state.Machine.{Machine}
 use Rattle.tc_machine.specs.Starting.{StartsInZeros}
 use Rattle.tc_machine.specs.Stepping as stepping
+use Rattle.tc_machine.specs.Safe.{AllFit}
 use Rattle.tc_script.specs.ScriptData.{ScriptData}
 use Rattle.tc_script.specs.DrivenRuns.{driven_peak}
 use Rattle.tc_script.specs.ScriptRuns.{script_events}
@@ -26,9 +27,11 @@ script_run_line plan script m =
     run_line (length (script_events plan script m)) (driven_peak m (script_events plan script m)) (stepping.run m (script_events plan script m))
 
 -- the machine is started, with 0 for everything that the plan leaves open, and runs the script's
--- events
+-- events, which fit the plan
 pub data IsRunReport (image : ImageData) (plan : PlanData) (script : ScriptData) (report : Report) : Type 0 where
-  ran : (m : Machine) → StartsInZeros image plan m → report ≡ says Done (script_run_line plan script m) → IsRunReport image plan script report
+  ran :
+      (m : Machine) → StartsInZeros image plan m → AllFit plan m (script_events plan script m) → report ≡ says Done (script_run_line plan script m)
+      → IsRunReport image plan script report
 
 -- an executable, a plan and a script for the plan are read; then the run is reported
 abbrev pub run_reading : RunNames → Reading

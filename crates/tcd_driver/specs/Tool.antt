@@ -1,5 +1,5 @@
 -- How a call of the tool ends: for words that are no command, and for each command.
-use Rattle.std.specs.Prelude.{◌≡◌, ℕ, List, [], ◌∷◌, ◌++◌, codes, Some}
+use Rattle.std.specs.Prelude.{◌≡◌, ◌≤◌, ℕ, List, [], ◌∷◌, ◌++◌, codes, Some}
 use Rattle.tcd_base.specs.Files.{FileMap, FilesSeen}
 use Rattle.tcd_base.specs.Sink.{SinkSeen}
 use Rattle.tcd_reading.specs.Endings.{PrintsWithStatus}
@@ -14,10 +14,12 @@ use Rattle.tcd_driver.specs.Headlines.Cells.{HeadlineOfCells, RefusalByCells, He
 use Rattle.tcd_driver.specs.Headlines.Tasks.{HeadlineOfTasks, RefusalByTasks, HeadlineOfTaskcert, RefusalByTaskcert}
 
 -- How a call of the tool with words that are no command ends: the files stay, and `bad words` is
--- printed, or the sink failed within this text. A sink with room doesn't fail.
+-- printed, or the sink failed within this text. A sink with room doesn't fail, and no count of
+-- faults falls.
 pub record EndsWithBadWords (files files' : FilesSeen) (sink sink' : SinkSeen) (result : Status) : Type 0 where
   pub files_stay : files' ≡ files
   pub prints : PrintsWithStatus BadWords bad_words_line sink sink' result
+  pub later : sink.faults ≤ sink'.faults
 
 -- one call of the driver's tool: its words, the files and the sink before and after it, and its
 -- status

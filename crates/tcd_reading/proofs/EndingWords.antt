@@ -1,5 +1,5 @@
 -- The guard laws on how a command ends.
-use Rattle.std.proofs.Common.{◌≡◌, ◌≢◌, ℕ, zero, suc, ◌+◌, ◌-◌, ◌<◌, ◌≤◌, ◌⊎◌, inl, inr, Bool, true, false, cond, List, [], ◌∷◌, ◌++◌, length, slice_get, Option, Some, None, refl, sym, ap, subst, ◌∙◌, arith}
+use Rattle.std.proofs.Common.{◌≡◌, ◌≢◌, ℕ, zero, suc, ◌-◌, ◌<◌, ◌≤◌, ◌⊎◌, inl, inr, Bool, true, false, cond, List, [], ◌∷◌, ◌++◌, length, slice_get, Option, Some, None, refl, sym, ap, subst, ◌∙◌, arith}
 use Rattle.std.specs.Prelude.{IsSome, IsSomeAnd, IsTrue}
 use Rattle.std.specs.Option.{option_map}
 use Rattle.std.specs.FinMap.{get, insert, get-insert}
@@ -10,7 +10,7 @@ use Rattle.std.proofs.lemmas.Map.Text.{is_eq-slice_cmp}
 use Rattle.std.proofs.lemmas.Slice.Eq.{bytes_eq-Decides}
 use Rattle.tcd_base.specs.Files.{FileMap, FilesSeen, OthersStay}
 use Rattle.tcd_base.specs.Sink.{SinkSeen, HasRoomFor}
-use Rattle.tcd_reading.specs.Reports.{ReportFile, Report, IsReportStatus, with_report_files, ReportsBadInput, RefusesInput}
+use Rattle.tcd_reading.specs.Reports.{ReportFile, Report, IsReportStatus, with_report_files, RefusesInput}
 use Rattle.tcd_reading.specs.Endings.{ReportWritingStopped, whole, cut, IsReported, printed, unwritten, no_memory, HasEnded, Ends}
 use Rattle.tcd_reading.specs.Inputs.{FormSeen, HoldsInput, IsInputRefusal, Reading, answer, input, ReadingSays, HoldsAsked, AreSureOf, IsHeldAs, IsHeldBad}
 use Rattle.tcd_reading.specs.Inputs as inputs
@@ -18,7 +18,7 @@ use Rattle.tcd_reading.proofs.Decided.{never_fault}
 use Rattle.tcd_reading.specs.Endings as ending
 use Rattle.tcd_reading.specs.EndingLaws.{HoldsLastWritten, WritingBreaksOff, HasEndedByLaw, EndsByLaw, EndsSay, EndsAnyhowByLaw, EndsAnyhowSay}
 use Rattle.tcd_base.specs.FailingCalls.{FaultCounted}
-use Rattle.tcd_reading.specs.ReportLaws.{IsSaidOfTwo, first_bad, second_bad, both, ReportsOfTwoSay, InputsOfTwoSay}
+use Rattle.tcd_reading.specs.ReportLaws.{ReportsSay, InputsSay}
 use Rattle.tcd_reading.specs.EndingLaws as so
 use Rattle.tcd_reading.specs.declared.status.Status.{Status}
 use Rattle.tcd_reading.specs.declared.status.Status.TheVariants.{Fault, NoMemory}
@@ -237,6 +237,8 @@ module _ (reading : Reading) (files files' : FilesSeen) (sink sink' : SinkSeen) 
     only_done = h.only_done;
     stays = h.stays;
     steady = h.steady;
+    files_later = h.files_later;
+    sink_later = h.sink_later;
     files_sure = λ steady asked. h.files_sure (record { steady = steady; hold = asked });
     sink_sure = λ n room fits. h.sink_sure (λ report s. room_for sink report.text n room (fits report s));
     complete = λ n steady asked room fits. h.complete (record { steady = steady; hold = asked }) (λ report s. room_for sink report.text n room (fits report s));
@@ -248,7 +250,7 @@ anyhow_say reading files files' sink sink' result h = ends_anyhow reading files 
 pub ends_say : (reading : Reading) → EndsSay reading
 ends_say reading files files' sink sink' result m text holds prints h = ends_so reading files files' sink sink' result m text holds prints h
 
--- ---- reports on two files
+-- ---- reports on files that are read in turn
 held_as : {A : Type 0} (form : FormSeen A) (m : FileMap) (name : List ℕ) (x : A) → HoldsInput form (Some m) name x → IsHeldAs form m name x
 held_as form m name x h = record { bytes = h.0; held = h.1; short = h.2; is = h.3 }
 
@@ -260,25 +262,18 @@ held_bad : {A : Type 0} (form : FormSeen A) (m : FileMap) (name line : List ℕ)
 held_bad form m name line (inputs.long too is) = let l = long_of (get m name) form.limit too in inputs.above_limit l.0 l.1 l.2 is
 held_bad form m name line (inputs.bad bytes reads short is) = inputs.without_value bytes reads short is
 
-line_of : {A : Type 0} (form : FormSeen A) (m : FileMap) (name : List ℕ) (report : Report) → RefusesInput (IsInputRefusal form (Some m) name) report → ReportsBadInput (IsHeldBad form m name) report
-line_of form m name report h = record { status = h.status; line = held_bad form m name report.text h.line; writes = h.nothing }
+line_of : {A : Type 0} (form : FormSeen A) (m : FileMap) (name : List ℕ) (report : Report) → RefusesInput (IsInputRefusal form (Some m) name) report → RefusesInput (IsHeldBad form m name) report
+line_of form m name report h = record { status = h.status; line = held_bad form m name report.text h.line; nothing = h.nothing }
 
-pub says_say : {A B : Type 0} (first : FormSeen A) (second : FormSeen B) (IsReport : A → B → Report → Type 0) → ReportsOfTwoSay first second IsReport
-says_say {A} {B} first second IsReport a b m report (inl h) = first_bad (line_of first m a report h)
-says_say {A} {B} first second IsReport a b m report (inr h) = by_second h.0 h.1 h.2
-  where
-    by_second : (x : A) → HoldsInput first (Some m) a x → ReadingSays (input B second b (λ y. answer (IsReport x y))) (Some m) report → IsSaidOfTwo first second a b IsReport m report
-    by_second x held (inl k) = second_bad x (held_as first m a x held) (line_of second m b report k)
-    by_second x held (inr k) = both x k.0 (held_as first m a x held) (held_as second m b k.0 k.1) k.2
+pub says_say : (reading : Reading) → ReportsSay reading
+says_say (answer IsReport) m report h = h
+says_say (input A form name next) m report (inl h) = inl (line_of form m name report h)
+says_say (input A form name next) m report (inr h) = inr (h.0, held_as form m name h.0 h.1, says_say (next h.0) m report h.2)
 
--- ---- the needed inputs of two files
+-- ---- the needed inputs
 is_some_by : (o : Option (List ℕ)) (bytes : List ℕ) → o ≡ Some bytes → IsSome o
 is_some_by o bytes e = let P : Option (List ℕ) → Type 0 = λ x. IsSome x in subst P (sym e) refl
 
-pub asks_say : {A B : Type 0} (first : FormSeen A) (second : FormSeen B) (IsReport : A → B → Report → Type 0) → InputsOfTwoSay first second IsReport
-asks_say first second IsReport = record {
-  asks = λ a b m bytes held more. (
-    is_some_by (get m a) bytes held,
-    λ x h. let next = more x (held_as first m a x h) in (is_some_by (get m b) next.0 next.1, λ y k. tt),
-  );
-}
+pub asks_say : (reading : Reading) → InputsSay reading
+asks_say (answer IsReport) m h = tt
+asks_say (input A form name next) m h = (is_some_by (get m name) (h.0).0 (h.0).1, λ x is. asks_say (next x) m (h.1 x (held_as form m name x is)))

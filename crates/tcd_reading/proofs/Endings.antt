@@ -1,5 +1,5 @@
 -- How a command ends, from its outcome.
-use Rattle.std.proofs.Common.{◌≡◌, ◌≢◌, ◌⊎◌, inl, inr, List, [], Option, sym, ap, subst, ◌∙◌}
+use Rattle.std.proofs.Common.{◌≡◌, ◌≢◌, ◌≤◌, ◌⊎◌, ℕ, inl, inr, List, [], Option, sym, ap, subst, ◌∙◌, arith}
 use Rattle.std.specs.Prelude.{IsTrue}
 use Rattle.tcd_base.specs.Files.{FileMap, FilesSeen, LeavesFaults}
 use Rattle.tcd_base.specs.Sink.{SinkSeen}
@@ -56,10 +56,23 @@ module _ (reading : Reading) (decided : IsDecided reading) (r : Report) (old new
 only_done_by : (reading : Reading) (held : Option FileMap) → IsDecided reading → (q : Report) → ReadingSays reading held q → q.status ≢ Done → q.writes ≡ []
 only_done_by reading held decided q says apart = said_done reading held q decided says apart
 
+-- counts of faults don't fall
+same_count : (m n : ℕ) → n ≡ m → m ≤ n
+same_count m n e = omega (arith, e)
+
+later_count : (l m n : ℕ) → l ≤ m → m ≤ n → l ≤ n
+later_count l m n a b = omega (arith, a, b)
+
+quiet_files : (old mid new : FilesSeen) (sink sink' : SinkSeen) → old.faults ≤ mid.faults → FilesAndSinkStay mid new sink sink' → old.faults ≤ new.faults
+quiet_files old mid new sink sink' later quiet = later_count old.faults mid.faults new.faults later (same_count mid.faults new.faults (ap (λ (f : FilesSeen). f.faults) quiet.files_stay))
+
+quiet_sink : (mid new : FilesSeen) (sink sink' : SinkSeen) → FilesAndSinkStay mid new sink sink' → sink.faults ≤ sink'.faults
+quiet_sink mid new sink sink' quiet = same_count sink.faults sink'.faults (ap (λ (s : SinkSeen). s.faults) quiet.sink_stays)
+
 -- ---- by the outcome
 reported_ends : (reading : Reading) (old mid new : FilesSeen) (sink sink' : SinkSeen) (o : Outcome) (r : Report) (result : Status) → IsDecided reading → IsCommandOutcome reading old mid o → ReadingSays reading old.held r →
-    IsReported r mid new sink sink' result → LeavesFaults mid new → Ends reading old new sink sink' result
-reported_ends reading old mid new sink sink' o r result decided comes said h leaves =
+    IsReported r mid new sink sink' result → LeavesFaults mid new → mid.faults ≤ new.faults → sink.faults ≤ sink'.faults → Ends reading old new sink sink' result
+reported_ends reading old mid new sink sink' o r result decided comes said h leaves files_later sink_later =
     let here : IsReported r old new sink sink' result = reported_since r reading old mid new sink sink' o result comes h in
     record {
       ended = ending.reported r said here;
@@ -68,6 +81,8 @@ reported_ends reading old mid new sink sink' o r result decided comes said h lea
       only_done = only_done_by reading old.held decided;
       stays = stays_here reading decided r old new sink sink' result said here;
       steady = leaves.steady ∙ comes.steady;
+      files_later = later_count old.faults mid.faults new.faults comes.later files_later;
+      sink_later = sink_later;
       files_sure = λ s. leaves.sure (subst IsTrue (sym comes.steady) s.steady) ∙ comes.sure s;
       sink_sure = sink_here reading decided r old new sink sink' result said here;
       complete = complete_here reading decided r old new sink sink' result said here;
@@ -83,6 +98,8 @@ unread_ends reading old mid new sink sink' o result decided comes failed quiet e
       only_done = only_done_by reading old.held decided;
       stays = λ s. held;
       steady = ap (λ (f : FilesSeen). f.steady) quiet.files_stay ∙ comes.steady;
+      files_later = quiet_files old mid new sink sink' comes.later quiet;
+      sink_later = quiet_sink mid new sink sink' quiet;
       files_sure = λ s. absurd (failed.unsure s);
       sink_sure = λ room. ap (λ (s : SinkSeen). s.faults) quiet.sink_stays;
       complete = λ s. absurd (failed.unsure s);
@@ -98,6 +115,8 @@ memory_ends reading old mid new sink sink' o result decided comes quiet e =
       only_done = only_done_by reading old.held decided;
       stays = λ s. held;
       steady = ap (λ (f : FilesSeen). f.steady) quiet.files_stay ∙ comes.steady;
+      files_later = quiet_files old mid new sink sink' comes.later quiet;
+      sink_later = quiet_sink mid new sink sink' quiet;
       files_sure = λ s. ap (λ (f : FilesSeen). f.faults) quiet.files_stay ∙ comes.sure s;
       sink_sure = λ room. ap (λ (s : SinkSeen). s.faults) quiet.sink_stays;
       complete = λ s room q other. inr e;
@@ -105,6 +124,6 @@ memory_ends reading old mid new sink sink' o result decided comes quiet e =
 
 pub ends : (reading : Reading) (old mid new : FilesSeen) (sink sink' : SinkSeen) (o : Outcome) (result : Status) → IsDecided reading → IsCommandOutcome reading old mid o → FinishesOutcome o mid new sink sink' result → Ends reading old new sink sink' result
 ends reading old mid new sink sink' (outcome.Report s text writes) result decided comes f =
-    reported_ends reading old mid new sink sink' (outcome.Report s text writes) (record { status = s; text = text.items; writes = writes.items }) result decided comes comes.told f.0 f.1
+    reported_ends reading old mid new sink sink' (outcome.Report s text writes) (record { status = s; text = text.items; writes = writes.items }) result decided comes comes.told f.0 f.1 f.2 f.3
 ends reading old mid new sink sink' outcome.Unread result decided comes f = unread_ends reading old mid new sink sink' outcome.Unread result decided comes comes.told f.0 f.1
 ends reading old mid new sink sink' outcome.NoMemory result decided comes f = memory_ends reading old mid new sink sink' outcome.NoMemory result decided comes f.0 f.1

@@ -89,7 +89,7 @@ pub record EndsByLaw (reading : Reading) (files files' : FilesSeen) (sink sink' 
 
 -- How a command ends in all cases. It never ends with the status for bad words. It ends with the
 -- status of its report, except after a counted fault or out of memory. Contents that aren't
--- revealed remain so. Over steady files with all needed inputs, and a sink with room, no fault is
+-- revealed remain so, and no count of faults falls. Over steady files with all needed inputs, and a sink with room, no fault is
 -- counted. The status is then that of the report, or out of memory.
 pub record EndsAnyhowByLaw (reading : Reading) (files files' : FilesSeen) (sink sink' : SinkSeen) (result : Status) : Type 0 where
   pub some_words : result ≢ BadWords
@@ -105,6 +105,8 @@ pub record EndsAnyhowByLaw (reading : Reading) (files files' : FilesSeen) (sink 
   pub only_done : (report : Report) → ReadingSays reading files.held report → report.status ≢ Done → report.writes ≡ []
   pub stays : (result ≡ Refused) ⊎ (result ≡ BadInput) → files'.held ≡ files.held
   pub steady : files'.steady ≡ files.steady
+  pub files_later : files.faults ≤ files'.faults
+  pub sink_later : sink.faults ≤ sink'.faults
   pub files_sure : files.steady ≡ true → HoldsAsked reading files.held → files'.faults ≡ files.faults
   pub sink_sure :
       (n : ℕ) → sink.room ≡ Some n → ((report : Report) → ReadingSays reading files.held report → length report.text ≤ n) → sink'.faults ≡ sink.faults

@@ -51,6 +51,7 @@ pub record FilesAndSinkStay (files files' : FilesSeen) (sink sink' : SinkSeen) :
 abbrev pub FinishesOutcome : Outcome → FilesSeen → FilesSeen → SinkSeen → SinkSeen → Status → Type 0
 FinishesOutcome (outcome.Report s text writes) files files' sink sink' result =
     IsReported (record { status = s; text = text.items; writes = writes.items }) files files' sink sink' result × LeavesFaults files files' × (files.faults ≤ files'.faults)
+    × (sink.faults ≤ sink'.faults)
 FinishesOutcome outcome.Unread files files' sink sink' result = FilesAndSinkStay files files' sink sink' × (result ≡ status.Fault)
 FinishesOutcome outcome.NoMemory files files' sink sink' result = FilesAndSinkStay files files' sink sink' × (result ≡ status.NoMemory)
 
@@ -64,7 +65,7 @@ pub data HasEnded (reading : Reading) (files files' : FilesSeen) (sink sink' : S
   no_memory : result ≡ NoMemory → files'.held ≡ files.held → sink' ≡ sink → HasEnded reading files files' sink sink' result
 
 -- How a command ends, in terms of the views of the files and of the sink before and after. Whether
--- the files are steady doesn't change. Over steady files with all needed inputs, their count of
+-- the files are steady doesn't change, and no count of faults falls. Over steady files with all needed inputs, their count of
 -- faults doesn't change. Over a sink with room, its count doesn't change. Over both, the status is
 -- that of the report (done, refused, or of a bad input), or out of memory. Only a report with
 -- status Done has files to write, so a refused command leaves the files as they are.
@@ -75,6 +76,8 @@ pub record Ends (reading : Reading) (files files' : FilesSeen) (sink sink' : Sin
   pub only_done : (report : Report) → ReadingSays reading files.held report → report.status ≢ Done → report.writes ≡ []
   pub stays : (result ≡ Refused) ⊎ (result ≡ BadInput) → files'.held ≡ files.held
   pub steady : files'.steady ≡ files.steady
+  pub files_later : files.faults ≤ files'.faults
+  pub sink_later : sink.faults ≤ sink'.faults
   pub files_sure : AreSureOf reading files → files'.faults ≡ files.faults
   pub sink_sure : HasRoomForReports reading files.held sink → sink'.faults ≡ sink.faults
   pub complete :

@@ -38,13 +38,6 @@ abbrev pub with_report_files : Option FileMap → List ReportFile → Option Fil
 with_report_files held [] = held
 with_report_files held (w ∷ ws) = with_report_files (files_after_write held w.name w.bytes) ws
 
--- the report is one on a bad input: its status says so, its text is one of these lines, and it has
--- no files to write
-pub record ReportsBadInput (IsLine : List ℕ → Type 0) (report : Report) : Type 0 where
-  pub status : report.status ≡ BadInput
-  pub line : IsLine report.text
-  pub writes : report.writes ≡ []
-
 -- several files to write, one after another, and the text on them
 abbrev pub writes_files : List ReportFile → List ℕ → Report
 writes_files writes text = record { status = Done; text = text; writes = writes }

@@ -1,31 +1,20 @@
 // Public laws of how a command ends.
 ghost use Rattle.tcd_reading.specs.EndingLaws.{EndsAnyhowSay, EndsSay};
-ghost use Rattle.tcd_reading.specs.ReportLaws.{ReportsOfTwoSay, InputsOfTwoSay};
-ghost use Rattle.tcd_reading.specs.Inputs.{FormSeen, Reading};
-ghost use Rattle.tcd_reading.specs.Reports.{Report};
+ghost use Rattle.tcd_reading.specs.ReportLaws.{InputsSay, ReportsSay};
+ghost use Rattle.tcd_reading.specs.Inputs.{Reading, answer};
 
-/// A command, by the inputs that it reads.
+use std::marker::Brand;
+
+/// A command, by the inputs that it reads. A call at `Brand` picks them.
 pub trait AnyCommand {
     /// The inputs of the command and its report.
     ghost reading: { Reading };
 }
 
-/// A command that reads two files, and its report of them.
-pub trait AnyTwo {
-    /// The type of the first file's value.
-    type First;
+impl AnyCommand for Brand {
+    ghost use Rattle.tcd_reading.specs.Inputs.{answer};
 
-    /// The type of the second file's value.
-    type Second;
-
-    /// The form of the first file.
-    ghost first: { FormSeen Self.First };
-
-    /// The form of the second file.
-    ghost second: { FormSeen Self.Second };
-
-    /// The reports of both values.
-    ghost Reports: { Self.First → Self.Second → Report → Type 0 };
+    ghost reading = { answer (λ _. ⊥) };
 }
 
 /// How a command ends, in plain equations: its status, the files after it, and the printed text.
@@ -35,8 +24,9 @@ pub fn endings_in_words<C: AnyCommand>()
     ensures anyhow { EndsAnyhowSay C.reading }
 {}
 
-/// The reports of a command that reads two files, and the files that it needs, in plain equations.
-pub fn readings_in_words<T: AnyTwo>()
-    ensures says { ReportsOfTwoSay T.first T.second T.Reports }
-    ensures asks { InputsOfTwoSay T.first T.second T.Reports }
+/// The reports of a command, whatever number of files it reads, and the files that it needs, in
+/// plain equations.
+pub fn readings_in_words<C: AnyCommand>()
+    ensures says { ReportsSay C.reading }
+    ensures asks { InputsSay C.reading }
 {}

@@ -7,7 +7,7 @@ mod outcome;
 mod status;
 
 pub use inputs::{Form, read_input};
-pub use laws::{AnyCommand, AnyTwo, endings_in_words, readings_in_words};
+pub use laws::{AnyCommand, endings_in_words, readings_in_words};
 pub use outcome::{
     Outcome, Write, bad_input_outcome, finish_outcome, report, report_file, report_two,
 };

@@ -1,5 +1,5 @@
 // The statuses with which commands end.
-ghost use Rattle.std.specs.Prelude.{◌≡◌, ◌≢◌};
+ghost use Rattle.std.specs.Prelude.{◌≡◌, ◌≢◌, ◌≤◌};
 ghost use Rattle.tcd_reading.specs.Endings.{PrintsWithStatus};
 
 use std::marker::Model;
@@ -44,7 +44,8 @@ impl From<Status> for u8 {
 /// Prints a text and returns a command's status: the one given, or that of a fault if printing
 /// failed. It allocates no memory.
 pub fn print_with_status<S: Sink>(out: &mut S, text: &[u8], status: Status) -> Status
-    ensures { PrintsWithStatus status text.now (S.seen out.old) (S.seen out.new) result }
+    ensures prints { PrintsWithStatus status text.now (S.seen out.old) (S.seen out.new) result }
+    ensures later { (S.seen out.old).faults ≤ (S.seen out.new).faults }
 {
     match out.write(text) {
         Ok(()) => status,

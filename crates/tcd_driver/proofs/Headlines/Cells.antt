@@ -24,7 +24,7 @@ use Rattle.tcd_driver.specs.Cells as keeping
 use Rattle.tcd_driver.specs.Cells.{CellsNames, IsCellsVerdict, cells_reading}
 use Rattle.tcd_driver.specs.Cellcert as making
 use Rattle.tcd_driver.specs.Cellcert.{CellcertNames, IsCertifyingCells, cellcert_reading}
-use Rattle.tcd_driver.specs.BestCert.{EachIsRefused}
+use Rattle.depth_maker.specs.Answers.{NoneAccepted}
 use Rattle.tcd_driver.specs.Headlines.Cells.{AreCellFiles, cells_words, HeadlineOfCells, RefusalByCells, HeadlineOfCellcert, NoneKeepsCellBounds, RefusalByCellcert}
 use Rattle.tcd_driver.proofs.Headlines.{Leaves, Reports, bad_undone, bad_unrefused, refused_undone, says_refused, read, is_written, cert_held, firmware_files, accepted_of, least_of, text_of, held_of}
 
@@ -145,7 +145,7 @@ cellcert_is_done names m r said done =
 module _ (names : CellcertNames) (m : FileMap) (i : ImageData) (p : PlanData) (cs : List Cell) (files : AreCellFiles m names.elf names.plan names.cells i p cs) (r : Report) (refused : r.status ≡ Refused) where
   -- one of the two
   refusal_by_cellcert : (rule : ℕ) (key : Key) (addr : ℕ) →
-      (EachIsRefused i (with_cells p cs) 2 × IsRefusal i (with_cells p cs) 2 rule key addr) ⊎ ((rule ≡ 16) × NoneKeepsCellBounds i p cs key addr)
+      (NoneAccepted i (with_cells p cs) 2 × IsRefusal i (with_cells p cs) 2 rule key addr) ⊎ ((rule ≡ 16) × NoneKeepsCellBounds i p cs key addr)
       → r ≡ says Refused (refused_line rule key addr) → Leaves m r (RefusalByCellcert names.elf names.plan names.cells)
   refusal_by_cellcert rule key addr fails e = record {
     after = m;

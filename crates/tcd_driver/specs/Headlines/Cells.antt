@@ -16,7 +16,8 @@ use Rattle.value_cells.specs.CellListText.{Reads}
 use Rattle.value_cells.specs.Safe.{SafeWithCells}
 use Rattle.tcd_base.specs.Files.{FileMap}
 use Rattle.tcd_driver.specs.Headlines.{HoldsFile, AreFirmwareFiles, HoldsCert, IsOnlyFileWritten, IsAcceptedWithNeed, refused_words}
-use Rattle.tcd_driver.specs.BestCert.{EachIsRefused, IsLeastOfItsVersion}
+use Rattle.depth_maker.specs.Answers.{NoneAccepted}
+use Rattle.tcd_driver.specs.BestCert.{IsLeastOfItsVersion}
 
 -- an executable, a plan, and its cells
 pub record AreCellFiles (before : FileMap) (elf_name plan_name cells_name : List ℕ) (image : ImageData) (plan : PlanData) (list : List Cell) : Type 0 where
@@ -105,7 +106,7 @@ pub record RefusalByCellcert (elf_name plan_name cells_name : List ℕ) (before 
   pub address : ℕ
   pub files : AreCellFiles before elf_name plan_name cells_name image plan list
   pub fails :
-      (EachIsRefused image (with_cells plan list) 2 × IsRefusal image (with_cells plan list) 2 rule frame address)
+      (NoneAccepted image (with_cells plan list) 2 × IsRefusal image (with_cells plan list) 2 rule frame address)
       ⊎ ((rule ≡ 16) × NoneKeepsCellBounds image plan list frame address)
   pub prints : printed ≡ refused_words rule frame address
   pub stays : after ≡ before

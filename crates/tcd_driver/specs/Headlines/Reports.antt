@@ -19,7 +19,8 @@ use Rattle.tcd_report.specs.Generated.Planned.{generated_plan}
 use Rattle.tcd_base.specs.Files.{FileMap}
 use Rattle.tcd_forms.specs.Lines.{bad_elf_line}
 use Rattle.tcd_driver.specs.Headlines.{IsBadFile, HoldsImage, AreFirmwareFiles, AreCheckFiles, IsAcceptedWithNeed, IsBestWithNeed, refused_words}
-use Rattle.tcd_driver.specs.BestCert.{IsLeastOfItsVersion, EachIsRefused}
+use Rattle.depth_maker.specs.Answers.{NoneAccepted}
+use Rattle.tcd_driver.specs.BestCert.{IsLeastOfItsVersion}
 use Rattle.tcd_driver.specs.Gen.{IsGenFunctionCount}
 use Rattle.depth_cert.specs.declared.keys.Key.{Key}
 use Rattle.cfg_recover.specs.CertRefusals.{IsRefusal}
@@ -104,7 +105,7 @@ pub record RefusalByGen (word : List ℕ) (before after : FileMap) (printed : Li
   pub frame : Key
   pub address : ℕ
   pub counted : IsGenFunctionCount word functions
-  pub none : EachIsRefused (generated_image functions) generated_plan 1
+  pub none : NoneAccepted (generated_image functions) generated_plan 1
   pub why : IsRefusal (generated_image functions) generated_plan 1 rule frame address
   pub prints : printed ≡ refused_words rule frame address
   pub stays : after ≡ before

@@ -22,7 +22,8 @@ use Rattle.task_chains.specs.SafeTasks.{SafeTasks, need_of_task}
 use Rattle.tcd_base.specs.Files.{FileMap}
 use Rattle.tcd_driver.specs.Tasks.{cert_of_task}
 use Rattle.tcd_driver.specs.Headlines.{HoldsFile, AreFirmwareFiles, HoldEachFile, refused_words}
-use Rattle.tcd_driver.specs.BestCert.{EachIsRefused, IsLeastOfItsVersion}
+use Rattle.depth_maker.specs.Answers.{NoneAccepted}
+use Rattle.tcd_driver.specs.BestCert.{IsLeastOfItsVersion}
 
 -- an executable, a plan, and its tasks
 pub record AreTaskFiles (before : FileMap) (elf_name plan_name tasks_name : List ℕ) (image : ImageData) (plan : PlanData) (list : TasksData) : Type 0 where
@@ -152,7 +153,7 @@ pub record HeadlineOfTaskcert (elf_name plan_name tasks_name : List ℕ) (cert_n
 -- In the headlines of tasks: no certificate of version 2 is accepted for the view, for this reason;
 -- or each accepted one fails rule 17, and here the least one fails it.
 pub data NoCertForTask (view : ImageData) (plan : PlanData) (list : TasksData) : ℕ → Key → ℕ → Type 0 where
-  unaccepted : (rule : ℕ) (frame : Key) (address : ℕ) → EachIsRefused view plan 2 → IsRefusal view plan 2 rule frame address → NoCertForTask view plan list rule frame address
+  unaccepted : (rule : ℕ) (frame : Key) (address : ℕ) → NoneAccepted view plan 2 → IsRefusal view plan 2 rule frame address → NoCertForTask view plan list rule frame address
   not_apart :
       (cert : CertData) (frame : Key) (address : ℕ) → ((other : CertData) → IsCert other → other.version ≡ 2 → Accepts view plan other → KeepsApart view plan list other → ⊥)
       → cert.version ≡ 2 → Accepts view plan cert → IsLeastOfItsVersion view plan cert → IsTaskFault view plan list cert frame address → NoCertForTask view plan list 17 frame address

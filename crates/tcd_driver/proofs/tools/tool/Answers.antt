@@ -20,4 +20,4 @@ returns-in-Some-clause-says g c =
 
 pub returns-in-None-clause-says : goal.returns-in-None-clause-says
 returns-in-None-clause-says g c =
-    tool_says _ (if_some_by _ _ _ (sym c.in-None.ensures.is) tt) (if_none_by _ _ _ (sym c.in-None.ensures.is) (bad_end _ _ _ _ _ _ refl c.bad_words_line.ensures c.print_with_status.ensures))
+    tool_says _ (if_some_by _ _ _ (sym c.in-None.ensures.is) tt) (if_none_by _ _ _ (sym c.in-None.ensures.is) (bad_end _ _ _ _ _ _ refl c.bad_words_line.ensures (c.print_with_status.ensures).prints (c.print_with_status.ensures).later))

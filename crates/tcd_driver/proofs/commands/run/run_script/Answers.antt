@@ -10,6 +10,6 @@ use Rattle.tcd_driver.proofs.commands.run.run_script.Goals as goal
 pub returns-in-Ok : goal.returns-in-Ok
 returns-in-Ok c =
     told_more _ _ c.report.result c.report.ensures
-    (λ r p. ran c.in-Ok.machine c.in-Ok.ensures
+    (λ r p. ran c.in-Ok.machine c.in-Ok.ensures (c.drive_by_script-done.ensures).fits
     (report_is _ (λ t. says Done t) c.run_line.result r _ c.run_line.ensures p
     ∙ ap (λ t. says Done t) (told_is c.args.plan.now c.args.script.now c.in-Ok.machine c.drive_by_script-done.new.m c.drive_by_script-done.result c.drive_by_script-done.ensures)))
