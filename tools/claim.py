@@ -16,6 +16,8 @@ it. A definition comes before those that it uses. The page has two parts:
 2. When it comes: which files are taken, and which certificates are accepted. Part 1 names these
    definitions and doesn't follow them.
 
+What a refusal and bad input mean is on neither part; `--root` follows such a definition.
+
 Above both parts a table says how definitions are written. A type of src/ is shown as it is declared
 there, and so is a constant. The rows of the instruction table are shown beside their meanings. If
 two definitions of a page have one name, their modules are beside it. The words of the kit are
@@ -45,9 +47,11 @@ OTHER_FIELDS = "  -- the fields of other commands are left out here"
 LATER = (
     "Accepts", "IsAcceptedWithNeed", "IsAcceptedForTask", "IsLeastOfItsVersion", "NoneAccepted",
     "KeepsCells", "KeepsApart", "CertData", "certificate_of",
-    "bytes_of", "bytes_of_cert", "bytes_of_routine", "assembled_code",
+    "bytes_of", "bytes_of_cert", "bytes_of_routine", "assembled_code", "CannotFail", "IsOneEnd",
     "refusal_of", "plan_refusal", "image_refusal", "reloc_value_refusal", "ImageErr", "PlanErr",
 )
+#: What a page names and doesn't follow: the ends that aren't Done.
+OTHER_ENDS = re.compile(r"RefusalBy\w+|BadInputOf|MayPrintText|AreThere|Ask")
 #: Two lists of one table, which are shown row by row beside each other.
 BESIDE = ("listed", "meanings")
 
@@ -415,7 +419,9 @@ class Part:
             if item.key in seen:
                 continue
             seen.add(item.key)
-            if item.name in stops or item.key in stops:
+            if item.name in stops or item.key in stops or (
+                OTHER_ENDS.fullmatch(item.name) and item not in roots
+            ):
                 self.stopped.append(item)
                 continue
             order.append(item)
@@ -574,9 +580,10 @@ def parts_of(sources, roots, stops):
     """Both parts of a page: what is claimed, and what was not followed in it."""
     first = Part(sources, roots, stops)
     parts = [("What a Done means", first)]
-    if first.stopped:
+    later = [it for it in first.stopped if not OTHER_ENDS.fullmatch(it.name)]
+    if later:
         known = [it.key for it in first.items]
-        parts.append(("When it comes", Part(sources, first.stopped, (), known)))
+        parts.append(("When it comes", Part(sources, later, (), known)))
     return parts
 
 

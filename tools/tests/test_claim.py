@@ -200,12 +200,21 @@ class Repository(unittest.TestCase):
         for record in self.sources.headlines().values():
             with self.subTest(record=record.name):
                 text = "\n".join(self.sources.saying(record).text)
-                self.assertIn("ToolCallMeans call (codes ", text)
+                self.assertIn("CommandSays call (codes ", text)
 
     def test_a_page_begins_with_its_field(self):
         names = [it.name for it in self.parts[0][1].items]
-        self.assertEqual(names[:3], ["ToolSays", "ToolCallMeans", "ToolCall"])
+        self.assertEqual(names[:4], ["ToolSays", "CommandSays", "ToolCallMeans", "ToolCall"])
         self.assertIn("HeadlineOfCheck", names)
+
+    def test_other_ends_are_named_alone(self):
+        shown = {it.name for _, part in self.parts for it in part.items}
+        stopped = {it.name for it in self.parts[0][1].stopped}
+        for name in ("RefusalByCheck", "BadInputOf"):
+            self.assertIn(name, stopped)
+            self.assertNotIn(name, shown)
+        root = self.sources.root("tcd_driver.specs.Headlines.RefusalByCheck")
+        self.assertIn(root, claim.Part(self.sources, [root], ()).items)
 
     def test_all_below_safe_is_in_the_first_part(self):
         shown = {it.key for it in self.parts[0][1].items}
@@ -238,7 +247,7 @@ class Repository(unittest.TestCase):
                 self.assertIn("what a done means: ", out)
                 text = page.read_text(encoding="utf-8")
                 self.assertTrue(text.startswith(begin))
-                self.assertLess(text.index("ToolCallMeans"), text.index("HeadlineOfCheck "))
+                self.assertLess(text.index("CommandSays"), text.index("HeadlineOfCheck "))
 
     def test_statuses(self):
         for status, words in (

@@ -13,7 +13,7 @@ use Rattle.tc_boot.proofs.JudgeOne.{not_both}
 use Rattle.tcd_reading.specs.Reports.{IsReportStatus, Report, says}
 use Rattle.tcd_forms.specs.Lines.{boots_line}
 use Rattle.tcd_driver.specs.Boot.{IsBootVerdict, refused, unbooted, boots}
-use Rattle.tcd_reading.specs.declared.status.Status.TheVariants.{Done, Refused}
+use Rattle.tcd_reading.specs.declared.status.Status.TheVariants.{Done}
 use Rattle.tcd_reading.proofs.Decided.{AreAlike, status_is, writes_are}
 
 module _ (i : ImageData) (p : PlanData) (c : CertData) (at : ℕ) where

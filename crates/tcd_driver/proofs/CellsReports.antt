@@ -18,7 +18,7 @@ use Rattle.tcd_reading.specs.Reports.{IsReportStatus, Report, says}
 use Rattle.tcd_driver.specs.CellAndTaskForms.{cells_form}
 use Rattle.tcd_forms.specs.Lines.{certified_cells_line}
 use Rattle.tcd_driver.specs.Cells.{IsCellsVerdict, refused, broken, certified}
-use Rattle.tcd_reading.specs.declared.status.Status.TheVariants.{Done, Refused}
+use Rattle.tcd_reading.specs.declared.status.Status.TheVariants.{Done}
 use Rattle.tcd_reading.proofs.Decided.{AreAlike, IsLawful, status_is, writes_are}
 
 -- a text is cells, or none

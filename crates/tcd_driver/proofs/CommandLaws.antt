@@ -27,7 +27,7 @@ use Rattle.tcd_driver.specs.Check.{IsCheckVerdict}
 use Rattle.tcd_driver.specs.Run.{IsRunReport, ran, script_run_line}
 use Rattle.tcd_driver.specs.Link.{IsLinkReport, WritesImage, refused, image}
 use Rattle.tcd_driver.specs.Commands.{Command, check, certify, cfg, report, run, dis, asm, link, ship, boot, bootgen, cells, cellcert, tasks, taskcert, generate, reading_of}
-use Rattle.tcd_reading.specs.declared.status.Status.TheVariants.{Done, Refused, BadInput}
+use Rattle.tcd_reading.specs.declared.status.Status.TheVariants.{Done, BadInput}
 use Rattle.tcd_forms.proofs.FormLaws.{elf_lawful, plan_lawful, cert_lawful, script_lawful, source_lawful, layout_lawful, object_lawful, placed_source_lawful, ok_err}
 use Rattle.tcd_driver.proofs.LinkLaws.{none_memory, line_told}
 use Rattle.tcd_driver.proofs.MakingLaws.{certifying_alike}

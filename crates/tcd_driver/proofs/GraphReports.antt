@@ -16,7 +16,7 @@ use Rattle.tcd_driver.specs.Cfg as cfg
 use Rattle.tcd_driver.specs.Cfg.{IsCfgText, IsCfgReport}
 use Rattle.tcd_driver.specs.Reporting as reporting
 use Rattle.tcd_driver.specs.Reporting.{IsReporting}
-use Rattle.tcd_reading.specs.declared.status.Status.TheVariants.{Done, Refused}
+use Rattle.tcd_reading.specs.declared.status.Status.TheVariants.{Done}
 use Rattle.tcd_reading.proofs.Decided.{AreAlike, status_is, writes_are}
 use Rattle.tcd_driver.proofs.MakingLaws.{none_best, best_most, best_read, spelled_is_read}
 

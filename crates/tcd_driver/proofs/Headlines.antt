@@ -1,5 +1,6 @@
 -- What it means that `check`, `cert`, `ship` and `run` are done, or refuse; and what all commands
 -- share of that.
+pub mod Asks
 pub mod Boots
 pub mod Builds
 pub mod Cells
@@ -334,7 +335,7 @@ cert_refuses names m r said refused =
     cert_refused names m i.0 p.0 i.1 p.1 r p.2 refused
 
 -- ---- ship
-source_told : Tells placed_source_form (2 ^ 24) IsSourceText
+pub source_told : Tells placed_source_form (2 ^ 24) IsSourceText
 source_told place m name x h = record { bytes = h.0; held = h.1; short = h.2; form = record { text = h.3.0; object = h.3.1 } }
 
 module _ (names : ShipNames) (m : FileMap) (p : PlanData) (l : LayoutData) (ss : List SourceData) (plan : HoldsInput plan_form (Some m) names.plan p) (layout : HoldsInput layout_form (Some m) names.layout l)

@@ -14,3 +14,4 @@ pub mod TasksReports
 pub mod TaskcertReports
 pub mod Headlines
 pub mod ToolWords
+pub mod ToolEnds

@@ -19,7 +19,7 @@ use Rattle.tcd_forms.specs.Lines.{certified_line}
 use Rattle.tcd_driver.specs.BestCert.{IsBestCert, first, second, SpellBestCert, SpellBestWithNeed}
 use Rattle.tcd_driver.specs.Cert as made
 use Rattle.tcd_driver.specs.Cert.{IsCertifying}
-use Rattle.tcd_reading.specs.declared.status.Status.TheVariants.{Done, Refused}
+use Rattle.tcd_reading.specs.declared.status.Status.TheVariants.{Done}
 use Rattle.tcd_reading.proofs.Decided.{AreAlike, status_is, writes_are}
 
 -- if no certificate of version 1 and none of version 2 is accepted, no certificate is the best

@@ -26,7 +26,7 @@ use Rattle.tcd_forms.specs.Lines.{bad_link_line, certified_line}
 use Rattle.tcd_forms.proofs.FormLaws.{ok_err}
 use Rattle.tcd_driver.specs.BestCert.{SpellBestWithNeed}
 use Rattle.tcd_driver.specs.Ship.{objects_of_sources, texts_of_sources, AreSourcesOfObjects, IsShipping, IsShipped, SpellShippedImage, refused, shipped, unlinked, of_image}
-use Rattle.tcd_reading.specs.declared.status.Status.TheVariants.{Done, Refused, BadInput}
+use Rattle.tcd_reading.specs.declared.status.Status.TheVariants.{Done, BadInput}
 use Rattle.tcd_reading.proofs.Decided.{AreAlike, status_is, writes_are}
 use Rattle.tcd_reading.proofs.EachReads.{HasReadSome, rest_of, none_read, next_read}
 use Rattle.tcd_driver.proofs.LinkLaws.{none_memory, line_told}

@@ -126,7 +126,7 @@ makes_task i fields p parts t u v b making.NoMemory same is_plan same_t are fit 
 
 -- ---- one need for each task
 -- a list is searched alike by keys of one number
-need_there : (c d : CertData) (start : Key) → IsCert c → IsCert d → ((k : Key) → needs_in c k ≤ needs_in d k) → (o : Option NodeData) → find_node start c.nodes ≡ o → need_of o ≤ need_of (find_node start d.nodes)
+pub need_there : (c d : CertData) (start : Key) → IsCert c → IsCert d → ((k : Key) → needs_in c k ≤ needs_in d k) → (o : Option NodeData) → find_node start c.nodes ≡ o → need_of o ≤ need_of (find_node start d.nodes)
 need_there c d start is_c is_d least None e = omega arith
 need_there c d start is_c is_d least (Some n) e =
     let found = found_in (λ m. number_of_key m.key == number_of_key start) c.nodes n e in
@@ -150,7 +150,7 @@ one_need v b c d is_c is_d made made_d =
     let ge : certified_need v b d ≤ certified_need v b c = need_below v b d c is_d is_c made_d made in
     omega arith
 
-same_below : (n : ℕ) (f g : ℕ → ℕ) → ((u : ℕ) → u < n → f u ≡ g u) → sum_over_chains n f ≡ sum_over_chains n g
+pub same_below : (n : ℕ) (f g : ℕ → ℕ) → ((u : ℕ) → u < n → f u ≡ g u) → sum_over_chains n f ≡ sum_over_chains n g
 same_below zero f g h = refl
 same_below (suc n) f g h =
     let low : sum_over_chains n f ≡ sum_over_chains n g = same_below n f g (λ u lt. h u (omega arith)) in

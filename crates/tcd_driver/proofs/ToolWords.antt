@@ -1,6 +1,6 @@
 -- The commands that words ask for, and how a call of the tool with these words ends.
-use Rattle.std.proofs.Common.{◌≡◌, ◌≢◌, ◌≤◌, ◌+◌, ◌^◌, ◌&&◌, ℕ, Bool, true, false, not, nat_le, if◌then◌else◌, List, [], ◌∷◌, ◌++◌, length, Option, Some, None, refl, sym, ap, subst, ◌∙◌, arith}
-use Rattle.std.specs.Prelude.{codes, IfSome, IfNone}
+use Rattle.std.proofs.Common.{◌≡◌, ◌≢◌, ◌≤◌, ◌+◌, ◌^◌, ◌&&◌, ℕ, Bool, true, false, not, nat_le, if◌then◌else◌, List, [], ◌∷◌, ◌++◌, length, Option, Some, None, inl, inr, refl, sym, ap, subst, ◌∙◌, arith}
+use Rattle.std.specs.Prelude.{codes, IfSome, IfNone, IsSomeAnd}
 use Rattle.std.specs.Bool.{then_some}
 use Rattle.std.specs.Option.{option_or, option_map, option_and_then}
 use Rattle.std.specs.Str.{bytes_eq}
@@ -9,9 +9,10 @@ use Rattle.std.proofs.lemmas.Slice.Eq.{bytes_eq-Decides}
 use Rattle.tcd_text.specs.HexNumbers.{hex_number_of}
 use Rattle.tc_script.specs.Numbers.{script_number}
 use Rattle.tcd_base.specs.Files.{FileMap, FilesSeen}
-use Rattle.tcd_base.specs.Sink.{SinkSeen, sink_with_appended}
-use Rattle.tcd_reading.specs.Reports.{Report, with_report_files}
-use Rattle.tcd_reading.specs.Inputs.{Reading, ReadingSays}
+use Rattle.tcd_base.specs.Sink.{SinkSeen, HasRoomFor, sink_with_appended}
+use Rattle.tcd_reading.specs.Reports.{Report, IsReportStatus, with_report_files}
+use Rattle.tcd_reading.specs.Inputs.{Reading, ReadingSays, HoldsAsked, AreSureOf}
+use Rattle.tcd_reading.proofs.Decided.{said_done}
 use Rattle.tcd_reading.specs.Endings.{PrintsWithStatus, whole, cut, IsReported, HasEnded, Ends}
 use Rattle.tcd_reading.specs.Endings as ending
 use Rattle.tcd_reading.specs.declared.status.Status.{Status}
@@ -20,13 +21,12 @@ use Rattle.tcd_driver.specs.BadInputLines.{bad_words_line}
 use Rattle.tcd_driver.specs.Commands as asked
 use Rattle.tcd_driver.specs.Commands.{Command, command, reading_of, is_link, is_ship, is_tasks, is_taskcert}
 use Rattle.tcd_driver.specs.DistinctNames.{are_distinct_names}
-use Rattle.tcd_driver.specs.Tool.{ToolCall, ToolCallMeans, EndsWithBadWords, ToolSays}
-use Rattle.tcd_driver.proofs.Headlines.{Reports, check_is_done, check_refuses, cert_is_done, cert_refuses, ship_is_done, ship_refuses, run_is_done}
-use Rattle.tcd_driver.proofs.Headlines.Boots.{boot_is_done, boot_refuses, bootgen_is_done}
-use Rattle.tcd_driver.proofs.Headlines.Builds.{asm_is_done, asm_refuses, link_is_done, link_refuses}
-use Rattle.tcd_driver.proofs.Headlines.Cells.{cells_are_done, cells_refuse, cellcert_is_done, cellcert_refuses}
-use Rattle.tcd_driver.proofs.Headlines.Tasks.{tasks_are_done, tasks_refuse, taskcert_is_done, taskcert_refuses}
-use Rattle.tcd_driver.proofs.Headlines.Texts.{cfg_is_done, cfg_refuses, report_is_done, report_refuses, dis_is_done, dis_refuses, gen_is_done, gen_refuses}
+use Rattle.tcd_driver.specs.Tool.{ToolCall, ToolCallMeans, EndsWithBadWords, CannotFail, CanEnd, IsOneEnd, MayPrintText, of_bad_words, when_done, when_refused, when_bad, CommandSays, ToolSays}
+use Rattle.tcd_driver.specs.Headlines.Asks.{Ask, IsFirstBad, BadInputOf}
+use Rattle.tcd_driver.proofs.CommandLaws.{command_decided}
+use Rattle.tcd_driver.proofs.Headlines.{Reports, bad_undone, held_nothing}
+use Rattle.tcd_driver.proofs.Headlines.Asks.{never_bad}
+use Rattle.tcd_driver.proofs.ToolEnds.{Answers, check_ends, cert_ends, cfg_ends, report_ends, run_ends, dis_ends, asm_ends, link_ends, ship_ends, boot_ends, bootgen_ends, cells_ends, cellcert_ends, gen_ends, tasks_end, taskcert_ends}
 
 -- ---- a call that ends with the status of a report
 -- with this status a call ends by a report, and not by a failure or by running out of memory
@@ -76,6 +76,19 @@ left reading files files' sink sink' status Holds m is_told held reports ends =
     let r = t.report in
     let l = reports m r (subst (λ (o : Option FileMap). ReadingSays reading o r) held t.said) t.is in
     (l.after, r.text, t.held ∙ ap (λ (o : Option FileMap). with_report_files o r.writes) held ∙ l.held, (λ text written. t.printed ∙ ap (λ (o : Option (List ℕ)). sink_with_appended o r.text) written), l.holds)
+
+-- ---- bad input
+-- a command that finds its input bad writes nothing
+pub bad_reports : (c : Command) (asks : List Ask) → ((m : FileMap) (r : Report) → ReadingSays (reading_of c) (Some m) r → r.status ≡ BadInput → IsFirstBad m asks r.text) → Reports (reading_of c) BadInput (BadInputOf asks)
+bad_reports c asks first m r said bad = record {
+  after = m;
+  held = held_nothing m r (said_done (reading_of c) (Some m) r (command_decided c) said (λ done. bad_undone r bad done));
+  holds = record { first = first m r said bad; stays = refl };
+}
+
+bad_words_is : bad_words_line ≡ codes "bad words" ++ 10 ∷ []
+unfolding bad_words_line
+bad_words_is = refl
 
 -- words that are no command don't end with such a status
 by_prints : (text : List ℕ) (sink sink' : SinkSeen) (status : Status) → IsTold status → PrintsWithStatus BadWords text sink sink' status → ⊥
@@ -201,59 +214,132 @@ module _ (call : ToolCall) where
     ends_with : (reading : Reading) (status : Status) → call.status ≡ status → Ends reading call.files call.files_after call.sink call.sink_after call.status → Ends reading call.files call.files_after call.sink call.sink_after status
     ends_with reading status is ends = subst (λ (s : Status). Ends reading call.files call.files_after call.sink call.sink_after s) is ends
 
+    -- the command that words ask for, and how the call ended as it
+    record Found (asks : List Ask) (IfDone IfRefused : FileMap → FileMap → List ℕ → Type 0) : Type 0 where
+      c : Command
+      answers : Answers c asks IfDone IfRefused
+      ended : Ended c
+
+    module _ (words : List (List ℕ)) (asks : List Ask) (IfDone IfRefused : FileMap → FileMap → List ℕ → Type 0) (found : call.words ≡ words → (BadEnd → ⊥) → Found asks IfDone IfRefused) where
+      means : (status : Status) (Holds : FileMap → FileMap → List ℕ → Type 0) → IsTold status → ((f : Found asks IfDone IfRefused) → Reports (reading_of f.c) status Holds) → ToolCallMeans call words status Holds
+      means status Holds is_told reports m are is held =
+          let f = found are (no_bad_end status is_told is) in
+          left (reading_of f.c) call.files call.files_after call.sink call.sink_after status Holds m is_told held (reports f) (ends_with (reading_of f.c) status is f.ended)
+
+      bad_means : ToolCallMeans call words BadInput (BadInputOf asks)
+      bad_means = means BadInput (BadInputOf asks) bad_told (λ f. bad_reports f.c asks (f.answers).bad)
+
+      module _ (m : FileMap) (are : call.words ≡ words) (sure : CannotFail call m asks (MayPrintText (IfDone m) (IfRefused m) (BadInputOf asks m))) (some_memory : call.status ≢ NoMemory) (good_words : call.status ≢ BadWords) where
+        has_room : (text : List ℕ) → MayPrintText (IfDone m) (IfRefused m) (BadInputOf asks m) text → HasRoomFor call.sink text
+        has_room text may = subst (λ (o : Option ℕ). IsSomeAnd o (λ n. length text ≤ n)) (sym sure.room_is) (sure.fits text may)
+
+        no_end : PrintsWithStatus BadWords bad_words_line call.sink call.sink_after call.status → ⊥
+        no_end (whole e p) = good_words e
+        no_end (cut e front counted full) = full (has_room bad_words_line (of_bad_words bad_words_is))
+
+        here : Found asks IfDone IfRefused
+        here = found are (λ b. no_end b.prints)
+
+        held_there : (r : Report) → ReadingSays (reading_of here.c) (call.files).held r → ReadingSays (reading_of here.c) (Some m) r
+        held_there r said = subst (λ (o : Option FileMap). ReadingSays (reading_of here.c) o r) sure.held said
+
+        may_print : (r : Report) → ReadingSays (reading_of here.c) (Some m) r → IsReportStatus r.status → MayPrintText (IfDone m) (IfRefused m) (BadInputOf asks m) r.text
+        may_print r said (inl e) = let l = (here.answers).done m r said e in when_done l.after l.holds
+        may_print r said (inr (inl e)) = let l = (here.answers).refused m r said e in when_refused l.after l.holds
+        may_print r said (inr (inr e)) = let l = bad_reports here.c asks (here.answers).bad m r said e in when_bad l.after l.holds
+
+        asks_are : AreSureOf (reading_of here.c) call.files
+        asks_are = record { steady = sure.steady; hold = subst (λ (o : Option FileMap). HoldsAsked (reading_of here.c) o) (sym sure.held) ((here.answers).asked m sure.there) }
+
+        by_prints_whole : (r : Report) → ReadingSays (reading_of here.c) (call.files).held r → PrintsWithStatus r.status r.text call.sink call.sink_after call.status → IsReportStatus call.status
+        by_prints_whole r said (whole e p) = subst IsReportStatus (sym e) ((here.ended).statuses r said)
+        by_prints_whole r said (cut e front counted full) = absurd (full (has_room r.text (may_print r (held_there r said) ((here.ended).statuses r said))))
+
+        by_reported : (r : Report) → ReadingSays (reading_of here.c) (call.files).held r → IsReported r call.files call.files_after call.sink call.sink_after call.status → IsReportStatus call.status
+        by_reported r said (ending.printed held prints) = by_prints_whole r said prints
+        by_reported r said (ending.unwritten e quiet stopped counted unsteady) = absurd (unsteady sure.steady)
+        by_reported r said (ending.no_memory e quiet stopped) = absurd (some_memory e)
+
+        by_ended : HasEnded (reading_of here.c) call.files call.files_after call.sink call.sink_after call.status → IsReportStatus call.status
+        by_ended (ending.reported r said h) = by_reported r said h
+        by_ended (ending.unread e held quiet counted unsure) = absurd (unsure asks_are)
+        by_ended (ending.no_memory e held quiet) = absurd (some_memory e)
+
+        -- what an end with this status means
+        can : (status : Status) (Holds : FileMap → FileMap → List ℕ → Type 0) → ToolCallMeans call words status Holds → call.status ≡ status → CanEnd (Holds m)
+        can status Holds says is = let e = says m are is sure.held in (e.0, e.1, e.4)
+
+        is_done : CanEnd (IfDone m) → IsReportStatus call.status → call.status ≡ Done
+        is_done d (inl e) = e
+        is_done d (inr (inl e)) = let k = can Refused IfRefused (means Refused IfRefused refused_told (λ f. (f.answers).refused)) e in absurd ((here.answers).apart m d.0 k.0 d.1 k.1 d.2 k.2)
+        is_done d (inr (inr e)) = let b = can BadInput (BadInputOf asks) bad_means e in absurd (never_bad m asks b.1 ((here.answers).good m d.0 d.1 (inl d.2)) (b.2).first)
+
+        is_refused : CanEnd (IfRefused m) → IsReportStatus call.status → call.status ≡ Refused
+        is_refused k (inl e) = let d = can Done IfDone (means Done IfDone done_told (λ f. (f.answers).done)) e in absurd ((here.answers).apart m d.0 k.0 d.1 k.1 d.2 k.2)
+        is_refused k (inr (inl e)) = e
+        is_refused k (inr (inr e)) = let b = can BadInput (BadInputOf asks) bad_means e in absurd (never_bad m asks b.1 ((here.answers).good m k.0 k.1 (inr k.2)) (b.2).first)
+
+        is_bad : CanEnd (BadInputOf asks m) → IsReportStatus call.status → call.status ≡ BadInput
+        is_bad b (inl e) = let d = can Done IfDone (means Done IfDone done_told (λ f. (f.answers).done)) e in absurd (never_bad m asks b.1 ((here.answers).good m d.0 d.1 (inl d.2)) (b.2).first)
+        is_bad b (inr (inl e)) = let k = can Refused IfRefused (means Refused IfRefused refused_told (λ f. (f.answers).refused)) e in absurd (never_bad m asks b.1 ((here.answers).good m k.0 k.1 (inr k.2)) (b.2).first)
+        is_bad b (inr (inr e)) = e
+
+        one_end : IsOneEnd call.status (IfDone m) (IfRefused m) (BadInputOf asks m)
+        one_end =
+            let one = by_ended (here.ended).ended in
+            record {
+              one = one;
+              done = (λ e. can Done IfDone (means Done IfDone done_told (λ f. (f.answers).done)) e, λ d. is_done d one);
+              refused = (λ e. can Refused IfRefused (means Refused IfRefused refused_told (λ f. (f.answers).refused)) e, λ k. is_refused k one);
+              bad_input = (λ e. can BadInput (BadInputOf asks) bad_means e, λ b. is_bad b one);
+            }
+
+      says : CommandSays call words asks IfDone IfRefused
+      says = record {
+        done = means Done IfDone done_told (λ f. (f.answers).done);
+        refused = means Refused IfRefused refused_told (λ f. (f.answers).refused);
+        bad_input = bad_means;
+        decided = one_end;
+      }
+
     -- words that are this command for all names
-    fixed : (words : List (List ℕ)) (status : Status) (reading : Reading) (Holds : FileMap → FileMap → List ℕ → Type 0) → IsTold status → Reports reading status Holds →
-        (IfSome (command words) Ended → Ends reading call.files call.files_after call.sink call.sink_after call.status) → ToolCallMeans call words status Holds
-    fixed words status reading Holds is_told reports asks m are is held =
-        left reading call.files call.files_after call.sink call.sink_after status Holds m is_told held reports (ends_with reading status is (asks (some_by words are)))
+    fixed : (words : List (List ℕ)) (c : Command) (asks : List Ask) (IfDone IfRefused : FileMap → FileMap → List ℕ → Type 0) → Answers c asks IfDone IfRefused → (IfSome (command words) Ended → Ended c) → CommandSays call words asks IfDone IfRefused
+    fixed words c asks IfDone IfRefused answers is = says words asks IfDone IfRefused (λ are no_bad. record { c = c; answers = answers; ended = is (some_by words are) })
 
     -- words that are a command if a test holds
-    tested : (words : List (List ℕ)) (status : Status) (c : Command) (b : Bool) (Holds : FileMap → FileMap → List ℕ → Type 0) → IsTold status → command words ≡ (if b then Some c else None) →
-        (b ≡ true → Reports (reading_of c) status Holds) → ToolCallMeans call words status Holds
-    tested words status c b Holds is_told asks reports m are is held =
-        let a = asked_if b c Ended BadEnd (no_bad_end status is_told is) (subst (λ (o : Option Command). IfSome o Ended) asks (some_by words are)) (subst (λ (o : Option Command). IfNone o BadEnd) asks (none_by words are)) in
-        left (reading_of c) call.files call.files_after call.sink call.sink_after status Holds m is_told held (reports a.0) (ends_with (reading_of c) status is a.1)
+    tested : (words : List (List ℕ)) (c : Command) (b : Bool) (asks : List Ask) (IfDone IfRefused : FileMap → FileMap → List ℕ → Type 0) → command words ≡ (if b then Some c else None) → (b ≡ true → Answers c asks IfDone IfRefused) →
+        CommandSays call words asks IfDone IfRefused
+    tested words c b asks IfDone IfRefused is answers = says words asks IfDone IfRefused
+        (λ are no_bad.
+        let a = asked_if b c Ended BadEnd no_bad (subst (λ (o : Option Command). IfSome o Ended) is (some_by words are)) (subst (λ (o : Option Command). IfNone o BadEnd) is (none_by words are)) in
+        record { c = c; answers = answers a.0; ended = a.1 })
 
     pub tool_says : ToolSays call
     tool_says = record {
-      check = λ elf plan cert. fixed _ Done _ _ done_told (check_is_done (record { elf = elf; plan = plan; cert = cert })) (λ k. k);
-      check_refuses = λ elf plan cert. fixed _ Refused _ _ refused_told (check_refuses (record { elf = elf; plan = plan; cert = cert })) (λ k. k);
-      cert = λ elf plan cert. fixed _ Done _ _ done_told (cert_is_done (record { elf = elf; plan = plan; cert = cert })) (λ k. k);
-      cert_refuses = λ elf plan cert. fixed _ Refused _ _ refused_told (cert_refuses (record { elf = elf; plan = plan; cert = cert })) (λ k. k);
-      ship = λ plan layout elf cert sources. tested _ Done _ _ _ done_told (ship_asks plan layout elf cert sources) (λ b. ship_is_done (record { plan = plan; layout = layout; elf = elf; cert = cert; sources = sources }) (names_differ elf cert sources b));
-      ship_refuses = λ plan layout elf cert sources. tested _ Refused _ _ _ refused_told (ship_asks plan layout elf cert sources) (λ b. ship_refuses (record { plan = plan; layout = layout; elf = elf; cert = cert; sources = sources }));
-      run = λ elf plan script. fixed _ Done _ _ done_told (run_is_done (record { elf = elf; plan = plan; script = script })) (λ k. k);
-      report = λ elf plan cert. fixed _ Done _ _ done_told (report_is_done (record { elf = elf; plan = plan; cert = cert })) (λ k. k);
-      report_refuses = λ elf plan cert. fixed _ Refused _ _ refused_told (report_refuses (record { elf = elf; plan = plan; cert = cert })) (λ k. k);
-      cfg = λ elf plan. fixed _ Done _ _ done_told (cfg_is_done (record { elf = elf; plan = plan })) (λ k. k);
-      cfg_refuses = λ elf plan. fixed _ Refused _ _ refused_told (cfg_refuses (record { elf = elf; plan = plan })) (λ k. k);
-      dis = λ elf. fixed _ Done _ _ done_told (dis_is_done elf) (λ k. k);
-      dis_refuses = λ elf. fixed _ BadInput _ _ bad_told (dis_refuses elf) (λ k. k);
-      gen = λ word m are is held.
-          let n = gen_asked Ended BadEnd (no_bad_end Done done_told is) (script_number word) (some_by _ are) (none_by _ are) in
-          left _ call.files call.files_after call.sink call.sink_after Done _ m done_told held (gen_is_done word n.0 (record { is = n.1; some = n.2; few = n.3 })) (ends_with _ Done is n.4);
-      gen_refuses = λ word m are is held.
-          let n = gen_asked Ended BadEnd (no_bad_end Refused refused_told is) (script_number word) (some_by _ are) (none_by _ are) in
-          left _ call.files call.files_after call.sink call.sink_after Refused _ m refused_told held (gen_refuses word n.0 (record { is = n.1; some = n.2; few = n.3 })) (ends_with _ Refused is n.4);
-      asm = λ source object. fixed _ Done _ _ done_told (asm_is_done (record { source = source; object = object })) (λ k. k);
-      asm_refuses = λ source object. fixed _ BadInput _ _ bad_told (asm_refuses (record { source = source; object = object })) (λ k. k);
-      link = λ layout elf objects. tested _ Done _ _ _ done_told (link_asks layout elf objects) (λ b. link_is_done (record { layout = layout; image = elf; objects = objects }));
-      link_refuses = λ layout elf objects. tested _ BadInput _ _ _ bad_told (link_asks layout elf objects) (λ b. link_refuses (record { layout = layout; image = elf; objects = objects }));
-      boot = λ elf plan cert at m are is held.
-          let n = boot_asked Ended BadEnd (no_bad_end Done done_told is) elf plan cert (hex_number_of at) (some_by _ are) (none_by _ are) in
-          left _ call.files call.files_after call.sink call.sink_after Done _ m done_told held (boot_is_done (record { elf = elf; plan = plan; cert = cert; at = n.0 }) at n.1) (ends_with _ Done is n.2);
-      boot_refuses = λ elf plan cert at m are is held.
-          let n = boot_asked Ended BadEnd (no_bad_end Refused refused_told is) elf plan cert (hex_number_of at) (some_by _ are) (none_by _ are) in
-          left _ call.files call.files_after call.sink call.sink_after Refused _ m refused_told held (boot_refuses (record { elf = elf; plan = plan; cert = cert; at = n.0 }) at n.1) (ends_with _ Refused is n.2);
-      bootgen = λ plan entry at source m are is held.
-          let n = bootgen_asked Ended BadEnd (no_bad_end Done done_told is) plan source (hex_number_of entry) (hex_number_of at) (some_by _ are) (none_by _ are) in
-          left _ call.files call.files_after call.sink call.sink_after Done _ m done_told held (bootgen_is_done (record { plan = plan; entry = n.0; at = n.1; source = source }) entry at n.2 n.3 n.4) (ends_with _ Done is n.5);
-      cells = λ elf plan list cert. fixed _ Done _ _ done_told (cells_are_done (record { elf = elf; plan = plan; cells = list; cert = cert })) (λ k. k);
-      cells_refuse = λ elf plan list cert. fixed _ Refused _ _ refused_told (cells_refuse (record { elf = elf; plan = plan; cells = list; cert = cert })) (λ k. k);
-      cellcert = λ elf plan list cert. fixed _ Done _ _ done_told (cellcert_is_done (record { elf = elf; plan = plan; cells = list; cert = cert })) (λ k. k);
-      cellcert_refuses = λ elf plan list cert. fixed _ Refused _ _ refused_told (cellcert_refuses (record { elf = elf; plan = plan; cells = list; cert = cert })) (λ k. k);
-      tasks = λ elf plan list certs. tested _ Done _ _ _ done_told (tasks_asks elf plan list certs) (λ b. tasks_are_done (record { elf = elf; plan = plan; tasks = list; certs = certs }));
-      tasks_refuse = λ elf plan list certs. tested _ Refused _ _ _ refused_told (tasks_asks elf plan list certs) (λ b. tasks_refuse (record { elf = elf; plan = plan; tasks = list; certs = certs }));
-      taskcert = λ elf plan list certs. tested _ Done _ _ _ done_told (taskcert_asks elf plan list certs) (λ b. taskcert_is_done (record { elf = elf; plan = plan; tasks = list; certs = certs }) (all_differ certs b));
-      taskcert_refuses = λ elf plan list certs. tested _ Refused _ _ _ refused_told (taskcert_asks elf plan list certs) (λ b. taskcert_refuses (record { elf = elf; plan = plan; tasks = list; certs = certs }));
+      check = λ elf plan cert. fixed _ _ _ _ _ (check_ends (record { elf = elf; plan = plan; cert = cert })) (λ k. k);
+      cert = λ elf plan cert. fixed _ _ _ _ _ (cert_ends (record { elf = elf; plan = plan; cert = cert })) (λ k. k);
+      ship = λ plan layout elf cert sources. tested _ _ _ _ _ _ (ship_asks plan layout elf cert sources) (λ b. ship_ends (record { plan = plan; layout = layout; elf = elf; cert = cert; sources = sources }) (names_differ elf cert sources b));
+      run = λ elf plan script. fixed _ _ _ _ _ (run_ends (record { elf = elf; plan = plan; script = script })) (λ k. k);
+      report = λ elf plan cert. fixed _ _ _ _ _ (report_ends (record { elf = elf; plan = plan; cert = cert })) (λ k. k);
+      cfg = λ elf plan. fixed _ _ _ _ _ (cfg_ends (record { elf = elf; plan = plan })) (λ k. k);
+      dis = λ elf. fixed _ _ _ _ _ (dis_ends elf) (λ k. k);
+      gen = λ word. says _ _ _ _ (λ are no_bad.
+          let n = gen_asked Ended BadEnd no_bad (script_number word) (some_by _ are) (none_by _ are) in
+          record { c = asked.generate n.0; answers = gen_ends word n.0 (record { is = n.1; some = n.2; few = n.3 }); ended = n.4 });
+      asm = λ source object. fixed _ _ _ _ _ (asm_ends (record { source = source; object = object })) (λ k. k);
+      link = λ layout elf objects. tested _ _ _ _ _ _ (link_asks layout elf objects) (λ b. link_ends (record { layout = layout; image = elf; objects = objects }));
+      boot = λ elf plan cert at. says _ _ _ _ (λ are no_bad.
+          let n = boot_asked Ended BadEnd no_bad elf plan cert (hex_number_of at) (some_by _ are) (none_by _ are) in
+          record { c = asked.boot (record { elf = elf; plan = plan; cert = cert; at = n.0 }); answers = boot_ends (record { elf = elf; plan = plan; cert = cert; at = n.0 }) at n.1; ended = n.2 });
+      bootgen = λ plan entry at source. says _ _ _ _ (λ are no_bad.
+          let n = bootgen_asked Ended BadEnd no_bad plan source (hex_number_of entry) (hex_number_of at) (some_by _ are) (none_by _ are) in
+          record {
+            c = asked.bootgen (record { plan = plan; entry = n.0; at = n.1; source = source });
+            answers = bootgen_ends (record { plan = plan; entry = n.0; at = n.1; source = source }) entry at n.2 n.3 n.4;
+            ended = n.5;
+          });
+      cells = λ elf plan list cert. fixed _ _ _ _ _ (cells_ends (record { elf = elf; plan = plan; cells = list; cert = cert })) (λ k. k);
+      cellcert = λ elf plan list cert. fixed _ _ _ _ _ (cellcert_ends (record { elf = elf; plan = plan; cells = list; cert = cert })) (λ k. k);
+      tasks = λ elf plan list certs. tested _ _ _ _ _ _ (tasks_asks elf plan list certs) (λ b. tasks_end (record { elf = elf; plan = plan; tasks = list; certs = certs }));
+      taskcert = λ elf plan list certs. tested _ _ _ _ _ _ (taskcert_asks elf plan list certs) (λ b. taskcert_ends (record { elf = elf; plan = plan; tasks = list; certs = certs }) (all_differ certs b));
     }

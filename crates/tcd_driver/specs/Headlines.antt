@@ -1,6 +1,7 @@
 -- What it means that a command is done, or refuses: one record each, complete in itself. `before`
 -- maps each name that was held to its bytes, `after` each name that is held at the end. `printed`
 -- is the text that the command printed.
+pub mod Asks
 pub mod Boots
 pub mod Builds
 pub mod Cells

@@ -1,14 +1,15 @@
 -- How a call of the tool ends: for words that are no command, and for each command.
-use Rattle.std.specs.Prelude.{◌≡◌, ◌≤◌, ℕ, List, [], ◌∷◌, ◌++◌, codes, Some}
+use Rattle.std.specs.Prelude.{◌≡◌, ◌≢◌, ◌≤◌, ◌⊎◌, ◌↔◌, ℕ, true, length, List, [], ◌∷◌, ◌++◌, codes, Some}
 use Rattle.tcd_base.specs.Files.{FileMap, FilesSeen}
 use Rattle.tcd_base.specs.Sink.{SinkSeen}
 use Rattle.tcd_reading.specs.Endings.{PrintsWithStatus}
 use Rattle.tcd_reading.specs.declared.status.Status.{Status}
-use Rattle.tcd_reading.specs.declared.status.Status.TheVariants.{Done, Refused, BadInput, BadWords}
+use Rattle.tcd_reading.specs.declared.status.Status.TheVariants.{Done, Refused, BadInput, NoMemory, BadWords}
 use Rattle.tcd_driver.specs.BadInputLines.{bad_words_line}
 use Rattle.tcd_driver.specs.Headlines.{HeadlineOfCheck, RefusalByCheck, HeadlineOfCert, RefusalByCert, HeadlineOfRun}
-use Rattle.tcd_driver.specs.Headlines.Builds.{HeadlineOfShip, RefusalByShip, HeadlineOfAsm, RefusalByAsm, HeadlineOfLink, RefusalByLink}
-use Rattle.tcd_driver.specs.Headlines.Reports.{RefusalByGen, HeadlineOfCfg, HeadlineOfReport, HeadlineOfDis, RefusalByDis, HeadlineOfGen}
+use Rattle.tcd_driver.specs.Headlines.Asks.{Ask, is_elf, is_plan, is_cert, is_layout, is_object, is_source, is_script, are_cells, are_tasks, are_linked, are_linked_sources, is_cert_per_task, ask_each, AreThere, BadInputOf}
+use Rattle.tcd_driver.specs.Headlines.Builds.{HeadlineOfShip, RefusalByShip, HeadlineOfAsm, HeadlineOfLink}
+use Rattle.tcd_driver.specs.Headlines.Reports.{RefusalByGen, HeadlineOfCfg, HeadlineOfReport, HeadlineOfDis, HeadlineOfGen}
 use Rattle.tcd_driver.specs.Headlines.Boots.{HeadlineOfBoot, RefusalByBoot, HeadlineOfBootgen}
 use Rattle.tcd_driver.specs.Headlines.Cells.{HeadlineOfCells, RefusalByCells, HeadlineOfCellcert, RefusalByCellcert}
 use Rattle.tcd_driver.specs.Headlines.Tasks.{HeadlineOfTasks, RefusalByTasks, HeadlineOfTaskcert, RefusalByTaskcert}
@@ -39,58 +40,100 @@ ToolCallMeans call words status Holds =
     → (after : FileMap) × (printed : List ℕ) × ((call.files_after).held ≡ Some after)
     × ((text : List ℕ) → (call.sink).written ≡ Some text → (call.sink_after).written ≡ Some (text ++ printed)) × Holds before after printed
 
--- What the tool promises of each command, by the words that were typed: for status 0, for status 1,
--- and for status 2 of `dis`, `asm` and `link`. All other endings are in the clauses `bad_words`,
--- `no_form` and `command` of `tool`.
+-- A call of whose files it is known what they hold, so that nothing can fail: they are steady and
+-- hold each file of which something is asked, and the sink has room for each text that may be
+-- printed.
+pub record CannotFail (call : ToolCall) (before : FileMap) (asks : List Ask) (MayPrint : List ℕ → Type 0) : Type 0 where
+  pub held : (call.files).held ≡ Some before
+  pub steady : (call.files).steady ≡ true
+  pub there : AreThere before asks
+  pub room : ℕ
+  pub room_is : (call.sink).room ≡ Some room
+  pub fits : (text : List ℕ) → MayPrint text → length text ≤ room
+
+-- there are files and a printed text with which a call may end
+abbrev pub CanEnd : (FileMap → List ℕ → Type 0) → Type 0
+CanEnd Holds = (after : FileMap) × (printed : List ℕ) × Holds after printed
+
+-- the status is one of three, and each exactly if this can hold
+pub record IsOneEnd (status : Status) (IfDone IfRefused IfBad : FileMap → List ℕ → Type 0) : Type 0 where
+  pub one : (status ≡ Done) ⊎ ((status ≡ Refused) ⊎ (status ≡ BadInput))
+  pub done : (status ≡ Done) ↔ CanEnd IfDone
+  pub refused : (status ≡ Refused) ↔ CanEnd IfRefused
+  pub bad_input : (status ≡ BadInput) ↔ CanEnd IfBad
+
+-- the text is one with which a call may end: `bad words`, or that of one of three ends
+pub data MayPrintText (IfDone IfRefused IfBad : FileMap → List ℕ → Type 0) (text : List ℕ) : Type 0 where
+  of_bad_words : text ≡ codes "bad words" ++ 10 ∷ [] → MayPrintText IfDone IfRefused IfBad text
+  when_done : (after : FileMap) → IfDone after text → MayPrintText IfDone IfRefused IfBad text
+  when_refused : (after : FileMap) → IfRefused after text → MayPrintText IfDone IfRefused IfBad text
+  when_bad : (after : FileMap) → IfBad after text → MayPrintText IfDone IfRefused IfBad text
+
+-- What the tool promises of a command's words: what it means if its status is Done, Refused or
+-- BadInput. If nothing can fail, the status is one of these, each exactly if that can hold, or memory
+-- ran out, or the words are none of the command's.
+pub record CommandSays (call : ToolCall) (words : List (List ℕ)) (asks : List Ask) (IfDone IfRefused : FileMap → FileMap → List ℕ → Type 0) : Type 0 where
+  pub done : ToolCallMeans call words Done IfDone
+  pub refused : ToolCallMeans call words Refused IfRefused
+  pub bad_input : ToolCallMeans call words BadInput (BadInputOf asks)
+  pub decided :
+      (before : FileMap) → call.words ≡ words → CannotFail call before asks (MayPrintText (IfDone before) (IfRefused before) (BadInputOf asks before))
+      → call.status ≢ NoMemory → call.status ≢ BadWords → IsOneEnd call.status (IfDone before) (IfRefused before) (BadInputOf asks before)
+
+-- a command that refuses nothing
+abbrev pub Never : FileMap → FileMap → List ℕ → Type 0
+Never before after printed = ⊥
+
+-- What the tool promises of each command, by the words that were typed. `Ends`, in the clause
+-- `command` of `tool`, has what is left: a fault, and running out of memory.
 pub record ToolSays (call : ToolCall) : Type 0 where
-  pub check : (elf plan cert : List ℕ) → ToolCallMeans call (codes "check" ∷ elf ∷ plan ∷ cert ∷ []) Done (HeadlineOfCheck elf plan cert)
-  pub check_refuses : (elf plan cert : List ℕ) → ToolCallMeans call (codes "check" ∷ elf ∷ plan ∷ cert ∷ []) Refused (RefusalByCheck elf plan cert)
-  pub cert : (elf plan cert : List ℕ) → ToolCallMeans call (codes "cert" ∷ elf ∷ plan ∷ cert ∷ []) Done (HeadlineOfCert elf plan cert)
-  pub cert_refuses : (elf plan cert : List ℕ) → ToolCallMeans call (codes "cert" ∷ elf ∷ plan ∷ cert ∷ []) Refused (RefusalByCert elf plan)
+  pub check :
+      (elf plan cert : List ℕ)
+      → CommandSays call (codes "check" ∷ elf ∷ plan ∷ cert ∷ []) (is_elf elf ∷ is_plan plan ∷ is_cert cert ∷ []) (HeadlineOfCheck elf plan cert) (RefusalByCheck elf plan cert)
+  pub cert :
+      (elf plan cert : List ℕ)
+      → CommandSays call (codes "cert" ∷ elf ∷ plan ∷ cert ∷ []) (is_elf elf ∷ is_plan plan ∷ []) (HeadlineOfCert elf plan cert) (RefusalByCert elf plan)
   pub ship :
       (plan layout elf cert : List ℕ) (sources : List (List ℕ))
-      → ToolCallMeans call (codes "ship" ∷ plan ∷ layout ∷ elf ∷ cert ∷ sources) Done (HeadlineOfShip plan layout elf cert sources)
-  pub ship_refuses :
-      (plan layout elf cert : List ℕ) (sources : List (List ℕ))
-      → ToolCallMeans call (codes "ship" ∷ plan ∷ layout ∷ elf ∷ cert ∷ sources) Refused (RefusalByShip plan layout sources)
-  pub run : (elf plan script : List ℕ) → ToolCallMeans call (codes "run" ∷ elf ∷ plan ∷ script ∷ []) Done (HeadlineOfRun elf plan script)
-  pub report : (elf plan cert : List ℕ) → ToolCallMeans call (codes "report" ∷ elf ∷ plan ∷ cert ∷ []) Done (HeadlineOfReport elf plan cert)
-  pub report_refuses : (elf plan cert : List ℕ) → ToolCallMeans call (codes "report" ∷ elf ∷ plan ∷ cert ∷ []) Refused (RefusalByCheck elf plan cert)
-  pub cfg : (elf plan : List ℕ) → ToolCallMeans call (codes "cfg" ∷ elf ∷ plan ∷ []) Done (HeadlineOfCfg elf plan)
-  pub cfg_refuses : (elf plan : List ℕ) → ToolCallMeans call (codes "cfg" ∷ elf ∷ plan ∷ []) Refused (RefusalByCert elf plan)
-  pub dis : (elf : List ℕ) → ToolCallMeans call (codes "dis" ∷ elf ∷ []) Done (HeadlineOfDis elf)
-  pub dis_refuses : (elf : List ℕ) → ToolCallMeans call (codes "dis" ∷ elf ∷ []) BadInput (RefusalByDis elf)
-  pub gen : (word : List ℕ) → ToolCallMeans call (codes "gen" ∷ word ∷ []) Done (HeadlineOfGen word)
-  pub gen_refuses : (word : List ℕ) → ToolCallMeans call (codes "gen" ∷ word ∷ []) Refused (RefusalByGen word)
-  pub asm : (source object : List ℕ) → ToolCallMeans call (codes "asm" ∷ source ∷ object ∷ []) Done (HeadlineOfAsm source object)
-  pub asm_refuses : (source object : List ℕ) → ToolCallMeans call (codes "asm" ∷ source ∷ object ∷ []) BadInput (RefusalByAsm source)
+      → CommandSays call (codes "ship" ∷ plan ∷ layout ∷ elf ∷ cert ∷ sources)
+      (is_plan plan ∷ is_layout layout ∷ ask_each is_source 0 sources (are_linked_sources layout sources ∷ []))
+      (HeadlineOfShip plan layout elf cert sources) (RefusalByShip plan layout sources)
+  pub run :
+      (elf plan script : List ℕ)
+      → CommandSays call (codes "run" ∷ elf ∷ plan ∷ script ∷ []) (is_elf elf ∷ is_plan plan ∷ is_script plan script ∷ []) (HeadlineOfRun elf plan script) Never
+  pub report :
+      (elf plan cert : List ℕ)
+      → CommandSays call (codes "report" ∷ elf ∷ plan ∷ cert ∷ []) (is_elf elf ∷ is_plan plan ∷ is_cert cert ∷ []) (HeadlineOfReport elf plan cert) (RefusalByCheck elf plan cert)
+  pub cfg :
+      (elf plan : List ℕ) → CommandSays call (codes "cfg" ∷ elf ∷ plan ∷ []) (is_elf elf ∷ is_plan plan ∷ []) (HeadlineOfCfg elf plan) (RefusalByCert elf plan)
+  pub dis : (elf : List ℕ) → CommandSays call (codes "dis" ∷ elf ∷ []) (is_elf elf ∷ []) (HeadlineOfDis elf) Never
+  pub gen : (word : List ℕ) → CommandSays call (codes "gen" ∷ word ∷ []) [] (HeadlineOfGen word) (RefusalByGen word)
+  pub asm :
+      (source object : List ℕ) → CommandSays call (codes "asm" ∷ source ∷ object ∷ []) (is_source 0 source ∷ []) (HeadlineOfAsm source object) Never
   pub link :
-      (layout elf : List ℕ) (objects : List (List ℕ)) → ToolCallMeans call (codes "link" ∷ layout ∷ elf ∷ objects) Done (HeadlineOfLink layout elf objects)
-  pub link_refuses :
-      (layout elf : List ℕ) (objects : List (List ℕ)) → ToolCallMeans call (codes "link" ∷ layout ∷ elf ∷ objects) BadInput (RefusalByLink layout objects)
+      (layout elf : List ℕ) (objects : List (List ℕ))
+      → CommandSays call (codes "link" ∷ layout ∷ elf ∷ objects) (is_layout layout ∷ ask_each is_object 0 objects (are_linked layout objects ∷ []))
+      (HeadlineOfLink layout elf objects) Never
   pub boot :
-      (elf plan cert at : List ℕ) → ToolCallMeans call (codes "boot" ∷ elf ∷ plan ∷ cert ∷ at ∷ []) Done (HeadlineOfBoot elf plan cert at)
-  pub boot_refuses :
-      (elf plan cert at : List ℕ) → ToolCallMeans call (codes "boot" ∷ elf ∷ plan ∷ cert ∷ at ∷ []) Refused (RefusalByBoot elf plan cert at)
+      (elf plan cert at : List ℕ)
+      → CommandSays call (codes "boot" ∷ elf ∷ plan ∷ cert ∷ at ∷ []) (is_elf elf ∷ is_plan plan ∷ is_cert cert ∷ []) (HeadlineOfBoot elf plan cert at) (RefusalByBoot elf plan cert at)
   pub bootgen :
-      (plan entry at source : List ℕ) → ToolCallMeans call (codes "bootgen" ∷ plan ∷ entry ∷ at ∷ source ∷ []) Done (HeadlineOfBootgen plan entry at source)
+      (plan entry at source : List ℕ)
+      → CommandSays call (codes "bootgen" ∷ plan ∷ entry ∷ at ∷ source ∷ []) (is_plan plan ∷ []) (HeadlineOfBootgen plan entry at source) Never
   pub cells :
-      (elf plan list cert : List ℕ) → ToolCallMeans call (codes "cells" ∷ elf ∷ plan ∷ list ∷ cert ∷ []) Done (HeadlineOfCells elf plan list cert)
-  pub cells_refuse :
-      (elf plan list cert : List ℕ) → ToolCallMeans call (codes "cells" ∷ elf ∷ plan ∷ list ∷ cert ∷ []) Refused (RefusalByCells elf plan list cert)
+      (elf plan list cert : List ℕ)
+      → CommandSays call (codes "cells" ∷ elf ∷ plan ∷ list ∷ cert ∷ []) (is_elf elf ∷ is_plan plan ∷ are_cells plan list ∷ is_cert cert ∷ [])
+      (HeadlineOfCells elf plan list cert) (RefusalByCells elf plan list cert)
   pub cellcert :
-      (elf plan list cert : List ℕ) → ToolCallMeans call (codes "cellcert" ∷ elf ∷ plan ∷ list ∷ cert ∷ []) Done (HeadlineOfCellcert elf plan list cert)
-  pub cellcert_refuses :
-      (elf plan list cert : List ℕ) → ToolCallMeans call (codes "cellcert" ∷ elf ∷ plan ∷ list ∷ cert ∷ []) Refused (RefusalByCellcert elf plan list)
+      (elf plan list cert : List ℕ)
+      → CommandSays call (codes "cellcert" ∷ elf ∷ plan ∷ list ∷ cert ∷ []) (is_elf elf ∷ is_plan plan ∷ are_cells plan list ∷ [])
+      (HeadlineOfCellcert elf plan list cert) (RefusalByCellcert elf plan list)
   pub tasks :
       (elf plan list : List ℕ) (certs : List (List ℕ))
-      → ToolCallMeans call (codes "tasks" ∷ elf ∷ plan ∷ list ∷ certs) Done (HeadlineOfTasks elf plan list certs)
-  pub tasks_refuse :
-      (elf plan list : List ℕ) (certs : List (List ℕ))
-      → ToolCallMeans call (codes "tasks" ∷ elf ∷ plan ∷ list ∷ certs) Refused (RefusalByTasks elf plan list certs)
+      → CommandSays call (codes "tasks" ∷ elf ∷ plan ∷ list ∷ certs)
+      (is_elf elf ∷ is_plan plan ∷ are_tasks plan list ∷ is_cert_per_task plan list certs ∷ ask_each (λ place name. is_cert name) 0 certs [])
+      (HeadlineOfTasks elf plan list certs) (RefusalByTasks elf plan list certs)
   pub taskcert :
       (elf plan list : List ℕ) (certs : List (List ℕ))
-      → ToolCallMeans call (codes "taskcert" ∷ elf ∷ plan ∷ list ∷ certs) Done (HeadlineOfTaskcert elf plan list certs)
-  pub taskcert_refuses :
-      (elf plan list : List ℕ) (certs : List (List ℕ))
-      → ToolCallMeans call (codes "taskcert" ∷ elf ∷ plan ∷ list ∷ certs) Refused (RefusalByTaskcert elf plan list certs)
+      → CommandSays call (codes "taskcert" ∷ elf ∷ plan ∷ list ∷ certs) (is_elf elf ∷ is_plan plan ∷ are_tasks plan list ∷ is_cert_per_task plan list certs ∷ [])
+      (HeadlineOfTaskcert elf plan list certs) (RefusalByTaskcert elf plan list certs)

@@ -42,7 +42,7 @@ tasks_is : (sum areas n : ℕ) → certified_tasks_line sum areas n ≡ certifie
 unfolding certified_tasks_line
 tasks_is sum areas n = refl
 
-task_files : (elf plan tasks : List ℕ) (m : FileMap) (i : ImageData) (p : PlanData) (t : TasksData) → HoldsInput elf_form (Some m) elf i → HoldsInput plan_form (Some m) plan p → HoldsInput (tasks_form p) (Some m) tasks t
+pub task_files : (elf plan tasks : List ℕ) (m : FileMap) (i : ImageData) (p : PlanData) (t : TasksData) → HoldsInput elf_form (Some m) elf i → HoldsInput plan_form (Some m) plan p → HoldsInput (tasks_form p) (Some m) tasks t
     → AreTaskFiles m elf plan tasks i p t
 task_files elf plan tasks m i p t elf_is plan_is tasks_is = record {
   firmware = firmware_files m elf plan i p elf_is plan_is;
@@ -55,7 +55,7 @@ as_many true reading held r good said = (refl, said)
 as_many false reading held r good said = absurd (good (status_is r _ said))
 
 -- as many files as values are held
-held_many : {A : Type 0} (m : FileMap) (most : ℕ) (Is : List ℕ → A → Type 0) (names : List (List ℕ)) (xs : List A) → HoldEachFile m most Is names xs → length names ≡ length xs
+pub held_many : {A : Type 0} (m : FileMap) (most : ℕ) (Is : List ℕ → A → Type 0) (names : List (List ℕ)) (xs : List A) → HoldEachFile m most Is names xs → length names ≡ length xs
 held_many m most Is [] [] h = refl
 held_many m most Is [] (x ∷ xs) h = absurd h
 held_many m most Is (name ∷ names) [] h = absurd h
@@ -76,7 +76,7 @@ safe_together i p t cs many routine judged enough safe = record {
 }
 
 -- ---- tasks
-cert_told : Tells (λ place. cert_form) (2 ^ 30) (λ bytes cert. certificate_of bytes ≡ Ok cert)
+pub cert_told : Tells (λ place. cert_form) (2 ^ 30) (λ bytes cert. certificate_of bytes ≡ Ok cert)
 cert_told place m name x h = cert_held m name x h
 
 module _ (names : TasksNames) (m : FileMap) (i : ImageData) (p : PlanData) (t : TasksData) (cs : List CertData) (files : AreTaskFiles m names.elf names.plan names.tasks i p t)

@@ -1,6 +1,5 @@
 -- What it means that `cfg`, `report`, `dis` and `gen` are done.
-use Rattle.std.proofs.Common.{◌≡◌, ◌-◌, ℕ, List, [], ◌∷◌, ◌++◌, length, Some, inl, inr, refl}
-use Rattle.std.specs.Prelude.{codes}
+use Rattle.std.proofs.Common.{◌≡◌, ◌-◌, ℕ, List, length, Some, refl}
 use Rattle.elf_image.specs.Images.{ImageData}
 use Rattle.tcd_plan.specs.PlanData.{PlanData}
 use Rattle.depth_cert.specs.Certs.{CertData}
@@ -14,7 +13,7 @@ use Rattle.tcd_reading.specs.Inputs.{HoldsInput}
 use Rattle.tcd_reading.specs.declared.status.Status.TheVariants.{Done, Refused, BadInput}
 use Rattle.tcd_reading.proofs.Decided.{status_is}
 use Rattle.tcd_forms.specs.Forms.{elf_form, plan_form, cert_form}
-use Rattle.tcd_forms.specs.Lines.{long_elf_line, generated_line}
+use Rattle.tcd_forms.specs.Lines.{generated_line}
 use Rattle.tcd_driver.specs.Cfg as drawing
 use Rattle.tcd_driver.specs.Cfg.{CfgNames, IsCfgReport, cfg_reading}
 use Rattle.tcd_driver.specs.Reporting as reporting
@@ -23,8 +22,8 @@ use Rattle.tcd_driver.specs.Dis.{dis_reading}
 use Rattle.tcd_driver.specs.Gen as generating
 use Rattle.tcd_driver.specs.Gen.{IsGenReport, gen_reading, IsGenFunctionCount}
 use Rattle.tcd_driver.specs.Headlines.{RefusalByCheck, RefusalByCert}
-use Rattle.tcd_driver.specs.Headlines.Reports.{HeadlineOfCfg, HeadlineOfReport, HeadlineOfDis, RefusalByDis, gen_words, HeadlineOfGen, RefusalByGen}
-use Rattle.tcd_driver.proofs.Headlines.{Leaves, Reports, bad_undone, bad_unrefused, refused_undone, read, image_held, firmware_files, check_files, accepted_of, least_of, best_of, text_of, held_of, held_nothing, bad_file, says_refused, refusal_by_check, refusal_by_cert}
+use Rattle.tcd_driver.specs.Headlines.Reports.{HeadlineOfCfg, HeadlineOfReport, HeadlineOfDis, gen_words, HeadlineOfGen, RefusalByGen}
+use Rattle.tcd_driver.proofs.Headlines.{Leaves, Reports, bad_undone, bad_unrefused, refused_undone, read, image_held, firmware_files, check_files, accepted_of, least_of, best_of, text_of, held_of, says_refused, refusal_by_check, refusal_by_cert}
 
 -- ---- cfg
 module _ (names : CfgNames) (m : FileMap) (i : ImageData) (p : PlanData) (elf : HoldsInput elf_form (Some m) names.elf i) (plan : HoldsInput plan_form (Some m) names.plan p) (r : Report) where
@@ -117,16 +116,6 @@ dis_is_done elf m r said done =
       held = held_of m r _ i.2;
       holds = record { image = i.0; elf_file = image_held m elf i.0 i.1; prints = text_of r _ _ i.2 refl; stays = refl };
     }
-
-long_elf_is : long_elf_line ≡ codes "bad elf 0" ++ 10 ∷ []
-unfolding long_elf_line
-long_elf_is = refl
-
-pub dis_refuses : (elf : List ℕ) → Reports (dis_reading elf) BadInput (RefusalByDis elf)
-dis_refuses elf m r said bad = elim said [
-  | inl b ↦ record { after = m; held = held_nothing m r b.nothing; holds = record { bad = bad_file elf_form m elf r.text _ long_elf_is b.line; stays = refl } }
-  | inr i ↦ absurd (bad_undone r bad (status_is r _ i.2))
-]
 
 -- ---- gen
 gen_is : (functions nodes points need areas : ℕ) → generated_line functions nodes points need areas ≡ gen_words functions nodes points need areas

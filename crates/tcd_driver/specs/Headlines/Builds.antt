@@ -1,5 +1,5 @@
--- What it means that `asm`, `link` and `ship` are done, or refuse.
-use Rattle.std.specs.Prelude.{◌≡◌, ◌^◌, ℕ, List, ◌∷◌, ◌++◌, codes, length, Ok, Err, ◌≢◌, ◌-◌, map, Some, []}
+-- What it means that `asm`, `link` and `ship` are done, and that `ship` refuses.
+use Rattle.std.specs.Prelude.{◌≡◌, ◌^◌, ℕ, List, ◌∷◌, ◌++◌, codes, length, Ok, ◌≢◌, ◌-◌, map, Some, []}
 use Rattle.std.specs.Fmt.{decimal}
 use Rattle.elf_image.specs.Images.{ImageData}
 use Rattle.elf_image.specs.WrittenElf.{file_of}
@@ -8,11 +8,9 @@ use Rattle.tc_object.specs.Grammar.{object_of}
 use Rattle.tc_object.specs.Spelling.{bytes_of}
 use Rattle.tc_link.specs.Layouts.{LayoutData}
 use Rattle.tc_link.specs.Linked.{image_of_objects}
-use Rattle.tc_link.specs.Refusals.{Refusal}
 use Rattle.tcd_base.specs.Files.{FileMap}
 use Rattle.tcd_forms.specs.Forms.{IsSource, SourceData}
-use Rattle.tcd_forms.specs.Lines.{bad_link_line}
-use Rattle.tcd_driver.specs.Headlines.{certified_words, HoldsFile, IsBadFile, HoldEachFile, IsOnlyFileWritten, HoldsPlan, IsBestWithNeed, refused_words}
+use Rattle.tcd_driver.specs.Headlines.{certified_words, HoldsFile, HoldEachFile, IsOnlyFileWritten, HoldsPlan, IsBestWithNeed, refused_words}
 use Rattle.std.specs.FinMap.{get}
 use Rattle.elf_image.specs.ReadElf.{image_of_file}
 use Rattle.tcd_plan.specs.PlanData.{PlanData}
@@ -21,7 +19,6 @@ use Rattle.depth_cert.specs.Certs.{CertData}
 use Rattle.depth_cert.specs.Spelling as certs
 use Rattle.tc_program.specs.Placed.{Placed}
 use Rattle.tcd_driver.specs.BestCert.{NoneIsAccepted}
-use Rattle.tcd_driver.specs.BadInputLines.{IsNoLayout, IsNoObject, SourceBreaksRule}
 use Rattle.tc_link.specs.LayoutFaults.{layout_of}
 
 -- ---- asm
@@ -31,11 +28,6 @@ pub record HeadlineOfAsm (source_name object_name : List ℕ) (before after : Fi
   pub source_file : HoldsFile before source_name (2 ^ 24) (λ bytes. IsSource bytes object)
   pub writes : IsOnlyFileWritten before after object_name (bytes_of object)
   pub prints : printed ≡ codes "object " ++ (decimal (length (bytes_of object)) ++ (codes " bytes" ++ 10 ∷ []))
-
--- `asm` finds its source bad: it is too long, or it breaks a rule.
-pub record RefusalByAsm (source_name : List ℕ) (before after : FileMap) (printed : List ℕ) : Type 0 where
-  pub bad : IsBadFile before source_name (2 ^ 24) (codes "bad source 0 at " ++ (decimal 0 ++ 10 ∷ [])) SourceBreaksRule printed
-  pub stays : after ≡ before
 
 -- ---- link
 -- the bytes are this object
@@ -61,31 +53,6 @@ pub record HeadlineOfLink (layout_name elf_name : List ℕ) (object_names : List
   pub linked : image_of_objects objects layout ≡ Ok image
   pub writes : IsOnlyFileWritten before after elf_name (file_of image)
   pub prints : printed ≡ codes "image " ++ (decimal (length (file_of image)) ++ (codes " bytes" ++ 10 ∷ []))
-
--- a reason why `link` refuses, if its layout is good: the first of the object files that is bad,
--- and the line on it
-pub record IsFirstBadObject (before : FileMap) (object_names : List (List ℕ)) (line : List ℕ) : Type 0 where
-  pub good_names : List (List ℕ)
-  pub name : List ℕ
-  pub other_names : List (List ℕ)
-  pub are : object_names ≡ good_names ++ name ∷ other_names
-  pub good : List ObjectData
-  pub good_files : HoldEachFile before (2 ^ 24) IsObjectText good_names good
-  pub bad : IsBadFile before name (2 ^ 24) (codes "bad object 0 at " ++ (decimal (length good_names) ++ 10 ∷ [])) (IsNoObject (length good_names)) line
-
--- the layout is bad; or it is good, and an object is bad; or all are good, but they can't be linked
-pub data IsLinkFault (before : FileMap) (layout_name : List ℕ) (object_names : List (List ℕ)) (line : List ℕ) : Type 0 where
-  bad_layout : IsBadFile before layout_name (2 ^ 24) (codes "bad layout 0" ++ 10 ∷ []) IsNoLayout line → IsLinkFault before layout_name object_names line
-  bad_object :
-      (layout : LayoutData) → HoldsLayout before layout_name layout → IsFirstBadObject before object_names line → IsLinkFault before layout_name object_names line
-  unlinked :
-      (layout : LayoutData) (objects : List ObjectData) (why : Refusal) → AreLinkFiles before layout_name object_names layout objects
-      → image_of_objects objects layout ≡ Err why → line ≡ bad_link_line why → IsLinkFault before layout_name object_names line
-
--- `link` finds its input bad.
-pub record RefusalByLink (layout_name : List ℕ) (object_names : List (List ℕ)) (before after : FileMap) (printed : List ℕ) : Type 0 where
-  pub fault : IsLinkFault before layout_name object_names printed
-  pub stays : after ≡ before
 
 -- ---- ship
 

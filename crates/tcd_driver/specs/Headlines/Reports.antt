@@ -1,10 +1,8 @@
--- What it means that `cfg`, `report`, `dis` and `gen` are done, and that `dis` and `gen` refuse.
-use Rattle.std.specs.Prelude.{◌≡◌, ◌-◌, ◌^◌, ℕ, List, ◌∷◌, ◌++◌, codes, length, Err, []}
+-- What it means that `cfg`, `report`, `dis` and `gen` are done, and that `gen` refuses.
+use Rattle.std.specs.Prelude.{◌≡◌, ◌-◌, ℕ, List, ◌∷◌, ◌++◌, codes, length, []}
 use Rattle.std.specs.Fmt.{decimal}
 use Rattle.std.specs.List.{flat_map}
 use Rattle.elf_image.specs.Images.{ImageData}
-use Rattle.elf_image.specs.ReadElf.{image_of_file}
-use Rattle.elf_image.specs.declared.errors.ImageErr.{ImageErr}
 use Rattle.tcd_plan.specs.PlanData.{PlanData}
 use Rattle.tc_machine.specs.Safe.{Safe}
 use Rattle.tc_disasm.specs.Listing.{listing_of}
@@ -17,8 +15,7 @@ use Rattle.tcd_report.specs.Reports.{IsReport}
 use Rattle.tcd_report.specs.Generated.{generated_image}
 use Rattle.tcd_report.specs.Generated.Planned.{generated_plan}
 use Rattle.tcd_base.specs.Files.{FileMap}
-use Rattle.tcd_forms.specs.Lines.{bad_elf_line}
-use Rattle.tcd_driver.specs.Headlines.{IsBadFile, HoldsImage, AreFirmwareFiles, AreCheckFiles, IsAcceptedWithNeed, IsBestWithNeed, refused_words}
+use Rattle.tcd_driver.specs.Headlines.{HoldsImage, AreFirmwareFiles, AreCheckFiles, IsAcceptedWithNeed, IsBestWithNeed, refused_words}
 use Rattle.depth_maker.specs.Answers.{NoneAccepted}
 use Rattle.tcd_driver.specs.BestCert.{IsLeastOfItsVersion}
 use Rattle.tcd_driver.specs.Gen.{IsGenFunctionCount}
@@ -62,12 +59,6 @@ pub record HeadlineOfDis (elf_name : List ℕ) (before after : FileMap) (printed
   pub image : ImageData
   pub elf_file : HoldsImage before elf_name image
   pub prints : printed ≡ listing_of image
-  pub stays : after ≡ before
-
--- `dis`, which only reports, refuses: its file is too long, or it is no executable.
-pub record RefusalByDis (elf_name : List ℕ) (before after : FileMap) (printed : List ℕ) : Type 0 where
-  pub bad :
-      IsBadFile before elf_name (2 ^ 24) (codes "bad elf 0" ++ 10 ∷ []) (λ bytes line. (e : ImageErr) × (image_of_file bytes ≡ Err e) × (line ≡ bad_elf_line e)) printed
   pub stays : after ≡ before
 
 -- ---- gen
