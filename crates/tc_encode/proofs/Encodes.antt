@@ -1,9 +1,9 @@
 -- The bytes of an instruction's word.
-use Rattle.std.proofs.Common.{◌≡◌, ◌/◌, ◌%◌, ◌^◌, ◌<◌, ℕ, zero, suc, Bool, true, false, List, [], ◌∷◌, take, drop, get_or, refl, sym, ap, subst, ◌∙◌, arith}
+use Rattle.std.proofs.Common.{◌≡◌, ◌/◌, ◌%◌, ◌^◌, ◌<◌, ℕ, zero, suc, Bool, true, false, List, [], ◌∷◌, length, take, drop, get_or, refl, sym, ap, subst, ◌∙◌, arith}
 use Rattle.std.specs.Prelude.{All, if◌then◌else◌}
 use Rattle.std.specs.Int.{w32, to_le_bytes}
 use Rattle.tc_isa.specs.Rows.{is_long}
-use Rattle.tc_isa.specs.Spelling.{word_of, spelling_of, Spells}
+use Rattle.tc_isa.specs.Spelling.{word_of, spelling_of, Spells, spelling_by, instruction_bytes}
 use Rattle.tcd_base.specs.Bytes.{four_bytes}
 use Rattle.tc_isa.specs.Insts.{InstData, IsInst, fields_in}
 use Rattle.tc_isa.proofs.TableFacts.{row_at}
@@ -14,6 +14,10 @@ four_le : (w : ℕ) → w < 2 ^ 32 → to_le_bytes w32 w ≡ four_bytes w
 four_le w h =
     let p : w / 2 ^ 24 % 256 ≡ w / 2 ^ 24 = omega arith in
     ap (λ d. w % 256 ∷ w / 2 ^ 8 % 256 ∷ w / 2 ^ 16 % 256 ∷ d ∷ []) p
+
+spelled_length : (long : Bool) (w : ℕ) → length (spelling_of long w) ≡ (if long then 4 else 2)
+spelled_length true w = refl
+spelled_length false w = refl
 
 -- what is taken and what is left of the four bytes
 taken : (long : Bool) (w : ℕ) → (long ≡ false → w < 2 ^ 16) → take (if long then 4 else 2) (four_bytes w) ≡ spelling_of long w
@@ -41,6 +45,9 @@ module _ (i : InstData) (is : IsInst i) (w len : ℕ) (bytes : List ℕ) (word_i
 
   pub encoded : Spells (take len bytes) i
   encoded = record { inst = is; is = ap (λ n. take n bytes) len_is ∙ ap (take (decoded_length is.row.op1)) four ∙ taken (is_long is.row) w small ∙ ap (spelling_of (is_long is.row)) word_is }
+
+  pub counted : len ≡ length (instruction_bytes i)
+  counted = len_is ∙ sym (spelled_length (is_long is.row) (word_of is.row (fields_in i))) ∙ sym (ap (λ o. length (spelling_by o i)) is.at)
 
   pub padded : All (λ b. b ≡ 0) (drop len bytes)
   padded = subst (λ n. All (λ b. b ≡ 0) (drop n bytes)) (sym len_is) (subst (λ bs. All (λ b. b ≡ 0) (drop (decoded_length is.row.op1) bs)) (sym four) (left (is_long is.row) w small))

@@ -1,6 +1,6 @@
 // Encodes an instruction as bytes.
-ghost use Rattle.std.specs.Prelude.{◌≡◌, take, drop, All};
-ghost use Rattle.tc_isa.specs.Spelling.{Spells};
+ghost use Rattle.std.specs.Prelude.{◌≡◌, length, take, drop, All};
+ghost use Rattle.tc_isa.specs.Spelling.{Spells, instruction_bytes};
 
 use crate::decoding::decoded_length;
 use crate::forms::word_of_fields;
@@ -16,6 +16,7 @@ pub struct Code {
 /// Returns the only bytes that spell the instruction. Bytes after its length are 0.
 pub fn encode(inst: &Inst) -> Code
     ensures spells { Spells (take result.len result.bytes) inst.now }
+    ensures len { result.len ≡ length (instruction_bytes inst.now) }
     ensures rest { All (λ b. b ≡ 0) (drop result.len result.bytes) }
 {
     let row = &rows()[usize::from(inst.row)];
