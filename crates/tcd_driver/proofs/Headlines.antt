@@ -6,8 +6,10 @@ pub mod Builds
 pub mod Cells
 pub mod Tasks
 pub mod Texts
-use Rattle.std.proofs.Common.{◌≡◌, ◌≢◌, ◌<◌, ◌≤◌, ◌-◌, ◌+◌, ◌^◌, ◌⊎◌, inl, inr, ℕ, Bool, true, false, cond, List, [], ◌∷◌, ◌++◌, length, Option, Some, None, Ok, refl, sym, ap, subst, ◌∙◌}
-use Rattle.std.specs.Prelude.{codes, IsSomeAnd}
+use Rattle.std.proofs.Common.{◌≡◌, ◌≢◌, ◌<◌, ◌≤◌, ◌-◌, ◌+◌, ◌^◌, ◌⊎◌, inl, inr, ℕ, Bool, true, false, cond, List, [], ◌∷◌, ◌++◌, length, Option, Some, None, Ok, refl, sym, ap, subst, ◌∙◌, append_assoc}
+use Rattle.std.specs.Prelude.{codes, if◌then◌else◌, IsSomeAnd}
+use Rattle.tcd_text.specs.HexNumbers.{hex_word}
+use Rattle.tcd_report.specs.Texts.{key_kind_words}
 use Rattle.std.specs.Fmt.{decimal}
 use Rattle.std.specs.FinMap.{get, insert, get-insert}
 use Rattle.std.specs.Cmp.Lexicographic.{nat_list_cmp_total}
@@ -42,7 +44,7 @@ use Rattle.tcd_reading.specs.declared.status.Status.TheVariants.{Done, Refused, 
 use Rattle.tcd_reading.proofs.Decided.{status_is}
 use Rattle.tcd_forms.specs.Forms.{SourceData, elf_form, plan_form, cert_form, script_form, layout_form, placed_source_form}
 use Rattle.tcd_forms.specs.Lines.{certified_line, run_line, run_end_text, refused_line, key_line, key_kind_text}
-use Rattle.tcd_driver.specs.Headlines.{certified_words, HoldsFile, IsBadFile, too_long, faulty, HoldsImage, HoldsPlan, HoldsCert, HoldEachFile, AreFirmwareFiles, AreCheckFiles, IsOnlyFileWritten, IsAcceptedWithNeed, IsBestWithNeed, frame_words, refused_words, HeadlineOfCheck, RefusalByCheck, HeadlineOfCert, RefusalByCert, HeadlineOfRun}
+use Rattle.tcd_driver.specs.Headlines.{certified_words, HoldsFile, IsBadFile, too_long, faulty, HoldsImage, HoldsPlan, HoldsCert, HoldEachFile, AreFirmwareFiles, AreCheckFiles, IsOnlyFileWritten, IsAcceptedWithNeed, IsBestWithNeed, refused_text, refused_words, HeadlineOfCheck, RefusalByCheck, HeadlineOfCert, RefusalByCert, HeadlineOfRun}
 use Rattle.tcd_driver.specs.Check as verdict
 use Rattle.tcd_driver.specs.Check.{CheckNames, IsCheckVerdict, check_reading}
 use Rattle.tcd_driver.specs.Cert as certifying
@@ -196,9 +198,15 @@ certified_is : (need areas : ℕ) → certified_line need areas ≡ certified_wo
 unfolding certified_line
 certified_is need areas = refl
 
-refused_is : (rule : ℕ) (key : Key) (addr : ℕ) → refused_line rule key addr ≡ refused_words rule key addr
+-- what is behind the text of a refusal
+text_before : (rule : ℕ) (key : Key) (addr : ℕ) (tail : List ℕ) →
+    codes "refused K" ++ (decimal rule ++ (codes " at " ++ (hex_word addr ++ (codes " in " ++ (key_kind_words key.kind ++ (hex_word key.entry ++ (codes " prio " ++ (decimal key.prio ++ (codes " is " ++ ((if key.is then 49 else 48) ∷ tail))))))))))
+    ≡ refused_text rule key addr ++ tail
+text_before rule key addr tail = simp append_assoc
+
+pub refused_is : (rule : ℕ) (key : Key) (addr : ℕ) → refused_line rule key addr ≡ refused_words rule key addr
 unfolding refused_line key_line key_kind_text
-refused_is rule key addr = refl
+refused_is rule key addr = text_before rule key addr (10 ∷ [])
 
 -- the text of a report
 pub text_of : (r q : Report) (line : List ℕ) → r ≡ q → q.text ≡ line → r.text ≡ line

@@ -108,15 +108,19 @@ pub record IsBestWithNeed (image : ImageData) (plan : PlanData) (cert : CertData
 
 -- ---- lines
 
--- a frame in the line of a headline: its kind, its entry, its interrupt priority, and whether it
+-- a frame in the text of a headline: its kind, its entry, its interrupt priority, and whether it
 -- runs on the interrupt stack
 abbrev pub frame_words : Key → List ℕ
 frame_words frame =
-    key_kind_words frame.kind ++ (hex_word frame.entry ++ (codes " prio " ++ (decimal frame.prio ++ (codes " is " ++ ((if frame.is then 49 else 48) ∷ 10 ∷ [])))))
+    key_kind_words frame.kind ++ (hex_word frame.entry ++ (codes " prio " ++ (decimal frame.prio ++ (codes " is " ++ ((if frame.is then 49 else 48) ∷ [])))))
 
--- the line of a refusal in the headlines: the rule that fails, the address, and the frame
+-- the text of a refusal in the headlines: the rule that fails, the address, and the frame
+abbrev pub refused_text : ℕ → Key → ℕ → List ℕ
+refused_text rule frame address = codes "refused K" ++ (decimal rule ++ (codes " at " ++ (hex_word address ++ (codes " in " ++ frame_words frame))))
+
+-- the line of a refusal in the headlines
 abbrev pub refused_words : ℕ → Key → ℕ → List ℕ
-refused_words rule frame address = codes "refused K" ++ (decimal rule ++ (codes " at " ++ (hex_word address ++ (codes " in " ++ frame_words frame))))
+refused_words rule frame address = refused_text rule frame address ++ 10 ∷ []
 
 -- the line in the headlines of `check`, `cert` and `ship`: the need, and the areas without the
 -- reserve

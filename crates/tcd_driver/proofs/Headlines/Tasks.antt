@@ -1,6 +1,8 @@
 -- What it means that `tasks` and `taskcert` are done.
-use Rattle.std.proofs.Common.{suc, ◌≡◌, ◌≢◌, ◌≤◌, ◌<◌, ◌-◌, ◌^◌, ◌==◌, ◌⊎◌, inl, inr, ℕ, Bool, true, false, not, List, [], ◌∷◌, length, Option, Some, Ok, refl, sym, ap, subst, ◌∙◌, arith}
-use Rattle.std.specs.Prelude.{All}
+use Rattle.std.proofs.Common.{suc, ◌≡◌, ◌≢◌, ◌≤◌, ◌<◌, ◌-◌, ◌^◌, ◌==◌, ◌⊎◌, inl, inr, ℕ, Bool, true, false, not, List, [], ◌∷◌, ◌++◌, length, Option, Some, Ok, refl, sym, ap, subst, ◌∙◌, arith}
+use Rattle.std.specs.Prelude.{codes, take, All}
+use Rattle.std.specs.Fmt.{decimal}
+use Rattle.std.proofs.lemmas.List.{length-append}
 use Rattle.std.specs.FinMap.{get, insert}
 use Rattle.std.specs.List.{list_any}
 use Rattle.std.specs.Str.{bytes_eq}
@@ -27,7 +29,7 @@ use Rattle.tcd_reading.specs.Inputs.{HoldsInput, Reading, answer, each, ReadingS
 use Rattle.tcd_reading.specs.declared.status.Status.TheVariants.{Done, Refused, BadInput}
 use Rattle.tcd_reading.proofs.Decided.{status_is, writes_are}
 use Rattle.tcd_forms.specs.Forms.{elf_form, plan_form, cert_form}
-use Rattle.tcd_forms.specs.Lines.{refused_line, key_line, key_kind_text, certified_tasks_line, refused_switch_line, refused_task_line, line_with_task, refused_sum_line}
+use Rattle.tcd_forms.specs.Lines.{certified_tasks_line, refused_switch_line, refused_task_line, line_with_task, refused_sum_line}
 use Rattle.tcd_driver.specs.Headlines.Tasks.{certified_tasks_words, refused_sum_words, AreTaskFiles, IsAcceptedForTask, AreSafeTogether, sum_of_task_needs, switch_words, refused_task_words, HeadlineOfTasks, IsFirstRefusedTask, IsTasksFault, no_switch, refused_task, above, RefusalByTasks, HoldTaskCerts, IsLeastForTask, HeadlineOfTaskcert, NoCertForTask, unaccepted, not_apart, IsFirstWithoutCert, IsTaskcertFault, switch_missing, without, sum_above, RefusalByTaskcert}
 use Rattle.tcd_driver.specs.CellAndTaskForms.{tasks_form}
 use Rattle.tcd_driver.specs.DistinctNames.{are_distinct_names}
@@ -35,8 +37,8 @@ use Rattle.tcd_driver.specs.Tasks as judging
 use Rattle.tcd_driver.specs.Tasks.{TasksNames, cert_of_task, IsTaskRefused, IsFirstRefused, IsTasksVerdict, tasks_reading_if, tasks_reading}
 use Rattle.tcd_driver.specs.Taskcert as making
 use Rattle.tcd_driver.specs.Taskcert.{TaskcertNames, AreTasksMade, IsTaskUncertified, IsFirstUncertified, cert_files, IsTaskcerting, taskcert_reading, IsTaskCertMade}
-use Rattle.tcd_driver.specs.Headlines.{HoldEachFile}
-use Rattle.tcd_driver.proofs.Headlines.{Leaves, Reports, Tells, bad_undone, bad_unrefused, refused_undone, held_nothing, read, get_same, get_other, cert_held, firmware_files, each_said, least_of, text_of, held_of}
+use Rattle.tcd_driver.specs.Headlines.{HoldEachFile, refused_text}
+use Rattle.tcd_driver.proofs.Headlines.{Leaves, Reports, Tells, refused_is, bad_undone, bad_unrefused, refused_undone, held_nothing, read, get_same, get_other, cert_held, firmware_files, each_said, least_of, text_of, held_of}
 
 tasks_is : (sum areas n : ℕ) → certified_tasks_line sum areas n ≡ certified_tasks_words sum areas n
 unfolding certified_tasks_line
@@ -117,9 +119,21 @@ switch_is : (addr : ℕ) → refused_switch_line addr ≡ switch_words addr
 unfolding refused_switch_line
 switch_is addr = refl
 
+-- a line without its line feed
+all_taken : (xs ys : List ℕ) → take (length xs) (xs ++ ys) ≡ xs
+all_taken [] ys = refl
+all_taken (x ∷ xs) ys = ap (λ (zs : List ℕ). x ∷ zs) (all_taken xs ys)
+
+without_feed : (text : List ℕ) → take (length (text ++ 10 ∷ []) - 1) (text ++ 10 ∷ []) ≡ text
+without_feed text =
+    let len : length (text ++ 10 ∷ []) - 1 ≡ length text = omega (arith, length-append text (10 ∷ [])) in
+    ap (λ (n : ℕ). take n (text ++ 10 ∷ [])) len ∙ all_taken text (10 ∷ [])
+
 task_is : (rule : ℕ) (key : Key) (addr u : ℕ) → refused_task_line rule key addr u ≡ refused_task_words rule key addr u
-unfolding line_with_task refused_line key_line key_kind_text
-task_is rule key addr u = refl
+unfolding line_with_task
+task_is rule key addr u =
+    ap (λ (line : List ℕ). take (length line - 1) line ++ (codes " of task " ++ (decimal u ++ 10 ∷ []))) (refused_is rule key addr)
+    ∙ ap (λ (text : List ℕ). text ++ (codes " of task " ++ (decimal u ++ 10 ∷ []))) (without_feed (refused_text rule key addr))
 
 sum_is : (sum areas : ℕ) → refused_sum_line sum areas ≡ refused_sum_words sum areas
 unfolding refused_sum_line

@@ -1,5 +1,5 @@
 -- What it means that `tasks` and `taskcert` are done, or refuse.
-use Rattle.std.specs.Prelude.{◌≡◌, ◌≢◌, ◌≤◌, ◌<◌, ◌-◌, ◌^◌, ◌⊎◌, ℕ, List, ◌∷◌, ◌++◌, codes, length, take, All, Ok, Some, []}
+use Rattle.std.specs.Prelude.{◌≡◌, ◌≢◌, ◌≤◌, ◌<◌, ◌-◌, ◌^◌, ◌⊎◌, ℕ, List, ◌∷◌, ◌++◌, codes, length, All, Ok, Some, []}
 use Rattle.std.specs.Fmt.{decimal}
 use Rattle.std.specs.FinMap.{get}
 use Rattle.csa_chain.specs.SeveralChains.{sum_over_chains}
@@ -21,7 +21,7 @@ use Rattle.task_chains.specs.Rule17.{KeepsApart, IsTaskFault}
 use Rattle.task_chains.specs.SafeTasks.{SafeTasks, need_of_task}
 use Rattle.tcd_base.specs.Files.{FileMap}
 use Rattle.tcd_driver.specs.Tasks.{cert_of_task}
-use Rattle.tcd_driver.specs.Headlines.{HoldsFile, AreFirmwareFiles, HoldEachFile, refused_words}
+use Rattle.tcd_driver.specs.Headlines.{HoldsFile, AreFirmwareFiles, HoldEachFile, refused_text}
 use Rattle.depth_maker.specs.Answers.{NoneAccepted}
 use Rattle.tcd_driver.specs.BestCert.{IsLeastOfItsVersion}
 
@@ -56,10 +56,9 @@ sum_of_task_needs image plan list certs = sum_over_chains (count list) (need_of_
 abbrev pub switch_words : ℕ → List ℕ
 switch_words address = codes "refused switch at " ++ (hex_word address ++ 10 ∷ [])
 
--- the line of a refusal, with the task before the line feed
+-- the line of a refusal, with the task
 abbrev pub refused_task_words : ℕ → Key → ℕ → ℕ → List ℕ
-refused_task_words rule frame address u =
-    take (length (refused_words rule frame address) - 1) (refused_words rule frame address) ++ (codes " of task " ++ (decimal u ++ 10 ∷ []))
+refused_task_words rule frame address u = refused_text rule frame address ++ (codes " of task " ++ (decimal u ++ 10 ∷ []))
 
 -- the line in the headlines of `tasks` and `taskcert`: the needs together, the areas without the
 -- reserve, and the number of tasks
