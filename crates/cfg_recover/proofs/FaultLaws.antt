@@ -42,7 +42,7 @@ no_rule image plan cert node q r out =
           writes = λ e. absurd (other 13 (omega arith) (omega arith) e);
         };
       };
-      covered = λ shape n d values faultless code c e.
+      covered = λ shape n d alone c e.
           let asked = duty_asked (limits_in plan cert) image plan node.key q.addr q.state n shape d c in
           absurd (other d.rule (omega (arith, asked.0)) (omega (arith, asked.1)) (let f : r ≡ d.rule = omega arith in f));
       needs = λ shape n e. absurd (other 14 (omega arith) (omega arith) e);

@@ -73,7 +73,7 @@ module _ (image : ImageData) (plan : PlanData) (cert : CertData) (is_cert : IsCe
       let values : AreValues (limits_in plan cert) (point.state).regs = (all 2).values refl in
       let faultless : IsFaultless (limits_in plan cert) image plan node.key point.addr point.state = λ r. (all r).own values in
       let has : HasCode image plan point.addr = (faultless 3).code refl in
-      let needs : NeedRuleHolds image plan cert node point (duties_of (limits_in plan cert) image plan node.key point.addr point.state has.shape has.size) = (all 14).needs has.shape has.size refl values faultless has.code in
+      let needs : NeedRuleHolds image plan cert node point (duties_of (limits_in plan cert) image plan node.key point.addr point.state has.shape has.size) = (all 14).needs has.shape has.size refl (record { values = values; faultless = faultless; code = has.code }) in
       let is : IsPoint cert.version point = All-contains (IsPoint cert.version) node.points point (node_is node stands).points there in
       record {
         shape = has.shape;
@@ -83,7 +83,7 @@ module _ (image : ImageData) (plan : PlanData) (cert : CertData) (is_cert : IsCe
           regs = (is.state).regs;
           values = values;
           own = λ r. (faultless r).own has.shape has.size has.code;
-          met = λ d c. (all d.rule).covered has.shape has.size d values faultless has.code c refl;
+          met = λ d c. (all d.rule).covered has.shape has.size d (record { values = values; faultless = faultless; code = has.code }) c refl;
           locals = needs.locals;
           entered = λ d c. All-contains (λ d. EntryNeedRuleHolds cert node point.state d.duty) _ d needs.entered c;
           start = needs.start;

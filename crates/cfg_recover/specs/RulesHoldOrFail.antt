@@ -53,19 +53,28 @@ pub record NeedRuleHolds (image : ImageData) (plan : PlanData) (cert : CertData)
   pub start : node.key ≡ start_key image plan → point.addr ≡ image.entry → node.need ≤ plan.areas - plan.reserve
 
 -- ---- rules
+-- A point that has no fault by itself: its values are of the plan's lattice, and no rule's own part
+-- fails there. This is its instruction.
+pub record IsSoundAlone (image : ImageData) (plan : PlanData) (cert : CertData) (node : NodeData) (point : Point) (shape : Shape) (n : ℕ) : Type 0 where
+  pub values : AreValues (limits_in plan cert) (point.state).regs
+  pub faultless : IsFaultless (limits_in plan cert) image plan node.key point.addr point.state
+  pub code : IsCode image plan point.addr shape n
+
+-- what a point owes by its instruction
+abbrev pub owed_at : ImageData → PlanData → CertData → NodeData → Point → Shape → ℕ → List Owed
+owed_at image plan cert node point shape n = duties_of (limits_in plan cert) image plan node.key point.addr point.state shape n
+
 -- rule r of certificates holds at a point, else it fails there. A value outside the plan's lattice
 -- fails rule 2 alone; where a rule's own part fails, nothing is asked of other points or needs
 pub record RuleHolds (image : ImageData) (plan : PlanData) (cert : CertData) (node : NodeData) (point : Point) (r : ℕ) : Type 0 where
   pub values : r ≡ 2 → AreValues (limits_in plan cert) (point.state).regs
   pub own : AreValues (limits_in plan cert) (point.state).regs → LocalHolds (limits_in plan cert) image plan node.key point.addr point.state r
   pub covered :
-      (shape : Shape) (n : ℕ) (d : Owed) → AreValues (limits_in plan cert) (point.state).regs
-      → IsFaultless (limits_in plan cert) image plan node.key point.addr point.state → IsCode image plan point.addr shape n
-      → Contains (duties_of (limits_in plan cert) image plan node.key point.addr point.state shape n) d → d.rule ≡ r → IsMet cert node point.state d.duty
+      (shape : Shape) (n : ℕ) (d : Owed) → IsSoundAlone image plan cert node point shape n → Contains (owed_at image plan cert node point shape n) d → d.rule ≡ r
+      → IsMet cert node point.state d.duty
   pub needs :
-      (shape : Shape) (n : ℕ) → r ≡ 14 → AreValues (limits_in plan cert) (point.state).regs
-      → IsFaultless (limits_in plan cert) image plan node.key point.addr point.state → IsCode image plan point.addr shape n
-      → NeedRuleHolds image plan cert node point (duties_of (limits_in plan cert) image plan node.key point.addr point.state shape n)
+      (shape : Shape) (n : ℕ) → r ≡ 14 → IsSoundAlone image plan cert node point shape n
+      → NeedRuleHolds image plan cert node point (owed_at image plan cert node point shape n)
 
 -- rule 1 holds: the certificate has a node of the start frame, and its point at the entry covers
 -- the start state

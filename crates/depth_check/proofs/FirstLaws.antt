@@ -77,7 +77,7 @@ need_at image plan cert node point holds key addr =
     let values = (holds 2).values refl in
     let faultless : IsFaultless (limits_in plan cert) image plan node.key point.addr point.state = λ r. (holds r).own values in
     let code = (faultless 3).code refl in
-    ((holds 14).needs code.shape code.size refl values faultless code.code).start key addr
+    ((holds 14).needs code.shape code.size refl (record { values = values; faultless = faultless; code = code.code })).start key addr
 
 point_holds : (image : ImageData) (plan : PlanData) (cert : CertData) (node : NodeData) (found : Option Point) → find_point image.entry node.points ≡ found → IsSomeAnd found (λ p. Covers p.state (start_state plan))
     → HoldsAtNode image plan cert node → node.key ≡ start_key image plan → node.need ≤ plan.areas - plan.reserve

@@ -16,7 +16,7 @@ use Rattle.depth_cert.specs.Certs.{CertData}
 use Rattle.cfg_recover.specs.Code.{IsCode}
 use Rattle.cfg_recover.specs.LocalFaults.{IsLocalFault, IsFaultless}
 use Rattle.cfg_recover.specs.Duties.{Owed, duties_of}
-use Rattle.cfg_recover.specs.RulesHoldOrFail.{limits_in, RuleHolds, EntryNeedRuleHolds}
+use Rattle.cfg_recover.specs.RulesHoldOrFail.{IsSoundAlone, limits_in, RuleHolds, EntryNeedRuleHolds}
 use Rattle.cfg_recover.proofs.CodeLaws.{IsCode-one}
 use Rattle.depth_check.specs.LeastBroken.{FindsLeastBroken, lesser_broken_rule, broken_rule_unless}
 use Rattle.depth_check.specs.DutiesHold.{DutyHolds, DutiesHold, HasOwnNeed}
@@ -59,7 +59,7 @@ module _ (image : ImageData) (plan : PlanData) (cert : CertData) (node : NodeDat
       let f : IsLocalFault (limits_in plan cert) image plan node.key point.addr point.state r = subst (λ (c : Limits). IsLocalFault c image plan node.key point.addr point.state r) limits fault in
       record {
         broken = λ h. f.fails (h.own v);
-        least = λ q lt. record { values = λ e. v; own = λ w. f.least q lt; covered = λ shape n d w faultless. absurd (f.fails (faultless r)); needs = λ shape n e w faultless. absurd (f.fails (faultless r)) };
+        least = λ q lt. record { values = λ e. v; own = λ w. f.least q lt; covered = λ shape n d alone. absurd (f.fails (alone.faultless r)); needs = λ shape n e alone. absurd (f.fails (alone.faultless r)) };
         known = own_known b r fault;
       }
 
@@ -69,12 +69,15 @@ module _ (image : ImageData) (plan : PlanData) (cert : CertData) (node : NodeDat
       let none : AreValues (limits_in plan cert) (point.state).regs → ⊥ = λ v. not (subst (λ (c : Limits). AreValues c (point.state).regs) (sym limits) v) in
       record {
         broken = λ h. none (h.values refl);
-        least = λ q lt. record { values = λ e. absurd (omega arith); own = λ v. absurd (none v); covered = λ shape n d v. absurd (none v); needs = λ shape n e v. absurd (none v) };
+        least = λ q lt. record { values = λ e. absurd (omega arith); own = λ v. absurd (none v); covered = λ shape n d alone. absurd (none alone.values); needs = λ shape n e alone. absurd (none alone.values) };
         known = omega arith;
       }
 
   -- duties and the need
   module _ (shape : Shape) (size : ℕ) (values : AreValues (limits_in plan cert) (point.state).regs) (faultless : IsFaultless (limits_in plan cert) image plan node.key point.addr point.state) (code : IsCode image plan point.addr shape size) where
+    alone : IsSoundAlone image plan cert node point shape size
+    alone = record { values = values; faultless = faultless; code = code }
+
     -- for any shape and size of the code there
     told_is : (other : Shape) (n : ℕ) → IsCode image plan point.addr other n
         → duties_of (limits_in plan cert) image plan node.key point.addr point.state shape size ≡ duties_of (limits_in plan cert) image plan node.key point.addr point.state other n
@@ -87,14 +90,14 @@ module _ (image : ImageData) (plan : PlanData) (cert : CertData) (node : NodeDat
     holds_to q h = record {
       values = λ e. values;
       own = λ v. faultless q;
-      covered = λ other n d v f found c e.
-          (All-contains (DutyHolds cert node point.state q) (duties_of (limits_in plan cert) image plan node.key point.addr point.state shape size) d h.0 (subst (λ (l : List Owed). Contains l d) (sym (told_is other n found)) c)).met e;
-      needs = λ other n e v f found.
+      covered = λ other n d alone c e.
+          (All-contains (DutyHolds cert node point.state q) (duties_of (limits_in plan cert) image plan node.key point.addr point.state shape size) d h.0 (subst (λ (l : List Owed). Contains l d) (sym (told_is other n alone.code)) c)).met e;
+      needs = λ other n e alone.
           let own = h.1 (sym e) in
           record {
             locals = own.locals;
             entered =
-                subst (λ (l : List Owed). All (λ d. EntryNeedRuleHolds cert node point.state d.duty) l) (told_is other n found)
+                subst (λ (l : List Owed). All (λ d. EntryNeedRuleHolds cert node point.state d.duty) l) (told_is other n alone.code)
                 (All-weaker (DutyHolds cert node point.state q) (λ d. EntryNeedRuleHolds cert node point.state d.duty) (λ d w. w.need e) (duties_of (limits_in plan cert) image plan node.key point.addr point.state shape size) h.0);
             start = own.start;
           };
@@ -104,12 +107,12 @@ module _ (image : ImageData) (plan : PlanData) (cert : CertData) (node : NodeDat
     holds_from q h = (
       All-from_contains (DutyHolds cert node point.state q) (duties_of (limits_in plan cert) image plan node.key point.addr point.state shape size)
           (λ d c. record {
-            met = λ e. h.covered shape size d values faultless code c e;
+            met = λ e. h.covered shape size d alone c e;
             need = λ e.
                 All-contains (λ d. EntryNeedRuleHolds cert node point.state d.duty) (duties_of (limits_in plan cert) image plan node.key point.addr point.state shape size) d
-                (h.needs shape size e values faultless code).entered c;
+                (h.needs shape size e alone).entered c;
           }),
-      (λ e. let need = h.needs shape size (sym e) values faultless code in record { locals = need.locals; start = need.start }),
+      (λ e. let need = h.needs shape size (sym e) alone in record { locals = need.locals; start = need.start }),
     )
 
     pub duties_found : (duties : Option ℕ) (own : Bool) → FindsLeastBroken (DutiesHold cert node point.state (duties_of (limits_in plan cert) image plan node.key point.addr point.state shape size)) duties → (IsTrue own ↔ HasOwnNeed image plan node point)

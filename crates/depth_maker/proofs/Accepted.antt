@@ -20,7 +20,7 @@ use Rattle.cfg_recover.specs.Code.{IsCode}
 use Rattle.cfg_recover.specs.Entries.{start_key, start_state}
 use Rattle.cfg_recover.specs.LocalFaults.{IsFaultless}
 use Rattle.cfg_recover.specs.Duties.{Duty, jump, enter, resume, leave, Owed, duties_of}
-use Rattle.cfg_recover.specs.RulesHoldOrFail.{limits_in, HasPoint, IsMet, EntryNeedRuleHolds, RuleHolds, HoldsAtNode, Accepts}
+use Rattle.cfg_recover.specs.RulesHoldOrFail.{IsSoundAlone, limits_in, HasPoint, IsMet, EntryNeedRuleHolds, RuleHolds, HoldsAtNode, Accepts}
 use Rattle.cfg_recover.specs.Assignments.{Place, point, exit, known_at, known_in, CoversAt, asked_by_duty, HasDuty, Closed, first_place, AllFaultless}
 use Rattle.depth_cert.specs.Known.{Known, state, leaving}
 use Rattle.depth_cert.specs.Proper.{IsProperState, IsProperKnown}
@@ -193,14 +193,17 @@ module _ (image : ImageData) (plan : PlanData) (cert : CertData) (ground : IsGro
     pub point_proper : IsProperState (limits_in plan cert) s
     point_proper = subst (IsProperState (limits_in plan cert)) a.is place_proper
 
+    place_alone : (shape : Shape) (n : ℕ) → IsCode image plan (a.place).addr shape n → IsSoundAlone image plan cert a.node a.place shape n
+    place_alone shape n code = record { values = place_values; faultless = place_faultless; code = code }
+
     abbrev AllMet : Key → ℕ → State → Type 0
     AllMet k p s =
         (shape : Shape) (n : ℕ) (d : Owed) → IsCode image plan p shape n → Contains (duties_of (limits_in plan cert) image plan k p s shape n) d → IsMet cert a.node s d.duty × EntryNeedRuleHolds cert a.node s d.duty
 
     place_met : AllMet (a.node).key (a.place).addr (a.place).state
     place_met shape n d code c = (
-      (rules d.rule).covered shape n d place_values place_faultless code c refl,
-      All-at (λ (e : Owed). EntryNeedRuleHolds cert a.node (a.place).state e.duty) _ d ((rules 14).needs shape n refl place_values place_faultless code).entered c,
+      (rules d.rule).covered shape n d (place_alone shape n code) c refl,
+      All-at (λ (e : Owed). EntryNeedRuleHolds cert a.node (a.place).state e.duty) _ d ((rules 14).needs shape n refl (place_alone shape n code)).entered c,
     )
 
     pub point_met : AllMet k p s
@@ -209,12 +212,12 @@ module _ (image : ImageData) (plan : PlanData) (cert : CertData) (ground : IsGro
     pub point_need : (shape : Shape) (n : ℕ) → IsCode image plan p shape n → length s.locals.items ≤ (a.node).need
     point_need shape n code =
         carried (λ k p s. IsCode image plan p shape n → length s.locals.items ≤ (a.node).need) (a.node).key k (a.place).addr p (a.place).state s a.key a.addr a.is
-        (λ code. ((rules 14).needs shape n refl place_values place_faultless code).locals) code
+        (λ code. ((rules 14).needs shape n refl (place_alone shape n code)).locals) code
 
     pub point_start : (shape : Shape) (n : ℕ) → IsCode image plan p shape n → k ≡ start_key image plan → p ≡ image.entry → (a.node).need ≤ plan.areas - plan.reserve
     point_start shape n code =
         carried (λ k p s. IsCode image plan p shape n → k ≡ start_key image plan → p ≡ image.entry → (a.node).need ≤ plan.areas - plan.reserve) (a.node).key k (a.place).addr p (a.place).state s a.key a.addr a.is
-        (λ code. ((rules 14).needs shape n refl place_values place_faultless code).start) code
+        (λ code. ((rules 14).needs shape n refl (place_alone shape n code)).start) code
 
     -- a duty that is met is covered
     pub met_covers : (d : Duty) → HasKey d → IsMet cert a.node s d → (y : Place) (v : Known) → asked_by_duty (known_in cert) k s d ≡ Some (y, v) → CoversAt (known_in cert) y v

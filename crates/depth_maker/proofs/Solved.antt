@@ -151,8 +151,8 @@ module _ (image : ImageData) (plan : PlanData) (cert : CertData) (ground : IsGro
     rule_holds r = record {
       values = λ e. proper.values;
       own = λ v. faultless r;
-      covered = λ shape size d v f code c e. met shape size code d.duty (has_key shape size code d c) (duty shape size code d c);
-      needs = λ shape size e v f code. has_need shape size code;
+      covered = λ shape size d alone c e. met shape size alone.code d.duty (has_key shape size alone.code d c) (duty shape size alone.code d c);
+      needs = λ shape size e alone. has_need shape size alone.code;
     }
 
   exit_values : (n : NodeData) → Contains cert.nodes n → (o : Option Exit) → n.exit ≡ o → IfSome o (λ x. AreValues (limits_in plan cert) x.lower)

@@ -119,7 +119,7 @@ callee_needs image plan cert is accepted caller callee stands there calls =
     let values : AreValues (limits_in plan cert) (point.state).regs = (all 2).values refl in
     let faultless : IsFaultless (limits_in plan cert) image plan caller.key point.addr point.state = λ r. (all r).own values in
     let ds : List Owed = duties_of (limits_in plan cert) image plan caller.key point.addr point.state (calls.at).shape (calls.at).size in
-    let needs : NeedRuleHolds image plan cert caller point ds = (all 14).needs (calls.at).shape (calls.at).size refl values faultless (calls.at).code in
+    let needs : NeedRuleHolds image plan cert caller point ds = (all 14).needs (calls.at).shape (calls.at).size refl (record { values = values; faultless = faultless; code = (calls.at).code }) in
     let duty = called_duty ds callee.key (calls.at).called in
     let above : EntryNeedRuleHolds cert caller point.state (enter callee.key duty.0) = All-contains (λ (d : Owed). EntryNeedRuleHolds cert caller point.state d.duty) ds (owed 5 (enter callee.key duty.0)) needs.entered duty.1 in
     let more : length (point.state).locals.items + 1 + callee.need ≤ caller.need =
