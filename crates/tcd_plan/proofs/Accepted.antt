@@ -5,13 +5,13 @@ use Rattle.std.proofs.lemmas.List.{length-map}
 use Rattle.serde_json.specs.Data.{Data}
 use Rattle.tcd_plan.specs.Objects.{plan_objects_of}
 use Rattle.tcd_plan.specs.JsonValues.{json_elements_of, json_word_in}
-use Rattle.tcd_plan.specs.PlanData.{PlanData, are_areas, are_ranges_few, has_areas, has_vectors, too_many_of, plan_range_overlap}
+use Rattle.tcd_plan.specs.PlanData.{PlanData, are_areas, are_ranges_few, has_areas, has_vectors, passed_limits, too_many_of, plan_range_overlap}
 use Rattle.tcd_plan.specs.PlanReader.{HasShortPlanArrays, plan_device_of, irq_of, plan_range_of, plan_refusal, refusals, plan_in}
 use Rattle.tcd_plan.specs.KeyFaults.{first_bad_key, refused_key}
 use Rattle.tcd_plan.specs.declared.plans.PlanErr.TheVariants.{BadValue, TooMany, BadCsa, BadVector}
 use Rattle.tcd_base.specs.declared.range.Range.{Range}
 use Rattle.tcd_plan.specs.declared.key_table.Holder.TheVariants.{Rom, Ram, Devices}
-use Rattle.tcd_plan.proofs.Small.{first_some_none, four_hold, option_map_none, where_none}
+use Rattle.tcd_plan.proofs.Small.{first_some_none, key_none, option_map_none, where_none}
 
 -- the limits of the save areas, over numbers
 pub record AreasHold (at areas reserve : ℕ) : Type 0 where
@@ -48,7 +48,12 @@ accepted d e =
 -- the tests of a document's values, one by one
 pub few_ranges : (p : PlanData) → too_many_of p ≡ None → (are_ranges_few p.rom ≡ true) × (are_ranges_few p.ram ≡ true) × (nat_le (length p.devices) 16 ≡ true) × (nat_le (length p.irqs) 32 ≡ true)
 unfolding too_many_of
-few_ranges p e = four_hold (are_ranges_few p.rom) (are_ranges_few p.ram) (nat_le (length p.devices) 16) (nat_le (length p.irqs) 32) (refused_key 1) (refused_key 4) (refused_key 7) (refused_key 20) e
+few_ranges p e = (
+  key_none (are_ranges_few p.rom) 1 (first_some_none (passed_limits p) 0 e (lit< tt)),
+  key_none (are_ranges_few p.ram) 4 (first_some_none (passed_limits p) 1 e (lit< tt)),
+  key_none (nat_le (length p.devices) 16) 7 (first_some_none (passed_limits p) 2 e (lit< tt)),
+  key_none (nat_le (length p.irqs) 32) 20 (first_some_none (passed_limits p) 3 e (lit< tt)),
+)
 
 few_of : (rs : List Range) → are_ranges_few rs ≡ true → length rs ≤ 16
 few_of rs e = leb-true _ _ (and_parts (nat_le (length rs) 16) _ e).0

@@ -8,7 +8,7 @@ use Rattle.tcd_base.specs.declared.range.Range.{Range}
 use Rattle.tcd_plan.specs.KeyRows.{KeyRow, holder_key, holders, key_rows}
 use Rattle.tcd_plan.specs.Objects.{plan_objects_of}
 use Rattle.tcd_plan.specs.KeyFaults.{has_unknown_key, is_key_value_bad, lacks_key, first_bad_key, first_key, first_missing_key, refused_key, first_unknown_key}
-use Rattle.tcd_plan.specs.PlanData.{PlanData, all_ranges, are_ranges_apart, are_ranges_few, has_areas, has_vectors, too_many_of, overlap_from, plan_range_overlap}
+use Rattle.tcd_plan.specs.PlanData.{PlanData, all_ranges, are_ranges_apart, are_ranges_few, key_unless, has_areas, has_vectors, too_many_of, overlap_from, plan_range_overlap}
 use Rattle.tcd_plan.specs.PlanReader.{HasText, plan_refusal, plan_in, refusal_if}
 use Rattle.tcd_plan.specs.JsonValues.{is_object}
 use Rattle.tcd_plan.specs.declared.plans.PlanErr.{PlanErr}
@@ -61,16 +61,17 @@ unknown-small : (d : Data) → IfSome (first_unknown_key d) IsKey
 unfolding first_unknown_key
 unknown-small d = held (find (λ h. list_any (has_unknown_key h) (plan_objects_of h d)) holders)
 
-if_not : {T : Type 0} (P : T → Type 0) (b : Bool) (x : T) (o : Option T) → P x → IfSome o P → IfSome (cond (not b) (Some x) o) P
-if_not P true x o hx ho = ho
-if_not P false x o hx ho = hx
+unless_few : (b : Bool) (key : ℕ) → IsKey (refused_key key) → IfSome (key_unless b key) IsKey
+unless_few true key h = tt
+unless_few false key h = h
 
 too_many-small : (p : PlanData) → IfSome (too_many_of p) IsKey
 unfolding too_many_of
 too_many-small p =
-    if_not IsKey (are_ranges_few p.rom) (refused_key 1) _ (lit< tt)
-    (if_not IsKey (are_ranges_few p.ram) (refused_key 4) _ (lit< tt)
-    (if_not IsKey (nat_le (length p.devices) 16) (refused_key 7) _ (lit< tt) (if_not IsKey (nat_le (length p.irqs) 32) (refused_key 20) None (lit< tt) tt)))
+    either IsKey (key_unless (are_ranges_few p.rom) 1) _ (unless_few (are_ranges_few p.rom) 1 (lit< tt))
+    (either IsKey (key_unless (are_ranges_few p.ram) 4) _ (unless_few (are_ranges_few p.ram) 4 (lit< tt))
+    (either IsKey (key_unless (nat_le (length p.devices) 16) 7) _ (unless_few (nat_le (length p.devices) 16) 7 (lit< tt))
+    (either IsKey (key_unless (nat_le (length p.irqs) 32) 20) None (unless_few (nat_le (length p.irqs) 32) 20 (lit< tt)) tt)))
 
 wrapped : (err : PlanKey → PlanErr) (o : Option PlanKey) → ((key : PlanKey) → IsKey key → HasText (err key)) → IfSome o IsKey → IfSome (option_map err o) HasText
 wrapped err None tells h = tt

@@ -4,7 +4,8 @@ use Rattle.std.specs.List.{find, list_all, list_any, position, prefix_len}
 use Rattle.std.specs.Option.{option_or}
 use Rattle.std.proofs.lemmas.Bool.{and_from, or_parts, ltb-false}
 use Rattle.tcd_plan.specs.ValueForms.{is_present_and_passing}
-use Rattle.tcd_plan.specs.PlanReader.{first_given_refusal, refusal_if}
+use Rattle.tcd_plan.specs.PlanData.{first_given_refusal, key_unless}
+use Rattle.tcd_plan.specs.PlanReader.{refusal_if}
 use Rattle.tcd_plan.specs.declared.plans.PlanErr.{PlanErr}
 
 pub option_or_none : {T : Type 0} (a b : Option T) → option_or a b ≡ None → (a ≡ None) × (b ≡ None)
@@ -24,17 +25,9 @@ pub where_none : (b : Bool) (err : PlanErr) → refusal_if (not b) err ≡ None 
 where_none true err e = refl
 where_none false err e = cc
 
-cond_none : {T : Type 0} (b : Bool) (x : T) (o : Option T) → cond (not b) (Some x) o ≡ None → (b ≡ true) × (o ≡ None)
-cond_none true x o e = (refl, e)
-cond_none false x o e = cc
-
--- four tests one after another, none of which fails
-pub four_hold : {T : Type 0} (a b c d : Bool) (w x y z : T) → cond (not a) (Some w) (cond (not b) (Some x) (cond (not c) (Some y) (cond (not d) (Some z) None))) ≡ None → (a ≡ true) × (b ≡ true) × (c ≡ true) × (d ≡ true)
-four_hold a b c d w x y z e =
-    let first = cond_none a w _ e in
-    let second = cond_none b x _ first.1 in
-    let third = cond_none c y _ second.1 in
-    (first.0, second.0, third.0, (cond_none d z _ third.1).0)
+pub key_none : (b : Bool) (key : ℕ) → key_unless b key ≡ None → b ≡ true
+key_none true key e = refl
+key_none false key e = cc
 
 -- a value that passes is there, or the default
 pub passes-unwrap_or : {T : Type 0} (test : T → Bool) (o : Option T) (d : T) → is_present_and_passing test o ≡ true → test (unwrap_or o d) ≡ true

@@ -8,7 +8,7 @@ use Rattle.tcd_plan.specs.declared.plans.Device.{Device}
 use Rattle.tcd_plan.specs.declared.plans.Plan.TheInside.{Inside}
 use Rattle.tcd_plan.specs.KeyFaults.{refused_key}
 use Rattle.tcd_plan.specs.declared.plans.PlanKey.{PlanKey}
-use Rattle.std.specs.Option.{option_map_or}
+use Rattle.std.specs.Option.{option_map_or, option_or}
 use Rattle.tcd_plan.specs.declared.plans.PlanErr.{PlanErr}
 use Rattle.tcd_plan.specs.declared.plans.PlanErr.TheVariants.{Overlap}
 
@@ -150,10 +150,28 @@ global_of p r = slice_index p.globals (if r == 16 then 0 else if r == 17 then 1 
 abbrev pub are_ranges_few : List Range → Bool
 are_ranges_few rs = nat_le (length rs) 16 && nat_le (sum_by (λ r. r.len) rs) (2 ^ 22)
 
--- the limit that a plan's data passes, if there is one: the key of the first array with too many
--- elements, or with too many bytes in its ranges
+-- of several refusals of a plan, the first that is there
+abbrev pub first_given_refusal : {T : Type 0} → List (Option T) → Option T
+first_given_refusal [] = None
+first_given_refusal (o ∷ os) = option_or o (first_given_refusal os)
+
+-- the key with this number, of an array in a plan's data that isn't within its limits
+abbrev pub key_unless : Bool → ℕ → Option PlanKey
+key_unless few key = if few then None else Some (refused_key key)
+
+-- the limits that a plan's data passes: the keys of the arrays with too many elements, or with too
+-- many bytes in their ranges
+abbrev pub passed_limits : PlanData → List (Option PlanKey)
+passed_limits p =
+    key_unless (are_ranges_few p.rom) 1 ∷
+    key_unless (are_ranges_few p.ram) 4 ∷
+    key_unless (nat_le (length p.devices) 16) 7 ∷
+    key_unless (nat_le (length p.irqs) 32) 20 ∷
+    []
+
+-- the first limit that a plan's data passes, if there is one
 unfoldable pub too_many_of : PlanData → Option PlanKey
-too_many_of p = if not (are_ranges_few p.rom) then Some (refused_key 1) else if not (are_ranges_few p.ram) then Some (refused_key 4) else if not (nat_le (length p.devices) 16) then Some (refused_key 7) else if not (nat_le (length p.irqs) 32) then Some (refused_key 20) else None
+too_many_of p = first_given_refusal (passed_limits p)
 
 -- what holds of every plan's save areas: 1 to 4096 from `at` on in a segment of 2^22 bytes, first
 -- link not 0, 1 or more in reserve (TriCore 1 architecture manual, volume 1, contexts)

@@ -13,7 +13,7 @@ use Rattle.tcd_plan.specs.Objects.{plan_objects_of}
 use Rattle.tcd_plan.specs.JsonValues.{json_elements_of, is_object, is_json_text, json_number_of, json_word_at, json_word_in}
 use Rattle.tcd_plan.specs.KeyFaults.{first_bad_key, first_missing_key, first_unknown_key}
 use Rattle.tcd_plan.specs.ValueForms.{is_present_and_passing}
-use Rattle.tcd_plan.specs.PlanData.{PlanData, has_areas, has_vectors, too_many_of, plan_range_overlap}
+use Rattle.tcd_plan.specs.PlanData.{PlanData, first_given_refusal, has_areas, has_vectors, too_many_of, plan_range_overlap}
 use Rattle.tcd_plan.specs.declared.plans.Device.{Device}
 use Rattle.tcd_plan.specs.declared.plans.PlanErr.{PlanErr}
 use Rattle.tcd_plan.specs.declared.plans.PlanErr.TheVariants.{NotJson, Missing, Unknown, BadValue, TooMany, BadCsa, BadVector, Overlap, NoMemory}
@@ -66,12 +66,6 @@ plan_in d = record {
 -- this refusal of the plan in a document, if it applies; it names no key
 abbrev pub refusal_if : Bool → PlanErr → Option PlanErr
 refusal_if b e = if b then Some e else None
-
--- the answer for a document that gives no plan: the first refusal that applies, which is the first
--- of the options that is there
-abbrev pub first_given_refusal : {T : Type 0} → List (Option T) → Option T
-first_given_refusal [] = None
-first_given_refusal (o ∷ os) = option_or o (first_given_refusal os)
 
 -- the refusals that apply, in the order of their numbers
 abbrev pub refusals : Data → List (Option PlanErr)
