@@ -338,6 +338,20 @@ def folded(lines):
     return result
 
 
+def joined(lines):
+    """A declaration with its short members beside each other, as far as there is room."""
+    result = []
+    for line in lines:
+        is_short = re.fullmatch(r"    [^/{}]+,", line)
+        if is_short and result and re.fullmatch(r"    [^/{}]+,", result[-1]):
+            both = f"{result[-1]} {line.strip()}"
+            if len(both) <= 100:
+                result[-1] = both
+                continue
+        result.append(line)
+    return result
+
+
 def model_value(text, name):
     """What a type is to the definitions."""
     model = re.search(rf"^impl(?:<.*?>)? Model for {name}\b.*?^}}", text, re.M | re.S)
@@ -433,6 +447,8 @@ class Part:
 
     def shown(self, item):
         """The lines of a definition as the page has them."""
+        if item.kind == "type":
+            return joined(item.text)
         if item.name not in BESIDE or not self.rows:
             return item.text
         if item.name == BESIDE[1]:

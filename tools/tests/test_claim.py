@@ -141,7 +141,13 @@ class SmallSources(unittest.TestCase):
 
     def test_comments_inside_a_type_are_no_lines(self):
         part = self.part(["IsFour"])
-        self.assertEqual((part.lines, part.notes), (3 + 6, 1 + 1 + 1))
+        self.assertEqual((part.lines, part.notes), (3 + 5, 1 + 1 + 1))
+
+    def test_short_members_are_beside_each_other(self):
+        part = self.part()
+        self.assertIn("    Two, Gone,", part.shown(part.items[1]))
+        lines = ["    A,", "    /// b", "    B,", "    C { d: u8 },", "    D,", "    E,", "}"]
+        self.assertEqual(claim.joined(lines), [*lines[:4], "    D, E,", "}"])
 
     def test_a_case_is_no_type_of_its_name(self):
         self.assertNotIn("Gone", [it.name for it in self.part().items])
