@@ -13,8 +13,8 @@ The page shows the definitions below it, each once, with its file and line and t
 it. A definition comes before those that it uses. The page has two parts:
 
 1. What a Done means: the field, the record, and all that they rest on.
-2. When it comes: which files are taken, and which certificates are accepted. Part 1 names these
-   definitions and doesn't follow them.
+2. When it comes: which files are taken, and as which image and plan; which certificates are
+   accepted. Part 1 names these definitions and doesn't follow them.
 
 What a refusal and bad input mean is on neither part; `--root` follows such a definition.
 
@@ -43,8 +43,9 @@ HEADLINES = "tcd_driver.specs.Headlines"
 #: What the tool says of each command: a field of this record.
 SAYS = ("tcd_driver.specs.Tool", "ToolSays")
 OTHER_FIELDS = "  -- the fields of other commands are left out here"
-#: What part 2 begins with: which certificates are accepted, and which files are taken.
+#: What part 2 begins with: which certificates are accepted, and which files are taken as what.
 LATER = (
+    "image_of_file", "GivesPlan",
     "Accepts", "IsAcceptedWithNeed", "IsAcceptedForTask", "IsLeastOfItsVersion", "NoneAccepted",
     "KeepsCells", "KeepsApart", "CertData", "certificate_of",
     "bytes_of", "bytes_of_cert", "bytes_of_routine", "assembled_code", "CannotFail", "IsOneEnd",

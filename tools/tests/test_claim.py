@@ -241,8 +241,8 @@ class Repository(unittest.TestCase):
         shown = "\n".join(part.rows)
         self.assertIn("movh.a    Ac, uk             Rlc 0x91 0x00", shown)
 
-    def test_a_done_means_at_most_1200_lines(self):
-        self.assertLessEqual(self.parts[0][1].lines, 1200)
+    def test_a_done_means_at_most_1000_lines(self):
+        self.assertLessEqual(self.parts[0][1].lines, 1000)
 
     def test_pages(self):
         with tempfile.TemporaryDirectory() as folder:
