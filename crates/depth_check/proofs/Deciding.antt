@@ -1,12 +1,10 @@
 -- Tests that decide a fact, and elements that are found in a list.
-use Rattle.std.proofs.Common.{◌≡◌, ◌∙◌, ℕ, Bool, true, false, not, ◌≤◌, ◌<◌, ◌+◌, List, length, get_or, take, subst, sym, ap, refl, eqb, Option, Some, None}
+use Rattle.std.proofs.Common.{◌≡◌, ◌∙◌, ℕ, Bool, true, false, not, ◌≤◌, ◌<◌, ◌+◌, List, length, get_or, take, subst, sym, refl, eqb, Option, Some}
 use Rattle.std.specs.Prelude.{IsTrue, ◌↔◌, All}
-use Rattle.std.specs.List.{find}
 use Rattle.std.specs.Option.{option_eq}
 use Rattle.std.proofs.lemmas.List.{take_all}
-use Rattle.depth_cert.proofs.KeyLaws.{found_in}
 use Rattle.cfg_recover.proofs.OperationLaws.{same_word}
-use Rattle.std.proofs.lemmas.List.Elements.{All-same, All-more, All-contains}
+use Rattle.std.proofs.lemmas.List.Elements.{All-same, All-more}
 
 pub yes : (P : Type 0) → P → IsTrue true ↔ P
 yes P p = (λ t. p, λ q. refl)
@@ -18,10 +16,6 @@ no P f = (λ t. absurd (let e : false ≡ true = t in cc), λ p. absurd (f p))
 pub refuted : (b : Bool) (P : Type 0) → b ≡ false → (IsTrue b ↔ P) → P → ⊥
 refuted b P e d p = let t = d.1 p in cc
 
--- a test decides an equivalent fact
-pub same_test : (b : Bool) (P Q : Type 0) → (P → Q) → (Q → P) → (IsTrue b ↔ P) → IsTrue b ↔ Q
-same_test b P Q f g d = (λ t. f (d.0 t), λ q. d.1 (g q))
-
 -- a property of the first i elements holds of all if there are no more
 pub all_done : {X : Type 0} (P : X → Type 0) (xs : List X) (i : ℕ) → length xs ≤ i → All P (take i xs) → All P xs
 all_done P xs i le h = All-same P xs (take i xs) (sym (take_all i xs le)) h
@@ -29,10 +23,6 @@ all_done P xs i le h = All-same P xs (take i xs) (sym (take_all i xs le)) h
 -- a further element
 pub all_more : {X : Type 0} (P : X → Type 0) (xs : List X) (i : ℕ) (x : X) → i < length xs → x ≡ get_or xs i x → All P (take i xs) → P x → All P (take (i + 1) xs)
 all_more P xs i x lt is h p = All-more P xs i x lt h (subst P is p)
-
--- a property of all elements holds of the one that is found
-pub found_holds : {X : Type 0} (P : X → Type 0) (test : X → Bool) (xs : List X) (x : X) → find test xs ≡ Some x → All P xs → P x
-found_holds P test xs x e all = All-contains P xs x all (found_in test xs x e).0
 
 no_other : (b : Bool) → not b ≡ false → b ≡ true
 no_other true e = refl

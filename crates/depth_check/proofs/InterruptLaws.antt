@@ -2,7 +2,8 @@
 -- which they hold.
 use Rattle.std.proofs.Common.{◌≡◌, ◌==◌, ℕ, ◌≤◌, ◌<◌, ◌+◌, ◌++◌, ◌∙◌, Bool, true, false, if◌then◌else◌, List, [], ◌∷◌, length, map, filter, replicate, set, get_or, inl, inr, arith, refl, sym, ap, subst}
 use Rattle.std.specs.Prelude.{All, IfSome, IsSomeAnd, IsTrue, Option, Some, None, nat_lt, slice_index_or}
-use Rattle.std.proofs.lemmas.Bool.{cases_Bool, eqb-true}
+use Rattle.std.proofs.lemmas.Bool.{cases_Bool, cases_lt, eqb-true}
+use Rattle.std.proofs.Math.ListN.{get_or-eq_default}
 use Rattle.std.proofs.lemmas.List.{length-replicate, get_or-set_same, get_or-set_other}
 use Rattle.std.proofs.lemmas.List.Elements.{All-nil, All-cons, All-head, All-tail}
 use Rattle.elf_image.specs.Images.{ImageData}
@@ -36,7 +37,6 @@ use Rattle.depth_check.specs.declared.last_interrupts.LastInterrupts.{LastInterr
 use Rattle.depth_check.specs.LeastBroken.{FindsLeastBroken}
 use Rattle.depth_check.specs.DutiesHold.{DutyHolds, DutiesHold}
 use Rattle.depth_check.specs.Interrupts.{IsContext, IsBelowContext, InterruptsHold, HoldsInContext, AreWellStacks, LastInterruptsHold, InterruptsHoldWith}
-use Rattle.depth_check.proofs.AfterLaws.{at_well}
 use Rattle.depth_check.proofs.DutyLaws.{All-left, All-right}
 use Rattle.depth_check.proofs.RuleLaws.{holds_from}
 use Rattle.depth_check.proofs.NarrowLaws.{apart, covers_trans, found_more}
@@ -184,6 +184,17 @@ below_context plan cert node other context s t a b h q =
     (λ p upper c. covers_trans upper (entry_state_with v false p true) (entry_state_with w false p true) (entry_length w false p true ∙ sym (entry_length v false p true)) c (entry_covers v w p low))
     (omega (arith, a.spare)) like.spare
     (subst (λ (l : List ℕ). DutiesHold cert node s (map (λ p. owed 11 (enter (irq_key plan p) (entry_state_with v false p true))) l) q) irqs (h q))
+
+-- each of well-formed values is well-formed, and so is what stands for those past the last
+any_well : IsWell any_val
+any_well = (omega arith, omega arith, omega arith)
+
+at_well : (vs : List Val) (i : ℕ) → AreWell vs → IsWell (get_or vs i any_val)
+at_well vs i w =
+    elim (cases_lt i (length vs)) [
+      | inl h ↦ w i h
+      | inr h ↦ rw (get_or-eq_default vs any_val h) any_well
+    ]
 
 -- A10 of the next point of a walk
 pub stack_well : (node : NodeData) (done left after : List Point) (p : Point) → IsWellNode node → node.points ≡ done ++ left → left ≡ p ∷ after → IsWell (slice_index_or (p.state).regs 22 any_val)

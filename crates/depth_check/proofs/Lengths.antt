@@ -1,6 +1,6 @@
 -- The states of a point's jumps have a value for each register.
-use Rattle.std.proofs.Common.{◌≡◌, ℕ, true, false, length, Some, ◌∙◌, subst, Contains}
-use Rattle.std.specs.Prelude.{Option, None, IfSome}
+use Rattle.std.proofs.Common.{◌≡◌, ℕ, true, false, length, ◌∙◌, subst, Contains}
+use Rattle.std.specs.Prelude.{Option, IfSome}
 use Rattle.elf_image.specs.Images.{ImageData}
 use Rattle.tcd_plan.specs.PlanData.{PlanData}
 use Rattle.tc_isa.specs.declared.shapes.Shape.{Shape}

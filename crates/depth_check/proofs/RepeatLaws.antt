@@ -82,19 +82,15 @@ repeats_stand node done before w p (Some a) s rising split step same h =
 pub record WalkFacts (plan : PlanData) (cert : CertData) (node : NodeData) (here : CurrentPoint) : Type 0 where
   pub again : IsTrue here.again → InterruptsHold plan cert node here.state.now
   pub next : IfSome here.next (λ a. HasPointWithState node a here.state.now)
-  pub walk : IfSome here.walk (λ w. LooksAhead node here.state.now w.now)
-
-same_walk : {A : Type 0} (view : A → WalkData) (node : NodeData) (s : State) (w : WalkData) (o : Option A) → IfSome o (λ x. view x ≡ w) → LooksAhead node s w → IfSome o (λ x. LooksAhead node s (view x))
-same_walk view node s w None e h = tt
-same_walk view node s w (Some x) e h = subst (LooksAhead node s) (sym e) h
+  pub walk : LooksAhead node here.state.now here.walk.now
 
 pub walk_facts : (plan : PlanData) (cert : CertData) (node : NodeData) (done before : List Point) (w : WalkData) (p : Point) (here : CurrentPoint)
     → ArePoints node.points → w.points ≡ node.points → node.points ≡ done ++ before → before ≡ p ∷ w.left → here.state.now ≡ w.current
-    → (IsTrue here.again → InterruptsHold plan cert node w.current) → IfSome here.next (RepeatsAt w) → IfSome here.walk (λ x. x.now ≡ w) → WalkFacts plan cert node here
+    → (IsTrue here.again → InterruptsHold plan cert node w.current) → IfSome here.next (RepeatsAt w) → here.walk.now ≡ w → WalkFacts plan cert node here
 walk_facts plan cert node done before w p here rising all split step same again next walk = record {
   again = λ t. subst (InterruptsHold plan cert node) (sym same) (again t);
   next = repeats_stand node done before w p here.next here.state.now rising split step same next;
-  walk = same_walk (λ x. x.now) node here.state.now w here.walk walk (looks_ahead node done before w p here.state.now rising all split step same);
+  walk = subst (LooksAhead node here.state.now) (sym walk) (looks_ahead node done before w p here.state.now rising all split step same);
 }
 
 -- ---- values that are known

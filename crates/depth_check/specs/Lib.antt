@@ -1,7 +1,6 @@
 pub mod AnswerLaws
 pub mod CheckedRegisters
 pub mod LeastBroken
-pub mod PlainOrPackedCerts
 pub mod AcceptedPromises
 pub mod Interrupts
 pub mod CheckAnswers

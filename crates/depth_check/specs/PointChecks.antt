@@ -1,8 +1,8 @@
 -- A point that is checked: what holds of it and of its facts for the fast paths.
-use Rattle.std.specs.Prelude.{◌≡◌, ℕ, IsTrue, IfSome, All}
+use Rattle.std.specs.Prelude.{◌≡◌, ℕ, IsTrue, IfSome}
 use Rattle.value_domain.specs.State.{AreValues}
 use Rattle.value_domain.specs.declared.states.State.{State}
-use Rattle.depth_cert.specs.Nodes.{NodeData, IsWellNode}
+use Rattle.depth_cert.specs.Nodes.{NodeData}
 use Rattle.packed_cert.specs.Walks.{WalkData, CoversNext}
 use Rattle.cfg_recover.specs.RulesHoldOrFail.{limits_in, HasPoint}
 use Rattle.depth_check.specs.declared.points.PointCheck.{PointCheck}
@@ -18,17 +18,15 @@ pub record LooksAhead (node : NodeData) (s : State) (w : WalkData) : Type 0 wher
   pub current : w.current ≡ s
   pub ahead : (addr : ℕ) (t : State) → CoversNext w addr t → HasPoint node addr t
 
--- the limits are the certificate's, all its values are well-formed, those of the point are values
--- of the plan, and the facts for the fast paths hold: the entries of its interrupts hold if this is
--- known, the node has its state at the next address, and the walk is at the point
+-- the limits are the certificate's, the values of the point are values of the plan, and the facts
+-- for the fast paths hold: the entries of its interrupts hold if this is known, the node has its
+-- state at the next address, and the walk is at the point
 pub record IsPointCheck (at : PointCheck) : Type 0 where
   pub limits : at.bounds.now ≡ limits_in at.plan.now at.cert.now
-  pub nodes : All IsWellNode (at.cert.now).nodes
-  pub node : IsWellNode at.node.now
   pub values : AreValues at.bounds.now (at.point.state.now).regs
   pub again : IsTrue at.point.again → InterruptsHold at.plan.now at.cert.now at.node.now at.point.state.now
   pub next : IfSome at.point.next (λ a. HasPointWithState at.node.now a at.point.state.now)
-  pub walk : IfSome at.point.walk (λ w. LooksAhead at.node.now at.point.state.now w.now)
+  pub walk : LooksAhead at.node.now at.point.state.now at.point.walk.now
 
 -- the point that is checked now, as a certificate has it: its address and its state
 abbrev pub point_here : CurrentPoint → Point

@@ -1,20 +1,17 @@
 // The check of a certificate.
-ghost use Rattle.std.specs.Prelude.{◌≡◌, All, IsNone, IfSome, Some};
-ghost use Rattle.depth_cert.specs.Nodes.{find_node, IsWellNode};
+ghost use Rattle.std.specs.Prelude.{◌≡◌, IsNone, IfSome, Some};
+ghost use Rattle.depth_cert.specs.Nodes.{find_node};
 ghost use Rattle.cfg_recover.specs.RulesHoldOrFail.{HoldsAtStart};
 ghost use Rattle.depth_check.specs.CheckAnswers.{IsCheckAnswer, IfAnswerIsYes};
 ghost use Rattle.tc_machine.specs.Safe.{Safe};
 ghost use Rattle.cfg_recover.specs.Entries as entries;
 
 use crate::Verdict;
-use crate::any_certs::AnyCert;
-use crate::any_nodes::AnyNode;
 use crate::node_covers::has_point;
 use crate::verdicts::judge;
 use cfg_recover::{start_key, start_state};
-use depth_cert::Cert;
 use elf_image::Image;
-use packed_cert::PackedCert;
+use packed_cert::{PackedCert, PackedNode};
 use tcd_plan::Plan;
 
 /// Whether the rules accept a certificate for an image under a plan. The answer is yes, with the
@@ -22,31 +19,23 @@ use tcd_plan::Plan;
 /// allocates nothing.
 ///
 /// If the answer is yes, every run of the image under the plan is safe with that need.
-pub fn check(image: &Image, plan: &Plan, cert: &Cert) -> Verdict
-    ensures judges { IsCheckAnswer image.now plan.now cert.now result }
-    ensures safe { IfAnswerIsYes result (Safe image.now plan.now) }
-{
-    // The invariants of plans and certificates are known to the prover after a read.
-    let _areas = plan.areas;
-    let _version = cert.version;
-    judge(image, plan, &AnyCert::in_memory(cert))
-}
-
-/// Checks a whole certificate that is on the bytes of its file, as [`check`] does one in memory.
-pub fn check_packed(image: &Image, plan: &Plan, cert: &PackedCert) -> Verdict
+pub fn check(image: &Image, plan: &Plan, cert: &PackedCert) -> Verdict
     ensures judges { IsCheckAnswer image.now plan.now cert.now result }
     ensures safe { IfAnswerIsYes result (Safe image.now plan.now) }
 {
     let _areas = plan.areas;
     let _version = cert.version();
-    judge(image, plan, &AnyCert::on_bytes(cert))
+    judge(image, plan, cert)
 }
 
 /// Returns the certificate's node of the start, as rule 1 asks for it: with a point at the image's
 /// entry that covers the start state. `None` if there is none.
 #[inline(never)]
-pub(crate) fn start_node<'a>(image: &Image, plan: &Plan, cert: &AnyCert<'a>) -> Option<AnyNode<'a>>
-    requires nodes { All IsWellNode cert.now.nodes }
+pub(crate) fn start_node<'a>(
+    image: &Image,
+    plan: &Plan,
+    cert: &'a PackedCert,
+) -> Option<PackedNode<'a>>
     ensures none { IsNone result → HoldsAtStart image.now plan.now cert.now → ⊥ }
     ensures holds { IfSome result (λ n. HoldsAtStart image.now plan.now cert.now) }
     ensures node { IfSome result

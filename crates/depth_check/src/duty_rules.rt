@@ -2,7 +2,6 @@
 ghost use Rattle.std.specs.Prelude.{◌≡◌, length, ◌≤◌, ◌↔◌, IsTrue, ◌+◌, [], ◌∷◌, unwrap_or};
 ghost use Rattle.std.specs.List.{flat_map};
 ghost use Rattle.depth_check.specs.LeastBroken.{FindsLeastBroken, LeastBrokenByDuties};
-ghost use Rattle.depth_cert.specs.Nodes.{IsWellNode};
 ghost use Rattle.depth_check.specs.DutiesHold.{GoesOn, LeavingHolds};
 ghost use Rattle.value_domain.specs.State.{AreWell};
 ghost use Rattle.vd_transfer.specs.Changes.{state_after};
@@ -19,7 +18,6 @@ ghost use Rattle.depth_check.specs.CheckedRegisters.{RegisterCallsHoldAt, Regist
 ghost use Rattle.cfg_recover.specs.Entries as entries;
 ghost use Rattle.cfg_recover.specs.FlowDuties as flows;
 
-use crate::any_nodes::AnyNode;
 use crate::node_covers::{has_changed_point, has_covering_exit, has_point_after_return};
 use crate::points::{PointCheck, PointScratch};
 use crate::rules::{
@@ -32,6 +30,7 @@ use cfg_recover::{
     is_flow_access_aligned, misaligned_change, rule_unless, sys_key, system_change, targets,
 };
 use depth_cert::{CALL, Key, SYS};
+use packed_cert::PackedNode;
 use tc_isa::{Shape, Target};
 use value_domain::State;
 use vd_transfer::{Change, address_by};
@@ -155,9 +154,8 @@ fn broken_by_access(at: &PointCheck<'_, '_>, found: &Located) -> Option<u8>
 /// Returns the least rule that a point's duty to leave its node breaks: by RET, or by RFE in the
 /// handler of system calls.
 #[tactic(auto, unfolding(cfg_recover::specs::FlowDuties::flow_leave_of))]
-fn broken_by_leaving(node: &AnyNode<'_>, s: &State, shape: Shape) -> Option<u8>
-    requires node { IsWellNode node.now }
-    requires state { AreWell s.now.regs }
+fn broken_by_leaving(node: &PackedNode<'_>, s: &State, shape: Shape) -> Option<u8>
+    requires { AreWell s.now.regs }
     ensures { FindsLeastBroken (LeavingHolds node.now s.now (flows.flow_leave_of shape)) result }
 {
     match shape {
@@ -320,7 +318,7 @@ fn broken_by_entry(
 
 /// Whether the need of a node is at least the areas of its locals, one for the entry, and the
 /// entered node's need.
-fn has_need_for_entry(node: &AnyNode<'_>, s: &State, entered: &AnyNode<'_>) -> bool
+fn has_need_for_entry(node: &PackedNode<'_>, s: &State, entered: &PackedNode<'_>) -> bool
     ensures { IsTrue result ↔ (length s.now.locals.items + 1 + entered.now.need ≤ node.now.need) }
 {
     s.locals.len() + 1 + usize::from(entered.need) <= usize::from(node.need)
@@ -329,15 +327,13 @@ fn has_need_for_entry(node: &AnyNode<'_>, s: &State, entered: &AnyNode<'_>) -> b
 /// Tests rule 4 of an entry: whether the node goes on at `back` after a frame of the entered node
 /// has returned. True if `back` is no address.
 fn has_point_after_entry(
-    node: &AnyNode<'_>,
+    node: &PackedNode<'_>,
     s: &State,
-    entered: &AnyNode<'_>,
+    entered: &PackedNode<'_>,
     kind: u8,
     back: Option<u32>,
 ) -> bool
-    requires node { IsWellNode node.now }
-    requires entered { IsWellNode entered.now }
-    requires state { AreWell s.now.regs }
+    requires { AreWell s.now.regs }
     ensures { IsTrue result ↔ GoesOn node.now s.now entered.now kind back }
 {
     match back {

@@ -9,7 +9,6 @@ ghost use Rattle.tcd_plan.specs.PlanData.{PlanData};
 ghost use Rattle.depth_check.specs.Interrupts.{IsContext, FitsContext, IsBelowContext, InterruptsHold, AreWellStacks, LastInterruptsHold, InterruptsHoldWith};
 ghost use Rattle.depth_check.specs.PointChecks.{IsPointCheck};
 
-use crate::any_nodes::{AnyNode, NodeForm};
 use crate::duty_rules::broken_by_irqs;
 use crate::points::PointCheck;
 use cfg_recover::interrupts;
@@ -56,15 +55,12 @@ impl LastInterrupts {
 
     /// The join of the last context's A10 and the state's, if the state needs more only because of
     /// A10.
-    fn join_stack(&self, b: &Bounds, any_node: &AnyNode<'_>, s: &State) -> Option<Val>
+    fn join_stack(&self, b: &Bounds, node: &PackedNode<'_>, s: &State) -> Option<Val>
         requires last { IfSome self.now.last (λ a. IsValue b.now a.sp) }
         requires values { AreValues b.now s.now.regs }
         ensures value { IfSome result (IsValue b.now) }
-        ensures stack { IfSome result (λ v. IsTrue any_node.now.key.is) }
+        ensures stack { IfSome result (λ v. IsTrue node.now.key.is) }
     {
-        let NodeForm::Near(node, _) = &any_node.form else {
-            return None;
-        };
         match &self.last {
             Some(context) => {
                 if context.is && context.is_like(node, s) {

@@ -1,8 +1,6 @@
 //! The certificate checker.
 #![tactic(auto)]
 
-mod any_certs;
-mod any_nodes;
 mod certificates;
 mod duty_rules;
 mod fast_paths;
@@ -15,6 +13,6 @@ mod rules;
 mod successor_rules;
 mod verdicts;
 
-pub use certificates::{check, check_packed};
+pub use certificates::check;
 pub use laws::{accepted_holds_frames, accepted_is_safe, answer_laws, first_fault_laws};
 pub use verdicts::Verdict;

@@ -7,17 +7,12 @@ ghost use Rattle.depth_check.specs.Interrupts.{LastInterruptsHold};
 ghost use Rattle.depth_check.specs.NodeFaults.{IsNodeFault};
 ghost use Rattle.depth_check.specs.NodeFaults as nodes;
 
-use crate::any_certs::AnyCert;
-use crate::any_nodes::{AnyNode, NodeForm};
 use crate::fast_paths::NO_REGISTERS;
 use crate::last_interrupts::LastInterrupts;
-use crate::points::{
-    CurrentPoint, PointCheck, PointScratch, are_plan_values, broken_by_point, walked_point,
-};
+use crate::points::{PointCheck, PointScratch, broken_by_point, walked_point};
 use crate::rules::BAD_VALUES;
-use depth_cert::Node;
 use elf_image::Image;
-use packed_cert::{PackedNode, PointWalk};
+use packed_cert::{PackedCert, PackedNode, PointWalk};
 use std::marker::Model;
 use tcd_plan::Plan;
 use value_domain::Bounds;
@@ -44,84 +39,7 @@ pub(crate) fn node_fault<'a>(
     b: &Bounds,
     image: &Image,
     plan: &Plan,
-    cert: &AnyCert<'_>,
-    any_node: &AnyNode<'a>,
-    scratch: &mut NodeScratch<'a>,
-) -> Option<Fault>
-    requires limits { b.now ≡ limits_in plan.now cert.now }
-    requires nodes { All IsWellNode cert.now.nodes }
-    requires member { Contains cert.now.nodes any_node.now }
-    requires interrupts { LastInterruptsHold plan.now cert.now scratch.old.interrupts }
-    requires results { HoldsCachedResults b.now scratch.old.point.cache }
-    ensures fault { MatchOption result (HoldsAtNode image.now plan.now cert.now any_node.now)
-        (λ f. IsNodeFault image.now plan.now cert.now any_node.now f.rule f.addr) }
-    ensures interrupts { LastInterruptsHold plan.now cert.now scratch.new.interrupts }
-    ensures results { HoldsCachedResults b.now scratch.new.point.cache }
-{
-    match &any_node.form {
-        NodeForm::Plain(node) => plain_node_fault(b, image, plan, cert, node, &mut scratch.point),
-        NodeForm::Packed(node) => packed_node_fault(b, image, plan, cert, node, scratch),
-        NodeForm::Near(node, _) => packed_node_fault(b, image, plan, cert, node, scratch),
-    }
-}
-
-/// Returns true if rule 2 holds at the entry of a node in memory: it has a point there, and the
-/// values of its exit, if it has one, are the plan's.
-pub(crate) fn plain_holds_at_entry(b: &Bounds, node: &Node) -> bool
-    ensures { IsTrue result ↔ HoldsAtEntry b.now node.now }
-{
-    if node.point(node.key.entry).is_none() {
-        return false;
-    }
-    match &node.exit {
-        Some(exit) => are_plan_values(b, &exit.lower),
-        None => true,
-    }
-}
-
-/// The first fault of a node in memory.
-fn plain_node_fault<'a>(
-    b: &'a Bounds,
-    image: &'a Image,
-    plan: &'a Plan,
-    cert: &'a AnyCert<'a>,
-    node: &'a Node,
-    scratch: &mut PointScratch,
-) -> Option<Fault>
-    requires limits { b.now ≡ limits_in plan.now cert.now }
-    requires nodes { All IsWellNode cert.now.nodes }
-    requires member { Contains cert.now.nodes node.now }
-    requires results { HoldsCachedResults b.now scratch.old.cache }
-    ensures fault { MatchOption result (HoldsAtNode image.now plan.now cert.now node.now)
-        (λ f. IsNodeFault image.now plan.now cert.now node.now f.rule f.addr) }
-    ensures results { HoldsCachedResults b.now scratch.new.cache }
-{
-    let entry = node.key.entry;
-    let good = plain_holds_at_entry(b, node);
-    let any_node = AnyNode::plain(&*node);
-    for point in &node.points {
-        scratch.registers = NO_REGISTERS;
-        let here = CurrentPoint::alone(point.addr, &point.state);
-        let at = PointCheck::new(&*b, &*image, &*plan, &*cert, &any_node, here);
-        let found = broken_by_point(&at, scratch);
-        if let Some(fault) = earlier_node_fault(good, entry, point.addr, found) {
-            return Some(fault);
-        }
-    }
-    if good {
-        None
-    } else {
-        Some(node_entry_fault(entry))
-    }
-}
-
-/// The first fault of a node on bytes. It takes the fast paths that look at the point before or
-/// after the current one.
-fn packed_node_fault<'a>(
-    b: &Bounds,
-    image: &Image,
-    plan: &Plan,
-    cert: &AnyCert<'_>,
+    cert: &PackedCert,
     node: &PackedNode<'a>,
     scratch: &mut NodeScratch<'a>,
 ) -> Option<Fault>
@@ -136,7 +54,7 @@ fn packed_node_fault<'a>(
     ensures results { HoldsCachedResults b.now scratch.new.point.cache }
 {
     let entry = node.key.entry;
-    let good = packed_holds_at_entry(b, node);
+    let good = holds_at_entry(b, node);
     node.walk(&mut scratch.walk);
     scratch.point.registers = NO_REGISTERS;
     let mut next = 0usize;
@@ -144,8 +62,8 @@ fn packed_node_fault<'a>(
         node_address_limit(addr);
         let here = walked_point(b, node, addr, next > 0, &scratch.interrupts, &scratch.walk);
         next = next.wrapping_add(1);
-        let any_node = AnyNode::near(&*node, next);
-        let at = PointCheck::new(&*b, &*image, &*plan, &*cert, &any_node, here);
+        let hinted = node.near(next);
+        let at = PointCheck::new(&*b, &*image, &*plan, &*cert, &hinted, here);
         let found = broken_by_point(&at, &mut scratch.point);
         if let Some(fault) = earlier_node_fault(good, entry, addr, found) {
             return Some(fault);
@@ -197,12 +115,12 @@ fn node_address_limit(addr: u32)
     ensures { addr < 2 ^ 32 }
 {}
 
-/// Returns true if rule 2 holds at the entry of a node on bytes: it has a point there, and values
-/// of the plan in its exit if it has one.
-pub(crate) fn packed_holds_at_entry(b: &Bounds, node: &PackedNode<'_>) -> bool
+/// Returns true if rule 2 holds at the entry of a node: it has a point there, and values of the
+/// plan in its exit if it has one.
+pub(crate) fn holds_at_entry(b: &Bounds, node: &PackedNode<'_>) -> bool
     ensures { IsTrue result ↔ HoldsAtEntry b.now node.now }
 {
-    if node.state(node.key.entry, 0).is_none() {
+    if node.state(node.key.entry).is_none() {
         return false;
     }
     match node.exit() {

@@ -1,8 +1,7 @@
 // The rules at a point of a node.
-ghost use Rattle.std.specs.Prelude.{◌≡◌, All, IfSome, ◌↔◌, IsTrue, None, false, ◌<◌};
+ghost use Rattle.std.specs.Prelude.{◌≡◌, IfSome, ◌↔◌, IsTrue};
 ghost use Rattle.cfg_recover.specs.RulesHoldOrFail.{limits_in, RuleHolds};
 ghost use Rattle.depth_check.specs.LeastBroken.{FindsLeastBroken};
-ghost use Rattle.depth_cert.specs.Nodes.{IsWellNode};
 ghost use Rattle.depth_check.specs.DutiesHold.{HasPointWithState};
 ghost use Rattle.value_domain.specs.State.{AreValues};
 ghost use Rattle.vd_transfer.specs.Registers.{a10_of};
@@ -19,8 +18,6 @@ ghost use Rattle.value_domain.specs.Values.{IsWell};
 ghost use Rattle.depth_cert.specs.Certs.{CertData};
 ghost use Rattle.packed_cert.specs.Walks.{RepeatsAt};
 
-use crate::any_certs::AnyCert;
-use crate::any_nodes::AnyNode;
 use crate::duty_rules::broken_by_duties;
 use crate::fast_paths::{CheckedRegisters, broken_on_fast_path, fast_path_next};
 use crate::last_interrupts::LastInterrupts;
@@ -30,7 +27,7 @@ use cfg_recover::{
     KnownCodes, Located, OperationCache, check_located, rule_unless, successor_change,
 };
 use elf_image::Image;
-use packed_cert::{PackedNode, PointWalk};
+use packed_cert::{PackedCert, PackedNode, PointWalk};
 use std::marker::Model;
 use tcd_plan::Plan;
 use value_domain::{Bounds, State, Val, is_value};
@@ -42,8 +39,8 @@ pub(crate) struct PointCheck<'a, 'b> {
     pub(crate) bounds: &'a Bounds,
     pub(crate) image: &'a Image,
     pub(crate) plan: &'a Plan,
-    pub(crate) cert: &'a AnyCert<'a>,
-    pub(crate) node: &'a AnyNode<'a>,
+    pub(crate) cert: &'a PackedCert,
+    pub(crate) node: &'a PackedNode<'a>,
     pub(crate) point: CurrentPoint<'b>,
 }
 
@@ -59,7 +56,7 @@ pub(crate) struct CurrentPoint<'b> {
     pub(crate) again: bool,
     pub(crate) known: bool,
     pub(crate) next: Option<u32>,
-    pub(crate) walk: Option<&'b PointWalk<'b>>,
+    pub(crate) walk: &'b PointWalk<'b>,
 }
 
 impl<'a, 'b> PointCheck<'a, 'b> {
@@ -69,8 +66,8 @@ impl<'a, 'b> PointCheck<'a, 'b> {
         bounds: &'a Bounds,
         image: &'a Image,
         plan: &'a Plan,
-        cert: &'a AnyCert<'a>,
-        node: &'a AnyNode<'a>,
+        cert: &'a PackedCert,
+        node: &'a PackedNode<'a>,
         point: CurrentPoint<'b>,
     ) -> PointCheck<'a, 'b>
         ensures { result ≡ record {
@@ -89,30 +86,6 @@ impl<'a, 'b> PointCheck<'a, 'b> {
             cert,
             node,
             point,
-        }
-    }
-}
-
-impl<'b> CurrentPoint<'b> {
-    /// A point without facts for the fast paths.
-    #[inline(always)]
-    pub(crate) fn alone(addr: u32, state: &'b State) -> CurrentPoint<'b>
-        ensures { result ≡ record {
-          addr = addr;
-          state = state.entry;
-          again = false;
-          known = false;
-          next = None;
-          walk = None;
-        } }
-    {
-        CurrentPoint {
-            addr,
-            state,
-            again: false,
-            known: false,
-            next: None,
-            walk: None,
         }
     }
 }
@@ -155,16 +128,13 @@ pub(crate) fn point_scratch_change() -> Change {
 /// instruction, duties and need. `scratch.change` is overwritten.
 pub(crate) fn broken_by_point(at: &PointCheck<'_, '_>, scratch: &mut PointScratch) -> Option<u8>
     requires limits { at.now.bounds.now ≡ limits_in at.now.plan.now at.now.cert.now }
-    requires nodes { All IsWellNode at.now.cert.now.nodes }
-    requires node { IsWellNode at.now.node.now }
     requires again { IsTrue at.now.point.again
         → InterruptsHold at.now.plan.now at.now.cert.now at.now.node.now at.now.point.state.now }
     requires known { IsTrue at.now.point.known
         → AreValues at.now.bounds.now at.now.point.state.now.regs }
     requires next { IfSome at.now.point.next
         (λ a. HasPointWithState at.now.node.now a at.now.point.state.now) }
-    requires walk { IfSome at.now.point.walk
-        (λ w. LooksAhead at.now.node.now at.now.point.state.now w.now) }
+    requires walk { LooksAhead at.now.node.now at.now.point.state.now at.now.point.walk.now }
     requires results { HoldsCachedResults at.now.bounds.now scratch.old.cache }
     requires registers { RegistersHoldAt at.now scratch.old.registers }
     ensures found { FindsLeastBroken (RuleHolds at.now.image.now at.now.plan.now at.now.cert.now
@@ -235,7 +205,7 @@ pub(crate) fn walked_point<'b>(
         → InterruptsHold plan cert node.now walk.now.current }
     ensures known { IsTrue result.known → IsTrue known × AreValues b.now walk.now.anew }
     ensures next { IfSome result.next (RepeatsAt walk.now) }
-    ensures walk { IfSome result.walk (λ w. w.now ≡ walk.now) }
+    ensures walk { result.walk.now ≡ walk.now }
 {
     let state = walk.state();
     CurrentPoint {
@@ -244,7 +214,7 @@ pub(crate) fn walked_point<'b>(
         again: interrupts.covers(node, state),
         known: known && are_plan_values(b, walk.anew()),
         next: walk.repeats_at(),
-        walk: Some(walk),
+        walk,
     }
 }
 

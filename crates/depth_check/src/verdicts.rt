@@ -2,7 +2,6 @@
 ghost use Rattle.std.specs.Prelude.{Some};
 ghost use Rattle.depth_check.specs.CheckAnswers.{IsCheckAnswer};
 
-use crate::any_certs::AnyCert;
 use crate::certificates::start_node;
 use crate::fast_paths::NO_REGISTERS;
 use crate::last_interrupts::LastInterrupts;
@@ -12,7 +11,7 @@ use crate::rules::NO_START;
 use cfg_recover::{KnownCodes, OperationCache, start_key};
 use depth_cert::Key;
 use elf_image::Image;
-use packed_cert::PointWalk;
+use packed_cert::{PackedCert, PointWalk};
 use tcd_plan::Plan;
 use value_domain::Bounds;
 
@@ -26,10 +25,10 @@ pub enum Verdict {
 
 /// Returns the verdict on a certificate: yes with the need of the start, or no with the first rule
 /// that fails.
-pub(crate) fn judge(image: &Image, plan: &Plan, cert: &AnyCert<'_>) -> Verdict
+pub(crate) fn judge(image: &Image, plan: &Plan, cert: &PackedCert) -> Verdict
     ensures { IsCheckAnswer image.now plan.now cert.now result }
 {
-    let b = Bounds::of(plan, cert.version);
+    let b = Bounds::of(plan, cert.version());
     let Some(start) = start_node(image, plan, cert) else {
         return Verdict::No {
             rule: NO_START,

@@ -7,10 +7,9 @@ ghost use Rattle.depth_cert.specs.Answers.{IsFaultOf};
 use crate::cert_reader::read_packed_cert_parts;
 use crate::nodes::PackedNode;
 use crate::places::NodePlaces;
-use depth_cert::{Cert, CertErr, Key, number_of};
+use depth_cert::{CertErr, Key, number_of};
 use std::alloc::Global;
 use std::marker::Model;
-use tcd_base::NoMemory;
 
 /// A certificate that stays on the bytes of its file.
 #[derive(Drop)]
@@ -62,21 +61,6 @@ impl PackedCert {
         ensures { result.items ≡ bytes_of_cert self }
     {
         self.bytes
-    }
-
-    /// Puts a certificate in memory on the bytes that spell it.
-    pub fn of(alloc: Global, cert: &Cert) -> Result<PackedCert, NoMemory>
-        ensures { IfOk result (λ c. c ≡ cert.now) }
-    {
-        let bytes = match cert.write(alloc) {
-            Ok(bytes) => bytes,
-            Err(_) => return Err(NoMemory),
-        };
-        match PackedCert::read(alloc, bytes) {
-            Ok(packed) => Ok(packed),
-            Err(CertErr::NoMemory) => Err(NoMemory),
-            Err(CertErr::Bad(_)) => unreachable!(),
-        }
     }
 
     /// Returns the version, 1 or 2. A certificate keeps the order and the limits.

@@ -20,6 +20,8 @@ pub struct PackedNode<'a> {
     pub need: u16,
     exit: Option<u32>,
     points: &'a [PackedPoint],
+    /// The number of the point that a look-up tries first.
+    near: usize,
 }
 
 impl<'a> Model for PackedNode<'a> {
@@ -48,6 +50,22 @@ impl<'a> PackedNode<'a> {
             need: places.need,
             exit: places.exit,
             points: places.points.as_slice(),
+            near: 0,
+        }
+    }
+
+    /// Returns this node. A look-up of a point tries point number `near` first.
+    pub fn near(&self, near: usize) -> PackedNode<'a>
+        ensures { result ≡ self.now }
+    {
+        PackedNode {
+            bytes: self.bytes,
+            version: self.version,
+            key: self.key,
+            need: self.need,
+            exit: self.exit,
+            points: self.points,
+            near,
         }
     }
 
@@ -77,13 +95,12 @@ impl<'a> PackedNode<'a> {
         walk.go_before(self.bytes, self.version, self.points);
     }
 
-    /// Returns the state at the address of a point, or `None` if there is none. Point number `near`
-    /// is tried first.
-    pub fn state(&self, addr: u32, near: usize) -> Option<StateAt<'a>>
+    /// Returns the state at the address of a point, or `None` if there is none.
+    pub fn state(&self, addr: u32) -> Option<StateAt<'a>>
         ensures { result ≡ option_map (λ p. p.state) (find_point addr self.now.points) }
     {
         let points = self.points;
-        let at = node_point_place(points, addr, near);
+        let at = node_point_place(points, addr, self.near);
         if at < points.len() && points[at].addr == addr {
             let place = points[at].place as usize;
             return Some(StateAt::at(self.bytes, self.version, place));

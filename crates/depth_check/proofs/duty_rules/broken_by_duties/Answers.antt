@@ -2,8 +2,8 @@ use Rattle.depth_check.proofs.DutyLaws.{parts_found, shape_found}
 use Rattle.depth_check.proofs.RuleLaws.{values_well}
 use Rattle.depth_check.proofs.duty_rules.broken_by_duties.Goals as goal
 
-pub broken_by_leaving-leave-requires-clause-state : goal.broken_by_leaving-leave-requires-clause-state
-broken_by_leaving-leave-requires-clause-state c = values_well c.args.at.now.bounds.now _ c.requires.point.values
+pub broken_by_leaving-leave-requires : goal.broken_by_leaving-leave-requires
+broken_by_leaving-leave-requires c = values_well c.args.at.now.bounds.now _ c.requires.point.values
 
 pub returns-clause-found : goal.returns-clause-found
 returns-clause-found c =

@@ -1,8 +1,5 @@
-use Rattle.std.proofs.Common.{sym, ◌==◌}
+use Rattle.std.proofs.Common.{sym}
 use Rattle.vd_transfer.specs.Changes.{state_after}
-use Rattle.depth_cert.specs.Keys.{number_of_key}
-use Rattle.depth_cert.specs.Nodes.{NodeData, IsWellNode}
-use Rattle.depth_check.proofs.Deciding.{found_holds}
 use Rattle.depth_check.proofs.DutyLaws.{entry_found, entry_missing}
 use Rattle.depth_check.proofs.RuleLaws.{values_well}
 use Rattle.depth_check.proofs.duty_rules.broken_by_entry.Goals as goal
@@ -10,14 +7,8 @@ use Rattle.depth_check.proofs.duty_rules.broken_by_entry.Goals as goal
 pub returns-in_default : goal.returns-in_default
 returns-in_default c = entry_missing c.args.at.now.cert.now c.args.at.now.node.now c.args.at.now.point.state.now c.args.rule c.args.key.now (state_after c.args.at.now.point.state.now c.args.entry.now) c.args.back (sym c.in_default.ensures) c.requires.rule
 
-pub has_changed_point-requires-clause-node : goal.has_changed_point-requires-clause-node
-has_changed_point-requires-clause-node c = found_holds IsWellNode (λ (n : NodeData). number_of_key n.key == number_of_key c.args.key.now) (c.args.at.now.cert.now).nodes c.in-Some.entered (sym c.in-Some.ensures) c.requires.point.nodes
-
-pub has_point_after_entry-requires-clause-state : goal.has_point_after_entry-requires-clause-state
-has_point_after_entry-requires-clause-state c = values_well c.args.at.now.bounds.now _ c.requires.point.values
-
-pub has_point_after_entry-requires-clause-entered : goal.has_point_after_entry-requires-clause-entered
-has_point_after_entry-requires-clause-entered c = found_holds IsWellNode (λ (n : NodeData). number_of_key n.key == number_of_key c.args.key.now) (c.args.at.now.cert.now).nodes c.in-Some.entered (sym c.in-Some.ensures) c.requires.point.nodes
+pub has_point_after_entry-requires : goal.has_point_after_entry-requires
+has_point_after_entry-requires c = values_well c.args.at.now.bounds.now _ c.requires.point.values
 
 pub returns : goal.returns
 returns c =

@@ -16,7 +16,7 @@ pub returns : goal.returns
 returns c =
     let key : c.sys_key-key.result ≡ sys_key c.args.at.now.plan.now (c.args.at.now.node.now).key =
     c.sys_key-key.ensures
-    ∙ ap (λ (k : Key). sys_key c.args.at.now.plan.now k) (c.node.invariant.same_key ∙ ap (λ (n : NodeData). n.key) c.node.view_is) in
+    ∙ ap (λ (k : Key). sys_key c.args.at.now.plan.now k) (ap (λ (n : NodeData). n.key) c.node.view_is) in
     subst (λ (k : Key). FindsLeastBroken (DutiesHold c.args.at.now.cert.now c.args.at.now.node.now c.args.at.now.point.state.now (entered_and_back 12 k (sys_entry c.args.at.now.plan.now (c.args.at.now.node.now).key c.args.at.now.point.state.now c.args.tin) c.args.back)) c.broken_by_entry.result) key
-    (subst (λ (u : State). FindsLeastBroken (DutiesHold c.args.at.now.cert.now c.args.at.now.node.now c.args.at.now.point.state.now (entered_and_back 12 c.sys_key-key.result u c.args.back)) c.broken_by_entry.result) (c.system_change-entry.ensures.entry ∙ ap (λ (k : Key). sys_entry c.args.at.now.plan.now k c.args.at.now.point.state.now c.args.tin) (c.node.invariant.same_key ∙ ap (λ (n : NodeData). n.key) c.node.view_is))
+    (subst (λ (u : State). FindsLeastBroken (DutiesHold c.args.at.now.cert.now c.args.at.now.node.now c.args.at.now.point.state.now (entered_and_back 12 c.sys_key-key.result u c.args.back)) c.broken_by_entry.result) (c.system_change-entry.ensures.entry ∙ ap (λ (k : Key). sys_entry c.args.at.now.plan.now k c.args.at.now.point.state.now c.args.tin) (ap (λ (n : NodeData). n.key) c.node.view_is))
     c.broken_by_entry.ensures)

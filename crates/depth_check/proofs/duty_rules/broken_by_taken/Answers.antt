@@ -14,7 +14,7 @@ broken_by_irqs-requires-clause-entry c = values_well c.args.at.now.bounds.now _ 
 pub returns : goal.returns
 returns c =
     let t = c.args.at.now in
-    let same = c.node.invariant.same_key ∙ ap (λ (n : NodeData). n.key) c.node.view_is in
+    let same = ap (λ (n : NodeData). n.key) c.node.view_is in
     subst (λ (l : List Owed). LeastBrokenByDuties t l c.broken_by_irqs.result)
     (told_irqs-is t.plan.now (t.node.now).key t.point.state.now _ _ (c.handler_change-entry.ensures.entry ∙ ap (λ (k : Key). irq_entry t.plan.now k t.point.state.now 0) same) c.requires.irqs)
     c.broken_by_irqs.ensures

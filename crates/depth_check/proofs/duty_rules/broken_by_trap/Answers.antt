@@ -14,7 +14,7 @@ broken_by_entry-requires-clause-entry c = values_well c.args.at.now.bounds.now _
 pub returns : goal.returns
 returns c =
     let t = c.args.at.now in
-    let same = c.node.invariant.same_key ∙ ap (λ (n : NodeData). n.key) c.node.view_is in
+    let same = ap (λ (n : NodeData). n.key) c.node.view_is in
     let key : c.aln_key-key.result ≡ aln_key t.plan.now (t.node.now).key = c.aln_key-key.ensures ∙ ap (λ (k : Key). aln_key t.plan.now k) same in
     subst (λ (k : Key). LeastBrokenByDuties t (owed 10 (enter k (aln_entry t.plan.now (t.node.now).key t.point.state.now)) ∷ []) c.broken_by_entry.result) key
     (subst (λ (u : State). LeastBrokenByDuties t (owed 10 (enter c.aln_key-key.result u) ∷ []) c.broken_by_entry.result) (c.misaligned_change-entry.ensures.entry ∙ ap (λ (k : Key). aln_entry t.plan.now k t.point.state.now) same)

@@ -9,18 +9,19 @@ use Rattle.depth_check.proofs.node_covers.has_changed_next.Goals as goal
 
 pub covers_next-requires-clause-hand : goal.covers_next-requires-clause-hand
 covers_next-requires-clause-hand c =
-    let ahead = rw c.in-Some.is at c.requires.point.walk in
+    let ahead = c.requires.point.walk in
     subst (λ (s : State). AreWell s.regs) (sym ahead.current) (values_well c.args.at.now.bounds.now _ c.requires.point.values)
 
 pub covers_next-requires-clause-changed : goal.covers_next-requires-clause-changed
 covers_next-requires-clause-changed c =
-    let ahead = rw c.in-Some.is at c.requires.point.walk in
+    let ahead = c.requires.point.walk in
     subst (λ (s : State). AreWell (state_after s c.args.c.now).regs) (sym ahead.current) c.requires.changed
 
 pub returns-then-covers_next : goal.returns-then-covers_next
 returns-then-covers_next c =
     let t = c.args.at.now in
-    let ahead = rw c.in-Some.is at c.requires.point.walk in
-    yes _
+    let ahead = c.requires.point.walk in
+    rw c.if-covers_next.true
+    (yes _
     (subst (λ (s : State). HasPoint t.node.now c.args.addr (state_after s c.args.c.now)) ahead.current
-    (ahead.ahead c.args.addr _ (c.covers_next.ensures c.if-covers_next.true)))
+    (ahead.ahead c.args.addr _ (c.covers_next.ensures c.if-covers_next.true))))

@@ -16,18 +16,18 @@ returns-then-eq c =
 
 pub covers_next-requires-clause-hand : goal.covers_next-requires-clause-hand
 covers_next-requires-clause-hand c =
-    let ahead = rw c.in-Some.is at c.requires.walk in
+    let ahead = c.requires.walk in
     subst (λ (s : State). AreWell s.regs) (sym ahead.current) (values_well c.args.at.now.bounds.now _ c.requires.values)
 
 pub covers_next-requires-clause-changed : goal.covers_next-requires-clause-changed
 covers_next-requires-clause-changed c =
-    let ahead = rw c.in-Some.is at c.requires.walk in
+    let ahead = c.requires.walk in
     let kept = ap (λ (s : State). state_after s c.keep.new.self) ahead.current ∙ c.keep.ensures.same in
     subst (λ (s : State). AreWell s.regs) (sym kept) (values_well c.args.at.now.bounds.now _ c.requires.values)
 
 pub returns-then-covers_next : goal.returns-then-covers_next
 returns-then-covers_next c =
     let t = c.args.at.now in
-    let ahead = rw c.in-Some.is at c.requires.walk in
+    let ahead = c.requires.walk in
     let kept = ap (λ (s : State). state_after s c.keep.new.self) ahead.current ∙ c.keep.ensures.same in
-    yes _ (subst (λ (s : State). HasPoint t.node.now c.args.addr s) kept (ahead.ahead c.args.addr _ (c.covers_next.ensures c.if-covers_next.true)))
+    rw c.if-covers_next.true (yes _ (subst (λ (s : State). HasPoint t.node.now c.args.addr s) kept (ahead.ahead c.args.addr _ (c.covers_next.ensures c.if-covers_next.true))))

@@ -17,14 +17,11 @@ returns-then-eq c =
 
 pub covers_at-requires : goal.covers_at-requires
 covers_at-requires c =
-    let ahead = rw c.in-Some.is at c.requires.walk in
+    let ahead = c.requires.walk in
     subst (λ (s : State). AreWell s.regs) (sym ahead.current) (values_well c.args.at.now.bounds.now _ c.requires.values)
 
-pub returns-in-Some : goal.returns-in-Some
-returns-in-Some c =
-    let ahead = rw c.in-Some.is at c.requires.walk in
+pub returns : goal.returns
+returns c =
+    let ahead = c.requires.walk in
     subst (λ (s : State). IsTrue c.covers_at.result ↔ IsSomeAnd (find_point c.args.addr c.args.at.now.node.now.points) (λ p. Covers p.state s)) ahead.current
-    (subst (λ (ps : List Point). IsTrue c.covers_at.result ↔ IsSomeAnd (find_point c.args.addr ps) (λ p. Covers p.state c.in-Some.walk.now.current)) ahead.points c.covers_at.ensures)
-
-pub has_point-requires-clause-state : goal.has_point-requires-clause-state
-has_point-requires-clause-state c = values_well c.args.at.now.bounds.now _ c.requires.values
+    (subst (λ (ps : List Point). IsTrue c.covers_at.result ↔ IsSomeAnd (find_point c.args.addr ps) (λ p. Covers p.state c.args.at.now.point.walk.now.current)) ahead.points c.covers_at.ensures)

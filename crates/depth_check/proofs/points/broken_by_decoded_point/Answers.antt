@@ -1,4 +1,4 @@
-use Rattle.std.proofs.Common.{◌≡◌, ◌∙◌, ap, subst}
+use Rattle.std.proofs.Common.{◌≡◌, ap, subst}
 use Rattle.value_domain.specs.Limits.{Limits}
 use Rattle.value_domain.specs.State.{AreValues}
 use Rattle.depth_cert.specs.declared.keys.Key.{Key}
@@ -14,14 +14,14 @@ use Rattle.depth_check.proofs.points.broken_by_decoded_point.Goals as goal
 pub returns-in-Err-clause-found : goal.returns-in-Err-clause-found
 returns-in-Err-clause-found c =
     let t = c.args.at.now in
-    let key : c.node.inside.key ≡ t.node.now.key = c.node.invariant.same_key ∙ ap (λ (n : NodeData). n.key) c.node.view_is in
+    let key : c.node.inside.key ≡ t.node.now.key = ap (λ (n : NodeData). n.key) c.node.view_is in
     own_broken t.image.now t.plan.now t.cert.now t.node.now (point_here t.point) t.bounds.now c.in-Err.rule c.requires.point.limits c.requires.point.values
     (subst (λ (k : Key). IsLocalFault t.bounds.now t.image.now t.plan.now k t.point.addr t.point.state.now c.in-Err.rule) key (c.in-Err.ensures.fault t.image.now t.point.addr c.locate-located.ensures.code))
 
 pub broken_by_duties-duties-requires-clause-found : goal.broken_by_duties-duties-requires-clause-found
 broken_by_duties-duties-requires-clause-found c =
     let t = c.args.at.now in
-    let key : c.node.inside.key ≡ t.node.now.key = c.node.invariant.same_key ∙ ap (λ (n : NodeData). n.key) c.node.view_is in
+    let key : c.node.inside.key ≡ t.node.now.key = ap (λ (n : NodeData). n.key) c.node.view_is in
     subst (λ (k : Key). StandsFaultless t.bounds.now t.image.now t.plan.now k t.point.addr t.point.state.now c.in-Ok.found.now) key
     (c.in-Ok.ensures.found t.image.now t.point.addr c.locate-located.ensures.code)
 
@@ -29,7 +29,7 @@ pub returns-in-Ok-clause-found : goal.returns-in-Ok-clause-found
 returns-in-Ok-clause-found c =
     let t = c.args.at.now in
     let found = c.in-Ok.found.now in
-    let key : c.node.inside.key ≡ t.node.now.key = c.node.invariant.same_key ∙ ap (λ (n : NodeData). n.key) c.node.view_is in
+    let key : c.node.inside.key ≡ t.node.now.key = ap (λ (n : NodeData). n.key) c.node.view_is in
     let here =
     subst (λ (k : Key). StandsFaultless t.bounds.now t.image.now t.plan.now k t.point.addr t.point.state.now found) key
     (c.in-Ok.ensures.found t.image.now t.point.addr c.locate-located.ensures.code)

@@ -11,8 +11,6 @@ returns-then-not-are_point_values-clause-found c =
 pub broken_on_fast_path-requires-clause-point : goal.broken_on_fast_path-requires-clause-point
 broken_on_fast_path-requires-clause-point c = record {
   limits = c.requires.limits;
-  nodes = c.requires.nodes;
-  node = c.requires.node;
   values = c.are_point_values.ensures.0 c.if-not-are_point_values.false;
   again = c.requires.again;
   next = c.requires.next;
@@ -22,8 +20,6 @@ broken_on_fast_path-requires-clause-point c = record {
 pub broken_by_decoded_point-requires-clause-point : goal.broken_by_decoded_point-requires-clause-point
 broken_by_decoded_point-requires-clause-point c = record {
   limits = c.requires.limits;
-  nodes = c.requires.nodes;
-  node = c.requires.node;
   values = c.are_point_values.ensures.0 c.if-not-are_point_values.false;
   again = c.requires.again;
   next = c.requires.next;

@@ -1,4 +1,4 @@
-use Rattle.std.proofs.Common.{◌≡◌, ◌∙◌, List, [], ℕ, Option, Some, true, subst}
+use Rattle.std.proofs.Common.{◌∙◌, List, [], ℕ, Option, Some, true, subst}
 use Rattle.std.specs.Prelude.{IfSome, unwrap_or}
 use Rattle.vd_transfer.specs.Registers.{reg_of}
 use Rattle.cfg_recover.specs.LocalRules.{targets_named_by}

@@ -4,7 +4,6 @@ use Rattle.std.proofs.lemmas.Option.{slice_get_within, get_or_from_slice_get, sl
 use Rattle.elf_image.specs.Images.{ImageData}
 use Rattle.depth_cert.specs.declared.keys.Key.{Key}
 use Rattle.depth_cert.specs.Nodes.{NodeData, need_of, find_node}
-use Rattle.depth_cert.specs.Certs.{IsCert}
 use Rattle.cfg_recover.specs.Entries.{start_key}
 use Rattle.cfg_recover.specs.RulesHoldOrFail.{HoldsAtNode, IsFirstFault, Accepts}
 use Rattle.depth_check.proofs.Deciding.{all_more, all_done}
@@ -25,8 +24,8 @@ returns-in-Some-node_fault c =
     let node = c.in-Some-get.node in
     let found = sym c.in-Some-get.ensures in
     subst (λ (k : Key). IsFirstFault c.args.image.now c.args.plan.now c.args.cert.now c.in-Some-node_fault.fault.rule k c.in-Some-node_fault.fault.addr)
-    (sym (c.node.invariant.same_key ∙ ap (λ (n : NodeData). n.key) c.node.view_is))
-    (node_first c.args.image.now c.args.plan.now c.args.cert.now (subst IsCert c.cert.view_is c.cert.invariant.limits) c.in-Some.ensures.holds nodes refl c.loop-i.i node c.in-Some-node_fault.fault.rule
+    (sym (ap (λ (n : NodeData). n.key) c.node.view_is))
+    (node_first c.args.image.now c.args.plan.now c.args.cert.now c.version.ensures.limits c.in-Some.ensures.holds nodes refl c.loop-i.i node c.in-Some-node_fault.fault.rule
     c.in-Some-node_fault.fault.addr (slice_get_within nodes c.loop-i.i node found) (sym (get_or_from_slice_get nodes c.loop-i.i node node found)) c.loop-i.invariant.before c.in-Some-node_fault.ensures.fault)
 
 pub loop-i-preserved : goal.loop-i-preserved
@@ -60,12 +59,12 @@ returns c =
           all_done (HoldsAtNode c.args.image.now c.args.plan.now c.args.cert.now) (c.args.cert.now).nodes c.loop-i.i (omega (arith, c.len-i-end.ensures, c.loop-i-test.false)) c.loop-i.invariant.before;
     } in
     let found : find_node (start_key c.args.image.now c.args.plan.now) (c.args.cert.now).nodes ≡ Some c.in-Some.start = c.in-Some.ensures.node in
-    let need : c.from.result ≡ (c.in-Some.start).need = c.from.ensures ∙ c.start.invariant.same_need ∙ ap (λ (n : NodeData). n.need) c.start.view_is in
+    let need : c.from.result ≡ (c.in-Some.start).need = c.from.ensures ∙ ap (λ (n : NodeData). n.need) c.start.view_is in
     let entry : (c.args.image.now).entry < 2 ^ 32 = subst (λ (i : ImageData). i.entry < 2 ^ 32) c.image.view_is c.image.invariant.entry in
-    (accepts, need ∙ ap need_of (sym found), rw need (need_small c.args.image.now c.args.plan.now c.args.cert.now c.in-Some.start entry (subst IsCert c.cert.view_is c.cert.invariant.limits) accepts found))
+    (accepts, need ∙ ap need_of (sym found), rw need (need_small c.args.image.now c.args.plan.now c.args.cert.now c.in-Some.start entry c.version.ensures.limits accepts found))
 
 pub node_fault-requires-clause-nodes : goal.node_fault-requires-clause-nodes
-node_fault-requires-clause-nodes c = well_nodes c.args.cert.now (subst IsCert c.cert.view_is c.cert.invariant.limits)
+node_fault-requires-clause-nodes c = well_nodes c.args.cert.now c.version.ensures.limits
 
 pub node_fault-requires-clause-member : goal.node_fault-requires-clause-member
 node_fault-requires-clause-member c =

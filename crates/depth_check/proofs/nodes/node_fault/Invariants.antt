@@ -6,7 +6,7 @@ use Rattle.depth_cert.specs.declared.points.Point.{Point}
 use Rattle.depth_check.specs.Interrupts.{LastInterruptsHold}
 use Rattle.cfg_recover.specs.SetOperations.{HoldsCachedResults}
 use Rattle.depth_check.proofs.CallLaws.{HoldsNext}
-use Rattle.depth_check.proofs.nodes.packed_node_fault.Given as goal
+use Rattle.depth_check.proofs.nodes.node_fault.Given as goal
 
 abbrev pub invariant-loop-addr : goal.invariant-loop-addr
 invariant-loop-addr l = record {

@@ -17,7 +17,7 @@ use Rattle.depth_check.proofs.RepeatLaws.{walk_facts, known_values}
 use Rattle.depth_check.proofs.NodeLaws.{fault_at, none_at, entry_alone}
 use Rattle.packed_cert.proofs.WalkedPoints.{split_more}
 use Rattle.depth_check.proofs.WalkLaws.{stands_behind}
-use Rattle.depth_check.proofs.nodes.packed_node_fault.Goals as goal
+use Rattle.depth_check.proofs.nodes.node_fault.Goals as goal
 
 pub returns-in-Some-earlier_node_fault-clause-fault : goal.returns-in-Some-earlier_node_fault-clause-fault
 returns-in-Some-earlier_node_fault-clause-fault c =
@@ -27,14 +27,14 @@ returns-in-Some-earlier_node_fault-clause-fault c =
     let split : points ≡ inv.done ++ (p ∷ c.step.new.self.left) = inv.split ∙ ap (λ (l : List Point). inv.done ++ l) c.in-Some.ensures.0 in
     let b = stands_behind points inv.done c.step.new.self.left p split in
     let finds =
-    rw (c.new-at.ensures, c.near-any_node.ensures, c.walked_point-here.ensures.addr, c.walked_point-here.ensures.state) at c.broken_by_point-found.ensures.found
+    rw (c.new-at.ensures, c.near-hinted.ensures, c.walked_point-here.ensures.addr, c.walked_point-here.ensures.state) at c.broken_by_point-found.ensures.found
     in
-    fault_at c.args.image.now c.args.plan.now c.args.cert.now c.args.node.now c.requires.member points refl c.walk.ensures.rising (length inv.done) p c.packed_holds_at_entry-good.result c.broken_by_point-found.result c.in-Some-earlier_node_fault.fault b.within b.here
+    fault_at c.args.image.now c.args.plan.now c.args.cert.now c.args.node.now c.requires.member points refl c.walk.ensures.rising (length inv.done) p c.holds_at_entry-good.result c.broken_by_point-found.result c.in-Some-earlier_node_fault.fault b.within b.here
     (subst (λ (l : List Point). All (λ (q : Point). (r : ℕ) → RuleHolds c.args.image.now c.args.plan.now c.args.cert.now c.args.node.now q r) l) (sym b.before) inv.all)
     finds c.node_address_limit.ensures
     (subst (λ (n : NodeData). (n.key).entry < 2 ^ 32) c.node.view_is (omega arith))
-    (subst (λ (l : Limits). IsTrue c.packed_holds_at_entry-good.result ↔ HoldsAtEntry l c.args.node.now) c.requires.limits c.packed_holds_at_entry-good.ensures)
-    (ap (λ (n : NodeData). earlier_node_fault c.packed_holds_at_entry-good.result (n.key).entry c.in-Some.addr c.broken_by_point-found.result) (sym c.node.view_is) ∙ sym c.earlier_node_fault.ensures ∙ c.in-Some-earlier_node_fault.is)
+    (subst (λ (l : Limits). IsTrue c.holds_at_entry-good.result ↔ HoldsAtEntry l c.args.node.now) c.requires.limits c.holds_at_entry-good.ensures)
+    (ap (λ (n : NodeData). earlier_node_fault c.holds_at_entry-good.result (n.key).entry c.in-Some.addr c.broken_by_point-found.result) (sym c.node.view_is) ∙ sym c.earlier_node_fault.ensures ∙ c.in-Some-earlier_node_fault.is)
 
 pub walked_point-here-requires-clause-stacks : goal.walked_point-here-requires-clause-stacks
 walked_point-here-requires-clause-stacks c = stacks_well c.args.plan.now c.args.cert.now c.loop-addr.scratch.interrupts c.loop-addr.invariant.interrupts
@@ -48,12 +48,6 @@ walked_point-here-requires-clause-stack c =
 pub broken_by_point-found-requires-clause-limits : goal.broken_by_point-found-requires-clause-limits
 broken_by_point-found-requires-clause-limits c = rw c.new-at.ensures c.requires.limits
 
-pub broken_by_point-found-requires-clause-nodes : goal.broken_by_point-found-requires-clause-nodes
-broken_by_point-found-requires-clause-nodes c = rw c.new-at.ensures c.requires.nodes
-
-pub broken_by_point-found-requires-clause-node : goal.broken_by_point-found-requires-clause-node
-broken_by_point-found-requires-clause-node c = rw (c.new-at.ensures, c.near-any_node.ensures) (All-contains IsWellNode (c.args.cert.now).nodes c.args.node.now c.requires.nodes c.requires.member)
-
 pub broken_by_point-found-requires-clause-again : goal.broken_by_point-found-requires-clause-again
 broken_by_point-found-requires-clause-again c =
     let inv = c.loop-addr.invariant in
@@ -62,7 +56,7 @@ broken_by_point-found-requires-clause-again c =
     walk_facts c.args.plan.now c.args.cert.now c.args.node.now inv.done c.loop-addr.scratch.walk.left c.step.new.self p c.walked_point-here.result c.walk.ensures.rising (c.in-Some.ensures.2 ∙ inv.points) inv.split c.in-Some.ensures.0
     c.walked_point-here.ensures.state (λ again. c.walked_point-here.ensures.again again c.args.plan.now c.args.cert.now inv.interrupts) c.walked_point-here.ensures.next c.walked_point-here.ensures.walk
     in
-    rw (c.new-at.ensures, c.near-any_node.ensures) facts.again
+    rw (c.new-at.ensures, c.near-hinted.ensures) facts.again
 
 pub broken_by_point-found-requires-clause-known : goal.broken_by_point-found-requires-clause-known
 broken_by_point-found-requires-clause-known c =
@@ -80,7 +74,7 @@ broken_by_point-found-requires-clause-next c =
     walk_facts c.args.plan.now c.args.cert.now c.args.node.now inv.done c.loop-addr.scratch.walk.left c.step.new.self p c.walked_point-here.result c.walk.ensures.rising (c.in-Some.ensures.2 ∙ inv.points) inv.split c.in-Some.ensures.0
     c.walked_point-here.ensures.state (λ again. c.walked_point-here.ensures.again again c.args.plan.now c.args.cert.now inv.interrupts) c.walked_point-here.ensures.next c.walked_point-here.ensures.walk
     in
-    rw (c.new-at.ensures, c.near-any_node.ensures) facts.next
+    rw (c.new-at.ensures, c.near-hinted.ensures) facts.next
 
 pub broken_by_point-found-requires-clause-walk : goal.broken_by_point-found-requires-clause-walk
 broken_by_point-found-requires-clause-walk c =
@@ -90,7 +84,7 @@ broken_by_point-found-requires-clause-walk c =
     walk_facts c.args.plan.now c.args.cert.now c.args.node.now inv.done c.loop-addr.scratch.walk.left c.step.new.self p c.walked_point-here.result c.walk.ensures.rising (c.in-Some.ensures.2 ∙ inv.points) inv.split c.in-Some.ensures.0
     c.walked_point-here.ensures.state (λ again. c.walked_point-here.ensures.again again c.args.plan.now c.args.cert.now inv.interrupts) c.walked_point-here.ensures.next c.walked_point-here.ensures.walk
     in
-    rw (c.new-at.ensures, c.near-any_node.ensures) facts.walk
+    rw (c.new-at.ensures, c.near-hinted.ensures) facts.walk
 
 pub broken_by_point-found-requires-clause-results : goal.broken_by_point-found-requires-clause-results
 broken_by_point-found-requires-clause-results c = rw c.new-at.ensures c.loop-addr.invariant.results
@@ -98,7 +92,7 @@ broken_by_point-found-requires-clause-results c = rw c.new-at.ensures c.loop-add
 pub broken_by_point-found-requires-clause-registers : goal.broken_by_point-found-requires-clause-registers
 broken_by_point-found-requires-clause-registers c =
     let p : Point = record { addr = c.in-Some.addr; state = c.step.new.self.current } in
-    rw (c.new-at.ensures, c.near-any_node.ensures, c.walked_point-here.ensures.state)
+    rw (c.new-at.ensures, c.near-hinted.ensures, c.walked_point-here.ensures.state)
     (next_holds c.args.plan.now c.args.cert.now c.args.node.now c.loop-addr.scratch.walk.left c.step.new.self.left p c.step.new.self.current c.loop-addr.scratch.point.registers c.loop-addr.invariant.registers c.in-Some.ensures.0 refl)
 
 pub loop-addr-init : goal.loop-addr-init
@@ -119,14 +113,14 @@ loop-addr-preserved c =
     let points = c.args.node.now.points in
     let p : Point = record { addr = c.in-Some.addr; state = c.step.new.self.current } in
     let finds =
-    rw (c.new-at.ensures, c.near-any_node.ensures, c.walked_point-here.ensures.addr, c.walked_point-here.ensures.state) at c.broken_by_point-found.ensures.found
+    rw (c.new-at.ensures, c.near-hinted.ensures, c.walked_point-here.ensures.addr, c.walked_point-here.ensures.state) at c.broken_by_point-found.ensures.found
     in
-    let told = ap (λ (n : NodeData). earlier_node_fault c.packed_holds_at_entry-good.result (n.key).entry c.in-Some.addr c.broken_by_point-found.result) (sym c.node.view_is) ∙ sym c.earlier_node_fault.ensures ∙ c.in_default-earlier_node_fault.is in
-    let holds = none_at c.args.image.now c.args.plan.now c.args.cert.now c.args.node.now c.requires.member points refl c.walk.ensures.rising p c.packed_holds_at_entry-good.result c.broken_by_point-found.result told finds in
+    let told = ap (λ (n : NodeData). earlier_node_fault c.holds_at_entry-good.result (n.key).entry c.in-Some.addr c.broken_by_point-found.result) (sym c.node.view_is) ∙ sym c.earlier_node_fault.ensures ∙ c.in_default-earlier_node_fault.is in
+    let holds = none_at c.args.image.now c.args.plan.now c.args.cert.now c.args.node.now c.requires.member points refl c.walk.ensures.rising p c.holds_at_entry-good.result c.broken_by_point-found.result told finds in
     let registers : HoldsNext c.args.plan.now c.args.cert.now c.args.node.now c.step.new.self.left c.if_repeated-scratch.result =
     rw c.if_repeated-scratch.ensures
     (holds_next c.args.plan.now c.args.cert.now c.args.node.now c.step.new.self c.step.new.self.current c.walked_point-here.result.next c.broken_by_point-found.new.scratch.registers refl c.walked_point-here.ensures.next
-    (rw (c.new-at.ensures, c.near-any_node.ensures, c.walked_point-here.ensures.state) at c.broken_by_point-found.ensures.registers)) in
+    (rw (c.new-at.ensures, c.near-hinted.ensures, c.walked_point-here.ensures.state) at c.broken_by_point-found.ensures.registers)) in
     record {
       done = inv.done ++ p ∷ [];
       split = split_more points inv.done c.loop-addr.scratch.walk.left c.step.new.self.left p inv.split c.in-Some.ensures.0;
@@ -139,7 +133,7 @@ loop-addr-preserved c =
     }
 
 pub keep_context-requires-clause-node : goal.keep_context-requires-clause-node
-keep_context-requires-clause-node c = rw c.new-at.ensures c.near-any_node.ensures
+keep_context-requires-clause-node c = rw c.new-at.ensures c.near-hinted.ensures
 
 pub keep_context-requires-clause-point : goal.keep_context-requires-clause-point
 keep_context-requires-clause-point c =
@@ -147,19 +141,17 @@ keep_context-requires-clause-point c =
     let points = c.args.node.now.points in
     let p : Point = record { addr = c.in-Some.addr; state = c.step.new.self.current } in
     let finds =
-    rw (c.new-at.ensures, c.near-any_node.ensures, c.walked_point-here.ensures.addr, c.walked_point-here.ensures.state) at c.broken_by_point-found.ensures.found
+    rw (c.new-at.ensures, c.near-hinted.ensures, c.walked_point-here.ensures.addr, c.walked_point-here.ensures.state) at c.broken_by_point-found.ensures.found
     in
-    let told = ap (λ (n : NodeData). earlier_node_fault c.packed_holds_at_entry-good.result (n.key).entry c.in-Some.addr c.broken_by_point-found.result) (sym c.node.view_is) ∙ sym c.earlier_node_fault.ensures ∙ c.in_default-earlier_node_fault.is in
-    let holds = none_at c.args.image.now c.args.plan.now c.args.cert.now c.args.node.now c.requires.member points refl c.walk.ensures.rising p c.packed_holds_at_entry-good.result c.broken_by_point-found.result told finds in
+    let told = ap (λ (n : NodeData). earlier_node_fault c.holds_at_entry-good.result (n.key).entry c.in-Some.addr c.broken_by_point-found.result) (sym c.node.view_is) ∙ sym c.earlier_node_fault.ensures ∙ c.in_default-earlier_node_fault.is in
+    let holds = none_at c.args.image.now c.args.plan.now c.args.cert.now c.args.node.now c.requires.member points refl c.walk.ensures.rising p c.holds_at_entry-good.result c.broken_by_point-found.result told finds in
     let facts =
     walk_facts c.args.plan.now c.args.cert.now c.args.node.now inv.done c.loop-addr.scratch.walk.left c.step.new.self p c.walked_point-here.result c.walk.ensures.rising (c.in-Some.ensures.2 ∙ inv.points) inv.split c.in-Some.ensures.0
     c.walked_point-here.ensures.state (λ again. c.walked_point-here.ensures.again again c.args.plan.now c.args.cert.now inv.interrupts) c.walked_point-here.ensures.next c.walked_point-here.ensures.walk
     in
-    rw (c.new-at.ensures, c.near-any_node.ensures)
+    rw (c.new-at.ensures, c.near-hinted.ensures)
     (record {
       limits = c.requires.limits;
-      nodes = c.requires.nodes;
-      node = All-contains IsWellNode (c.args.cert.now).nodes c.args.node.now c.requires.nodes c.requires.member;
       values = rw (c.walked_point-here.ensures.state, c.requires.limits) ((holds 2).values refl);
       again = facts.again;
       next = facts.next;
@@ -172,10 +164,10 @@ keep_context-requires-clause-holds c =
     let points = c.args.node.now.points in
     let p : Point = record { addr = c.in-Some.addr; state = c.step.new.self.current } in
     let finds =
-    rw (c.new-at.ensures, c.near-any_node.ensures, c.walked_point-here.ensures.addr, c.walked_point-here.ensures.state) at c.broken_by_point-found.ensures.found
+    rw (c.new-at.ensures, c.near-hinted.ensures, c.walked_point-here.ensures.addr, c.walked_point-here.ensures.state) at c.broken_by_point-found.ensures.found
     in
-    let told = ap (λ (n : NodeData). earlier_node_fault c.packed_holds_at_entry-good.result (n.key).entry c.in-Some.addr c.broken_by_point-found.result) (sym c.node.view_is) ∙ sym c.earlier_node_fault.ensures ∙ c.in_default-earlier_node_fault.is in
-    let holds = none_at c.args.image.now c.args.plan.now c.args.cert.now c.args.node.now c.requires.member points refl c.walk.ensures.rising p c.packed_holds_at_entry-good.result c.broken_by_point-found.result told finds in
+    let told = ap (λ (n : NodeData). earlier_node_fault c.holds_at_entry-good.result (n.key).entry c.in-Some.addr c.broken_by_point-found.result) (sym c.node.view_is) ∙ sym c.earlier_node_fault.ensures ∙ c.in_default-earlier_node_fault.is in
+    let holds = none_at c.args.image.now c.args.plan.now c.args.cert.now c.args.node.now c.requires.member points refl c.walk.ensures.rising p c.holds_at_entry-good.result c.broken_by_point-found.result told finds in
     rw (c.new-at.ensures, c.walked_point-here.ensures.state) (interrupts_at c.args.image.now c.args.plan.now c.args.cert.now c.args.node.now p holds)
 
 pub keep_context-requires-clause-interrupts : goal.keep_context-requires-clause-interrupts
@@ -187,14 +179,14 @@ loop-addr-preserved-then-is_checked c =
     let points = c.args.node.now.points in
     let p : Point = record { addr = c.in-Some.addr; state = c.step.new.self.current } in
     let finds =
-    rw (c.new-at.ensures, c.near-any_node.ensures, c.walked_point-here.ensures.addr, c.walked_point-here.ensures.state) at c.broken_by_point-found.ensures.found
+    rw (c.new-at.ensures, c.near-hinted.ensures, c.walked_point-here.ensures.addr, c.walked_point-here.ensures.state) at c.broken_by_point-found.ensures.found
     in
-    let told = ap (λ (n : NodeData). earlier_node_fault c.packed_holds_at_entry-good.result (n.key).entry c.in-Some.addr c.broken_by_point-found.result) (sym c.node.view_is) ∙ sym c.earlier_node_fault.ensures ∙ c.in_default-earlier_node_fault.is in
-    let holds = none_at c.args.image.now c.args.plan.now c.args.cert.now c.args.node.now c.requires.member points refl c.walk.ensures.rising p c.packed_holds_at_entry-good.result c.broken_by_point-found.result told finds in
+    let told = ap (λ (n : NodeData). earlier_node_fault c.holds_at_entry-good.result (n.key).entry c.in-Some.addr c.broken_by_point-found.result) (sym c.node.view_is) ∙ sym c.earlier_node_fault.ensures ∙ c.in_default-earlier_node_fault.is in
+    let holds = none_at c.args.image.now c.args.plan.now c.args.cert.now c.args.node.now c.requires.member points refl c.walk.ensures.rising p c.holds_at_entry-good.result c.broken_by_point-found.result told finds in
     let registers : HoldsNext c.args.plan.now c.args.cert.now c.args.node.now c.step.new.self.left c.if_repeated-scratch.result =
     rw c.if_repeated-scratch.ensures
     (holds_next c.args.plan.now c.args.cert.now c.args.node.now c.step.new.self c.step.new.self.current c.walked_point-here.result.next c.broken_by_point-found.new.scratch.registers refl c.walked_point-here.ensures.next
-    (rw (c.new-at.ensures, c.near-any_node.ensures, c.walked_point-here.ensures.state) at c.broken_by_point-found.ensures.registers)) in
+    (rw (c.new-at.ensures, c.near-hinted.ensures, c.walked_point-here.ensures.state) at c.broken_by_point-found.ensures.registers)) in
     record {
       done = inv.done ++ p ∷ [];
       split = split_more points inv.done c.loop-addr.scratch.walk.left c.step.new.self.left p inv.split c.in-Some.ensures.0;
@@ -215,5 +207,5 @@ returns-else-good-clause-fault c =
     (subst (λ (n : NodeData). IsNodeFault c.args.image.now c.args.plan.now c.args.cert.now c.args.node.now 2 (n.key).entry) (sym c.node.view_is)
     (entry_alone c.args.image.now c.args.plan.now c.args.cert.now c.args.node.now c.requires.member points refl c.walk.ensures.rising
     (subst (λ (l : List Point). All (λ (q : Point). (r : ℕ) → RuleHolds c.args.image.now c.args.plan.now c.args.cert.now c.args.node.now q r) l) (sym whole) inv.all)
-    (refuted _ _ c.if-good.false (subst (λ (l : Limits). IsTrue c.packed_holds_at_entry-good.result ↔ HoldsAtEntry l c.args.node.now) c.requires.limits c.packed_holds_at_entry-good.ensures))
+    (refuted _ _ c.if-good.false (subst (λ (l : Limits). IsTrue c.holds_at_entry-good.result ↔ HoldsAtEntry l c.args.node.now) c.requires.limits c.holds_at_entry-good.ensures))
     (subst (λ (n : NodeData). (n.key).entry < 2 ^ 32) c.node.view_is (omega arith))))

@@ -1,6 +1,0 @@
-use Rattle.std.proofs.Common.{ℕ, ◌<◌, get_or}
-use Rattle.value_domain.specs.Values.{IsBelow, any_val}
-use Rattle.depth_check.proofs.node_covers.are_exit_values_below.Given as goal
-
-abbrev pub invariant-loop-i : goal.invariant-loop-i
-invariant-loop-i l = (r : ℕ) → r < l.i → IsBelow (get_or l.low r any_val) (get_or l.high r any_val)
