@@ -15,9 +15,10 @@ use crate::needs::{frame_needs, needs_error};
 use crate::rows::Source;
 use crate::spelling::spelled_cert_bytes;
 use crate::table::Table;
-use depth_cert::{Cert, CertErr, Key};
+use depth_cert::{CertErr, Key};
 use elf_image::Image;
 use frame_places::{Refusal, Spot, number_frames};
+use packed_cert::PackedCert;
 use std::alloc::{AllocError, AllocFailed, Global};
 use tcd_plan::Plan;
 use value_domain::Bounds;
@@ -77,13 +78,13 @@ pub fn make_bytes(
 }
 
 /// Returns the least certificate of version 1 or 2 that the rules accept, or why none is accepted.
-pub fn make(alloc: Global, image: &Image, plan: &Plan, version: u8) -> Result<Cert, MakeErr>
+pub fn make(alloc: Global, image: &Image, plan: &Plan, version: u8) -> Result<PackedCert, MakeErr>
     requires { (version ≡ 1) ⊎ (version ≡ 2) }
     ensures made { IfOk result (IsMade image.now plan.now version) }
     ensures refused { IfErr result (IsRefused image.now plan.now version) }
 {
     let bytes = make_bytes(alloc, image, plan, version)?;
-    match Cert::read(alloc, bytes.as_slice()) {
+    match PackedCert::read(alloc, bytes) {
         Ok(cert) => Ok(cert),
         Err(CertErr::NoMemory) => Err(MakeErr::NoMemory),
         Err(CertErr::Bad(_)) => unreachable!(),

@@ -1,4 +1,4 @@
-// Rule 17 at each point of a view's certificate in memory.
+// Rule 17 at each point of a view's certificate.
 ghost use Rattle.std.specs.Prelude.{All, IfNone, IfSome};
 ghost use Rattle.value_domain.specs.State.{AreValues};
 ghost use Rattle.cfg_recover.specs.RulesHoldOrFail.{Accepts};
@@ -7,20 +7,22 @@ ghost use Rattle.task_chains.specs.Rule17.{KeepsApart, IsTaskFault, HoldsApartIn
 use crate::Tasks;
 use crate::rule_17::{TasksRule, holds_apart};
 use cfg_recover::KnownCodes;
-use depth_cert::{Cert, Key, Node};
+use depth_cert::Key;
 use elf_image::Image;
+use packed_cert::{PackedCert, PackedNode, PointWalk};
 use tcd_plan::Plan;
 use value_domain::Bounds;
 
 /// Returns the first key and address at which rule 17 fails: another frame's point in the switch
 /// routine, a load that can reach a save area or the routine, an instruction that reads a link, or
 /// a BISR outside of all interrupts. The rules accept the certificate for a task's view.
-pub fn task_fault(view: &Image, plan: &Plan, tasks: &Tasks, cert: &Cert) -> Option<(Key, u32)>
+#[inline(never)]
+pub fn task_fault(view: &Image, plan: &Plan, tasks: &Tasks, cert: &PackedCert) -> Option<(Key, u32)>
     requires { Accepts view.now plan.now cert.now }
     ensures none { IfNone result (KeepsApart view.now plan.now tasks.now cert.now) }
     ensures some { IfSome result (λ f. IsTaskFault view.now plan.now tasks.now cert.now f.0 f.1) }
 {
-    let bounds = Bounds::of(plan, cert.version);
+    let bounds = Bounds::of(plan, cert.version());
     let rule = TasksRule {
         bounds: &bounds,
         view,
@@ -28,8 +30,12 @@ pub fn task_fault(view: &Image, plan: &Plan, tasks: &Tasks, cert: &Cert) -> Opti
         tasks,
     };
     let mut codes = KnownCodes::new();
-    for node in &cert.nodes {
-        if let Some(addr) = node_task_fault(&rule, &mut codes, node) {
+    let mut walk = PointWalk::none();
+    for i in 0..cert.len() {
+        let Some(node) = cert.get(i) else {
+            unreachable!()
+        };
+        if let Some(addr) = node_task_fault(&rule, &mut codes, &node, &mut walk) {
             return Some((node.key, addr));
         }
     }
@@ -37,7 +43,12 @@ pub fn task_fault(view: &Image, plan: &Plan, tasks: &Tasks, cert: &Cert) -> Opti
 }
 
 /// Returns the first address of a node's points at which rule 17 fails.
-fn node_task_fault(rule: &TasksRule, codes: &mut KnownCodes, node: &Node) -> Option<u32>
+fn node_task_fault<'a>(
+    rule: &TasksRule,
+    codes: &mut KnownCodes,
+    node: &PackedNode<'a>,
+    walk: &mut PointWalk<'a>,
+) -> Option<u32>
     requires { All (λ p. AreValues rule.now.bounds.now p.state.regs) node.now.points }
     ensures none { let r = rule.now in
         IfNone result
@@ -46,9 +57,10 @@ fn node_task_fault(rule: &TasksRule, codes: &mut KnownCodes, node: &Node) -> Opt
     ensures some { let r = rule.now in
         IfSome result (IsNodeFault r.bounds.now r.view.now r.plan.now r.tasks.now node.now) }
 {
-    for point in &node.points {
-        if !holds_apart(rule, codes, &node.key, point.addr, &point.state) {
-            return Some(point.addr);
+    node.walk(walk);
+    while let Some(addr) = walk.step() {
+        if !holds_apart(rule, codes, &node.key, addr, walk.state()) {
+            return Some(addr);
         }
     }
     None

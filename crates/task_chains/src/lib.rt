@@ -7,7 +7,6 @@ mod drafts;
 mod faults;
 mod laws;
 mod lines;
-mod packed_faults;
 mod routine;
 mod rule_17;
 mod task_lists;
@@ -15,7 +14,6 @@ mod views;
 
 pub use faults::task_fault;
 pub use laws::{faults_of_tasks, law_of_tasks, laws_of_views, safe_tasks_in_words, tasks_in_words};
-pub use packed_faults::task_fault_packed;
 pub use routine::routine_fault;
 pub use rule_17::TASKS_RULE;
 pub use task_lists::{Task, Tasks, TasksErr};

@@ -3,7 +3,7 @@ ghost use Rattle.depth_maker.specs.Answers.{NoneAccepted};
 ghost use Rattle.tcd_driver.specs.BestCert.{MakesBestCert, SpellBestCert};
 
 use depth_cert::{CertErr, Key};
-use depth_check::{Verdict, check_packed};
+use depth_check::{Verdict, check};
 use depth_maker::{MakeErr, make_bytes};
 use elf_image::Image;
 use packed_cert::PackedCert;
@@ -42,7 +42,7 @@ fn check_best_cert(alloc: Global, image: &Image, plan: &Plan, bytes: Vec<u8>) ->
         Err(CertErr::NoMemory) => return Making::NoMemory,
         Err(CertErr::Bad(_)) => unreachable!(),
     };
-    match check_packed(image, plan, &cert) {
+    match check(image, plan, &cert) {
         Verdict::Yes(need) => Making::Certified {
             bytes: cert.into_bytes(),
             need,

@@ -6,7 +6,6 @@ ghost use Rattle.tcd_report.specs.Graphs.{IsGraph};
 use crate::graphs::graph_text::{append_node, empty_graph_text};
 use crate::judged::Judged;
 use cfg_recover::KnownCodes;
-use depth_cert::Cert;
 use elf_image::Image;
 use packed_cert::{PackedCert, PointWalk};
 use std::alloc::Global;
@@ -26,7 +25,7 @@ pub(crate) mod successors;
 /// keys and addresses. The lines of a point are in this order: jumps and calls by ascending
 /// address, returns of callees, system call, misaligned access, interrupts by ascending priority,
 /// its own return. No line is there twice, and each ends with a line feed.
-pub fn graph_packed(
+pub fn graph(
     alloc: Global,
     image: &Image,
     plan: &Plan,
@@ -52,13 +51,4 @@ pub fn graph_packed(
         append_node(&mut graph, &judged, &mut codes, &node, &mut walk)?;
     }
     Ok(graph.text)
-}
-
-/// The graph of an accepted certificate in memory, by way of the bytes that spell it.
-pub fn graph(alloc: Global, image: &Image, plan: &Plan, cert: &Cert) -> Result<String, NoMemory>
-    requires { Accepts image.now plan.now cert.now }
-    ensures { IfOk result (λ text. IsGraph image.now plan.now cert.now (string_bytes text)) }
-{
-    let cert = PackedCert::of(alloc, cert)?;
-    graph_packed(alloc, image, plan, &cert)
 }

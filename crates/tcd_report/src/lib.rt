@@ -10,6 +10,6 @@ mod reports;
 mod texts;
 
 pub use generating::generated_files::{Generated, generate};
-pub use graphs::{graph, graph_packed};
+pub use graphs::graph;
 pub use laws::graph_law;
-pub use reports::{report, report_packed};
+pub use reports::report;

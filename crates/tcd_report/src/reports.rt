@@ -8,7 +8,6 @@ use crate::reports::heights::heights;
 use crate::reports::longest_by_priority::{longest_by_priority, priority_count, rows_below};
 use crate::reports::report_text::{need_of_start, nodes_value, rows_value, whole_value};
 use crate::texts::extend_text;
-use depth_cert::Cert;
 use elf_image::Image;
 use packed_cert::PackedCert;
 use std::alloc::Global;
@@ -24,7 +23,7 @@ pub(crate) mod report_text;
 /// The report of an accepted certificate: one compact JSON object with its keys in byte order, and
 /// a line feed. It has the CSAs, the longest call chain of each priority, the certified need, the
 /// nodes with their needs and numbers of points, and the CSAs that are kept in reserve.
-pub fn report_packed(
+pub fn report(
     alloc: Global,
     image: &Image,
     plan: &Plan,
@@ -50,13 +49,4 @@ pub fn report_packed(
     let mut text = value.to_string(alloc)?;
     extend_text(&mut text, "\n")?;
     Ok(text)
-}
-
-/// The report of an accepted certificate in memory, by way of the bytes that spell it.
-pub fn report(alloc: Global, image: &Image, plan: &Plan, cert: &Cert) -> Result<String, NoMemory>
-    requires { Accepts image.now plan.now cert.now }
-    ensures { IfOk result (λ text. IsReport image.now plan.now cert.now (string_bytes text)) }
-{
-    let cert = PackedCert::of(alloc, cert)?;
-    report_packed(alloc, image, plan, &cert)
 }

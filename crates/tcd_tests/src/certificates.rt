@@ -1,6 +1,7 @@
 //! A certificate of two nodes, its look-ups, and bytes that spell none.
 use crate::asserts::{is_so, same};
-use depth_cert::{Cert, CertErr, Key};
+use depth_cert::{CertErr, Key};
+use packed_cert::{PackedCert, PointWalk};
 use std::alloc::AllocGlobal;
 use std::process::Abort;
 use std::test::Fail;
@@ -33,10 +34,15 @@ const START: Key = Key {
 
 /// Why bytes are no certificate, and None where they are one.
 fn refused<R: Abort + AllocGlobal>(rt: &R, bytes: &[u8]) -> Option<CertErr> {
+    read(rt, bytes).err()
+}
+
+/// Reads a certificate.
+fn read<R: Abort + AllocGlobal>(rt: &R, bytes: &[u8]) -> Result<PackedCert, CertErr> {
     assert!(rt; bytes.len() <= 1 << 30);
-    match Cert::read(rt.alloc(), bytes) {
-        Ok(_) => None,
-        Err(err) => Some(err),
+    match Vec::from_slice(rt.alloc(), bytes) {
+        Ok(own) => PackedCert::read(rt.alloc(), own),
+        Err(_) => Err(CertErr::NoMemory),
     }
 }
 
@@ -45,10 +51,10 @@ fn reads_and_writes(rt: HostRuntime) -> Result<(), Fail> {
     for version in [1u8, 2] {
         let mut bytes = CALLER_CERT;
         bytes[4] = version;
-        let cert = Cert::read(rt.alloc(), &bytes).map_err(|_| "no certificate")?;
-        same(&rt, &cert.version, &version);
-        same(&rt, &cert.nodes.len(), &2);
-        let out = cert.write(rt.alloc()).map_err(|_| "not written")?;
+        let cert = read(&rt, &bytes).map_err(|_| "no certificate")?;
+        same(&rt, &cert.version(), &version);
+        same(&rt, &cert.len(), &2);
+        let out = cert.into_bytes();
         same(&rt, &out.as_slice(), &bytes.as_slice());
     }
     Ok(())
@@ -56,30 +62,28 @@ fn reads_and_writes(rt: HostRuntime) -> Result<(), Fail> {
 
 #[test]
 fn finds_nodes_and_points(rt: HostRuntime) -> Result<(), Fail> {
-    let cert = Cert::read(rt.alloc(), &CALLER_CERT).map_err(|_| "no certificate")?;
+    let cert = read(&rt, &CALLER_CERT).map_err(|_| "no certificate")?;
     let start = cert.node(&START).ok_or("no start")?;
     same(&rt, &start.need, &1);
-    is_so(&rt, start.exit.is_none());
-    same(
-        &rt,
-        &start.point(0x8000_0004).ok_or("no point")?.addr,
-        &0x8000_0004,
-    );
-    is_so(&rt, start.point(0x8000_0002).is_none());
-    is_so(&rt, start.point(0x8000_0008).is_none());
+    is_so(&rt, start.exit().is_none());
+    is_so(&rt, start.state(0x8000_0004).is_some());
+    is_so(&rt, start.state(0x8000_0002).is_none());
+    is_so(&rt, start.state(0x8000_0008).is_none());
     let mut call = START;
     call.kind = 1;
     is_so(&rt, cert.node(&call).is_none());
     call.entry = 0x8000_0008;
     let call = cert.node(&call).ok_or("no node")?;
     same(&rt, &call.need, &0);
-    let exit = call.exit.as_ref().ok_or("no exit")?;
-    is_so(&rt, !exit.ie && exit.ccpn == 0);
-    is_so(&rt, exit.lower[13].words().is_none());
-    let state = &call.point(0x8000_0008).ok_or("no point")?.state;
+    let exit = call.exit().ok_or("no exit")?;
+    is_so(&rt, !exit.ie() && exit.ccpn() == 0);
+    is_so(&rt, exit.read().lower[13].words().is_none());
+    let mut walk = PointWalk::none();
+    call.walk(&mut walk);
+    same(&rt, &walk.step(), &Some(0x8000_0008));
     same(
         &rt,
-        &state.regs[22].words().ok_or("any")?,
+        &walk.state().regs[22].words().ok_or("any")?,
         &[0xD000_9000].as_slice(),
     );
     Ok(())

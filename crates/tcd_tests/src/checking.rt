@@ -1,10 +1,10 @@
-//! The verdict on a certificate in memory, which is that on its bytes.
-use crate::asserts::{is_so, same};
+//! The verdict on a certificate.
+use crate::asserts::same;
 use crate::boards::board;
 use crate::certificates::CALLER_CERT;
 use crate::programs::{CALLER, image};
-use depth_cert::{Cert, Key};
-use depth_check::{Verdict, check, check_packed};
+use depth_cert::Key;
+use depth_check::{Verdict, check};
 use packed_cert::PackedCert;
 use std::alloc::AllocGlobal;
 use std::process::Abort;
@@ -23,11 +23,8 @@ fn answer<R: Abort + AllocGlobal>(rt: &R, cert: &[u8]) -> Result<Verdict, Fail> 
     let plan = board(rt, &[])?;
     let mut bytes = Vec::new(rt.alloc());
     bytes.extend_from_slice(cert)?;
-    let read = Cert::read(rt.alloc(), cert)?;
-    let verdict = check(&image, &plan, &read);
-    let packed = PackedCert::read(rt.alloc(), bytes)?;
-    is_so(rt, check_packed(&image, &plan, &packed) == verdict);
-    Ok(verdict)
+    let cert = PackedCert::read(rt.alloc(), bytes)?;
+    Ok(check(&image, &plan, &cert))
 }
 
 #[test]

@@ -1,12 +1,12 @@
-//! Certificates that are made in memory, in both versions.
+//! Certificates that are made, in both versions.
 use crate::asserts::{is_so, same};
 use crate::boards::{Edit, INTERRUPTS, board};
 use crate::programs::{CALLER, DISPATCH, FIVE_LOCALS, NESTED, Program, image};
 use depth_cert::Key;
-use depth_check::{Verdict, check, check_packed};
-use depth_maker::{MakeErr, make, make_bytes};
+use depth_check::{Verdict, check};
+use depth_maker::{MakeErr, make};
 use elf_image::Image;
-use packed_cert::PackedCert;
+use packed_cert::PointWalk;
 use std::alloc::AllocGlobal;
 use std::process::Abort;
 use std::test::Fail;
@@ -23,9 +23,10 @@ fn has_needs<R: Abort + AllocGlobal>(
     let plan = board(rt, edits)?;
     let image = image(rt, program)?;
     let cert = make(rt.alloc(), &image, &plan, version).map_err(|_| "refused")?;
-    same(rt, &cert.version, &version);
-    same(rt, &cert.nodes.len(), &needs.len());
-    for (node, need) in cert.nodes.iter().zip(needs) {
+    same(rt, &cert.version(), &version);
+    same(rt, &cert.len(), &needs.len());
+    for (i, need) in needs.iter().enumerate() {
+        let node = cert.get(i).ok_or("no node")?;
         same(rt, &node.need, need);
     }
     let first = needs.first().ok_or("no need")?;
@@ -54,11 +55,17 @@ fn a_table_of_functions_has_its_targets(rt: HostRuntime) -> Result<(), Fail> {
     let plan = board(&rt, &[])?;
     let image = image(&rt, &DISPATCH)?;
     let cert = make(rt.alloc(), &image, &plan, 1).map_err(|_| "refused")?;
-    let start = cert.nodes.first().ok_or("no start")?;
-    let state = &start.point(0x8000_0010).ok_or("no point")?.state;
+    let start = cert.get(0).ok_or("no start")?;
+    let mut walk = PointWalk::none();
+    start.walk(&mut walk);
+    for _i in 0..start.len() {
+        if walk.step() == Some(0x8000_0010) {
+            break;
+        }
+    }
     same(
         &rt,
-        &state.regs[26].words().ok_or("a span")?,
+        &walk.state().regs[26].words().ok_or("a span")?,
         &[0x8000_0030, 0x8000_0032, 0x8000_0034].as_slice(),
     );
     Ok(())
@@ -123,10 +130,8 @@ fn jumps_between_two_ends(rt: HostRuntime) -> Result<(), Fail> {
         &rt,
         &[(r#""len":"0x1000"}],"ram""#, r#""len":"0x10000"}],"ram""#)],
     )?;
-    let made = make_bytes(alloc, &image, &plan, 1).map_err(|_| "refused")?;
-    same(&rt, &made.len(), &638_998);
-    assert!(rt; made.len() <= 1_000_000);
-    let cert = PackedCert::read(alloc, made)?;
-    is_so(&rt, check_packed(&image, &plan, &cert) == Verdict::Yes(0));
+    let cert = make(alloc, &image, &plan, 1).map_err(|_| "refused")?;
+    is_so(&rt, check(&image, &plan, &cert) == Verdict::Yes(0));
+    same(&rt, &cert.into_bytes().len(), &638_998);
     Ok(())
 }

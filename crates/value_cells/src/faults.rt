@@ -1,4 +1,4 @@
-// Rule 16 at each point of a certificate in memory.
+// Rule 16 at each point of a certificate.
 ghost use Rattle.std.specs.Prelude.{◌≤◌, ◌+◌, ◌^◌, All, IfNone, IfSome};
 ghost use Rattle.value_domain.specs.State.{AreValues};
 ghost use Rattle.cfg_recover.specs.RulesHoldOrFail.{Accepts};
@@ -10,15 +10,22 @@ use crate::cells::Cells;
 use crate::plans::with_cells;
 use crate::rule_16::{CellsRule, keeps_rule_16};
 use cfg_recover::KnownCodes;
-use depth_cert::{Cert, Key, Node};
+use depth_cert::Key;
 use elf_image::Image;
+use packed_cert::{PackedCert, PackedNode, PointWalk};
 use tcd_plan::Plan;
 use value_domain::Bounds;
 
 /// Returns the first key and address at which rule 16 fails: some possible store touches a cell,
 /// and isn't a store of the cell's whole word, or can store a word outside its bounds. The rules
 /// accept the certificate under the plan in which the cells are devices.
-pub fn cells_fault(image: &Image, plan: &Plan, cells: &Cells, cert: &Cert) -> Option<(Key, u32)>
+#[inline(never)]
+pub fn cells_fault(
+    image: &Image,
+    plan: &Plan,
+    cells: &Cells,
+    cert: &PackedCert,
+) -> Option<(Key, u32)>
     requires cells { AreCells plan.now cells.now }
     requires accepted { Accepts image.now (spec.with_cells plan.now cells.now) cert.now }
     ensures none { IfNone result
@@ -28,7 +35,7 @@ pub fn cells_fault(image: &Image, plan: &Plan, cells: &Cells, cert: &Cert) -> Op
 {
     let _areas = plan.areas;
     let other = with_cells(plan, cells);
-    let bounds = Bounds::of(&other, cert.version);
+    let bounds = Bounds::of(&other, cert.version());
     let rule = CellsRule {
         bounds: &bounds,
         image,
@@ -36,8 +43,12 @@ pub fn cells_fault(image: &Image, plan: &Plan, cells: &Cells, cert: &Cert) -> Op
         cells: cells.list(),
     };
     let mut codes = KnownCodes::new();
-    for node in &cert.nodes {
-        if let Some(addr) = node_cells_fault(&rule, &mut codes, node) {
+    let mut walk = PointWalk::none();
+    for i in 0..cert.len() {
+        let Some(node) = cert.get(i) else {
+            unreachable!()
+        };
+        if let Some(addr) = node_cells_fault(&rule, &mut codes, &node, &mut walk) {
             return Some((node.key, addr));
         }
     }
@@ -45,7 +56,12 @@ pub fn cells_fault(image: &Image, plan: &Plan, cells: &Cells, cert: &Cert) -> Op
 }
 
 /// Returns the first address of a node's points at which rule 16 fails.
-fn node_cells_fault(rule: &CellsRule, codes: &mut KnownCodes, node: &Node) -> Option<u32>
+fn node_cells_fault<'a>(
+    rule: &CellsRule,
+    codes: &mut KnownCodes,
+    node: &PackedNode<'a>,
+    walk: &mut PointWalk<'a>,
+) -> Option<u32>
     requires values { All (λ p. AreValues rule.now.bounds.now p.state.regs) node.now.points }
     requires cells { All (λ c. c.at + 4 ≤ 2 ^ 32) rule.now.cells.now }
     ensures none { let r = rule.now in
@@ -55,9 +71,10 @@ fn node_cells_fault(rule: &CellsRule, codes: &mut KnownCodes, node: &Node) -> Op
         IfSome result
         (IsNodeBreak r.bounds.now r.image.now r.plan.now r.cells.now node.now) }
 {
-    for point in &node.points {
-        if !keeps_rule_16(rule, codes, point.addr, &point.state) {
-            return Some(point.addr);
+    node.walk(walk);
+    while let Some(addr) = walk.step() {
+        if !keeps_rule_16(rule, codes, addr, walk.state()) {
+            return Some(addr);
         }
     }
     None

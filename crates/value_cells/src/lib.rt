@@ -7,7 +7,6 @@ mod faults;
 mod keeping;
 mod laws;
 mod lines;
-mod packed_faults;
 mod plans;
 mod rule_16;
 
@@ -15,6 +14,5 @@ pub use cells::{Cell, Cells};
 pub use errors::CellsErr;
 pub use faults::cells_fault;
 pub use laws::{cells_in_words, cells_keep_their_bounds, faults_of_cells};
-pub use packed_faults::cells_fault_packed;
 pub use plans::with_cells;
 pub use rule_16::CELLS_RULE;

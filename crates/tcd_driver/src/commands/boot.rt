@@ -3,7 +3,7 @@ ghost use Rattle.tcd_driver.specs.Boot.{IsBootVerdict, boot_reading};
 ghost use Rattle.tcd_reading.specs.Outcomes.{IsCommandOutcome, IsToldOutcome};
 
 use crate::lines::refused_boot_line;
-use depth_check::{Verdict, check_packed};
+use depth_check::{Verdict, check};
 use elf_image::Image;
 use packed_cert::PackedCert;
 use std::alloc::Global;
@@ -49,7 +49,7 @@ fn boot_verdict(alloc: Global, image: &Image, plan: &Plan, cert: &PackedCert, at
 {
     // Reading a field gives the facts that hold for every image.
     let _entry = image.entry;
-    match check_packed(image, plan, cert) {
+    match check(image, plan, cert) {
         Verdict::Yes(need) => match boot_ok(image, plan, at) {
             Ok(events) => report(
                 alloc,

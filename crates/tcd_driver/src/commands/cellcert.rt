@@ -7,7 +7,7 @@ ghost use Rattle.tcd_reading.specs.Outcomes.{IsCommandOutcome, IsToldOutcome};
 
 use crate::cell_and_task_files::CellsFile;
 use depth_cert::CertErr;
-use depth_check::{Verdict, check_packed};
+use depth_check::{Verdict, check};
 use depth_maker::{MakeErr, make_bytes};
 use elf_image::Image;
 use packed_cert::PackedCert;
@@ -16,7 +16,7 @@ use tcd_base::Files;
 use tcd_forms::{ElfFile, PlanFile, certified_cells_line, refused_line};
 use tcd_plan::Plan;
 use tcd_reading::{Outcome, Status, read_input, report, report_file};
-use value_cells::{CELLS_RULE, Cells, cells_fault_packed, with_cells};
+use value_cells::{CELLS_RULE, Cells, cells_fault, with_cells};
 
 /// Reads an executable, a plan and its cells, and makes their certificate.
 #[inline(never)]
@@ -87,8 +87,8 @@ fn report_cells_cert(
         Err(CertErr::NoMemory) => return Outcome::NoMemory,
         Err(CertErr::Bad(_)) => unreachable!(),
     };
-    match check_packed(image, &with_cells(plan, cells), &cert) {
-        Verdict::Yes(need) => match cells_fault_packed(image, plan, cells, &cert) {
+    match check(image, &with_cells(plan, cells), &cert) {
+        Verdict::Yes(need) => match cells_fault(image, plan, cells, &cert) {
             Some((key, addr)) => {
                 report(
                     alloc,

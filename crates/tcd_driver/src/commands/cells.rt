@@ -4,7 +4,7 @@ ghost use Rattle.tcd_driver.specs.Cells.{IsCellsVerdict, cells_reading};
 ghost use Rattle.tcd_reading.specs.Outcomes.{IsCommandOutcome, IsToldOutcome};
 
 use crate::cell_and_task_files::CellsFile;
-use depth_check::{Verdict, check_packed};
+use depth_check::{Verdict, check};
 use elf_image::Image;
 use packed_cert::PackedCert;
 use std::alloc::Global;
@@ -12,7 +12,7 @@ use tcd_base::Files;
 use tcd_forms::{CertFile, ElfFile, PlanFile, certified_cells_line, refused_line};
 use tcd_plan::Plan;
 use tcd_reading::{Outcome, Status, read_input, report};
-use value_cells::{CELLS_RULE, Cells, cells_fault_packed, with_cells};
+use value_cells::{CELLS_RULE, Cells, cells_fault, with_cells};
 
 /// Reads the four files, and reports whether the certificate is accepted under the plan in which
 /// the cells are devices, and keeps the cells.
@@ -67,8 +67,8 @@ fn cells_verdict(
 {
     // What holds of every certificate is known after its version is read.
     let _version = cert.version();
-    match check_packed(image, &with_cells(plan, cells), cert) {
-        Verdict::Yes(need) => match cells_fault_packed(image, plan, cells, cert) {
+    match check(image, &with_cells(plan, cells), cert) {
+        Verdict::Yes(need) => match cells_fault(image, plan, cells, cert) {
             Some((key, addr)) => {
                 report(
                     alloc,

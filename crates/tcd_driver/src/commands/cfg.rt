@@ -13,7 +13,7 @@ use tcd_base::{Files, NoMemory};
 use tcd_forms::{ElfFile, PlanFile, refused_line};
 use tcd_plan::Plan;
 use tcd_reading::{Outcome, Status, read_input, report};
-use tcd_report::graph_packed;
+use tcd_report::graph;
 
 /// Reads an executable and a plan, and reports the graph of their certificate.
 #[inline(never)]
@@ -63,7 +63,7 @@ fn cfg_command_text(
     let _entry = image.entry;
     let _areas = plan.areas;
     match PackedCert::read(alloc, bytes) {
-        Ok(cert) => Ok(graph_packed(alloc, image, plan, &cert)?.into_bytes()),
+        Ok(cert) => Ok(graph(alloc, image, plan, &cert)?.into_bytes()),
         Err(CertErr::NoMemory) => Err(NoMemory),
         Err(CertErr::Bad(_)) => unreachable!(),
     }

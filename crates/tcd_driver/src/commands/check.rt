@@ -2,7 +2,7 @@
 ghost use Rattle.tcd_driver.specs.Check.{IsCheckVerdict, check_reading};
 ghost use Rattle.tcd_reading.specs.Outcomes.{IsCommandOutcome, IsToldOutcome};
 
-use depth_check::{Verdict, check_packed};
+use depth_check::{Verdict, check};
 use elf_image::Image;
 use packed_cert::PackedCert;
 use std::alloc::Global;
@@ -43,7 +43,7 @@ pub(crate) fn check_files<F: Files>(
 fn check_verdict(alloc: Global, image: &Image, plan: &Plan, cert: &PackedCert) -> Outcome
     ensures { IsToldOutcome (IsCheckVerdict image.now plan.now cert.now) ⊥ result }
 {
-    match check_packed(image, plan, cert) {
+    match check(image, plan, cert) {
         Verdict::Yes(need) => {
             report(
                 alloc,

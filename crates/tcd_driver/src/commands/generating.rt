@@ -8,7 +8,7 @@ ghost use Rattle.tcd_reading.specs.Outcomes.{IsToldOutcome};
 
 use crate::own_output::{own_image_memory_error, own_plan_memory_error};
 use depth_cert::CertErr;
-use depth_check::{Verdict, check_packed};
+use depth_check::{Verdict, check};
 use depth_maker::{MakeErr, make_bytes};
 use elf_image::Image;
 use packed_cert::PackedCert;
@@ -74,7 +74,7 @@ fn count_generated_cert(
         Err(CertErr::NoMemory) => return Outcome::NoMemory,
         Err(CertErr::Bad(_)) => unreachable!(),
     };
-    match check_packed(image, plan, &cert) {
+    match check(image, plan, &cert) {
         Verdict::Yes(need) => {
             let areas = plan.areas - plan.reserve;
             let line = generated_line(alloc, functions, &cert, need, areas);

@@ -5,7 +5,7 @@ ghost use Rattle.tcd_report.specs.Reports.{IsReport};
 ghost use Rattle.tcd_driver.specs.Reporting.{IsReporting, report_reading};
 ghost use Rattle.tcd_reading.specs.Outcomes.{IsCommandOutcome, IsToldOutcome};
 
-use depth_check::{Verdict, check_packed};
+use depth_check::{Verdict, check};
 use elf_image::Image;
 use packed_cert::PackedCert;
 use std::alloc::Global;
@@ -13,7 +13,7 @@ use tcd_base::{Files, NoMemory};
 use tcd_forms::{CertFile, ElfFile, PlanFile, refused_line};
 use tcd_plan::Plan;
 use tcd_reading::{Outcome, Status, read_input, report};
-use tcd_report::report_packed;
+use tcd_report::report as chain_report;
 
 /// Reads the three files, and prints the report of the certificate if it is accepted.
 #[inline(never)]
@@ -47,7 +47,7 @@ pub(crate) fn report_files<F: Files>(
 fn check_and_report(alloc: Global, image: &Image, plan: &Plan, cert: &PackedCert) -> Outcome
     ensures { IsToldOutcome (IsReporting image.now plan.now cert.now) ⊥ result }
 {
-    match check_packed(image, plan, cert) {
+    match check(image, plan, cert) {
         Verdict::Yes(_) => report(
             alloc,
             Status::Done,
@@ -70,5 +70,5 @@ fn report_command_text(
     requires { Accepts image.now plan.now cert.now }
     ensures { IfOk result (λ text. IsReport image.now plan.now cert.now text.items) }
 {
-    Ok(report_packed(alloc, image, plan, cert)?.into_bytes())
+    Ok(chain_report(alloc, image, plan, cert)?.into_bytes())
 }

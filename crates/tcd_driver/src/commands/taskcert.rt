@@ -12,14 +12,12 @@ use crate::cert_making::Making;
 use crate::commands::tasks::task_need_to_count;
 use crate::lines::bad_tasks_line;
 use depth_cert::{CertErr, Key};
-use depth_check::{Verdict, check_packed};
+use depth_check::{Verdict, check};
 use depth_maker::{MakeErr, make_bytes};
 use elf_image::Image;
 use packed_cert::PackedCert;
 use std::alloc::Global;
-use task_chains::{
-    TASKS_RULE, Tasks, TasksErr, routine_fault, task_fault_packed, view_image, view_plan,
-};
+use task_chains::{TASKS_RULE, Tasks, TasksErr, routine_fault, task_fault, view_image, view_plan};
 use tcd_base::{Files, NoMemory};
 use tcd_forms::{
     ElfFile, PlanFile, certified_tasks_line, refused_sum_line, refused_switch_line,
@@ -239,8 +237,8 @@ fn check_task_view_cert(
         Err(CertErr::NoMemory) => return Making::NoMemory,
         Err(CertErr::Bad(_)) => unreachable!(),
     };
-    match check_packed(view, plan, &cert) {
-        Verdict::Yes(need) => match task_fault_packed(view, plan, tasks, &cert) {
+    match check(view, plan, &cert) {
+        Verdict::Yes(need) => match task_fault(view, plan, tasks, &cert) {
             Some((key, addr)) => Making::Refused {
                 rule: TASKS_RULE,
                 key,

@@ -11,13 +11,11 @@ ghost use Rattle.tcd_driver.specs.Tasks.{IsTasksVerdict, JudgesTask, Tallies, ta
 use crate::cell_and_task_files::TasksFile;
 use crate::lines::bad_tasks_line;
 use depth_cert::Key;
-use depth_check::{Verdict, check_packed};
+use depth_check::{Verdict, check};
 use elf_image::Image;
 use packed_cert::PackedCert;
 use std::alloc::Global;
-use task_chains::{
-    TASKS_RULE, Tasks, TasksErr, routine_fault, task_fault_packed, view_image, view_plan,
-};
+use task_chains::{TASKS_RULE, Tasks, TasksErr, routine_fault, task_fault, view_image, view_plan};
 use tcd_base::{Files, NoMemory};
 use tcd_forms::{
     CertFile, ElfFile, PlanFile, certified_tasks_line, refused_sum_line, refused_switch_line,
@@ -231,8 +229,8 @@ fn judge_task(
     let _version = cert.version();
     let view = view_image(alloc, image, tasks, u)?;
     let board = view_plan(plan, tasks, u);
-    match check_packed(&view, &board, cert) {
-        Verdict::Yes(need) => match task_fault_packed(&view, &board, tasks, cert) {
+    match check(&view, &board, cert) {
+        Verdict::Yes(need) => match task_fault(&view, &board, tasks, cert) {
             Some((key, addr)) => Ok(Verdict::No {
                 rule: TASKS_RULE,
                 key,

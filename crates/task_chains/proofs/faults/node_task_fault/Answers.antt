@@ -1,30 +1,52 @@
-use Rattle.std.proofs.Common.{◌∙◌, List, ap, subst}
-use Rattle.std.specs.Prelude.{All}
+use Rattle.std.proofs.Common.{◌++◌, ◌∷◌, [], Contains, ap, sym, subst}
+use Rattle.std.proofs.lemmas.List.Elements.{All-contains, All-push, All-same}
+use Rattle.value_domain.specs.State.{AreValues}
+use Rattle.value_domain.specs.declared.states.State.{State}
 use Rattle.depth_cert.specs.declared.keys.Key.{Key}
 use Rattle.depth_cert.specs.declared.points.Point.{Point}
 use Rattle.depth_cert.specs.Nodes.{NodeData}
-use Rattle.depth_cert.specs.Points.{ArePoints}
 use Rattle.task_chains.specs.Rule17.{HoldsApartIn}
-use Rattle.cfg_recover.proofs.FirstFault.{all_more, all_done, broken}
-use Rattle.task_chains.proofs.FaultLaws.{node_fails}
+use Rattle.cfg_recover.proofs.FirstFault.{broken}
+use Rattle.task_chains.proofs.FaultLaws.{walked_fails}
+use Rattle.packed_cert.proofs.WalkedPoints.{split_again, split_more, walked, walked_all}
 use Rattle.task_chains.proofs.faults.node_task_fault.Goals as goal
+
+pub holds_apart-requires : goal.holds_apart-requires
+holds_apart-requires c =
+    let r = c.args.rule.now in
+    let points = (c.args.node.now).points in
+    let p : Point = record { addr = c.in-Some.addr; state = c.step.new.self.current } in
+    let there : Contains points p = walked points c.loop-addr.invariant.done (c.loop-addr.walk).left c.step.new.self.left p c.loop-addr.invariant.split c.in-Some.ensures.0 in
+    subst (λ (s : State). AreValues r.bounds.now s.regs) (sym c.state.ensures) (All-contains (λ (q : Point). AreValues r.bounds.now (q.state).regs) points p c.requires there)
 
 pub returns-then-not-holds_apart-clause-some : goal.returns-then-not-holds_apart-clause-some
 returns-then-not-holds_apart-clause-some c =
     let r = c.args.rule.now in
-    node_fails r.bounds.now r.view.now r.plan.now r.tasks.now c.args.node.now c.deref-point-items.result.now (c.deref-point-items.ensures.value ∙ ap (λ (n : NodeData). n.points) c.node.view_is)
-    c.loop-point.point-index c.point-item.result (subst (λ (n : NodeData). ArePoints n.points) c.node.view_is c.node.invariant) c.loop-point-test.true c.point-item.is c.loop-point.invariant
-    (subst (λ (k : Key). HoldsApartIn r.bounds.now r.view.now r.plan.now r.tasks.now k c.point-item.result → ⊥) (ap (λ (n : NodeData). n.key) c.node.view_is)
-    (broken c.holds_apart.result _ c.if-not-holds_apart.true c.holds_apart.ensures))
+    let inv = c.loop-addr.invariant in
+    let points = (c.args.node.now).points in
+    let p : Point = record { addr = c.in-Some.addr; state = c.step.new.self.current } in
+    let fails = broken c.holds_apart.result _ c.if-not-holds_apart.true c.holds_apart.ensures in
+    walked_fails r.bounds.now r.view.now r.plan.now r.tasks.now c.args.node.now inv.done c.step.new.self.left p c.walk.ensures.rising
+    (split_again points inv.done (c.loop-addr.walk).left c.step.new.self.left p inv.split c.in-Some.ensures.0) inv.hold
+    (subst (λ (k : Key). HoldsApartIn r.bounds.now r.view.now r.plan.now r.tasks.now k p → ⊥) (ap (λ (n : NodeData). n.key) c.node.view_is)
+    (subst (λ (s : State). HoldsApartIn r.bounds.now r.view.now r.plan.now r.tasks.now (c.node.inside).key (record { addr = c.in-Some.addr; state = s }) → ⊥) c.state.ensures fails))
 
-pub loop-point-preserved : goal.loop-point-preserved
-loop-point-preserved c =
+pub loop-addr-preserved : goal.loop-addr-preserved
+loop-addr-preserved c =
     let r = c.args.rule.now in
-    all_more (HoldsApartIn r.bounds.now r.view.now r.plan.now r.tasks.now c.args.node.now.key) c.deref-point-items.result.now c.loop-point.point-index c.point-item.result c.loop-point-test.true c.point-item.is c.loop-point.invariant
-    (subst (λ (k : Key). HoldsApartIn r.bounds.now r.view.now r.plan.now r.tasks.now k c.point-item.result) (ap (λ (n : NodeData). n.key) c.node.view_is) (c.holds_apart.ensures.0 c.if-not-holds_apart.false))
+    let inv = c.loop-addr.invariant in
+    let p : Point = record { addr = c.in-Some.addr; state = c.step.new.self.current } in
+    let holds =
+    subst (λ (k : Key). HoldsApartIn r.bounds.now r.view.now r.plan.now r.tasks.now k p) (ap (λ (n : NodeData). n.key) c.node.view_is)
+    (subst (λ (s : State). HoldsApartIn r.bounds.now r.view.now r.plan.now r.tasks.now (c.node.inside).key (record { addr = c.in-Some.addr; state = s })) c.state.ensures (c.holds_apart.ensures.0 c.if-not-holds_apart.false)) in
+    record {
+      done = inv.done ++ p ∷ [];
+      split = split_more (c.args.node.now).points inv.done (c.loop-addr.walk).left c.step.new.self.left p inv.split c.in-Some.ensures.0;
+      hold = All-push (HoldsApartIn r.bounds.now r.view.now r.plan.now r.tasks.now (c.args.node.now).key) inv.done p inv.hold holds;
+    }
 
 pub returns-clause-none : goal.returns-clause-none
 returns-clause-none c =
     let r = c.args.rule.now in
-    subst (λ (l : List Point). All (HoldsApartIn r.bounds.now r.view.now r.plan.now r.tasks.now c.args.node.now.key) l) (c.deref-point-items.ensures.value ∙ ap (λ (n : NodeData). n.points) c.node.view_is)
-    (all_done (HoldsApartIn r.bounds.now r.view.now r.plan.now r.tasks.now c.args.node.now.key) c.deref-point-items.result.now c.loop-point.point-index c.loop-point-test.false c.loop-point.invariant)
+    let inv = c.loop-addr.invariant in
+    All-same (HoldsApartIn r.bounds.now r.view.now r.plan.now r.tasks.now (c.args.node.now).key) (c.args.node.now).points inv.done (walked_all (c.args.node.now).points inv.done (c.loop-addr.walk).left inv.split c.in_default.ensures.0) inv.hold

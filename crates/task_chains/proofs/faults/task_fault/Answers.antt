@@ -1,37 +1,53 @@
-use Rattle.std.proofs.Common.{◌∙◌, ap, sym, subst}
+use Rattle.std.proofs.Common.{◌∙◌, refl, ap, sym, subst, arith}
 use Rattle.std.specs.Prelude.{All}
+use Rattle.tcd_plan.specs.PlanData.{PlanData}
 use Rattle.value_domain.specs.Limits.{Limits}
+use Rattle.value_domain.specs.State.{AreValues}
 use Rattle.value_domain.specs.VersionLimits.{limits_for}
+use Rattle.depth_cert.specs.declared.points.Point.{Point}
 use Rattle.depth_cert.specs.Nodes.{NodeData}
-use Rattle.depth_cert.specs.Certs.{CertData, IsCert}
 use Rattle.task_chains.specs.Rule17.{HoldsApart, IsTaskFault, HoldsApartIn, IsNodeFault}
-use Rattle.cfg_recover.proofs.FirstFault.{all_more, item_values}
+use Rattle.cfg_recover.proofs.FirstFault.{all_more, accepted_values}
 use Rattle.task_chains.proofs.FaultLaws.{all_apart, first_fails}
+use Rattle.packed_cert.proofs.WalkedPoints.{never_none, got}
 use Rattle.task_chains.proofs.faults.task_fault.Goals as goal
+
+pub unreachable-requires : goal.unreachable-requires
+unreachable-requires c = never_none (c.args.cert.now).nodes c.loop-i.i (omega (arith, c.loop-i-test.true, c.len-i-end.ensures)) c.in_default.ensures
 
 pub node_task_fault-requires : goal.node_task_fault-requires
 node_task_fault-requires c =
-    item_values c.args.view.now c.args.plan.now c.args.cert.now c.of-bounds.result c.deref-node-items.result.now c.loop-node.node-index c.node-item.result c.requires
-    (c.of-bounds.ensures ∙ ap (λ (t : CertData). limits_for c.args.plan.now t.version) c.cert.view_is) (c.deref-node-items.ensures.value ∙ ap (λ (t : CertData). t.nodes) c.cert.view_is) c.loop-node-test.true c.node-item.is
+    let plan : PlanData = c.args.plan.now in
+    let limits = c.of-bounds.ensures ∙ ap (limits_for plan) c.version.ensures.version in
+    let member = (got (c.args.cert.now).nodes c.loop-i.i c.in-Some.node c.in-Some.ensures).2 in
+    subst (λ (b : Limits). All (λ (p : Point). AreValues b (p.state).regs) (c.in-Some.node).points) (sym limits) (accepted_values c.args.view.now plan c.args.cert.now c.in-Some.node c.requires member)
 
-pub returns-in-Some-clause-some : goal.returns-in-Some-clause-some
-returns-in-Some-clause-some c =
-    let limits = c.of-bounds.ensures ∙ ap (λ (t : CertData). limits_for c.args.plan.now t.version) c.cert.view_is in
-    let same = c.deref-node-items.ensures.value ∙ ap (λ (t : CertData). t.nodes) c.cert.view_is in
-    let found = subst (λ (b : Limits). IsNodeFault b c.args.view.now c.args.plan.now c.args.tasks.now c.node-item.result c.in-Some.addr) limits c.in-Some.ensures.some in
-    let first =
-    first_fails c.args.view.now c.args.plan.now c.args.tasks.now c.args.cert.now (subst IsCert c.cert.view_is c.cert.invariant) c.deref-node-items.result.now same c.loop-node.node-index c.node-item.result c.in-Some.addr
-    c.loop-node-test.true c.node-item.is c.loop-node.invariant found in
-    subst (λ (n : NodeData). IsTaskFault c.args.view.now c.args.plan.now c.args.tasks.now c.args.cert.now n.key c.in-Some.addr) (sym c.node.view_is) first
+pub returns-in-Some-node_task_fault-clause-some : goal.returns-in-Some-node_task_fault-clause-some
+returns-in-Some-node_task_fault-clause-some c =
+    let view = c.args.view.now in
+    let plan : PlanData = c.args.plan.now in
+    let tasks = c.args.tasks.now in
+    let cert = c.args.cert.now in
+    let node : NodeData = c.in-Some.node in
+    let addr = c.in-Some-node_task_fault.addr in
+    let limits = c.of-bounds.ensures ∙ ap (limits_for plan) c.version.ensures.version in
+    let found = subst (λ (b : Limits). IsNodeFault b view plan tasks node addr) limits c.in-Some-node_task_fault.ensures.some in
+    let here = got cert.nodes c.loop-i.i node c.in-Some.ensures in
+    let first = first_fails view plan tasks cert c.version.ensures.limits cert.nodes refl c.loop-i.i node addr here.0 here.1 c.loop-i.invariant found in
+    subst (λ (n : NodeData). IsTaskFault view plan tasks cert n.key addr) (sym c.node.view_is) first
 
-pub loop-node-preserved : goal.loop-node-preserved
-loop-node-preserved c =
-    let limits = c.of-bounds.ensures ∙ ap (λ (t : CertData). limits_for c.args.plan.now t.version) c.cert.view_is in
-    let found = subst (λ (b : Limits). All (HoldsApartIn b c.args.view.now c.args.plan.now c.args.tasks.now c.node-item.result.key) c.node-item.result.points) limits c.in_default.ensures.none in
-    all_more (λ (n : NodeData). All (λ p. HoldsApart c.args.view.now c.args.plan.now c.args.tasks.now c.args.cert.now n p) n.points)
-    c.deref-node-items.result.now c.loop-node.node-index c.node-item.result c.loop-node-test.true c.node-item.is c.loop-node.invariant found
+pub loop-i-preserved : goal.loop-i-preserved
+loop-i-preserved c =
+    let view = c.args.view.now in
+    let plan : PlanData = c.args.plan.now in
+    let tasks = c.args.tasks.now in
+    let cert = c.args.cert.now in
+    let node : NodeData = c.in-Some.node in
+    let limits = c.of-bounds.ensures ∙ ap (limits_for plan) c.version.ensures.version in
+    let found = subst (λ (b : Limits). All (HoldsApartIn b view plan tasks node.key) node.points) limits c.in_default-node_task_fault.ensures.none in
+    let here = got cert.nodes c.loop-i.i node c.in-Some.ensures in
+    all_more (λ (n : NodeData). All (λ p. HoldsApart view plan tasks cert n p) n.points) cert.nodes c.loop-i.i node here.0 here.1 c.loop-i.invariant found
 
 pub returns-clause-none : goal.returns-clause-none
 returns-clause-none c =
-    let same = c.deref-node-items.ensures.value ∙ ap (λ (t : CertData). t.nodes) c.cert.view_is in
-    all_apart c.args.view.now c.args.plan.now c.args.tasks.now c.args.cert.now (subst IsCert c.cert.view_is c.cert.invariant) c.deref-node-items.result.now same c.loop-node.node-index c.loop-node-test.false c.loop-node.invariant
+    all_apart c.args.view.now c.args.plan.now c.args.tasks.now c.args.cert.now c.version.ensures.limits (c.args.cert.now).nodes refl c.loop-i.i (omega (arith, c.loop-i-test.false, c.len-i-end.ensures)) c.loop-i.invariant

@@ -6,5 +6,5 @@ use Rattle.value_cells.specs.Keeping.{KeepsCellsAtPoint}
 use Rattle.value_cells.proofs.faults.cells_fault.Given as goal
 
 -- each point of the nodes so far keeps the cells
-abbrev pub invariant-loop-node : goal.invariant-loop-node
-invariant-loop-node l = All (λ (n : NodeData). All (KeepsCellsAtPoint (limits_in l.rule.plan.now l.cert) l.image l.rule.plan.now l.cells) n.points) (take l.node-index l.node-items)
+abbrev pub invariant-loop-i : goal.invariant-loop-i
+invariant-loop-i l = All (λ (n : NodeData). All (KeepsCellsAtPoint (limits_in l.rule.plan.now l.cert) l.image l.rule.plan.now l.cells) n.points) (take l.i (l.cert).nodes)

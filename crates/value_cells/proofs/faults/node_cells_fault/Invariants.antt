@@ -1,8 +1,16 @@
-use Rattle.std.proofs.Common.{take}
+use Rattle.std.proofs.Common.{◌≡◌, ◌++◌, List, length}
 use Rattle.std.specs.Prelude.{All}
+use Rattle.depth_cert.specs.declared.points.Point.{Point}
 use Rattle.value_cells.specs.Keeping.{KeepsCellsAtPoint}
 use Rattle.value_cells.proofs.faults.node_cells_fault.Given as goal
 
 -- each point so far keeps the cells
-abbrev pub invariant-loop-point : goal.invariant-loop-point
-invariant-loop-point l = All (KeepsCellsAtPoint l.rule.bounds.now l.rule.image.now l.rule.plan.now l.rule.cells.now) (take l.point-index l.point-items)
+abbrev pub invariant-loop-addr : goal.invariant-loop-addr
+invariant-loop-addr l = record {
+  done : List Point;
+  split : (l.node).points ≡ done ++ (l.walk).left;
+  keep : All (KeepsCellsAtPoint l.rule.bounds.now l.rule.image.now l.rule.plan.now l.rule.cells.now) done;
+}
+
+abbrev pub decreases-loop-addr : goal.decreases-loop-addr
+decreases-loop-addr l = length (l.walk).left

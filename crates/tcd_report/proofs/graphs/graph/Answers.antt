@@ -3,7 +3,7 @@ use Rattle.std.proofs.lemmas.Option.{slice_get_within, get_or_from_slice_get}
 use Rattle.tcd_report.specs.Graphs.{AreNodeLines}
 use Rattle.tcd_report.proofs.GraphLemmas.Joining.{grown_more, grown_all}
 use Rattle.packed_cert.proofs.WalkedPoints.{never_none, got}
-use Rattle.tcd_report.proofs.graphs.graph_packed.Goals as goal
+use Rattle.tcd_report.proofs.graphs.graph.Goals as goal
 
 pub unreachable-requires : goal.unreachable-requires
 unreachable-requires c = never_none (c.args.cert.now).nodes c.loop-i.i (omega (arith, c.loop-i-test.true, c.len-i-end.ensures)) c.in_default.ensures

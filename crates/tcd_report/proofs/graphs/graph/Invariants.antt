@@ -2,7 +2,7 @@ use Rattle.std.proofs.Common.{[], take, string_bytes}
 use Rattle.tcd_report.specs.Graphs.{AreNodeLines, AreJoinedLines}
 use Rattle.tcd_report.specs.Graphs.KnownHandlers.{KnowsHandlers}
 use Rattle.tcd_report.specs.Texts.{GrowsBy}
-use Rattle.tcd_report.proofs.graphs.graph_packed.Given as goal
+use Rattle.tcd_report.proofs.graphs.graph.Given as goal
 
 abbrev pub invariant-loop-i : goal.invariant-loop-i
 invariant-loop-i l = record {

@@ -11,7 +11,7 @@ use Rattle.tcd_report.specs.declared.reports.longest_by_priority.LongestCalls.{L
 use Rattle.tcd_report.specs.Reports.{nodes_data, rows_data, whole_data, report_data}
 use Rattle.tcd_report.proofs.ReportLemmas.LongestLaws.{prios_are, rows_longest}
 use Rattle.tcd_report.proofs.ReportLemmas.ReportTexts.{report_plain}
-use Rattle.tcd_report.proofs.reports.report_packed.Goals as goal
+use Rattle.tcd_report.proofs.reports.report.Goals as goal
 
 pub returns : goal.returns
 returns c =
