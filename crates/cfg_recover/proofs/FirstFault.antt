@@ -100,10 +100,3 @@ pub accepted_values : (image : ImageData) (plan : PlanData) (cert : CertData) (n
 accepted_values image plan cert node accepts member i d lt =
     let holds = All-contains (HoldsAtNode image plan cert) cert.nodes node accepts.nodes member in
     (holds.points i d lt 2).values refl
-
--- so are the values at the points of a node that is read as an item
-pub item_values : (image : ImageData) (plan : PlanData) (cert : CertData) (b : Limits) (nodes : List NodeData) (i : ℕ) (node : NodeData) → Accepts image plan cert → b ≡ limits_in plan cert → nodes ≡ cert.nodes
-    → i < length nodes → node ≡ get_or nodes i node → All (λ (p : Point). AreValues b (p.state).regs) node.points
-item_values image plan cert b nodes i node accepts limits items lt at =
-    let member = subst (λ (l : List NodeData). Contains l node) items (i, lt, sym at) in
-    subst (λ (m : Limits). All (λ (p : Point). AreValues m (p.state).regs) node.points) (sym limits) (accepted_values image plan cert node accepts member)

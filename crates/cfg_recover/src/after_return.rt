@@ -1,12 +1,11 @@
 // The state of a frame after a frame that it entered has returned.
-ghost use Rattle.std.specs.Prelude.{◌≡◌, ◌==◌, ◌-◌, ◌<◌, ◌↔◌, nat_lt, if◌then◌else◌, slice_index_or, IsTrue};
+ghost use Rattle.std.specs.Prelude.{◌≡◌, ◌==◌, ◌-◌, ◌<◌, nat_lt, if◌then◌else◌, slice_index_or};
 ghost use Rattle.value_domain.specs.Values.{any_val};
-ghost use Rattle.value_domain.specs.State.{AreWell, AreBelow, Covers};
 ghost use Rattle.value_domain.specs.State as states;
 ghost use Rattle.depth_cert.specs.Exits.{state_after_exit, with_lower_from};
 
 use depth_cert::{CALL, Exit};
-use value_domain::{State, Val, are_flags_implied, copy_locals, covers_context, leq};
+use value_domain::{State, Val, copy_locals};
 
 /// Returns the state of a frame after a return to it by `exit` from a call (`kind` is CALL) or a
 /// system call (SYS): lower registers are the exit's, all others stay; `kind` settles IE and CCPN.
@@ -20,27 +19,6 @@ pub fn after(s: &State, exit: &Exit, kind: u8) -> State
         lower: false,
         locals: copy_locals(&s.locals),
     }
-}
-
-/// Returns true if a state covers that of a frame after a return to it, from a call or a system
-/// call, by `exit`. The state after the return isn't built.
-pub fn covers_after(upper: &State, s: &State, exit: &Exit, kind: u8) -> bool
-    requires upper { AreWell upper.now.regs }
-    requires state { AreWell (state_after_exit s.now exit.now kind).regs }
-    ensures { IsTrue result ↔ Covers upper.now (state_after_exit s.now exit.now kind) }
-{
-    if !covers_context(
-        upper,
-        ie_after_return(s, exit, kind),
-        ccpn_after_return(s, exit, kind),
-        false,
-    ) {
-        return false;
-    }
-    if !are_flags_implied(upper.locals.as_slice(), s.locals.as_slice()) {
-        return false;
-    }
-    are_below_after_return(&s.regs, &exit.lower, &upper.regs)
 }
 
 /// Returns the register values after a frame's return: those of the lower registers are the exit's,
@@ -85,19 +63,4 @@ fn value_after_return<'a>(i: usize, lower: &'a [Val; 14], v: &'a Val) -> &'a Val
     } else {
         v
     }
-}
-
-/// Returns true if each register value of a frame's state after a return to it by an exit is below
-/// the one at its place in `high`, as `covers_after` asks.
-fn are_below_after_return(regs: &[Val; 27], lower: &[Val; 14], high: &[Val; 27]) -> bool
-    requires low { AreWell (with_lower_from 0 lower.now regs.now) }
-    requires high { AreWell high.now }
-    ensures { IsTrue result ↔ AreBelow (with_lower_from 0 lower.now regs.now) high.now }
-{
-    for i in 0..27 {
-        if !leq(value_after_return(i, lower, &regs[i]), &high[i]) {
-            return false;
-        }
-    }
-    true
 }

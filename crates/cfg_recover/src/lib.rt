@@ -18,7 +18,7 @@ mod operation_cache;
 mod rom_code;
 mod start;
 
-pub use after_return::{after, covers_after};
+pub use after_return::after;
 pub use code_cache::KnownCodes;
 pub use entry_changes::{call_change, handler_change, misaligned_change, system_change};
 pub use flow_entries::is_flow_access_aligned;

@@ -1,7 +1,6 @@
 -- The reading of a point after others: its address, and then its state in place.
-use Rattle.std.specs.Prelude.{◌≡◌, ℕ, List, [], ◌∷◌, ◌++◌, length, slice_set, slice_index_or, Ok, Err}
-use Rattle.std.proofs.Common.{◌∙◌, refl}
-use Rattle.std.proofs.Math.Seq.{set-append_seam, get_or-append_seam}
+use Rattle.std.specs.Prelude.{◌≡◌, ℕ, List, Ok, Err}
+use Rattle.std.proofs.Common.{refl}
 use Rattle.tcd_base.specs.declared.errors.FormErr.{FormErr}
 use Rattle.tcd_base.specs.Place.{Place}
 use Rattle.value_domain.specs.declared.states.State.{State}
@@ -22,11 +21,3 @@ pub state_fails : (version : ℕ) (before : List Point) (p q : Place) (addr : �
     → state_at version q ≡ Err e → point_after version before p ≡ Err e
 unfolding point_after
 state_fails version before p q addr e a b = rw (a, b) refl
-
--- the last of a list, changed
-pub set_last : (xs ys : List Point) (b p : Point) (at : ℕ) → ys ≡ xs ++ b ∷ [] → at ≡ length xs → slice_set ys at p ≡ xs ++ p ∷ []
-set_last xs ys b p at e f = rw (e, f) (set-append_seam xs b [] p)
-
--- the last of a list
-pub get_last : (xs ys : List Point) (b x d : Point) (at : ℕ) → ys ≡ xs ++ b ∷ [] → at ≡ length xs → x ≡ slice_index_or ys at d → x ≡ b
-get_last xs ys b x d at e f is = is ∙ rw (e, f) (get_or-append_seam xs b [] d)

@@ -6,6 +6,7 @@ pub mod Keys
 pub mod Nodes
 pub mod Points
 pub mod Spelling
+pub mod SpellingLaws
 pub mod Exits
 pub mod Known
 pub mod Proper

@@ -1,11 +1,10 @@
-//! Certificates: nodes with their points, and the file format that spells them.
+//! Keys, exits and points of certificates, and the file format that spells them.
 #![tactic(auto)]
 
 mod cert_reader;
-mod certs;
 mod errors;
 mod keys;
-mod lookup;
+mod laws;
 mod lower_registers;
 mod node_reader;
 mod nodes;
@@ -15,14 +14,14 @@ mod value_reader;
 mod writing;
 
 pub use cert_reader::{read_magic, read_node_count, read_version};
-pub use certs::Cert;
 pub use errors::CertErr;
 pub use keys::{ALN, CALL, IRQ, Key, START, SYS, key_kind_text, number_of};
+pub use laws::spelling_laws;
 pub use lower_registers::lower_value;
 pub use node_reader::{read_exit, read_has_exit, read_key, read_need, read_point_count};
-pub use nodes::{Node, no_exit};
-pub use point_reader::{read_address, read_locals, read_state};
+pub use nodes::no_exit;
+pub use point_reader::{read_address, read_locals};
 pub use points::{Exit, Point};
 pub use tcd_base::{form_err_at, put_u16};
 pub use value_reader::{SPAN, read_flag, read_value, read_values};
-pub use writing::{write_exit, write_key, write_state, write_value, write_values};
+pub use writing::{write_key, write_no_exit, write_value};

@@ -1,16 +1,12 @@
 // Reads the fields of nodes.
 ghost use Rattle.std.specs.Prelude.{◌≡◌, ◌≤◌, ◌<◌, ◌+◌, ◌^◌, ◌-◌, length, Ok, Err, OnOk, IfOk, IfErr};
 ghost use Rattle.tcd_base.specs.FieldReaders.{ReadsField};
-ghost use Rattle.depth_cert.specs.Answers.{IsFaultOf};
-ghost use Rattle.depth_cert.specs.Grammar.{is_above_last_read, key_after, need_at, has_exit_at, exit_at, optional_exit_at, node_after, point_count_at, last_number_read};
-ghost use Rattle.depth_cert.specs.Nodes.{count_points, key_numbers};
+ghost use Rattle.depth_cert.specs.Grammar.{is_above_last_read, key_after, need_at, has_exit_at, exit_at, point_count_at};
 
-use crate::keys::{number_of, number_of_key_fields};
-use crate::nodes::{Node, no_exit};
-use crate::point_reader::{MOST_POINTS, read_points};
+use crate::keys::number_of_key_fields;
+use crate::point_reader::MOST_POINTS;
 use crate::value_reader::{read_flag, read_values};
-use crate::{ALN, CALL, CertErr, Exit, Key, SYS};
-use std::alloc::Global;
+use crate::{ALN, CALL, Exit, Key, SYS};
 use std::marker::Model;
 use tcd_base::{
     ABOVE_LIMIT, BAD_ORDER, BAD_VALUE, Cursor, FormErr, form_err_at, read_u8, read_u16, read_u32,
@@ -105,35 +101,6 @@ pub fn read_exit(c: &mut Cursor<'_>, version: u8, out: &mut Exit) -> Result<(), 
     Ok(())
 }
 
-/// Reads a node after those before it, which have `used` points together.
-#[tactic(auto, unfolding(crate::specs::Grammar::node_after))]
-pub(crate) fn read_node(
-    alloc: Global,
-    c: &mut Cursor<'_>,
-    version: u8,
-    before: &[Node],
-    used: usize,
-) -> Result<Node, CertErr>
-    requires short { length c.old.bytes ≤ 2 ^ 30 }
-    requires used { used ≡ count_points before.now }
-    requires few { used ≤ 2 ^ 16 }
-    ensures ok { IfOk result (λ n. node_after version before.now c.old ≡ Ok (n, c.new)) }
-    ensures err { IfErr result (IsFaultOf (node_after version before.now c.old)) }
-    ensures few { IfOk result (λ n. used + length n.points ≤ 2 ^ 16) }
-    ensures bytes { c.new.bytes ≡ c.old.bytes }
-{
-    let key = read_key(c, last_node_number(before))?;
-    let need = read_need(c)?;
-    let exit = read_optional_exit(c, version, key.kind)?;
-    let points = read_points(alloc, c, version, used)?;
-    Ok(Node {
-        key,
-        need,
-        exit,
-        points,
-    })
-}
-
 /// Reads the number of a node's points. The nodes before have `used`; all together are at most
 /// 65,536.
 #[tactic(auto, unfolding(crate::specs::Grammar::point_count_at))]
@@ -150,29 +117,4 @@ pub fn read_point_count(c: &mut Cursor<'_>, used: usize) -> Result<u32, FormErr>
         return Err(form_err_at(ABOVE_LIMIT, start));
     }
     Ok(count)
-}
-
-/// Returns the number of the key of the last node that was read, if there is one.
-pub(crate) fn last_node_number(nodes: &[Node]) -> Option<u64>
-    ensures { result ≡ last_number_read (key_numbers nodes.now) }
-{
-    match nodes.last() {
-        None => None,
-        Some(node) => Some(number_of(&node.key)),
-    }
-}
-
-/// Reads a node's exit, or `None` if the node has none.
-#[tactic(auto, unfolding(crate::specs::Grammar::optional_exit_at))]
-fn read_optional_exit(c: &mut Cursor<'_>, version: u8, kind: u8) -> Result<Option<Exit>, FormErr>
-    requires { length c.old.bytes ≤ 2 ^ 30 }
-    ensures read { ReadsField result c.new (optional_exit_at version kind c.old) }
-    ensures bytes { c.new.bytes ≡ c.old.bytes }
-{
-    if !read_has_exit(c, kind)? {
-        return Ok(None);
-    }
-    let mut exit = no_exit();
-    read_exit(c, version, &mut exit)?;
-    Ok(Some(exit))
 }

@@ -8,7 +8,7 @@ ghost use Rattle.depth_maker.specs.SpelledCert.{AreSpelledFrames, AreSpelledPoin
 ghost use Rattle.depth_maker.specs.SpotsAsPlaces.{spots_on};
 
 use crate::rows::Source;
-use depth_cert::{Key, put_u16, write_exit, write_key};
+use depth_cert::{Key, put_u16, write_key, write_no_exit};
 use frame_places::{
     PointEntry, Spot, frame_number, frames_in_order, ordered_frame_points, place_address,
     points_in_order,
@@ -71,7 +71,7 @@ fn spell_table_exit(out: &mut Vec<u8>, source: &Source, key: Key) -> Result<(), 
     ensures { OnOk result (SpellsTableExit source.now key out.old.items out.new.items) }
 {
     let Some(known) = source.table.places.get(&Spot::Exit(key)) else {
-        write_exit(out, &None)?;
+        write_no_exit(out)?;
         return Ok(());
     };
     let cell = &known.value;

@@ -1,15 +1,14 @@
-// The values of a changed state, and the test that another state covers it.
-// The changed state is never built.
+// The values of a changed state, which is never built.
 ghost use Rattle.std.specs.Prelude.{◌≡◌, ◌<◌, ◌↔◌, IsTrue, Some, slice_index_or};
 ghost use Rattle.value_domain.specs.Values.{IsValue, any_val};
-ghost use Rattle.value_domain.specs.State.{Covers, AreBelow, AreWell, AreValues};
+ghost use Rattle.value_domain.specs.State.{AreValues};
 ghost use Rattle.vd_transfer.specs.Registers.{reg_of};
 ghost use Rattle.vd_transfer.specs.Changes.{base_of, state_after};
 
 use crate::change::{Base, Change, Put};
 use crate::registers::{fixed_register_value, is_lower_slot, slot_of};
 use tcd_plan::Plan;
-use value_domain::{Bounds, State, Val, are_flags_implied, covers_context, leq};
+use value_domain::{Bounds, State, Val};
 
 /// Returns the value of a changed state at a place. `any` is the value that holds all words; it is
 /// returned for what is unknown.
@@ -47,21 +46,6 @@ pub(crate) fn changed_reg(b: &Bounds, plan: &Plan, s: &State, c: &Change, r: u8)
     }
 }
 
-/// Returns true if a state covers a changed one.
-pub fn covers_changed(upper: &State, s: &State, c: &Change) -> bool
-    requires upper { AreWell upper.now.regs }
-    requires state { AreWell (state_after s.now c.now).regs }
-    ensures { IsTrue result ↔ Covers upper.now (state_after s.now c.now) }
-{
-    if !covers_context(upper, c.ie, c.ccpn, c.lower) {
-        return false;
-    }
-    if !are_flags_implied(upper.locals.as_slice(), c.locals.as_slice()) {
-        return false;
-    }
-    are_changed_below(s, c, &upper.regs)
-}
-
 /// Returns true if this put of a change is at this place of the changed state.
 #[inline(always)]
 fn is_changed_at(put: &Put, i: usize) -> bool
@@ -86,20 +70,4 @@ fn changed_base_value<'a>(s: &'a State, base: Base, any: &'a Val, i: usize) -> &
         Base::Forgotten => { if is_lower_slot(i) { any } else { &s.regs[i] } }
         Base::Any => any,
     }
-}
-
-/// Returns true if the values of the changed state are below these, each at its place.
-fn are_changed_below(s: &State, c: &Change, high: &[Val; 27]) -> bool
-    requires low { AreWell (state_after s.now c.now).regs }
-    requires high { AreWell high.now }
-    ensures { IsTrue result ↔ AreBelow (state_after s.now c.now).regs high.now }
-{
-    let _regs = &s.regs[..];
-    let any = Val::any();
-    for i in 0..27 {
-        if !leq(changed_value(s, c, &any, i), &high[i]) {
-            return false;
-        }
-    }
-    true
 }

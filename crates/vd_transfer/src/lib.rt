@@ -19,7 +19,7 @@ pub use access::{address_by, write_address};
 pub use branch_sides::change_on;
 pub use built_states::{address, refine, state_after_change, transfer};
 pub use change::{Base, Change, Put, identity_change, put_register};
-pub use changed_states::{changed_value, covers_changed};
+pub use changed_states::changed_value;
 pub use effect::change_of;
 pub use laws::{effect_laws, operation_laws, refinement_laws};
 pub use operands::arg_word;

@@ -7,7 +7,7 @@ use Rattle.depth_maker.proofs.spelling.spell_table_exit.Goals as goal
 
 pub returns-in_default : goal.returns-in_default
 unfolding seen
-returns-in_default c = writes_no_exit c.args.source.now c.args.key c.args.out.now.items c.write_exit.new.out.items (ap (option_map (λ m. m.value)) (sym c.in_default.ensures.value)) c.in_ok-write_exit.ensures
+returns-in_default c = writes_no_exit c.args.source.now c.args.key c.args.out.now.items c.write_no_exit.new.out.items (ap (option_map (λ m. m.value)) (sym c.in_default.ensures.value)) c.in_ok-write_no_exit.ensures
 
 pub unreachable-requires : goal.unreachable-requires
 unreachable-requires c = no_exit_there c.args.source.now c.requires.source c.args.key c.in-Some.known.now.value (ap (option_map (λ m. m.value)) (sym c.in-Some.ensures.value)) c.in_default-exit.ensures.none
