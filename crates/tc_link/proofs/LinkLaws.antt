@@ -1,6 +1,6 @@
 -- The result of linking, from the results of its steps.
 use Rattle.std.proofs.Common.{◌≡◌, ◌<◌, ◌^◌, [], ◌∷◌, ◌++◌, ℕ, suc, List, length, get_or, map, Option, Some, None, Result, Ok, Err, refl, sym, ap, ◌∙◌}
-use Rattle.std.specs.Prelude.{IfSome, IfOk, IfErr, OnOk}
+use Rattle.std.specs.Prelude.{IfSome}
 use Rattle.std.specs.Option.{option_or}
 use Rattle.elf_image.specs.Images.{ImageData}
 use Rattle.tc_object.specs.Objects.{SectionData, ObjectData, IsObject}
@@ -12,9 +12,7 @@ use Rattle.tcd_base.specs.Refusing.{unless_refused}
 use Rattle.tc_link.specs.Linked.{image_with_entry, image_of, made_of, image_of_objects}
 use Rattle.tc_link.specs.Refusals.{refused_early, Refusal, no_entry, twice_in, missing_in, no_place_in, no_room_after, reloc_in}
 use Rattle.tc_link.specs.Relocated.{contents_of}
-use Rattle.tc_link.specs.Errors.{IsRefusal, refusal_of}
 use Rattle.tc_link.specs.Shapes.{section_shape}
-use Rattle.tc_link.specs.declared.errors.LinkErr.{LinkErr}
 use Rattle.tc_link.proofs.RoomLaws.{room_end, room_start}
 use Rattle.tc_link.proofs.RelocLaws.{contents_shapes}
 use Rattle.tc_link.proofs.ImageLaws.{KeepsLimits, image_is}
@@ -60,6 +58,18 @@ told_place objects layout x a b h = told {A = Option Refusal} (no_place_in layou
 pub told_room : (objects : List ObjectData) (layout : LayoutData) (x : Option Refusal) → twice_in objects ≡ None → missing_in objects ≡ None → no_place_in layout.places objects ≡ None
     → IfSome x (λ r. no_room_after layout.places [] (sections_to_link objects) ≡ Some r) → IfSome x (λ r. refused_early layout objects ≡ Some r)
 told_room objects layout x a b c h = told {A = Option Refusal} (no_room_after layout.places [] (sections_to_link objects)) x (λ r. Some r) (refused_early layout objects) (λ r e. early_room objects layout r a b c e) h
+
+-- nothing is refused before relocations are written, and these are the placed objects
+pub record ArePlaced (objects : List ObjectData) (layout : LayoutData) (placed : List PlacedData) : Type 0 where
+  pub none : refused_early layout objects ≡ None
+  pub same : placed ≡ placed_of layout objects
+
+pub are_placed : (objects : List ObjectData) (layout : LayoutData) (ps qs : List PlaceData) (placed : List PlacedData) → ps ≡ layout.places → qs ≡ layout.places → twice_in objects ≡ None → missing_in objects ≡ None
+    → no_place_in ps objects ≡ None → no_room_after qs [] (sections_to_link objects) ≡ None → placed ≡ placed_after qs [] objects → ArePlaced objects layout placed
+are_placed objects layout ps qs placed e f a b c d p = record {
+  none = early_none objects layout a b (ap (λ (l : List PlaceData). no_place_in l objects) (sym e) ∙ c) (ap (λ (l : List PlaceData). no_room_after l [] (sections_to_link objects)) (sym f) ∙ d);
+  same = p ∙ ap (λ (l : List PlaceData). placed_after l [] objects) f;
+}
 
 -- ---- the image of placed objects
 pub made_reloc : (layout : LayoutData) (placed : List PlacedData) (x : Option Refusal) → IfSome x (λ r. reloc_in (globals_of placed) placed ≡ Some r) → IfSome x (λ r. made_of layout placed ≡ Err r)
@@ -114,12 +124,3 @@ linked_image objects layout placed good all none p entry small =
     (ap (λ (ps : List PlacedData). map section_shape (contents_of ps)) p ∙ contents_shapes (globals_of (placed_of layout objects)) layout.places [] objects all)
     (room_end layout.places [] (sections_to_link objects) (room_start layout.places) (none_room objects layout none))
     small
-
--- ---- clauses on what a call returned
-pub err_told : {T : Type 0} (r : Result T LinkErr) (a b : Option Refusal) → ((x : Option Refusal) → IfSome x (λ q. a ≡ Some q) → IfSome x (λ q. b ≡ Some q)) → IfErr r (IsRefusal a) → IfErr r (IsRefusal b)
-err_told (Ok x) a b f h = tt
-err_told (Err e) a b f h = f (refusal_of e) h
-
-pub ok_told : {T : Type 0} (r : Result T LinkErr) (P : T → Type 0) (Q : Type 0) → ((x : T) → P x → Q) → IfOk r P → OnOk r Q
-ok_told (Ok x) P Q f h = f x h
-ok_told (Err e) P Q f h = tt

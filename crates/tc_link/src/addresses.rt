@@ -31,13 +31,18 @@ pub(crate) fn address_named(
 ) -> Option<u32>
     ensures { result ≡ address_named names.now placed.now name.now }
 {
-    match names.get(name) {
-        Some(definition) => Some(address_of(placed, *definition)),
-        None => None,
+    let Some(definition) = names.get(name) else {
+        return None;
+    };
+    match placed.get(definition.object) {
+        Some(each) => Some(address_in_section(&each.bases, definition.section, definition.offset)),
+        None => Some(0),
     }
 }
 
-/// The addresses of the symbols of a placed object, by their numbers.
+/// The addresses of the symbols of a placed object, by their numbers: a defined symbol has its own,
+/// an undefined one that of the global symbol with its name, and 0 if there is none.
+#[tactic(auto, unfolding(crate::specs::Relocated::symbol_addresses))]
 pub(crate) fn symbol_addresses(
     alloc: Global,
     names: &HashMap<&str, Definition>,
@@ -50,7 +55,16 @@ pub(crate) fn symbol_addresses(
     ensures err { IfErr result (λ e. e ≡ NoMemory) }
 {
     let object = each.object;
-    addresses_in(alloc, names, placed, &each.bases, &object.symbols)
+    let mut addresses = Vec::with_capacity(alloc, object.symbols.len())?;
+    for symbol in &object.symbols {
+        let address = if symbol.kind != UNDEFINED_SYMBOL {
+            address_in_section(&each.bases, symbol.section, symbol.offset)
+        } else {
+            address_named(names, placed, symbol.name).unwrap_or(0)
+        };
+        addresses.push(address)?;
+    }
+    Ok(addresses)
 }
 
 // The address of the symbol with this number, and 0 if there is no such symbol.
@@ -59,56 +73,6 @@ pub(crate) fn symbol_address_at(addresses: &[u32], number: u16) -> u32
 {
     match addresses.get(number as usize) {
         Some(address) => *address,
-        None => 0,
-    }
-}
-
-// The address of a definition in these objects.
-fn address_of(placed: &[Placed<'_, '_>], definition: Definition) -> u32
-    ensures { result ≡ address_of placed.now definition }
-{
-    match placed.get(definition.object) {
-        Some(each) => address_in_section(&each.bases, definition.section, definition.offset),
-        None => 0,
-    }
-}
-
-// The addresses of the symbols of an object whose sections begin at `bases`, in order.
-fn addresses_in(
-    alloc: Global,
-    names: &HashMap<&str, Definition>,
-    placed: &[Placed<'_, '_>],
-    bases: &[u64],
-    symbols: &[SymbolRef<'_>],
-) -> Result<Vec<u32>, LinkErr>
-    ensures ok { IfOk result (λ addresses. (all : List GlobalData)
-        → AreGlobals names.now placed.now all
-        → addresses.items ≡ map (symbol_address all bases.now) symbols.now) }
-    ensures err { IfErr result (λ e. e ≡ NoMemory) }
-{
-    let mut addresses = Vec::with_capacity(alloc, symbols.len())?;
-    for symbol in symbols {
-        addresses.push(symbol_address(names, placed, bases, symbol))?;
-    }
-    Ok(addresses)
-}
-
-/// Computes the address of a symbol of an object whose sections begin at `bases`: its own or, if it
-/// is undefined, that of the global symbol with its name, and 0 if there is none.
-fn symbol_address(
-    names: &HashMap<&str, Definition>,
-    placed: &[Placed<'_, '_>],
-    bases: &[u64],
-    symbol: &SymbolRef<'_>,
-) -> u32
-    ensures { (all : List GlobalData) → AreGlobals names.now placed.now all
-        → result ≡ symbol_address all bases.now symbol.now }
-{
-    if symbol.kind != UNDEFINED_SYMBOL {
-        return address_in_section(bases, symbol.section, symbol.offset);
-    }
-    match address_named(names, placed, symbol.name) {
-        Some(address) => address,
         None => 0,
     }
 }

@@ -2,6 +2,7 @@
 ghost use Rattle.std.specs.Prelude.{◌≡◌};
 ghost use Rattle.tc_link.specs.Layouts.{is_overlapping_place};
 
+use crate::layouts::is_placed;
 use crate::lines::{Line, layout_line_contents};
 use crate::{Layout, LayoutErr, Place};
 use std::alloc::Global;
@@ -66,9 +67,26 @@ impl Draft {
             (IsFault (fault_of number self.old.entries self.old.places
             (layout_line_contents line.now))) }
     {
-        match layout_line_contents(line) {
-            None => Err(LayoutErr::BadLine(number)),
-            Some(line) => self.add_good(alloc, number, line),
+        let Some(line) = layout_line_contents(line) else {
+            return Err(LayoutErr::BadLine(number));
+        };
+        match line {
+            Line::Blank => Ok(()),
+            Line::Entry(name) => {
+                if self.entry.is_some() {
+                    return Err(LayoutErr::Twice(number));
+                }
+                self.entry = Some(String::from_str(alloc, name)?);
+                Ok(())
+            }
+            Line::Region { section, at, most } => {
+                if let Some(fault) = self.fault_at(number, section, at, most) {
+                    return Err(fault);
+                }
+                let section = String::from_str(alloc, section)?;
+                self.places.push(Place { section, at, most })?;
+                Ok(())
+            }
         }
     }
 
@@ -85,47 +103,6 @@ impl Draft {
         }
     }
 
-    // Adds the contents of line `number`, or returns the line's fault.
-    fn add_good(&mut self, alloc: Global, number: u32, line: Line<'_>) -> Result<(), LayoutErr>
-        requires { IsGoodLayoutLine (layout_line_data line) }
-        ensures good { OnOk result
-            (fault_of number self.old.entries self.old.places (Some (layout_line_data line.entry))
-            ≡ None) }
-        ensures ok { OnOk result (self.new
-            ≡ with_layout_line self.old (Some (layout_line_data line.entry))) }
-        ensures err { IfErr result (IsFault
-            (fault_of number self.old.entries self.old.places
-            (Some (layout_line_data line.entry)))) }
-    {
-        match line {
-            Line::Blank => Ok(()),
-            Line::Entry(name) => {
-                if self.entry.is_some() {
-                    return Err(LayoutErr::Twice(number));
-                }
-                self.add_entry(alloc, name)
-            }
-            Line::Region { section, at, most } => {
-                if let Some(fault) = self.fault_at(number, section, at, most) {
-                    return Err(fault);
-                }
-                self.add_place(alloc, section, at, most)
-            }
-        }
-    }
-
-    /// Sets the entry of the layout.
-    fn add_entry(&mut self, alloc: Global, name: &str) -> Result<(), LayoutErr>
-        requires name { object_name_of name.now ≡ Some name.now }
-        requires none { self.old.entries ≡ [] }
-        ensures ok { OnOk result (self.new
-            ≡ record { entries = name.now ∷ []; places = self.old.places }) }
-        ensures err { IfErr result (λ e. e ≡ NoMemory) }
-    {
-        self.entry = Some(String::from_str(alloc, name)?);
-        Ok(())
-    }
-
     // The fault of a place in line `number`, if it has one.
     fn fault_at(&self, number: u32, section: &str, at: u32, most: u32) -> Option<LayoutErr>
         requires { IsPlace (record { section = section.now; at = at; most = most }) }
@@ -135,7 +112,7 @@ impl Draft {
             (record { section = section.now; at = at; most = most })) }
         ensures few { IfNone result (length self.now.places < 64) }
     {
-        if self.is_placed(section) {
+        if is_placed(&self.places, section) {
             return Some(LayoutErr::Twice(number));
         }
         if self.places.len() >= MOST_PLACES {
@@ -145,39 +122,6 @@ impl Draft {
             return Some(LayoutErr::Overlap(number));
         }
         None
-    }
-
-    /// Adds a place to the layout.
-    fn add_place(
-        &mut self,
-        alloc: Global,
-        section: &str,
-        at: u32,
-        most: u32,
-    ) -> Result<(), LayoutErr>
-        requires place { IsPlaceAfter self.old.places
-            (record { section = section.now; at = at; most = most }) }
-        requires few { length self.old.places < 64 }
-        ensures ok { OnOk result (self.new
-            ≡ record {
-              entries = self.old.entries;
-              places = self.old.places
-                  ++ record { section = section.now; at = at; most = most } ∷ [];
-            }) }
-        ensures err { IfErr result (λ e. e ≡ NoMemory) }
-    {
-        let section = String::from_str(alloc, section)?;
-        self.places.push(Place { section, at, most })?;
-        Ok(())
-    }
-
-    // Whether there is a place for sections of this name.
-    fn is_placed(&self, section: &str) -> bool
-        ensures { result ≡ is_placed self.now.places section.now }
-    {
-        self.places
-            .iter()
-            .any(|place| section == place.section.as_str())
     }
 
     // Whether some place shares a byte with this one.

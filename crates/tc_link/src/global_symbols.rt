@@ -6,7 +6,7 @@ ghost use Rattle.tc_link.specs.GlobalSymbols.{GlobalData, is_global, global_data
 ghost use Rattle.tc_link.specs.declared.errors.LinkErr.TheVariants.{NoMemory};
 
 use crate::LinkErr;
-use crate::definitions::{Definition, add_definition, no_definitions};
+use crate::definitions::Definition;
 use std::alloc::Global;
 use std::collections::HashMap;
 use tc_object::{GLOBAL_SYMBOL, ObjectRef, SymbolRef};
@@ -20,19 +20,11 @@ pub(crate) fn globals_by_name<'a>(
     ensures globals { IfOk result (λ names. DefinesGlobals names objects.now) }
     ensures err { IfErr result (λ e. e ≡ NoMemory) }
 {
-    let mut names = no_definitions(alloc, count_globals(objects))?;
+    let mut names = HashMap::with_capacity(alloc, count_globals(objects))?;
     for (number, object) in objects.iter().enumerate() {
         add_symbols(&mut names, number, &object.symbols)?;
     }
     Ok(names)
-}
-
-/// Whether no name has two definitions. This visits the names once, without look-ups.
-pub(crate) fn are_globals_single(names: &HashMap<&str, Definition>) -> bool
-    ensures { result ≡ true → (objects : List ObjectData) → CountsGlobals names.now objects
-        → (q : List ℕ) → nat_lt 1 (globals_named objects q) ≡ false }
-{
-    names.values().all(|definition| !definition.is_twice)
 }
 
 /// Returns true if no global symbol has the name, by a look-up in the map of global symbols.
@@ -85,7 +77,8 @@ fn add_symbols<'a>(
     Ok(())
 }
 
-// Adds a symbol of object number `object`, if it is global.
+// Adds a symbol of object number `object`, if it is global. The first definition of a name keeps its
+// place.
 fn add_symbol<'a>(
     names: &mut HashMap<&'a str, Definition>,
     object: usize,
@@ -110,5 +103,15 @@ fn add_symbol<'a>(
         offset: symbol.offset,
         is_twice: false,
     };
-    add_definition(names, symbol.name, definition)
+    let Some(first) = names.insert(symbol.name, definition)? else {
+        return Ok(());
+    };
+    let twice = Definition {
+        object: first.object,
+        section: first.section,
+        offset: first.offset,
+        is_twice: true,
+    };
+    names.insert(symbol.name, twice)?;
+    Ok(())
 }

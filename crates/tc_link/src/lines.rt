@@ -38,33 +38,18 @@ pub(crate) fn layout_line_contents(line: &[u8]) -> Option<Line<'_>>
                 None
             }
         }
-        Words::Two(word, name) => entry_line(word, name),
+        Words::Two(word, name) => {
+            if word != "entry".as_bytes() {
+                return None;
+            }
+            match object_name_of(name) {
+                Some(name) => Some(Line::Entry(name)),
+                None => None,
+            }
+        }
         Words::Three(_, _, _) => None,
         Words::Four(word, section, at, most) => region_line(word, section, at, most),
         Words::More => None,
-    }
-}
-
-/// Whether a word of a layout is this text.
-pub(crate) fn is_layout_word(bytes: &[u8], text: &str) -> bool
-    ensures { result ≡ bytes_eq bytes.now text.now }
-{
-    bytes == text.as_bytes()
-}
-
-/// The line `entry NAME` of a layout, if these words are one.
-fn entry_line<'a>(word: &[u8], name: &'a [u8]) -> Option<Line<'a>>
-    ensures line { option_map layout_line_data result
-        ≡ (if bytes_eq word.now (codes "entry")
-        then option_map entry (object_name_of name.now) else None) }
-    ensures good { IfSome result (λ line. IsGoodLayoutLine (layout_line_data line)) }
-{
-    if !is_layout_word(word, "entry") {
-        return None;
-    }
-    match layout_word_name(name) {
-        Some(name) => Some(Line::Entry(name)),
-        None => None,
     }
 }
 
@@ -77,10 +62,10 @@ fn region_line<'a>(word: &[u8], section: &'a [u8], at: &[u8], most: &[u8]) -> Op
         else None) }
     ensures good { IfSome result (λ line. IsGoodLayoutLine (layout_line_data line)) }
 {
-    if !is_layout_word(word, "place") {
+    if word != "place".as_bytes() {
         return None;
     }
-    let Some(section) = layout_word_name(section) else {
+    let Some(section) = object_name_of(section) else {
         return None;
     };
     let Some(at) = hex_number(at) else {
@@ -89,24 +74,6 @@ fn region_line<'a>(word: &[u8], section: &'a [u8], at: &[u8], most: &[u8]) -> Op
     let Some(most) = hex_number(most) else {
         return None;
     };
-    layout_place_line(section, at, most)
-}
-
-// A word as a name, if it is one.
-fn layout_word_name(word: &[u8]) -> Option<&str>
-    ensures value { option_copied result ≡ object_name_of word.now }
-    ensures good { IfSome result (λ name. object_name_of name.now ≡ Some name.now) }
-{
-    object_name_of(word)
-}
-
-// The place for sections of this name, if it is aligned and ends by 2^32.
-fn layout_place_line<'a>(section: &'a str, at: u32, most: u32) -> Option<Line<'a>>
-    requires { object_name_of section.now ≡ Some section.now }
-    ensures line { option_map layout_line_data result
-        ≡ place_of_words (Some section.now) (Some at) (Some most) }
-    ensures good { IfSome result (λ line. IsGoodLayoutLine (layout_line_data line)) }
-{
     if at % 4 == 0 && u64::from(at) + u64::from(most) <= ADDRESS_END {
         Some(Line::Region { section, at, most })
     } else {

@@ -28,7 +28,9 @@ pub(crate) fn add_size(places: &[Place], sizes: &mut [u64], section: &SectionRef
         → AreTaken places.now (before ++ section.now ∷ []) sizes.new }
 {
     for (i, place) in places.iter().enumerate() {
-        sizes[i] = place_size_with_section(place, sizes[i], section);
+        if place.section.as_str() == section.name {
+            sizes[i] = round_up_place_size(sizes[i]) + section.bytes.len() as u64;
+        }
     }
 }
 
@@ -49,26 +51,4 @@ pub(crate) fn are_places_overfull(places: &[Place], sizes: &[u64]) -> bool
         total += sizes[i];
     }
     total > MOST_BYTES
-}
-
-// The numbers of used bytes before the first section: zero for each place.
-pub(crate) fn empty_sizes(alloc: Global, places: &[Place]) -> Result<Vec<u64>, LinkErr>
-    ensures count { IfOk result (λ sizes. length sizes.items ≡ length places.now) }
-    ensures none { IfOk result (λ sizes. (k : ℕ) → slice_index sizes.items k ≡ 0) }
-    ensures err { IfErr result (λ e. e ≡ NoMemory) }
-{
-    let sizes = vec![in alloc; 0u64; places.len()]?;
-    Ok(sizes)
-}
-
-/// The number of used bytes of a place after a further section.
-fn place_size_with_section(place: &Place, size: u64, section: &SectionRef<'_>) -> u64
-    requires { size ≤ 2 ^ 32 }
-    ensures { result ≡ place_size_with_section place.now.section size section.now }
-{
-    if place.section.as_str() == section.name {
-        round_up_place_size(size) + section.bytes.len() as u64
-    } else {
-        size
-    }
 }

@@ -7,7 +7,7 @@ ghost use Rattle.tc_link.specs.PlaceSizes.{AreTaken, AreSmallPlaceSizes, round_u
 ghost use Rattle.tc_link.specs.Errors.{IsRefusal};
 
 use crate::layouts::find_place;
-use crate::place_sizes::{add_size, are_places_overfull, empty_sizes, round_up_place_size};
+use crate::place_sizes::{add_size, are_places_overfull, round_up_place_size};
 use crate::{LinkErr, Place};
 use std::alloc::Global;
 use std::marker::Model;
@@ -43,8 +43,14 @@ pub(crate) fn placed_of<'a, 'b>(
     ensures err { IfErr result
         (IsRefusal (no_room_after places.now [] (sections_to_link objects.now))) }
 {
-    let mut sizes = empty_sizes(alloc, places)?;
-    place_objects(alloc, places, &mut sizes, objects)
+    let mut zeros = vec![in alloc; 0u64; places.len()]?;
+    let sizes: &mut [u64] = &mut zeros;
+    let mut placed = Vec::new(alloc);
+    for object in objects {
+        let bases = bases_of(alloc, places, sizes, &object.sections)?;
+        placed.push(Placed { object, bases })?;
+    }
+    Ok(placed)
 }
 
 /// Returns the address at which a section is placed if these numbers of bytes of the places are
@@ -96,32 +102,4 @@ pub(crate) fn bases_of(
         }
     }
     Ok(bases)
-}
-
-// The objects with the addresses of their sections, or the first section without room. `sizes` are
-// the numbers of used bytes of the places, all zero at first.
-fn place_objects<'a, 'b>(
-    alloc: Global,
-    places: &[Place],
-    sizes: &mut [u64],
-    objects: &'a [ObjectRef<'b>],
-) -> Result<Vec<Placed<'a, 'b>>, LinkErr>
-    requires few { length places.now ≤ 64 }
-    requires count { length sizes.old ≡ length places.now }
-    requires none { AreTaken places.now [] sizes.old }
-    requires small { AreSmallPlaceSizes sizes.old }
-    ensures placed { IfOk result (λ placed. placed.items ≡ placed_after places.now [] objects.now) }
-    ensures good { IfOk result (λ _. (k : ℕ) (d : ObjectData) → k < length objects.now
-        → IsObject (slice_index_or objects.now k d)) }
-    ensures room { IfOk result
-        (λ _. no_room_after places.now [] (sections_to_link objects.now) ≡ None) }
-    ensures err { IfErr result
-        (IsRefusal (no_room_after places.now [] (sections_to_link objects.now))) }
-{
-    let mut placed = Vec::new(alloc);
-    for object in objects {
-        let bases = bases_of(alloc, places, sizes, &object.sections)?;
-        placed.push(Placed { object, bases })?;
-    }
-    Ok(placed)
 }

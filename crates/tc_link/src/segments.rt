@@ -26,7 +26,11 @@ pub(crate) fn segments_of(
     let mut segments = Vec::new(alloc);
     for place in places {
         let bytes = join_sections(alloc, place.section.as_str(), sections)?;
-        add_segment(&mut segments, place.at, bytes)?;
+        if bytes.is_empty() {
+            continue;
+        }
+        let at = place.at;
+        segments.push(Segment { at, bytes })?;
     }
     Ok(segments)
 }
@@ -48,41 +52,18 @@ fn join_sections(
     Ok(bytes)
 }
 
-// Adds a segment, if it has bytes.
-fn add_segment(segments: &mut Vec<Segment>, at: u32, bytes: Vec<u8>) -> Result<(), LinkErr>
-    ensures ok { OnOk result (map segment_data segments.new.items
-        ≡ map segment_data segments.old.items
-        ++ filter (λ s. nat_lt 0 (length s.bytes))
-        (record { at = at; bytes = bytes.items } ∷ [])) }
-    ensures err { IfErr result (λ e. e ≡ NoMemory) }
-{
-    if bytes.is_empty() {
-        return Ok(());
-    }
-    segments.push(Segment { at, bytes })?;
-    Ok(())
-}
-
 /// Joins a section to the bytes of a segment, at a multiple of 4, if it has the name of the
 /// segment's place.
 fn add_section(bytes: &mut Vec<u8>, name: &str, section: &WrittenSection<'_>) -> Result<(), LinkErr>
     ensures ok { OnOk result (bytes.new.items ≡ with_section name.now bytes.old.items section.now) }
     ensures err { IfErr result (λ e. e ≡ NoMemory) }
 {
-    if name == section.name {
-        pad_segment_bytes(bytes)?;
-        bytes.extend_from_slice(&section.bytes)?;
+    if name != section.name {
+        return Ok(());
     }
-    Ok(())
-}
-
-// Adds zeros up to a multiple of 4.
-fn pad_segment_bytes(bytes: &mut Vec<u8>) -> Result<(), LinkErr>
-    ensures ok { OnOk result (bytes.new.items ≡ with_segment_padding bytes.old.items) }
-    ensures err { IfErr result (λ e. e ≡ NoMemory) }
-{
     let gap = (4 - bytes.len() % 4) % 4;
     bytes.extend_from_slice(segment_padding(gap))?;
+    bytes.extend_from_slice(&section.bytes)?;
     Ok(())
 }
 

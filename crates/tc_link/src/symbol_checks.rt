@@ -10,7 +10,7 @@ ghost use Rattle.tc_link.specs.declared.errors.LinkErr.TheVariants.{NoMemory};
 
 use crate::LinkErr;
 use crate::definitions::Definition;
-use crate::global_symbols::{are_globals_single, is_defined_twice, is_missing};
+use crate::global_symbols::{is_defined_twice, is_missing};
 use std::alloc::Global;
 use std::collections::HashMap;
 use tc_object::{GLOBAL_SYMBOL, ObjectRef, SymbolRef, UNDEFINED_SYMBOL};
@@ -25,7 +25,7 @@ pub(crate) fn check_repeated(
     ensures ok { OnOk result (twice_in objects.now ≡ None) }
     ensures err { IfErr result (IsRefusal (twice_in objects.now)) }
 {
-    if are_globals_single(names) {
+    if names.values().all(|definition| !definition.is_twice) {
         return Ok(());
     }
     for object in objects {

@@ -22,21 +22,6 @@ impl<'a> Model for WrittenSection<'a> {
     ghost view = { λ s. record { name = s.name.now; bytes = s.bytes.items } };
 }
 
-// A section with a copy of its bytes.
-pub(crate) fn copy_of<'a>(
-    alloc: Global,
-    section: &SectionRef<'a>,
-) -> Result<WrittenSection<'a>, LinkErr>
-    ensures ok { IfOk result (λ copy. copy ≡ section.now) }
-    ensures err { IfErr result (λ e. e ≡ NoMemory) }
-{
-    let bytes = Vec::from_slice(alloc, section.bytes)?;
-    Ok(WrittenSection {
-        name: section.name,
-        bytes,
-    })
-}
-
 // Adds sections to the list.
 pub(crate) fn append_written_sections<'a>(
     contents: &mut Vec<WrittenSection<'a>>,
@@ -61,7 +46,11 @@ pub(crate) fn copies_of<'a>(
 {
     let mut copies = Vec::new(alloc);
     for section in sections {
-        copies.push(copy_of(alloc, section)?)?;
+        let bytes = Vec::from_slice(alloc, section.bytes)?;
+        copies.push(WrittenSection {
+            name: section.name,
+            bytes,
+        })?;
     }
     Ok(copies)
 }

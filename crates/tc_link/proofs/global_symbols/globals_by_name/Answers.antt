@@ -1,11 +1,11 @@
-use Rattle.std.proofs.Common.{◌≡◌, ◌+◌, ◌++◌, ◌∙◌, ℕ, List, ap, sym, map, take}
+use Rattle.std.proofs.Common.{◌≡◌, ◌+◌, ◌++◌, ◌∙◌, ℕ, List, None, ap, sym, map, take, rules}
 use Rattle.std.specs.Prelude.{filter}
 use Rattle.std.proofs.lemmas.List.{take_all}
 use Rattle.std.specs.List.{count_by}
 use Rattle.std.specs.Option.{option_map}
 use Rattle.tc_object.specs.Objects.{SymbolData, ObjectData}
 use Rattle.tc_link.specs.Placing.{PlacedData, address_of}
-use Rattle.tc_link.specs.GlobalSymbols.{GlobalData, is_global, global_data, globals_of, global_address, has_global_name, globals_named, twice_of_count}
+use Rattle.tc_link.specs.GlobalSymbols.{GlobalData, is_global, global_data, globals_of, global_address, global_at_name, has_global_name, globals_named, twice_of_count}
 use Rattle.tc_link.specs.declared.definitions.Definition.{Definition}
 use Rattle.tc_link.proofs.CountLaws.{globals_more}
 use Rattle.tc_link.proofs.GlobalLaws.{globals_next}
@@ -14,10 +14,12 @@ use Rattle.tc_link.proofs.global_symbols.globals_by_name.Goals as goal
 
 pub loop-number-init : goal.loop-number-init
 unfolding globals_named globals_of
-loop-number-init c = record {
-  counts = λ q. ap (option_map (λ (d : Definition). d.is_twice)) (c.in_ok-names.ensures.none q);
-  globals = λ placed same q. ap (option_map (address_of placed)) (c.in_ok-names.ensures.none q);
-}
+loop-number-init c =
+    let none : (q : List ℕ) → global_at_name c.in_ok-names.names q ≡ None = λ q. search rules in
+    record {
+      counts = λ q. ap (option_map (λ (d : Definition). d.is_twice)) (none q);
+      globals = λ placed same q. ap (option_map (address_of placed)) (none q);
+    }
 
 pub loop-number-preserved : goal.loop-number-preserved
 loop-number-preserved c =

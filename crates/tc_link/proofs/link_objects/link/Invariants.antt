@@ -1,5 +1,5 @@
 use Rattle.std.proofs.Common.{◌≡◌, take}
-use Rattle.tc_link.proofs.link_objects.borrow_objects.Given as goal
+use Rattle.tc_link.proofs.link_objects.link.Given as goal
 
 abbrev pub invariant-loop-object : goal.invariant-loop-object
 invariant-loop-object l = l.parts.items ≡ take l.object-index l.objects

@@ -3,7 +3,7 @@ use Rattle.tc_object.specs.Objects.{ObjectData, IsObject}
 use Rattle.tc_link.specs.Placing.{sections_to_link, placed_after}
 use Rattle.tc_link.specs.Refusals.{no_room_after}
 use Rattle.tc_link.specs.PlaceSizes.{AreTaken, AreSmallPlaceSizes}
-use Rattle.tc_link.proofs.placed.place_objects.Given as goal
+use Rattle.tc_link.proofs.placed.placed_of.Given as goal
 
 abbrev pub invariant-loop-object : goal.invariant-loop-object
 invariant-loop-object l = record {
