@@ -127,7 +127,7 @@ fn fixpoint_step(
     ensures steps { VisitStepsOn ground.now table.old table.new result }
     ensures results { HoldsCachedResults ground.now.bounds.now cache.new }
 {
-    let Some(number) = table.work.pop() else {
+    let Some(number) = table.work.pop()? else {
         return Ok(false);
     };
     if !has_queued_mark(&table.places, number) {

@@ -1,7 +1,7 @@
 -- The work list: what is put on it and taken off it, in any part.
 use Rattle.std.proofs.Common.{◌≡◌, ◌⊎◌, inl, inr, arith, ℕ, Bool, true, false, List, [], ◌∷◌, ◌++◌, Option, None, Some, length, refl, sym, ap, ◌∙◌, subst, Contains}
 use Rattle.std.specs.Prelude.{IfSome, IfNone}
-use Rattle.std.proofs.lemmas.List.{append_assoc, append-nil}
+use Rattle.std.proofs.lemmas.List.{append_assoc}
 use Rattle.std.proofs.lemmas.List.Elements.{Contains-append_cases, Contains-append_left, Contains-append_right, Contains-push, Contains-push_cases}
 use Rattle.std.proofs.lemmas.List.Sorted.{Contains-permutation, IsPermutation-append_comm, IsPermutation-append_left, IsPermutation-refl, IsPermutation-sym, IsPermutation-to_front, IsPermutation-trans, length_permutation}
 use Rattle.std.specs.List.Sorted.{IsPermutation}
@@ -178,8 +178,9 @@ begun_all old mid begun has over begins = record {
   first = begins.first ∙ has.first;
   next = begins.next ∙ has.next;
   same = IsPermutation-trans (all_work old) (all_work mid) (all_work begun) has.same
-      (same_of mid begun mid.waiting begun.round (parts mid [] [] [] mid.waiting has.first has.next over refl)
-      (parts begun [] [] begun.round [] (begins.first ∙ has.first) (begins.next ∙ has.next) refl (begins.waiting ∙ over) ∙ append-nil begun.round) begins.round);
+      (same_of mid begun mid.waiting (begun.round ++ begun.waiting) (parts mid [] [] [] mid.waiting has.first has.next over refl)
+      (parts begun [] [] begun.round begun.waiting (begins.first ∙ has.first) (begins.next ∙ has.next) refl refl)
+      (IsPermutation-trans mid.waiting (begun.waiting ++ begun.round) (begun.round ++ begun.waiting) begins.both (IsPermutation-append_comm begun.waiting begun.round)));
 }
 
 pub begun_some : (old mid begun new : WorkLists) (r : Option ℕ) → HasNoNext old mid → mid.round ≡ [] → BeginsRound mid begun → IfSome r (TakesRound begun new) → IfSome r (Takes old new)
@@ -193,14 +194,14 @@ empty_list (x ∷ xs) e = absurd (omega arith)
 -- none is left
 pub begun_empty : (old mid begun new : WorkLists) (r : Option ℕ) → HasNoNext old mid → mid.round ≡ [] → BeginsRound mid begun → IfNone r ((begun.round ≡ []) × (new ≡ begun)) → IfNone r (all_work new ≡ [])
 begun_empty old mid begun new None has over begins left =
-    ap all_work left.1 ∙ parts begun [] [] [] [] (begins.first ∙ has.first) (begins.next ∙ has.next) left.0 (begins.waiting ∙ over)
+    ap all_work left.1 ∙ parts begun [] [] [] [] (begins.first ∙ has.first) (begins.next ∙ has.next) left.0 (begins.some left.0)
 begun_empty old mid begun new (Some number) has over begins left = left
 
 -- nor was any before
 pub begun_none : (old mid begun new : WorkLists) (r : Option ℕ) → HasNoNext old mid → mid.round ≡ [] → BeginsRound mid begun → IfNone r ((begun.round ≡ []) × (new ≡ begun)) → IfNone r (all_work old ≡ [])
 begun_none old mid begun new None has over begins left =
     let same = length_permutation (all_work old) (all_work begun) (begun_all old mid begun has over begins).same in
-    let gone = ap (λ (xs : List ℕ). length xs) (parts begun [] [] [] [] (begins.first ∙ has.first) (begins.next ∙ has.next) left.0 (begins.waiting ∙ over)) in
+    let gone = ap (λ (xs : List ℕ). length xs) (parts begun [] [] [] [] (begins.first ∙ has.first) (begins.next ∙ has.next) left.0 (begins.some left.0)) in
     empty_list (all_work old) (omega (arith, same, gone))
 begun_none old mid begun new (Some number) has over begins left = left
 

@@ -45,12 +45,12 @@ abbrev pub PutsAs : Bool → WorkLists → WorkLists → ℕ → Type 0
 PutsAs true old new number = PutsWaiting old new number
 PutsAs false old new number = PutsNext old new number
 
--- the places that wait become this round, which was empty
+-- some of the places that wait, one at least if any waits, become this round
 pub record BeginsRound (old new : WorkLists) : Type 0 where
   pub first : new.first ≡ old.first
   pub next : new.next ≡ old.next
-  pub round : IsPermutation old.waiting new.round
-  pub waiting : new.waiting ≡ old.round
+  pub both : IsPermutation old.waiting (new.waiting ++ new.round)
+  pub some : new.round ≡ [] → new.waiting ≡ []
 
 -- the places that are next become the first, in some order, and the first ones are next
 pub record Turns (old new : WorkLists) : Type 0 where

@@ -1,10 +1,13 @@
 // The work list.
-ghost use Rattle.std.specs.Prelude.{◌≡◌, ◌<◌, ◌^◌, ◌==◌, IfSome, IfNone, OnOk, [], length};
+ghost use Rattle.std.specs.Prelude.{◌≡◌, ◌<◌, ◌^◌, ◌==◌, IfOk, IfSome, IfNone, OnOk, [], length};
 ghost use Rattle.frame_places.specs.Work.{BeginsRound, HasNoNext, PutsEntry, PutsNext, PutsWaiting, Takes, TakesFirst, TakesLast, TakesRound, Turns, all_work, PutsAs, PutsNew};
 
 use std::alloc::{AllocError, Global};
 use std::marker::Model;
 use std::mem::swap;
+
+/// The greatest number of places that become a round.
+const MOST_IN_ROUND: usize = 64;
 
 /// The greatest number of places that are moved when one is put before them.
 const MOST_SHIFTED: usize = 64;
@@ -13,10 +16,11 @@ const MOST_SHIFTED: usize = 64;
 /// more; these are skipped.
 /// Most places are next, first in, first out: `first` holds the first of them in reverse, and is
 /// taken from its end; `next` holds the others. When none is next, the last one of `round` is
-/// taken. When `round` is empty, the places in `waiting` become the round, in the order of their
-/// numbers, which is the order in which they were found. So the readers of an exit that rises again
-/// are visited once, after the exit has risen as far as it does for now. And a frame is visited
-/// after the frames found before it, which may enter it too.
+/// taken. When `round` is empty, the first found of the places in `waiting` become the round, in
+/// the order of their numbers, which is the order in which they were found. So the readers of an
+/// exit that rises again are visited once, after the exit has risen as far as it does for now; if
+/// it rises step by step, few of them are visited at each step. And a frame is visited after the
+/// frames found before it, which may enter it too.
 /// Entry points that weren't visited yet are put into `round` above its first `base` places, which
 /// are those that were left when a place of it was taken last. So the frame that was found last is
 /// visited first, with all that it enters; of up to 64 frames found since then, the first one.
@@ -104,19 +108,19 @@ impl Work {
 
     /// Takes a place.
     #[inline(always)]
-    pub fn pop(&mut self) -> Option<usize>
-        ensures some { IfSome result (Takes self.old self.new) }
-        ensures none { IfNone result (all_work self.old ≡ []) }
-        ensures empty { IfNone result (all_work self.new ≡ []) }
+    pub fn pop(&mut self) -> Result<Option<usize>, AllocError>
+        ensures some { IfOk result (λ o. IfSome o (Takes self.old self.new)) }
+        ensures none { IfOk result (λ o. IfNone o (all_work self.old ≡ [])) }
+        ensures empty { IfOk result (λ o. IfNone o (all_work self.new ≡ [])) }
     {
         if let Some(number) = self.pop_next() {
-            return Some(number);
+            return Ok(Some(number));
         }
         if let Some(number) = self.pop_round() {
-            return Some(number);
+            return Ok(Some(number));
         }
-        self.begin_round();
-        self.pop_round()
+        self.begin_round()?;
+        Ok(self.pop_round())
     }
 
     /// Takes the first of the places that are next. A single one is also the last.
@@ -146,14 +150,16 @@ impl Work {
         number
     }
 
-    /// Begins a round with the places that wait. The least number is the last, where places are
-    /// taken.
-    fn begin_round(&mut self)
-        ensures { BeginsRound self.old self.new }
+    /// Begins a round, if the last one is over, with the places that wait and were found first. The
+    /// least number is the last, where places are taken.
+    fn begin_round(&mut self) -> Result<(), AllocError>
+        ensures { OnOk result (BeginsRound self.old self.new) }
     {
-        swap(&mut self.round, &mut self.waiting);
-        self.round
+        self.waiting
             .sort_unstable_by_key(|number| usize::MAX - *number);
+        let left = self.waiting.len().saturating_sub(MOST_IN_ROUND);
+        self.round = self.waiting.split_off(left)?;
+        Ok(())
     }
 
     /// Takes the first place.
