@@ -10,7 +10,9 @@ use crate::recursion::recursion;
 use crate::rows::{Source, rows};
 use cfg_recover::start_key;
 use depth_cert::Key;
-use frame_places::{NEEDS_RULE, NeedRow, least_needs, soon_needs};
+use frame_places::{
+    NEEDS_RULE, NeedRow, frame_edges, least_needs, node_ranks, number_at, soon_needs,
+};
 use std::alloc::{AllocError, Global};
 use tcd_plan::Plan;
 
@@ -25,7 +27,8 @@ pub(crate) fn need_limit(plan: &Plan) -> u32
 
 /// Returns the least needs of the frames, by their numbers. If the start needs more than the areas
 /// without the reserve, it returns the first recursion, if there is one. Passes begin at the last
-/// row, and interrupts enter frames of higher priority, so the rows of these are last.
+/// row, and interrupts enter frames of higher priority, so the rows of these are last. If a few
+/// passes don't find the needs, rows are in the order of the ranks.
 pub(crate) fn frame_needs(
     alloc: Global,
     source: &Source,
@@ -39,7 +42,16 @@ pub(crate) fn frame_needs(
         Some(key) => key.prio,
         None => 0,
     })?;
-    needs_by(alloc, source, rows.as_slice(), frames)
+    let cap = need_limit(source.ground.plan);
+    let soon = soon_needs(alloc, frames.len(), rows.as_slice(), cap)?;
+    if let Some(found) = soon {
+        return Ok(Ok(found));
+    }
+    let edges = frame_edges(alloc, rows.as_slice())?;
+    let ranks = node_ranks(alloc, frames.len(), edges.as_slice())?;
+    rows.sort_by_key(|row| number_at(ranks.as_slice(), row.node))?;
+    let recurs = recursion(alloc, source, edges.as_slice(), ranks.as_slice(), frames)?;
+    needs_by(alloc, source, rows.as_slice(), recurs, frames)
 }
 
 /// Returns the refusal if no needs are within the areas: at the first recursion, or at the start.
@@ -67,28 +79,24 @@ pub(crate) fn needs_error(source: &Source, place: Option<(Key, u32)>) -> MakeErr
 }
 
 /// Returns the least needs that meet these rows of all points, or the first recursion, if any, if
-/// no needs are within the areas. If a few passes don't find the needs, it looks for recursion
-/// before it makes up to as many passes as there are areas.
+/// no needs are within the areas.
 fn needs_by(
     alloc: Global,
     source: &Source,
     rows: &[NeedRow],
+    recurs: Option<(Key, u32)>,
     frames: &[Key],
 ) -> Result<Result<Vec<u32>, Option<(Key, u32)>>, AllocError>
     requires source { IsRowSource source.now }
     requires rows { RowsOn source.now.ground.now source.now.table.now rows.now }
+    requires recurs { IsRecursion source.now recurs }
     requires frames { frames.now ≡ source.now.table.now.frames.items }
     ensures { IfOk result (NeedsOrRecursion source.now) }
 {
-    let cap = need_limit(source.ground.plan);
-    let soon = soon_needs(alloc, frames.len(), rows, cap)?;
-    if let Some(found) = soon {
-        return Ok(Ok(found));
-    }
-    let recurs = recursion(alloc, source)?;
     if let Some(place) = recurs {
         return Ok(Err(Some(place)));
     }
+    let cap = need_limit(source.ground.plan);
     let needs = least_needs(alloc, frames.len(), rows, cap)?;
     match needs {
         Some(found) => Ok(Ok(found)),

@@ -5,33 +5,23 @@ ghost use Rattle.depth_maker.specs.Recursing.{RecursionEdgesOn, IsRecursiveByMar
 ghost use Rattle.depth_maker.specs.Rows.{IsRowSource};
 ghost use Rattle.frame_places.specs.declared.places.Spot.TheVariants.{Point};
 
-use crate::rows::{KnownPoint, Source, point_row, rows};
+use crate::rows::{KnownPoint, Source, point_row};
 use cfg_recover::start_state;
 use depth_cert::Key;
 use frame_places::{
-    FrameEdge, Spot, address_in_frame, first_recurring, frame_edges, frame_number, frame_orders,
+    FrameEdge, Spot, address_in_frame, first_recurring, frame_number, frame_orders,
     has_reaching_node, nodes_reaching,
 };
 use small_states::ScratchState;
 use std::alloc::{AllocError, Global};
 
 /// Returns the first point, by key and address, that enters a frame from which its own is reached,
-/// or `None` if no point does.
-pub(crate) fn recursion(alloc: Global, source: &Source) -> Result<Option<(Key, u32)>, AllocError>
-    requires { IsRowSource source.now }
-    ensures { IfOk result (IsRecursion source.now) }
-{
-    let rows = rows(alloc, source)?;
-    let edges = frame_edges(alloc, rows.as_slice())?;
-    let frames = source.table.frames.as_slice();
-    recursion_by(alloc, source, edges.as_slice(), frames)
-}
-
-/// Returns the first recursive point, from the entries between frames.
-fn recursion_by(
+/// or `None` if no point does. It is told the edges between frames, and their ranks.
+pub(crate) fn recursion(
     alloc: Global,
     source: &Source,
     edges: &[FrameEdge],
+    ranks: &[usize],
     frames: &[Key],
 ) -> Result<Option<(Key, u32)>, AllocError>
     requires source { IsRowSource source.now }
@@ -40,7 +30,7 @@ fn recursion_by(
     ensures { IfOk result (IsRecursion source.now) }
 {
     let orders = frame_orders(alloc, frames)?;
-    match first_recurring(alloc, orders.as_slice(), edges)? {
+    match first_recurring(alloc, orders.as_slice(), edges, ranks)? {
         None => Ok(None),
         Some(node) => recursion_in(alloc, source, edges, frames, node),
     }

@@ -297,3 +297,13 @@ sources_more edges edge old new are adds = record {
 sides : {V : Type 0} (t : Bool) (x y o : V) → o ≡ (if t then x else y) → ((t ≡ true) × (o ≡ x)) ⊎ ((t ≡ false) × (o ≡ y))
 sides true x y o e = inl (refl, e)
 sides false x y o e = inr (refl, e)
+
+-- if ranks rise along each edge, no node is reached from one that it enters
+pub ranks_rise : (edges : List FrameEdge) (ranks : List ℕ) → ((e : FrameEdge) → Contains edges e → slice_index ranks e.node < slice_index ranks e.into) → (k : ℕ) → IsRecurring edges k → ⊥
+ranks_rise edges ranks rise k r = let a = past k r.next r.enters in let b = lead k r.next r.back in omega (arith, a, b) where
+  past : (k t : ℕ) → Contains edges (edge_to k t) → slice_index ranks k < slice_index ranks t
+  past k t c = rise (edge_to k t) c
+
+  lead : (j k : ℕ) → LeadsAlongEdges edges j k → slice_index ranks k ≤ slice_index ranks j
+  lead j _ here = omega arith
+  lead j _ (along k t c r) = let a = past k t c in let b = lead j t r in omega (arith, a, b)

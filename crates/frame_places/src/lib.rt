@@ -16,6 +16,7 @@ mod work_list;
 pub use counting::count_place;
 pub use marks::{begin_visit, end_visit, has_queued_mark, is_plain_mark};
 pub use needs::least::{least_needs, soon_needs};
+pub use needs::ranks::{node_ranks, number_at};
 pub use needs::reach::{
     FrameEdge, first_recurring, frame_edges, has_reaching_node, nodes_reaching,
 };

@@ -58,7 +58,7 @@ fn raise_row(needs: &mut [u32], row: &NeedRow, cap: u32) -> bool
 
 /// The number of passes that is mostly enough: one or two for frames that were found before those
 /// that they enter.
-const FEW: u32 = 16;
+const FEW: u32 = 4;
 
 /// Returns the least needs, or `None` if some need has to be above the cap.
 pub fn least_needs(

@@ -2,6 +2,7 @@
 ghost use Rattle.std.specs.Prelude.{◌≡◌, ◌<◌, ◌↔◌, ℕ, IsTrue, IfOk, OnOk, length, slice_index_or, false, Contains, [], ◌∷◌, ◌+◌};
 ghost use Rattle.frame_places.specs.NodeGraph.{AddsEdges, AddsEdgeSource, AreEdgeSourcesBelow, AreEdgesBetween, AreEdges, AreReaching, AreReachingBy, AreEdgeSources, HasMarkedNext, IsFirstRecurringBefore, IsFirstRecurring, IsRecurring, MarksNodes, SettlesMarks, IsNodeMarked};
 
+use crate::needs::ranks::do_ranks_rise;
 use crate::needs::row::NeedRow;
 use indexmap::{IndexMap, IndexSet};
 use std::alloc::{AllocError, AllocFailed, Global};
@@ -56,15 +57,19 @@ pub fn has_reaching_node(marks: &[bool], nodes: &[usize]) -> bool
 }
 
 /// Returns the recursive node of the graph that is first in this order. A node is recursive if it
-/// is reached from one that it enters.
+/// is reached from one that it enters. If the ranks rise along each edge, none is.
 pub fn first_recurring(
     alloc: Global,
     orders: &[u64],
     edges: &[FrameEdge],
+    ranks: &[usize],
 ) -> Result<Option<usize>, AllocError>
     requires { AreEdgesBetween edges.now (length orders.now) }
     ensures { IfOk result (IsFirstRecurring orders.now edges.now) }
 {
+    if do_ranks_rise(ranks, edges) {
+        return Ok(None);
+    }
     let sources = edge_sources(alloc, edges)?;
     let mut first = None;
     for node in 0..orders.len() {
@@ -90,7 +95,7 @@ fn add_edges(
 
 /// Returns the sources of each node of the graph: the nodes that enter it, so that it is reached
 /// from them.
-fn edge_sources(
+pub(crate) fn edge_sources(
     alloc: Global,
     edges: &[FrameEdge],
 ) -> Result<IndexMap<usize, Vec<usize>>, AllocError>

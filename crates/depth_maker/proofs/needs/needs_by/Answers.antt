@@ -20,16 +20,6 @@ pub least_needs-requires-clause-within : goal.least_needs-requires-clause-within
 least_needs-requires-clause-within c =
     subst (λ (l : List Key). AreRowsWithin c.args.rows.now (length l)) (sym c.requires.frames) (source_within c.args.source.now c.args.rows.now c.requires.source c.requires.rows)
 
-pub soon_needs-requires-clause-nodes : goal.soon_needs-requires-clause-nodes
-soon_needs-requires-clause-nodes c =
-    let h = (few_spots _ _ (((c.requires.source).done).counted).few).1 in
-    let e = ap (λ (l : List Key). length l) c.requires.frames in
-    omega (arith, h, e)
-
-pub soon_needs-requires-clause-within : goal.soon_needs-requires-clause-within
-soon_needs-requires-clause-within c =
-    subst (λ (l : List Key). AreRowsWithin c.args.rows.now (length l)) (sym c.requires.frames) (source_within c.args.source.now c.args.rows.now c.requires.source c.requires.rows)
-
 pub returns-in-Some-needs : goal.returns-in-Some-needs
 returns-in-Some-needs c =
     let h =
@@ -44,15 +34,9 @@ returns-in-None c =
     source_needs c.args.source.now c.args.rows.now c.need_limit-cap.result c.requires.source c.requires.rows c.need_limit-cap.ensures.areas (Ok c.in_ok-needs.needs) c.in_ok-needs.needs refl
     (subst (λ (l : List Key). LeastNeeds (length l) c.args.rows.now c.need_limit-cap.result (Ok c.in_ok-needs.needs)) c.requires.frames c.in_ok-needs.ensures)
     in
-    (subst (λ (o : Option (Vec ℕ Global)). NeedsOn c.args.source.now o) c.in-None.is h, c.in_ok-recurs.ensures)
+    (subst (λ (o : Option (Vec ℕ Global)). NeedsOn c.args.source.now o) c.in-None.is h, c.requires.recurs)
 
 pub returns-in-Some : goal.returns-in-Some
 returns-in-Some c =
-    let h = subst (λ (o : Option (Vec ℕ Global)). IfSome o (λ needs. LeastNeeds (length c.args.frames.now) c.args.rows.now c.need_limit-cap.result (Ok (Some needs)))) c.in-Some.is c.in_ok-soon.ensures in
-    source_needs c.args.source.now c.args.rows.now c.need_limit-cap.result c.requires.source c.requires.rows c.need_limit-cap.ensures.areas (Ok (Some c.in-Some.found)) (Some c.in-Some.found) refl
-    (subst (λ (l : List Key). LeastNeeds (length l) c.args.rows.now c.need_limit-cap.result (Ok (Some c.in-Some.found))) c.requires.frames h)
-
-pub returns-in-Some-recurs : goal.returns-in-Some-recurs
-returns-in-Some-recurs c =
-    let recurs = subst (IsRecursion c.args.source.now) c.in-Some-recurs.is c.in_ok-recurs.ensures in
-    (recursion_above c.args.source.now c.in-Some-recurs.place recurs, recurs)
+    let recurs = subst (IsRecursion c.args.source.now) c.in-Some.is c.requires.recurs in
+    (recursion_above c.args.source.now c.in-Some.place recurs, recurs)

@@ -4,7 +4,7 @@ use Rattle.depth_cert.specs.declared.keys.Key.{Key}
 use Rattle.depth_cert.specs.Keys.{number_of_key}
 use Rattle.frame_places.specs.NodeGraph.{AreEdgesBetween}
 use Rattle.depth_maker.proofs.RecursSteps.{edges_within, none_recurs}
-use Rattle.depth_maker.proofs.recursion.recursion_by.Goals as goal
+use Rattle.depth_maker.proofs.recursion.recursion.Goals as goal
 
 pub first_recurring-requires : goal.first_recurring-requires
 first_recurring-requires c =

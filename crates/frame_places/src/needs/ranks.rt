@@ -1,0 +1,85 @@
+// Ranks of nodes: in their order one pass finds all needs, unless a node is reached from itself.
+ghost use Rattle.std.specs.Prelude.{◌≡◌, ℕ, IsTrue, slice_index};
+ghost use Rattle.frame_places.specs.NodeGraph.{IsRecurring};
+
+use crate::needs::reach::{FrameEdge, edge_sources};
+use indexmap::IndexMap;
+use std::alloc::{AllocError, Global};
+
+/// Returns a rank for each node: below the ranks of all nodes that it enters, or 0 if it leads to a
+/// node that is reached from itself. Nobody relies on that: `do_ranks_rise` tells.
+pub fn node_ranks(
+    alloc: Global,
+    nodes: usize,
+    edges: &[FrameEdge],
+) -> Result<Vec<usize>, AllocError> {
+    let sources = edge_sources(alloc, edges)?;
+    let mut left = vec![in alloc; 0usize; nodes]?;
+    for edge in edges {
+        if let Some(count) = left.get_mut(edge.node) {
+            *count = count.saturating_add(1);
+        }
+    }
+    let mut work = Vec::new(alloc);
+    for node in 0..nodes {
+        if number_at(left.as_slice(), node) == 0 {
+            work.push(node)?;
+        }
+    }
+    let mut ranks = vec![in alloc; 0usize; nodes]?;
+    for rank in (0..nodes).rev() {
+        let Some(node) = work.pop() else {
+            break;
+        };
+        if let Some(place) = ranks.get_mut(node) {
+            *place = rank;
+        }
+        queue_sources(&sources, node, &mut left, &mut work)?;
+    }
+    Ok(ranks)
+}
+
+/// Returns the number that a list has for a node. A number without a node has 0.
+pub fn number_at(numbers: &[usize], node: usize) -> usize
+    ensures { result ≡ slice_index numbers.now node }
+{
+    match numbers.get(node) {
+        Some(number) => *number,
+        None => 0,
+    }
+}
+
+/// Returns true only if each edge goes to a node of a higher rank. Then no node is reached from one
+/// that it enters.
+pub(crate) fn do_ranks_rise(ranks: &[usize], edges: &[FrameEdge]) -> bool
+    ensures { IsTrue result → (k : ℕ) → IsRecurring edges.now k → ⊥ }
+{
+    for edge in edges {
+        if number_at(ranks, edge.node) >= number_at(ranks, edge.into) {
+            return false;
+        }
+    }
+    true
+}
+
+/// Takes a node, which has its rank now, off those that its sources enter, and queues the sources
+/// for which none is left.
+fn queue_sources(
+    sources: &IndexMap<usize, Vec<usize>>,
+    node: usize,
+    left: &mut [usize],
+    work: &mut Vec<usize>,
+) -> Result<(), AllocError> {
+    let Some(list) = sources.get(&node) else {
+        return Ok(());
+    };
+    for source in list {
+        if let Some(count) = left.get_mut(*source) {
+            *count = count.saturating_sub(1);
+            if *count == 0 {
+                work.push(*source)?;
+            }
+        }
+    }
+    Ok(())
+}
