@@ -187,13 +187,3 @@ impl<'a> Draft<'a> {
         }
     }
 }
-
-// Whether a target is resolved at once, without a relocation.
-pub(crate) fn has_near_target(r: &Option<Reference<'_>>) -> bool
-    ensures { result ≡ option_map_or (λ q. q.kind == 0) (option_map reference_of r.now) false }
-{
-    match r {
-        None => false,
-        Some(r) => r.kind == NO_RELOC,
-    }
-}

@@ -5,12 +5,12 @@ ghost use Rattle.tc_asm.specs.Drafts.{draft_after_item};
 ghost use Rattle.tc_asm.specs.KnownSymbols.{kept, kept_rule};
 
 use crate::draft::Draft;
-use crate::encode::{assembled_code, first_assembled_bytes, has_near_target};
+use crate::encode::{assembled_code, first_assembled_bytes};
 use crate::sections::extend_part;
-use crate::symbols::{Place, Symbols};
+use crate::symbols::Symbols;
 use std::alloc::{AllocError, Global};
 use tc_isa::{Fields, WORD32};
-use tc_stmt::{Item, LABEL_TWICE, NO_RULE, Reference, is_source_name, reference_to};
+use tc_stmt::{Item, NO_RULE, Reference, is_source_name, reference_to};
 
 impl<'a> Draft<'a> {
     ghost use Rattle.std.specs.Prelude.{option_map, length, None, Some, OnOk, IfOk};
@@ -36,7 +36,7 @@ impl<'a> Draft<'a> {
         if known {
             self.put_nameless(alloc, labels, item)
         } else {
-            self.put(alloc, labels, item)
+            self.put_other(alloc, labels, item)
         }
     }
 
@@ -62,43 +62,13 @@ impl<'a> Draft<'a> {
                 let r = reference_to(*kind, *name, *minus, *size);
                 self.put_linked(labels, *row, fields, r)
             }
-            Item::Data(len, bytes) => self.put_bytes(first_assembled_bytes(bytes, *len), &None),
+            Item::Data(len, bytes) => self.put_plain(first_assembled_bytes(bytes, *len)),
             Item::Word(len, minus, size, name) => {
                 let r = reference_to(WORD32, *name, *minus, *size);
                 self.put_use(first_assembled_bytes(&[0; 4], *len), r)
             }
             Item::Section(_) => self.put_other(alloc, labels, item),
             Item::Zeros(_) => self.put_other(alloc, labels, item),
-        }
-    }
-
-    // Adds an item, and returns the least rule that it breaks, or no rule. `labels` are the symbols
-    // of the whole source.
-    #[tactic(auto, unfolding(crate::specs::Rules::item_rule, crate::specs::Drafts::draft_after_item))]
-    fn put(
-        &mut self,
-        alloc: Global,
-        labels: &Symbols<'a>,
-        item: &Item<'a>,
-    ) -> Result<u8, AllocError>
-        ensures draft { OnOk result
-            (self.new ≡ draft_after_item labels.now self.old (item_of item.now)) }
-        ensures rule { IfOk result
-            (λ rule. rule ≡ item_rule labels.now self.old (item_of item.now)) }
-    {
-        match item {
-            Item::Label(name) => self.put_label(labels, *name),
-            Item::Code(row, fields) => self.put_code(labels, *row, fields, &None),
-            Item::Linked(row, kind, minus, fields, size, name) => {
-                let r = Some(reference_to(*kind, *name, *minus, *size));
-                self.put_code(labels, *row, fields, &r)
-            }
-            Item::Data(len, bytes) => self.put_bytes(first_assembled_bytes(bytes, *len), &None),
-            Item::Word(len, minus, size, name) => {
-                let r = Some(reference_to(WORD32, *name, *minus, *size));
-                self.put_bytes(first_assembled_bytes(&[0; 4], *len), &r)
-            }
-            _ => self.put_other(alloc, labels, item),
         }
     }
 
@@ -158,22 +128,6 @@ impl<'a> Draft<'a> {
         let code = assembled_code(row, &found.fields);
         let rule = self.put_use(first_assembled_bytes(&code.bytes, code.len), r)?;
         Ok(found.rule.min(rule))
-    }
-
-    // Adds bytes with their symbol, if they have one, and returns the least rule that they break.
-    #[inline(always)]
-    #[tactic(auto, unfolding(crate::specs::Drafts::with_reference))]
-    fn put_bytes(&mut self, bytes: &[u8], r: &Option<Reference<'a>>) -> Result<u8, AllocError>
-        ensures draft { OnOk result
-            (self.new ≡ with_content self.old bytes.now (option_map reference_of r.now)) }
-        ensures rule { IfOk result
-            (λ rule. rule
-            ≡ content_rule self.old (length bytes.now) (option_map reference_of r.now)) }
-    {
-        if r.is_none() {
-            return self.put_plain(bytes);
-        }
-        self.put_named(bytes, r)
     }
 
     // Adds bytes with a symbol that is known, and returns the least rule that they break.
@@ -236,98 +190,6 @@ impl<'a> Draft<'a> {
             self.add_use(size, r)?;
         }
         Ok(())
-    }
-
-    /// Checks bytes with a symbol, puts them into the draft, and returns the least rule that they
-    /// break.
-    #[inline(never)]
-    fn put_named(&mut self, bytes: &[u8], r: &Option<Reference<'a>>) -> Result<u8, AllocError>
-        ensures draft { OnOk result
-            (self.new ≡ with_content self.old bytes.now (option_map reference_of r.now)) }
-        ensures rule { IfOk result
-            (λ rule. rule
-            ≡ content_rule self.old (length bytes.now) (option_map reference_of r.now)) }
-    {
-        let rule = self.content_rule(bytes.len(), r);
-        self.add_content(bytes, r)?;
-        Ok(rule)
-    }
-
-    // Adds a label, and returns the least rule that it breaks. The name is looked up once.
-    #[inline(never)]
-    #[tactic(auto, unfolding(crate::specs::Rules::item_rule, crate::specs::Drafts::draft_after_item, crate::specs::Drafts::with_label))]
-    fn put_label(&mut self, labels: &Symbols<'a>, name: &'a [u8]) -> Result<u8, AllocError>
-        ensures draft { OnOk result
-            (self.new ≡ draft_after_item labels.now self.old (label name.entry.now)) }
-        ensures rule { IfOk result
-            (λ rule. rule ≡ item_rule labels.now self.old (label name.entry.now)) }
-    {
-        if !is_source_name(name) {
-            return Ok(self.item_rule(labels, &Item::Label(name)));
-        }
-        let section = self.section_rule();
-        let room = self.symbol_room(name);
-        let place = Place {
-            section: self.section,
-            offset: self.place(),
-        };
-        let before = self.symbols.define(name, place)?;
-        let twice = if before.is_some() {
-            LABEL_TWICE
-        } else {
-            NO_RULE
-        };
-        Ok(twice.min(section).min(NO_RULE.min(room)))
-    }
-
-    // Adds an instruction, and returns the least rule that it breaks.
-    #[inline(always)]
-    #[tactic(auto, unfolding(crate::specs::Rules::item_rule, crate::specs::Drafts::draft_after_item, crate::specs::Drafts::code_bytes), using(crate::proofs::CodeLaws::found_far))]
-    fn put_code(
-        &mut self,
-        labels: &Symbols<'a>,
-        row: u8,
-        fields: &Fields,
-        r: &Option<Reference<'a>>,
-    ) -> Result<u8, AllocError>
-        ensures draft { OnOk result
-            (self.new ≡ draft_after_item labels.now self.old
-            (code row fields.now (option_map reference_of r.now))) }
-        ensures rule { IfOk result
-            (λ rule. rule
-            ≡ item_rule labels.now self.old (code row fields.now (option_map reference_of r.now))) }
-    {
-        if has_near_target(r) {
-            return self.put_jump(labels, row, fields, r);
-        }
-        let code = assembled_code(row, fields);
-        let rule = self.put_bytes(first_assembled_bytes(&code.bytes, code.len), r)?;
-        // The target breaks no rule.
-        Ok(NO_RULE.min(rule))
-    }
-
-    // Adds an instruction whose target is resolved at once, and returns the least rule that it
-    // breaks.
-    #[inline(never)]
-    #[tactic(auto, unfolding(crate::specs::Rules::item_rule, crate::specs::Drafts::draft_after_item, crate::specs::Drafts::code_bytes))]
-    fn put_jump(
-        &mut self,
-        labels: &Symbols<'a>,
-        row: u8,
-        fields: &Fields,
-        r: &Option<Reference<'a>>,
-    ) -> Result<u8, AllocError>
-        ensures draft { OnOk result
-            (self.new ≡ draft_after_item labels.now self.old
-            (code row fields.now (option_map reference_of r.now))) }
-        ensures rule { IfOk result
-            (λ rule. rule
-            ≡ item_rule labels.now self.old (code row fields.now (option_map reference_of r.now))) }
-    {
-        let found = self.resolve(labels, row, fields, r);
-        let code = assembled_code(row, &found.fields);
-        let rule = self.put_bytes(first_assembled_bytes(&code.bytes, code.len), r)?;
-        Ok(found.rule.min(rule))
     }
 }
 

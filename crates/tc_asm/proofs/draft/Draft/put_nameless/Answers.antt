@@ -1,7 +1,7 @@
 use Rattle.std.proofs.Common.{List, ℕ, [], ◌∷◌, take, None, Some, ap, sym, ◌∙◌}
 use Rattle.tc_stmt.specs.Items.{ReferenceData, reference_of, item_of, bytes}
 use Rattle.tc_stmt.specs.declared.item.Item.{Item}
-use Rattle.tc_asm.specs.Drafts.{draft_after_item}
+use Rattle.tc_asm.specs.Drafts.{draft_after_item, with_bytes, with_reference}
 use Rattle.tc_asm.specs.Rules.{item_rule}
 use Rattle.tc_asm.specs.KnownSymbols.{nameless}
 use Rattle.tc_asm.proofs.KnownSymbols.{label_unchanged, global_unchanged, on_ok, if_ok, plain_rule, section_rule_same, zeros_rule_same, plain_data_rule, data_rule, data_step}
@@ -26,8 +26,9 @@ returns-in-Code-clause-rule c =
     ∙ ap (λ (i : Item). item_rule c.args.labels.now (nameless c.args.self.now) (item_of i)) (sym c.in-Code.is))
 
 pub returns-in-Data-clause-draft : goal.returns-in-Data-clause-draft
+unfolding with_bytes with_reference
 returns-in-Data-clause-draft c =
-    on_ok c.put_bytes.result _ _ c.put_bytes.ensures.draft
+    on_ok c.put_plain.result _ _ c.put_plain.ensures.draft
     (λ h.
     ap nameless h
     ∙ ap nameless (data_step c.args.labels.now c.args.self.now c.first_assembled_bytes.result.now None)
@@ -36,7 +37,7 @@ returns-in-Data-clause-draft c =
 
 pub returns-in-Data-clause-rule : goal.returns-in-Data-clause-rule
 returns-in-Data-clause-rule c =
-    if_ok c.put_bytes.result _ _ c.put_bytes.ensures.rule
+    if_ok c.put_plain.result _ _ c.put_plain.ensures.rule
     (λ rule h.
     h
     ∙ plain_data_rule c.args.labels.now c.args.self.now c.first_assembled_bytes.result.now
