@@ -211,10 +211,6 @@ stack_of_context_well plan cert (Some a) h = (h.sp).well
 pub stacks_well : (plan : PlanData) (cert : CertData) (kept : LastInterrupts) → LastInterruptsHold plan cert kept → AreWellStacks kept
 stacks_well plan cert kept h = record { last = stack_of_context_well plan cert kept.last h.last; before = stack_of_context_well plan cert kept.before h.before }
 
-pub stack_of_context : (plan : PlanData) (cert : CertData) (o : Option InterruptContext) → IfSome o (HoldsInContext plan cert) → IfSome o (λ a. IsValue (limits_in plan cert) a.sp)
-stack_of_context plan cert None h = tt
-stack_of_context plan cert (Some a) h = h.sp
-
 -- so the entries hold in a state below a kept context
 pub covered_holds : (plan : PlanData) (cert : CertData) (node : NodeData) (o : Option InterruptContext) (t : State) → IfSome o (HoldsInContext plan cert) → IsSomeAnd o (λ a. IsBelowContext a node t) → InterruptsHold plan cert node t
 covered_holds plan cert node None t h a = absurd a

@@ -50,9 +50,6 @@ module _ (b : Limits) (p : PlanData) (s t : State) (low : IsSoundSetting b p s) 
       monotone b op (arg_of p s x) (arg_of p s y) (arg_of p t x) (arg_of p t y) low.limits (arg_value b p s x low ix) (arg_value b p s y low iy) (arg_value b p t x high ix) (arg_value b p t y high iy)
       (arg_grows p s t low.regs high.regs c.regs x) (arg_grows p s t low.regs high.regs c.regs y)
 
-  pub op_value : (op : Op) (u : State) (x y : Arg) → IsSoundSetting b p u → IsArg x → IsArg y → IsValue b (value_of b op (arg_of p u x) (arg_of p u y))
-  op_value op u x y h ix iy = value_of_value b op (arg_of p u x) (arg_of p u y) h.limits (arg_value b p u x h ix) (arg_value b p u y h iy)
-
   scaled_grows : (base index n : ℕ) → base < 32 → index < 32 → n < 4
       → IsBelow (value_of b Add (reg_of p s base) (value_of b Sh (reg_of p s index) (word_val n))) (value_of b Add (reg_of p t base) (value_of b Sh (reg_of p t index) (word_val n)))
   scaled_grows base index n lb li ln =

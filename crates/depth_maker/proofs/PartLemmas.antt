@@ -4,9 +4,7 @@ use Rattle.std.proofs.Common.{◌+◌, take, drop, get_or, map, ◌≡◌, ℕ, 
 use Rattle.std.specs.Prelude.{Result, Ok, Err, OnOk, is_some, if◌then◌else◌}
 use Rattle.frame_places.specs.declared.refusals.Refusal.{Refusal}
 use Rattle.indexmap.specs.IndexMap.{IndexMap, get}
-use Rattle.std.specs.List.{flat_map}
-use Rattle.std.proofs.lemmas.List.{take_more, take-append-drop, map-append, append-nil}
-use Rattle.std.proofs.lemmas.Grind.{flat_map-append}
+use Rattle.std.proofs.lemmas.List.{take_more, take-append-drop, map-append}
 use Rattle.std.proofs.lemmas.List.Elements.{Contains-get_or, Contains-append_cases, Contains-append_left, Contains-append_right, Contains-push, Contains-push_cases}
 use Rattle.elf_image.specs.Images.{ImageData}
 use Rattle.tcd_plan.specs.PlanData.{PlanData}
@@ -20,7 +18,7 @@ use Rattle.depth_cert.specs.Exits.{state_after_exit}
 use Rattle.cfg_recover.specs.LocalFaults.{IsFaultless, StandsFaultless}
 use Rattle.cfg_recover.specs.Duties.{Duty, jump, enter, resume, leave, Owed, owed, entered_and_back, duties_of}
 use Rattle.cfg_recover.specs.declared.local_rules.Located.{Located}
-use Rattle.cfg_recover.proofs.Members.{contains_map, contains_flat}
+use Rattle.cfg_recover.proofs.Members.{contains_map}
 use Rattle.cfg_recover.specs.Assignments.{Assignment, point, exit, HasDuty, Asks, Derived, raised_at_place, asked_by_resume}
 use Rattle.depth_cert.specs.Known.{Known, state, leaving}
 use Rattle.depth_cert.specs.Proper.{IsProperState}
@@ -90,14 +88,6 @@ module _ (b : Limits) (image : ImageData) (plan : PlanData) (k : Key) (p : ℕ) 
               (then_.keeps).settled k p u d.duty free pu (pd d i) (first.settled before d i))
           | inr i ↦ then_.settled free d i
         ];
-  }
-
-  -- the point has new work: nothing more is owed now
-  pub duties_again : (s t : made.Table) (ds es : List Owed) → DutiesJoined b image plan s t k p u ds → is_queued (mark_for t.places (spot_of (point k p))) ≡ true → DutiesJoined b image plan s t k p u (ds ++ es)
-  duties_again s t ds es first queued = record {
-    fine = first.fine;
-    keeps = first.keeps;
-    settled = λ free d c. absurd (let no : true ≡ false = sym queued ∙ free in cc);
   }
 
   -- ---- one duty
@@ -245,9 +235,6 @@ module _ (b : Limits) (image : ImageData) (plan : PlanData) (k : Key) (p : ℕ) 
   pub owes_at_map : (g : ℕ → Owed) (ts : List ℕ) (i : ℕ) → i < length ts → ((d : Owed) → Contains (map g ts) d → VisitedPointOwes b image plan k p u d.duty) → VisitedPointOwes b image plan k p u (g (get_or ts i 0)).duty
   owes_at_map g ts i lt h = h (g (get_or ts i 0)) (contains_map g ts (get_or ts i 0) (Contains-get_or ts i 0 lt))
 
-  pub owes_at_flat : (f : ℕ → List Owed) (ts : List ℕ) (i : ℕ) → i < length ts → ((d : Owed) → Contains (flat_map f ts) d → VisitedPointOwes b image plan k p u d.duty) → (d : Owed) → Contains (f (get_or ts i 0)) d → VisitedPointOwes b image plan k p u d.duty
-  owes_at_flat f ts i lt h d c = h d (contains_flat f d (get_or ts i 0) ts (Contains-get_or ts i 0 lt) c)
-
   pub duties_more_map : (laws : AreMakerLaws b image plan) (s m t : made.Table) (g : ℕ → Owed) (ts : List ℕ) (i : ℕ) → i < length ts → IsVisited b image plan s k p u
       → ((d : Owed) → Contains (map g ts) d → VisitedPointOwes b image plan k p u d.duty) → DutiesJoined b image plan s m k p u (map g (take i ts)) → DutiesJoined b image plan m t k p u (g (get_or ts i 0) ∷ [])
       → DutiesJoined b image plan s t k p u (map g (take (i + 1) ts))
@@ -255,16 +242,6 @@ module _ (b : Limits) (image : ImageData) (plan : PlanData) (k : Key) (p : ℕ) 
       subst (DutiesJoined b image plan s t k p u) (sym (ap (map g) (take_more ts i 0 lt) ∙ map-append g (take i ts) (get_or ts i 0 ∷ [])))
       (duties_both laws s m t (map g (take i ts)) (g (get_or ts i 0) ∷ []) v
       (λ d c. owes d (subst (λ (l : List ℕ). Contains (map g l) d) (take-append-drop i ts) (subst (λ (l : List Owed). Contains l d) (sym (map-append g (take i ts) (drop i ts))) (Contains-append_left (map g (take i ts)) (map g (drop i ts)) d c))))
-      first then_)
-
-  pub duties_more_flat : (laws : AreMakerLaws b image plan) (s m t : made.Table) (f : ℕ → List Owed) (ts : List ℕ) (i : ℕ) → i < length ts → IsVisited b image plan s k p u
-      → ((d : Owed) → Contains (flat_map f ts) d → VisitedPointOwes b image plan k p u d.duty) → DutiesJoined b image plan s m k p u (flat_map f (take i ts)) → DutiesJoined b image plan m t k p u (f (get_or ts i 0))
-      → DutiesJoined b image plan s t k p u (flat_map f (take (i + 1) ts))
-  duties_more_flat laws s m t f ts i lt v owes first then_ =
-      subst (DutiesJoined b image plan s t k p u)
-      (sym (ap (flat_map f) (take_more ts i 0 lt) ∙ flat_map-append f (take i ts) (get_or ts i 0 ∷ []) ∙ ap (λ (l : List Owed). flat_map f (take i ts) ++ l) (append-nil (f (get_or ts i 0)))))
-      (duties_both laws s m t (flat_map f (take i ts)) (f (get_or ts i 0)) v
-      (λ d c. owes d (subst (λ (l : List ℕ). Contains (flat_map f l) d) (take-append-drop i ts) (subst (λ (l : List Owed). Contains l d) (sym (flat_map-append f (take i ts) (drop i ts))) (Contains-append_left (flat_map f (take i ts)) (flat_map f (drop i ts)) d c))))
       first then_)
 
   -- all that is owed, from the instruction at the point

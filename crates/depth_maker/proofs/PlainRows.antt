@@ -1,9 +1,8 @@
 -- The row of a point that enters no frame.
-use Rattle.std.proofs.Common.{◌≡◌, ℕ, Bool, true, false, not, ◌&&◌, List, ◌++◌, length, Some, refl, sym, ap, ◌∙◌, subst, Contains, nat_eq}
+use Rattle.std.proofs.Common.{◌≡◌, ℕ, Bool, true, false, not, ◌&&◌, List, ◌++◌, length, Some, refl, sym, ap, ◌∙◌, subst, Contains}
 use Rattle.std.specs.Prelude.{map}
 use Rattle.std.specs.Option.{option_map}
 use Rattle.std.proofs.Math.Bool.{beq}
-use Rattle.std.proofs.lemmas.Bool.{and_parts, eqb-true}
 use Rattle.indexmap.specs.IndexMap.{get}
 use Rattle.tc_isa.specs.declared.shapes.Arg.{Arg}
 use Rattle.tc_isa.specs.declared.shapes.Shape.{Shape}
@@ -120,12 +119,3 @@ flags true true e = refl
 flags false false e = refl
 flags true false e = cc
 flags false true e = cc
-
-pub outline_tells : (a b : Outline) → (beq a.ie b.ie && (nat_eq a.ccpn b.ccpn && nat_eq a.held b.held)) ≡ true → a ≡ b
-outline_tells a b e =
-    let h = and_parts _ _ e in
-    let t = and_parts _ _ h.1 in
-    let ie = flags a.ie b.ie h.0 in
-    let ccpn = eqb-true a.ccpn b.ccpn t.0 in
-    let held = eqb-true a.held b.held t.1 in
-    λ i. record { ie = ie i; ccpn = ccpn i; held = held i }

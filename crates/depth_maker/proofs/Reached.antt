@@ -52,20 +52,6 @@ module _ (b : Limits) (image : ImageData) (plan : PlanData) where
           | inr e ↦ subst (λ (z : Place). IsSome (after (entry_of (frame_of_place z)))) (sym e.3) (subst (λ (z : Place). IsSome (after z)) e.3 some_joined)
         ]
 
-  -- a known frame has its entry point
-  pub entry_stands : (a : Assignment) → Derived b image plan a → (y : Place) (v : Known) → a y ≡ Some v → IsSome (a (entry_of (frame_of_place y)))
-  entry_stands _ (begins a is) y v at =
-      elim (from_if (same_place y (first_place image plan)) (state (start_state plan)) None (a y) v (is y) at) [
-        | inl h ↦ subst (λ (z : Place). IsSome (a (entry_of (frame_of_place z)))) (sym (place_tells y (first_place image plan) h.0))
-            (subst (λ (z : Place). IsSome (a z)) (place_tells y (first_place image plan) h.0) (some_is (a y) v at))
-        | inr h ↦ (let q : None ≡ Some v = h.1 in cc)
-      ]
-  entry_stands _ (joins a after z d j) y v at =
-      elim (from_if (same_place y z) j.known (a y) (after y) v (j.is y) at) [
-        | inl h ↦ subst (λ (x : Place). IsSome (after (entry_of (frame_of_place x)))) (sym (place_tells y z h.0)) (entry_joined a after z j (entry_stands a d))
-        | inr h ↦ some_stays a after z j (entry_of (frame_of_place y)) (entry_stands a d y v h.1)
-      ]
-
   -- ---- from the start
   -- a frame that a reached one enters is reached
   pub reaches_then : (c : Assignment) (j t : Key) (p : ℕ) (s : State) → EntersInAssignment b image plan c j p s t → (k : Key) → Reaches b image plan c j k → Reaches b image plan c t k

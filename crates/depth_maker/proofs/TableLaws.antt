@@ -1,18 +1,15 @@
 -- A table is one still after a join, a new reader and the end of a visit. One without work is
 -- closed.
-use Rattle.std.proofs.Common.{◌≡◌, ◌⊎◌, inl, inr, ℕ, Bool, true, false, Option, Some, None, refl, sym, ap, ◌∙◌, subst, Contains}
+use Rattle.std.proofs.Common.{◌≡◌, ◌⊎◌, inl, inr, ℕ, Bool, true, false, Option, Some, None, refl, sym, ap, ◌∙◌, subst}
 use Rattle.std.specs.Prelude.{if◌then◌else◌}
 use Rattle.elf_image.specs.Images.{ImageData}
 use Rattle.tcd_plan.specs.PlanData.{PlanData}
-use Rattle.tc_isa.specs.declared.shapes.Shape.{Shape}
 use Rattle.value_domain.specs.declared.states.State.{State}
 use Rattle.value_domain.specs.Limits.{Limits}
 use Rattle.depth_cert.specs.declared.keys.Key.{Key}
-use Rattle.cfg_recover.specs.Code.{IsCode}
 use Rattle.cfg_recover.specs.Entries.{start_state}
 use Rattle.depth_cert.specs.Exits.{state_after_exit}
-use Rattle.cfg_recover.specs.LocalFaults.{IsFaultless}
-use Rattle.cfg_recover.specs.Duties.{Duty, jump, enter, resume, leave, Owed, duties_of}
+use Rattle.cfg_recover.specs.Duties.{Duty, jump, enter, resume, leave}
 use Rattle.cfg_recover.specs.Assignments.{Place, point, exit, Assignment, same_place, CoversAt, raised_at_place, asked_by_duty, Joins, Derived, begins, joins, Closed, first_place, AllFaultless}
 use Rattle.depth_cert.specs.Known.{Known, state, leaving, CoversKnown}
 use Rattle.depth_cert.specs.Proper.{IsProperState, IsProperKnown}
@@ -21,7 +18,7 @@ use Rattle.depth_maker.specs.MakerLaws.{AreMakerLaws}
 use Rattle.depth_maker.specs.TableView.{TableView}
 use Rattle.depth_maker.specs.Joins.{Marks}
 use Rattle.depth_maker.specs.TableInvariant.{IsTable, Settled, IsResumed}
-use Rattle.depth_maker.proofs.PlaceLaws.{place_tells, place_same, from_if, one_state, resumed_some}
+use Rattle.depth_maker.proofs.PlaceLaws.{place_tells, place_same, from_if, resumed_some}
 use Rattle.depth_maker.proofs.Below.{asks_proper}
 
 same_or_not : (v : Bool) → (v ≡ true) ⊎ (v ≡ false)
@@ -164,43 +161,8 @@ module _ (b : Limits) (image : ImageData) (plan : PlanData) (laws : AreMakerLaws
       settled = λ k p s shape n d at now code c. settled_again k p s d.duty (is.settled k p s shape n d (sym (cells (point k p)) ∙ at) (idle (point k p) now) code c);
     }
 
-    -- the end of a visit: all duties of the point are settled
-    pub table_settles : (k : Key) (p : ℕ) (s : State) → IsTable b image plan t → Derived b image plan u.cells → t.cells (point k p) ≡ Some (state s) → IsFaultless b image plan k p s
-        → ((shape : Shape) (n : ℕ) (d : Owed) → IsCode image plan p shape n → Contains (duties_of b image plan k p s shape n) d → Settled u k p s d.duty)
-        → ((q : Place) → u.idle q ≡ true → (t.idle q ≡ true) ⊎ (q ≡ point k p)) → IsTable b image plan u
-    table_settles k p s is derived at fine all idle = record {
-      derived = derived;
-      own = λ l q r here now.
-          elim (idle (point l q) now) [
-            | inl before ↦ is.own l q r (sym (cells (point l q)) ∙ here) before
-            | inr e ↦ (now_own l q r e here)
-          ];
-      settled = λ l q r shape n d here now code c.
-          elim (idle (point l q) now) [
-            | inl before ↦ settled_again l q r d.duty (is.settled l q r shape n d (sym (cells (point l q)) ∙ here) before code c)
-            | inr e ↦ now_settled l q r e here shape n d code c
-          ];
-    } where
-      parts : (l : Key) (q : ℕ) (r : State) → point l q ≡ point k p → u.cells (point l q) ≡ Some (state r) → (l ≡ k) × (q ≡ p) × (r ≡ s)
-      parts l q r e here =
-          let f : Some (state s) ≡ Some (state r) = sym at ∙ ap t.cells (sym e) ∙ sym (cells (point l q)) ∙ here in
-          (key_of e, addr_of e, sym (one_state s r (let g : Some (state s) ≡ Some (state r) = f in cc))) where
-            key_of : point l q ≡ point k p → l ≡ k
-            key_of e = cc
-
-            addr_of : point l q ≡ point k p → q ≡ p
-            addr_of e = cc
-
       moved : (P : Key → ℕ → State → Type 0) (l : Key) (q : ℕ) (r : State) → (l ≡ k) × (q ≡ p) × (r ≡ s) → P k p s → P l q r
       moved P l q r e h = subst (λ (z : Key). P z q r) (sym e.0) (subst (λ (z : ℕ). P k z r) (sym e.1) (subst (λ (z : State). P k p z) (sym e.2) h))
-
-      now_own : (l : Key) (q : ℕ) (r : State) → point l q ≡ point k p → u.cells (point l q) ≡ Some (state r) → IsFaultless b image plan l q r
-      now_own l q r e here = moved (λ l q r. IsFaultless b image plan l q r) l q r (parts l q r e here) fine
-
-      now_settled : (l : Key) (q : ℕ) (r : State) → point l q ≡ point k p → u.cells (point l q) ≡ Some (state r) → (shape : Shape) (n : ℕ) (d : Owed) → IsCode image plan q shape n
-          → Contains (duties_of b image plan l q r shape n) d → Settled u l q r d.duty
-      now_settled l q r e here =
-          moved (λ l q r. (shape : Shape) (n : ℕ) (d : Owed) → IsCode image plan q shape n → Contains (duties_of b image plan l q r shape n) d → Settled u l q r d.duty) l q r (parts l q r e here) all
 
   -- a settled duty is covered
   pub settled_covers : (t : TableView) (k : Key) (p : ℕ) (s : State) (d : Duty) (y : Place) (v : Known) → Settled t k p s d → asked_by_duty t.cells k s d ≡ Some (y, v) → CoversAt t.cells y v

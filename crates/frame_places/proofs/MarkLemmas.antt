@@ -136,9 +136,6 @@ pub not_queued : (m : Mark) → (m ≡ Queued → ⊥) → is_queued (Some m) �
 not_queued Queued other = absurd (other refl)
 not_queued _ other = refl
 
-pub unknown_value : {V S : Type 0} (places : IndexMap Spot (Marked V) S) (q : Spot) → is_some (get spot_eq places q) ≡ false → value_for places q ≡ None
-unknown_value places q e = nothing (get spot_eq places q) e
-
 -- ---- the same entries
 module _ {V S : Type 0} (a b : IndexMap Spot (Marked V) S) (same : b.entries ≡ a.entries) where
   pub same_value : (q : Spot) → value_for b q ≡ value_for a q

@@ -219,8 +219,6 @@ first_here orders edges None n lt h less r = (lt, r, below_more _ n (λ j b q. a
 first_here orders edges (Some k) n lt h less r = (lt, r, below_more _ n (λ j b q. let below = less k refl in let f = h.2 j b q in omega (arith, below, f)) (λ q. omega arith))
 
 -- ---- edges
-pub adds_none : (edges : List FrameEdge) (node : ℕ) → AddsEdges edges edges node []
-adds_none edges node = record { keeps = λ e c. c; sound = λ e c. inl c; complete = λ t c. absurd (omega (arith, c.1)) }
 
 pub edges_more : (rows : List NeedRow) (row : NeedRow) (old new : List FrameEdge) → AreEdges rows old → AddsEdges old new row.node row.into.items → AreEdges (rows ++ row ∷ []) new
 edges_more rows row old new are adds = record {

@@ -1,6 +1,5 @@
 -- States that stand at two places in the same bytes.
 use Rattle.std.proofs.Common.{◌≡◌, ℕ, ◌+◌, ◌≤◌, List, [], ◌∷◌, ◌++◌, length, map, take, drop, leb, Bool, Ok, Result, refl, sym, ap, ◌∙◌, subst, arith, append_assoc, length-append}
-use Rattle.std.specs.Prelude.{Option, Some, None, IfSome}
 use Rattle.std.proofs.lemmas.Bool.{le-leb}
 use Rattle.std.proofs.lemmas.List.{append-nil, take-append-drop, length-take, get_or-drop}
 use Rattle.std.specs.List.{flat_map}
@@ -17,7 +16,7 @@ use Rattle.tcd_base.proofs.PassedLaws.{bytes_from}
 use Rattle.depth_cert.proofs.CertLaws.{state_passed}
 use Rattle.depth_cert.proofs.WrittenLaws.{IsRead, done, seq, test, byte, many_read, flag, values_read}
 use Rattle.packed_cert.specs.declared.places.StatePlaces.{StatePlaces}
-use Rattle.packed_cert.specs.ValuesInBytes.{ValuesStandFrom, place_in_bytes}
+use Rattle.packed_cert.specs.ValuesInBytes.{place_in_bytes}
 use Rattle.packed_cert.specs.RepeatedBytes.{MovesOverRepeated}
 use Rattle.packed_cert.specs.PointsInBytes.{StateStandsAtPlaces}
 use Rattle.packed_cert.proofs.SameBytes.{Small, split, moved}
@@ -89,8 +88,3 @@ stands_where version bytes c d s p small b f x e h read =
     let whole : state_at version (place_in_bytes bytes p.start) ≡ Ok (s, place_in_bytes bytes p.end) = ap (state_at version) here ∙ read ∙ ap (λ (q : Place). let r : Result (State × Place) FormErr = Ok (s, q) in r) there in
     let from = state_stands version bytes p.start p.end s small h whole in
     (whole, from.order, from.within)
-
--- ---- of the places that are held, if any are
-pub values_held : (version : ℕ) (bytes : List ℕ) (s : State) (o : Option StatePlaces) → IfSome o (StateStandsAtPlaces version bytes s) → IfSome o (λ p. ValuesStandFrom version bytes s.regs p.values p.end)
-values_held version bytes s None h = tt
-values_held version bytes s (Some p) h = h.values

@@ -127,9 +127,6 @@ module _ (bytes : List ℕ) (n : ℕ) (so_far : AreZerosBehind n bytes) where
         let many : length (replicate more 0) ≡ more = length-replicate {A = ℕ} more 0 in
         omega (arith, length-append front (replicate more 0), many, so_far.long)
 
-    pub zeros_behind : AreZerosBehind (n + more) bytes
-    zeros_behind = behind (front ++ replicate more 0) bytes (n + more) room zeros_long zeros_are
-
     pub zeros_taken : take (n + more) bytes ≡ front ++ replicate more 0
     zeros_taken = taken (front ++ replicate more 0) bytes (n + more) zeros_long zeros_are
 

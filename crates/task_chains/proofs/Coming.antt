@@ -238,9 +238,6 @@ module _ {image : ImageData} {plan : PlanData} {tasks : TasksData} {certs : ℕ 
       none : is_taken m e ≡ false
       none = none_when_off m e off
 
-      core_kept : HasCore plan m
-      core_kept = record { lcx = k.lcx; biv = k.biv; btv = k.btv; isp = k.isp; core = k.core }
-
       view_at : (i : ℕ) → m.pc ≡ tasks.switch + 4 * i → (shape : Shape) → IsCode (view_image_of image tasks u) plan (tasks.switch + 4 * i) shape 4 → IsCode (view_image_of image tasks u) plan v.pc shape 4
       view_at i pc shape c = subst (λ y. IsCode (view_image_of image tasks u) plan y shape 4) (sym (beside.pc ∙ pc)) c
 

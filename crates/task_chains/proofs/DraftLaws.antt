@@ -9,9 +9,8 @@ use Rattle.tcd_text.specs.Lines.{text_lines, is_nonempty_line}
 use Rattle.task_chains.specs.declared.lines.Places.{Places}
 use Rattle.task_chains.specs.declared.drafts.TasksDraft.{TasksDraft}
 use Rattle.task_chains.specs.declared.task_lists.Task.{Task}
-use Rattle.task_chains.specs.declared.task_lists.TasksErr.TheVariants.{BadLine}
 use Rattle.task_chains.specs.Tasks.{TasksData}
-use Rattle.task_chains.specs.TaskListText.{places_of, task_of, written_task_lines, AreSaid, BreaksTaskForm, IsEighthTaskLine, tasks_with, TellsEighth, IsDraftBy, IsTasksDraft, TakesTaskLine, IsLineBad}
+use Rattle.task_chains.specs.TaskListText.{task_of, written_task_lines, AreSaid, BreaksTaskForm, IsEighthTaskLine, tasks_with, TellsEighth, IsDraftBy, IsTasksDraft, TakesTaskLine}
 
 abbrev some_task : Task → Option Task
 some_task t = Some t
@@ -63,18 +62,6 @@ module _ (before : List (List ℕ)) where
   draft_empty : (places : Option Places) (list : List Task) (eighth : Option ℕ) → IsDraftBy before places list eighth → IsDraftBy (before ++ [] ∷ []) places list eighth
   draft_empty None list eighth d = (written_empty before ∙ d.0, d.1, d.2)
   draft_empty (Some p) list eighth d = record { all = d.all; said = said_empty (tasks_with p d.all) d.said; seven = d.seven; more = tells_same before [] (tasks_with p d.all) eighth d.more }
-
-  -- a line that names addresses
-  pub draft_places : (line : List ℕ) (p : Places) (list : List Task) (eighth : Option ℕ) → 0 < length line → places_of line ≡ Some p → IsDraftBy before None list eighth → IsDraftBy (before ++ line ∷ []) (Some p) list eighth
-  draft_places line p list eighth lt is d = record {
-    all = [];
-    said = record { first = line; behind = []; split = written_line before line lt ∙ ap (λ l. l ++ line ∷ []) d.0; places = is; named = refl };
-    seven = d.1;
-    more = subst (TellsEighth (before ++ line ∷ []) (tasks_with p [])) (sym d.2) (omega arith);
-  }
-
-  pub bad_places : (line : List ℕ) (list : List Task) (eighth : Option ℕ) → 0 < length line → places_of line ≡ None → IsDraftBy before None list eighth → BreaksTaskForm before line
-  bad_places line list eighth lt none d = (not_empty line lt, inl (d.0, none))
 
   -- a line that names a task
   said_more : (line : List ℕ) (p : Places) (t : Task) (all : List Task) → 0 < length line → task_of line ≡ Some t → AreSaid before (tasks_with p all) → AreSaid (before ++ line ∷ []) (tasks_with p (all ++ t ∷ []))
@@ -131,11 +118,6 @@ pub takes_nothing : (d : TasksDraft) (n : ℕ) (line : List ℕ) → length line
 takes_nothing d n line none before made at = draft_nothing before line d none made
 
 module _ (old : TasksDraft) (n : ℕ) (line : List ℕ) (some : 0 < length line) where
-  pub takes_places : (p : Places) → old.places ≡ None → places_of line ≡ Some p → TakesTaskLine old n line (record { places = Some p; list = old.list; eighth = old.eighth })
-  takes_places p none is before made at = draft_places before line p old.list.items old.eighth some is (subst (λ o. IsDraftBy before o old.list.items old.eighth) none made)
-
-  pub bad_first : old.places ≡ None → places_of line ≡ None → IsLineBad old n line (BadLine n)
-  bad_first none is = (refl, λ before made. bad_places before line old.list.items old.eighth some is (subst (λ o. IsDraftBy before o old.list.items old.eighth) none made))
 
   takes_by : (o : Option Places) (t : Task) (list more : List Task) (eighth next : Option ℕ) → IsSome o → task_of line ≡ Some t → (length list < 7 → (more ≡ list ++ t ∷ []) × (next ≡ eighth)) → (7 ≤ length list → (more ≡ list) × (next ≡ option_or eighth (Some n)))
       → (before : List (List ℕ)) → IsDraftBy before o list eighth → n ≡ length before + 1 → IsDraftBy (before ++ line ∷ []) o more next
@@ -151,9 +133,6 @@ module _ (old : TasksDraft) (n : ℕ) (line : List ℕ) (some : 0 < length line)
   bad_by : (o : Option Places) (list : List Task) (eighth : Option ℕ) → IsSome o → task_of line ≡ None → (before : List (List ℕ)) → IsDraftBy before o list eighth → BreaksTaskForm before line
   bad_by None list eighth there is before made = absurd (let f : false ≡ true = there in cc)
   bad_by (Some p) list eighth there is before made = bad_task before line p list eighth some is made
-
-  pub bad_other : IsSome old.places → task_of line ≡ None → IsLineBad old n line (BadLine n)
-  bad_other there is = (refl, bad_by old.places old.list.items old.eighth there is)
 
 -- ---- a text
 -- the draft is that of the lines before those that are left

@@ -12,7 +12,7 @@ use Rattle.depth_cert.specs.Keys.{number_of_key}
 use Rattle.depth_cert.specs.Points.{ArePoints}
 use Rattle.depth_cert.specs.Nodes.{NodeData}
 use Rattle.depth_cert.specs.Certs.{CertData, IsCert}
-use Rattle.cfg_recover.specs.Code.{IsCode, HasCode}
+use Rattle.cfg_recover.specs.Code.{IsCode}
 use Rattle.cfg_recover.specs.RulesHoldOrFail.{limits_in}
 use Rattle.cfg_recover.proofs.CodeLaws.{IsCode-one}
 use Rattle.cfg_recover.proofs.FirstFault.{all_done, least_point, in_cert, least_place, address_small}
@@ -28,9 +28,6 @@ module _ (b : Limits) (view : ImageData) (plan : PlanData) (tasks : TasksData) (
     λ t shape m code. subst (StaysApart b plan tasks key point.addr point.state) (IsCode-one view plan point.addr found shape n m there code).0 (both.0 t),
     λ holds. both.1 (holds found n there),
   )
-
-  pub apart_nothing : (HasCode view plan point.addr → ⊥) → HoldsApartIn b view plan tasks key point
-  apart_nothing none shape n code = absurd (none (record { shape = shape; size = n; code = code }))
 
 -- ---- a node
 module _ (b : Limits) (view : ImageData) (plan : PlanData) (tasks : TasksData) (node : NodeData) (points : List Point) (same : points ≡ node.points) where

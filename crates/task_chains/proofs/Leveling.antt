@@ -126,9 +126,6 @@ module _ {plan : PlanData} (ok : IsPlan plan) (level : ℕ) (v : Machine) (words
         by_list [] is_l some kind = absurd (some (subst (Links v.mem v.pcxi) is_l l.links))
         by_list (j ∷ rest) is_l some kind = h j rest is_l kind
 
-  call_base : (key : Key) (q : ℕ) → IsBase (call_key key q) → IsBase key
-  call_base key q base = base
-
   -- a trap of a misaligned access
   trapped : (shape : Shape) (size : ℕ) → is_taken v e ≡ false → fetched v ≡ Ok (shape, size) → is_trapping_instruction v e shape ≡ true → Next
   trapped shape size none at traps_is =

@@ -9,7 +9,7 @@ use Rattle.tc_isa.specs.declared.shapes.Shape.{Shape}
 use Rattle.tc_isa.specs.declared.shapes.Shape.TheVariants.{Compute, Scaled, Load, Store, Branch, Jump, Call, Ret, Rfe, Svlcx, Rslcx, Bisr, Enable, Disable, Syscall, Mfcr, Mtcr, Nothing}
 use Rattle.tc_machine.specs.declared.events.Event.{Event}
 use Rattle.tc_machine.specs.declared.state.Machine.{Machine}
-use Rattle.tc_machine.specs.Machine.{reg, is_interrupt_stack_used, IsMachine}
+use Rattle.tc_machine.specs.Machine.{reg, IsMachine}
 use Rattle.tc_machine.specs.Instructions.{access_address, is_trapping_access}
 use Rattle.tc_machine.specs.Stepping.{step, run}
 use Rattle.tc_machine.specs.Safe.{Fits, AllFit, IsSafeAt, Safe}
@@ -169,12 +169,6 @@ module _ (image : ImageData) (plan : PlanData) (ok : IsPlan plan) (cert : CertDa
       let h : HoldFrames plan cert v [] = subst (λ (x : Machine). HoldFrames plan cert x []) (sym r.is) (subst (HoldFrames plan cert (run r.from r.events)) (sym r.frames_are) h0) in
       absurd h
   some_frame v (f ∷ fs) held r = (f, fs, refl)
-
-  pub is_of_frame : (v : Machine) (f : Standing) (fs : List Standing) → FramesHeld image plan cert → Reached image plan v (f ∷ fs) → is_interrupt_stack_used v.psw ≡ (f.key).is
-  is_of_frame v f fs held r =
-      let h0 = held r.from r.events r.starts r.fit in
-      let h : HoldFrames plan cert v (f ∷ fs) = subst (λ (x : Machine). HoldFrames plan cert x (f ∷ fs)) (sym r.is) (subst (HoldFrames plan cert (run r.from r.events)) (sym r.frames_are) h0) in
-      h.is
 
   pub safe_at : (most : ℕ) (v : Machine) (fs : List Standing) (e : Event) → Safe image plan most → Reached image plan v fs → Fits plan v e → IsSafeAt image plan most v e
   safe_at most v fs e safe r fits = subst (λ (x : Machine). IsSafeAt image plan most x e) (sym r.is) (safe r.from r.events e r.starts r.fit (subst (λ (x : Machine). Fits plan x e) r.is fits))

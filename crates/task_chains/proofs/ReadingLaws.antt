@@ -10,15 +10,13 @@ use Rattle.store_ranges.proofs.RomLaws.{any_one, one_any}
 use Rattle.task_chains.specs.declared.lines.Places.{Places}
 use Rattle.task_chains.specs.declared.task_lists.Task.{Task}
 use Rattle.task_chains.specs.declared.task_lists.TasksErr.{TasksErr}
-use Rattle.task_chains.specs.declared.task_lists.TasksErr.TheVariants.{BadLine, TooMany, TooFew, NotRam, NoRoom, OnIsp, Count}
+use Rattle.task_chains.specs.declared.task_lists.TasksErr.TheVariants.{BadLine, TooMany, NotRam, NoRoom, OnIsp, Count}
 use Rattle.task_chains.specs.Tasks.{TasksData, AreTasks, count}
 use Rattle.task_chains.specs.Views.{FitPlan}
 use Rattle.task_chains.specs.TaskListText.{AreSaid, IsBlockInRam, HaveViewsRoom, IsAgainst, Reads, tasks_with, IsKept, IsDraftBy}
 
 -- ---- what a draft says
 module _ (plan : PlanData) (lines : List (List ℕ)) where
-  pub nothing_said : (list : List Task) (eighth : Option ℕ) → IsDraftBy lines None list eighth → Reads plan lines (Err (BadLine 1))
-  nothing_said list eighth d = inl (d.0, refl)
 
   pub too_many : (p : Places) (list : List Task) (n : ℕ) → IsKept lines p list (Some n) → Reads plan lines (Err (TooMany n))
   too_many p list n k = (tasks_with p k.all, k.said, k.more)
@@ -28,9 +26,6 @@ module _ (plan : PlanData) (lines : List (List ℕ)) where
 
   pub drafted_said : (places : Option Places) (p : Places) (list : List Task) (eighth : Option ℕ) → IsDraftBy lines places list eighth → places ≡ Some p → eighth ≡ None → AreSaid lines (tasks_with p list)
   drafted_said places p list eighth d is none = all_said p list (subst (λ o. IsDraftBy lines (Some p) list o) none (subst (λ o. IsDraftBy lines o list eighth) is d))
-
-  pub too_few : (p : Places) (list : List Task) → length list < 2 → IsKept lines p list None → Reads plan lines (Err TooFew)
-  too_few p list few k = (tasks_with p list, all_said p list k, few)
 
   pub against : (tasks : TasksData) (e : TasksErr) → AreSaid lines tasks → IsAgainst plan lines tasks e → Reads plan lines (Err e)
   against tasks (BadLine n) said bad = absurd bad

@@ -1,5 +1,5 @@
 -- The accesses of the routine: words of the block, and what the view does instead.
-use Rattle.std.proofs.Common.{◌≡◌, ◌≢◌, ℕ, ◌+◌, ◌*◌, ◌/◌, ◌%◌, ◌^◌, ◌<◌, ◌≤◌, inl, inr, true, false, cond, List, Option, Some, None, Ok, refl, sym, ap, ◌∙◌, subst, arith}
+use Rattle.std.proofs.Common.{◌≡◌, ◌≢◌, ℕ, ◌+◌, ◌*◌, ◌/◌, ◌%◌, ◌^◌, ◌<◌, ◌≤◌, inl, inr, true, false, cond, List, Option, Some, None, refl, ap, ◌∙◌, subst, arith}
 use Rattle.std.proofs.lemmas.Bool.{false≢true, cases_order}
 use Rattle.std.specs.Prelude.{is_some, unwrap_or}
 use Rattle.std.specs.FinMap as map
@@ -7,21 +7,17 @@ use Rattle.csa_chain.specs.MemoryBytes.{Memory, is_mapped, word_at, with_byte, w
 use Rattle.csa_chain.proofs.MemoryLaws.{word_at-with_word_same, word_at-with_word_other}
 use Rattle.tcd_plan.specs.PlanData.{PlanData}
 use Rattle.tc_isa.specs.declared.shapes.Arg.TheVariants.{Reg}
-use Rattle.tc_isa.specs.declared.shapes.Shape.TheVariants.{Load, Store, Mfcr, Mtcr, Nothing}
+use Rattle.tc_isa.specs.declared.shapes.Shape.TheVariants.{Load, Store, Mfcr, Nothing}
 use Rattle.tc_machine.specs.declared.events.Event.{Event}
-use Rattle.tc_machine.specs.declared.events.End.TheVariants.{Running}
 use Rattle.tc_machine.specs.declared.state.Machine.{Machine}
 use Rattle.tc_machine.specs.Machine.{reg, with_reg, core_register}
 use Rattle.tc_machine.specs.Instructions.{machine_address_ahead, advanced, is_trapping_access, misaligned, does}
-use Rattle.tc_machine.specs.Fetching.{fetched}
-use Rattle.tc_machine.specs.Stepping.{is_taken, step}
-use Rattle.tc_machine.proofs.Steps.{with_event, step_does}
 use Rattle.task_chains.specs.Tasks.{TasksData, count, block_size}
 use Rattle.task_chains.specs.TaskStarts.{block_word}
 use Rattle.task_chains.proofs.Twins.{Twins}
 use Rattle.task_chains.proofs.Alike.{seen_as}
 use Rattle.task_chains.proofs.Plain.{Plainly, set_one}
-use Rattle.task_chains.proofs.Switch.{Paused, Twins-switched, Paused-from, does-mtcr_pcxi}
+use Rattle.task_chains.proofs.Switch.{Paused}
 
 -- ---- words in memory
 mapped_byte : (o : Option ℕ) (d : ℕ) → is_some o ≡ true → unwrap_or o d ≡ unwrap_or o 0
@@ -135,20 +131,3 @@ pub record Switched (plan : PlanData) (n w : ℕ) (word_of : ℕ → ℕ) (chain
   pub mem : m2.mem ≡ m.mem
   pub twins : Twins plan n w word_of chain_of seen2 m2.mem m2.pcxi m2.fcx m2.lcx view view_pcxi view_fcx
   pub waits : Paused plan m2.mem (word_of u) (chain_of u) seen m2.lcx old_view old_pcxi old_fcx
-
-pub switched : {plan : PlanData} {n u : ℕ} {word_of : ℕ → ℕ} {chain_of : ℕ → List ℕ} {seen : List ℕ} (m : Machine) {old_view : Memory} {old_pcxi old_fcx : ℕ} → m.end ≡ Running
-    → Twins plan n u word_of chain_of seen m.mem m.pcxi m.fcx m.lcx old_view old_pcxi old_fcx → (w : ℕ) → w < n → word_of w < 2 ^ 32 → (seen2 : List ℕ) (view : Memory) (view_pcxi view_fcx : ℕ)
-    → Paused plan m.mem (word_of w) (chain_of w) seen2 m.lcx view view_pcxi view_fcx → (e : Event) (src : ℕ) → is_taken m e ≡ false → fetched m ≡ Ok (Mtcr src 0xfe00, 4) → reg m src ≡ word_of w
-    → Switched plan n w word_of chain_of m (step m e) u seen seen2 old_view old_pcxi old_fcx view view_pcxi view_fcx
-switched {plan = plan} {n = n} {u = u} {word_of = word_of} {chain_of = chain_of} {seen = seen} m {old_view = old_view} {old_pcxi = old_pcxi} {old_fcx = old_fcx} running t w lt small seen2 view view_pcxi view_fcx p e src none at is =
-    let x : Machine = with_event (record (advanced 4 m) { pcxi = reg m src }) e in
-    let done = does-mtcr_pcxi m e src 4 in
-    let step_at : step m e ≡ x = step_does m e (Mtcr src 0xfe00) 4 running none at (ap (λ (y : Machine). y.end) done ∙ running) ∙ ap (λ (y : Machine). with_event y e) done in
-    subst (λ (y : Machine). Switched plan n w word_of chain_of m y u seen seen2 old_view old_pcxi old_fcx view view_pcxi view_fcx) (sym step_at)
-    (record {
-      pc = refl;
-      pcxi = is;
-      mem = refl;
-      twins = Twins-switched t w lt seen2 (reg m src) (sym is) (subst (λ y. y < 2 ^ 32) (sym is) small) view view_pcxi view_fcx p;
-      waits = Paused-from t;
-    })

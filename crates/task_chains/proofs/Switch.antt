@@ -1,6 +1,6 @@
 -- The switch: the chain of PCXI becomes the next task's, and its contexts are restored, so that the
 -- machine and that task's view are alike again.
-use Rattle.std.proofs.Common.{◌≡◌, ℕ, zero, suc, ◌+◌, ◌-◌, ◌*◌, ◌/◌, ◌^◌, ◌<◌, Bool, true, false, not, List, [], ◌∷◌, ◌++◌, get_or, Ok, refl, sym, ap, ◌∙◌, subst, arith}
+use Rattle.std.proofs.Common.{◌≡◌, ℕ, zero, suc, ◌+◌, ◌-◌, ◌*◌, ◌/◌, ◌^◌, ◌<◌, Bool, true, false, not, List, [], ◌∷◌, ◌++◌, get_or, Ok, refl, sym, ap, ◌∙◌, arith}
 use Rattle.csa_chain.specs.MemoryBytes.{Memory}
 use Rattle.csa_chain.specs.Chain.{link_in, is_area, area_word}
 use Rattle.csa_chain.specs.ContextWords.{ul_of}
@@ -83,40 +83,6 @@ Shared-from t = record {
   lcx_is = t.lcx_is;
   pcxi_word = t.pcxi_word;
   fcx_word = t.fcx_word;
-}
-
--- what the tasks share is unchanged, except that another task owns PCXI
-pub Twins-switched : {plan : PlanData} {n u : ℕ} {word_of : ℕ → ℕ} {chain_of : ℕ → List ℕ} {seen : List ℕ} {mem : Memory} {pcxi fcx lcx : ℕ} {view : Memory} {view_pcxi view_fcx : ℕ}
-    → Twins plan n u word_of chain_of seen mem pcxi fcx lcx view view_pcxi view_fcx → (w : ℕ) → w < n → (seen2 : List ℕ) (pcxi2 : ℕ) → word_of w ≡ pcxi2 → pcxi2 < 2 ^ 32 → (view2 : Memory) (view2_pcxi view2_fcx : ℕ)
-    → Paused plan mem (word_of w) (chain_of w) seen2 lcx view2 view2_pcxi view2_fcx → Twins plan n w word_of chain_of seen2 mem pcxi2 fcx lcx view2 view2_pcxi view2_fcx
-Twins-switched {chain_of = chain_of} {mem = mem} t w lt seen2 pcxi2 is small view2 view2_pcxi view2_fcx p = record {
-  own = lt;
-  first = is;
-  links = t.links;
-  free = t.free;
-  free_links = t.free_links;
-  share = t.share;
-  front = t.front;
-  reserved = t.reserved;
-  lcx_is = t.lcx_is;
-  pcxi_word = small;
-  fcx_word = t.fcx_word;
-  same = subst (λ x. SameContexts mem x (chain_of w) view2 view2_pcxi seen2) is p.same;
-  view_word = p.view_word;
-  view_links = p.view_links;
-  view_free = p.view_free;
-  view_areas = p.view_areas;
-}
-
--- the task that gave way is one that waits
-pub Paused-from : {plan : PlanData} {n u : ℕ} {word_of : ℕ → ℕ} {chain_of : ℕ → List ℕ} {seen : List ℕ} {mem : Memory} {pcxi fcx lcx : ℕ} {view : Memory} {view_pcxi view_fcx : ℕ}
-    → Twins plan n u word_of chain_of seen mem pcxi fcx lcx view view_pcxi view_fcx → Paused plan mem (word_of u) (chain_of u) seen lcx view view_pcxi view_fcx
-Paused-from {u = u} {chain_of = chain_of} {seen = seen} {mem = mem} {view = view} {view_pcxi = view_pcxi} t = record {
-  same = subst (λ x. SameContexts mem x (chain_of u) view view_pcxi seen) (sym t.first) t.same;
-  view_word = t.view_word;
-  view_links = t.view_links;
-  view_free = t.view_free;
-  view_areas = t.view_areas;
 }
 
 pub does-mtcr_pcxi : (m : Machine) (e : Event) (src k : ℕ) → does m e (Mtcr src 0xfe00) k ≡ record (advanced k m) { pcxi = reg m src }

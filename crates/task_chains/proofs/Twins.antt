@@ -156,9 +156,6 @@ module _ {plan : PlanData} (ok : IsPlan plan) {n u : ℕ} {word_of : ℕ → ℕ
     v : HasFree plan view view_fcx lcx seen
     v = has_free ok (plan.areas - plan.reserve) (omega arith) view view_fcx lcx seen t.view_free t.view_areas view_room
 
-    pcxi_of : ℕ → ℕ
-    pcxi_of l = pcxi_word_of core ccpn ie upper l
-
     -- a word of the context that was saved
     saved_word : (m : Memory) (l i : ℕ) (ws : List ℕ) → HasContextWords 16 ws → is_area m l ≡ true → i < 16 → area_word (with_words m (link_address l) ws) l i ≡ get_or ws i 0
     saved_word m l i ws ws_are here lt = let long = ws_are.0 in area_word-written m l ws i (omega arith) here (omega arith) (ws_are.1 i 0 (omega arith))

@@ -12,8 +12,6 @@ use Rattle.tc_stmt.specs.Lines.{LineData, line_data, lines_in, items_in}
 use Rattle.tc_stmt.specs.SourceViews.{lines_read, lines_of}
 use Rattle.tc_stmt.specs.declared.source.Source.{Source}
 use Rattle.tc_object.specs.Objects.{ObjectData}
-use Rattle.tc_asm.specs.declared.errors.AsmErr.{AsmErr}
-use Rattle.tc_asm.specs.Errors.{IfBad}
 use Rattle.tc_asm.specs.Objects.{object_of}
 use Rattle.tc_asm.proofs.LaidLaws.{lines-items}
 use Rattle.tc_asm.specs.Symbols.{SymbolData}
@@ -100,9 +98,6 @@ module _ (source : List ℕ) (read : Source) (same : lines_of read ≡ lines_in 
       → o ≡ object_of (draft_from_lines (symbols_of (lines_in source)) (lines_in source))
   object_source o d labels e f g =
       e ∙ ap object_of (f ∙ ap (λ ls. draft_from_lines ls (lines_of read)) g) ∙ ap (λ ls. object_of (draft_from_lines (symbols_of ls) ls)) same
-
-  pub bad_source : (e : AsmErr) → IfBad (IsLeastBrokenLine (lines_of read)) e → IfBad (IsLeastBrokenLine (lines_in source)) e
-  bad_source e h = subst (λ (ls : List LineData). IfBad (IsLeastBrokenLine ls) e) same h
 
 -- the symbols of the items of all lines are those of the lines
 pub labels_source : (source : List ℕ) (read : Source) (items : List Item) (labels : List SymbolData) → labels ≡ (fold (draft_after_item []) start (map item_of items)).symbols

@@ -1,6 +1,6 @@
 -- The relocations of sections, section by section.
-use Rattle.std.proofs.Common.{◌≡◌, ◌<◌, ◌≤◌, ◌+◌, ◌++◌, ℕ, List, ◌∷◌, map, length, get_or, drop, ap, sym, ◌∙◌, append_assoc, append-nil}
-use Rattle.std.proofs.lemmas.List.{drop_more, drop_all, length-map, get_or-map}
+use Rattle.std.proofs.Common.{◌≡◌, ◌<◌, ◌≤◌, ◌+◌, ◌++◌, ℕ, List, ◌∷◌, map, length, get_or, drop, ap, sym, ◌∙◌, append_assoc}
+use Rattle.std.proofs.lemmas.List.{drop_more, length-map, get_or-map}
 use Rattle.tc_object.specs.declared.relocs.Reloc.{Reloc}
 use Rattle.tc_asm.specs.declared.sections.Part.{Part}
 use Rattle.tc_asm.specs.Symbols.{SymbolData}
@@ -17,6 +17,3 @@ module _ (ss : List SymbolData) (parts : List Part) (i : ℕ) where
       ap (λ rs. rs ++ relocs_from ss (i + 1) (drop (i + 1) (map part_of parts))) e
       ∙ append_assoc out (map (reloc_of ss i) (map use_of (get_or parts i d).uses.items)) (relocs_from ss (i + 1) (drop (i + 1) (map part_of parts)))
       ∙ ap (λ ps. out ++ relocs_from ss i ps) (sym here)
-
-  pub relocs_end : (out : List Reloc) → length parts ≤ i → out ++ relocs_from ss i (drop i (map part_of parts)) ≡ out
-  relocs_end out past = ap (λ ps. out ++ relocs_from ss i ps) (drop_all i (map part_of parts) (rw (length-map parts part_of) past)) ∙ append-nil out

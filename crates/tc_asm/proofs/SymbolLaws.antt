@@ -1,11 +1,10 @@
 -- The map of symbols, as a list.
 use Rattle.std.proofs.Common.{◌≡◌, ℕ, Bool, true, false, cond, List, [], ◌∷◌, map, Option, Some, None, refl, ap, sym, ◌∙◌}
-use Rattle.std.specs.Prelude.{find, option_map, slice_get, position, is_some, unwrap_or}
+use Rattle.std.specs.Prelude.{find, option_map, position, is_some, unwrap_or}
 use Rattle.std.specs.Borrow.{Bor}
 use Rattle.std.specs.Str.{bytes_eq}
 use Rattle.std.proofs.lemmas.Slice.Eq.{bytes_eq-Decides}
 use Rattle.std.specs.Map.{lookup, keys_of}
-use Rattle.std.proofs.lemmas.Option.{slice_get-map}
 use Rattle.indexmap.specs.IndexMap.{insert_entry}
 use Rattle.tc_lex.proofs.Mapped.{position-map}
 use Rattle.tc_asm.specs.declared.symbols.Entry.{Entry}
@@ -43,9 +42,6 @@ pub position-known : (es : List (Key × Entry)) (k : Key) → position (same_key
 position-known es k =
     sym (position-map (same_key k) (λ (e : Key × Entry). e.0) es)
     ∙ position-map (λ (s : SymbolData). bytes_eq k.now s.name) known_of es
-
-pub at-known : (es : List (Key × Entry)) (i : ℕ) (e : Key × Entry) → slice_get es i ≡ Some e → slice_get (map known_of es) i ≡ Some (known_of e)
-at-known es i e h = slice_get-map known_of es i ∙ ap (option_map known_of) h
 
 -- ---- a name that is used
 put_same : (ss : List SymbolData) (name : List ℕ) (e : Entry) → entry_in ss name ≡ Some e → put_entry ss name e ≡ ss

@@ -42,15 +42,6 @@ makes_by place w r f i at is inst word =
     let row = row_is place r i inst at (ap (λ (j : InstData). j.row) is) in
     record { inst = inst; is = ap (λ (s : RowData). word_of s (fields_in i)) row ∙ ap (λ (j : InstData). word_of r (fields_in j)) is ∙ word }
 
--- the second code of the instruction is in the word
-pub second_is : (place w : ℕ) (r : RowData) (form : Form) (i : InstData) → slice_get listed place ≡ Some r → (m : Makes w i) → i.row ≡ place → form_index m.inst.row.form ≡ form_index form → second_code_by_form form w ≡ r.op2
-second_is place w r form i at m same index =
-    let s = m.inst.row in let row = row_at i.row s m.inst.at in
-    ap (λ f. second_code_by_form f w) (sym (same_form s.form form index))
-    ∙ ap (second_code_by_form s.form) (sym m.is)
-    ∙ second-word s.form s.op1 s.op2 (fields_in i) row.first row.second m.inst.fits.below
-    ∙ ap (λ (t : RowData). t.op2) (row_is place r i m.inst at same)
-
 pub first_is : (w : ℕ) (i : InstData) (m : Makes w i) → w % 256 ≡ m.inst.row.op1
 first_is w i m =
     let s = m.inst.row in let row = row_at i.row s m.inst.at in
@@ -156,14 +147,6 @@ at_from places place r (Some b) base e is = place_from (slice_get places (base +
     place_from : (p : Option ℕ) → is_index_place place p ≡ true → p ≡ Some place
     place_from None e = cc
     place_from (Some p) e = ap (λ z. Some z) (eqb-true p place e)
-
-pub stands_past : (bases places : List ℕ) (w : ℕ) (i : InstData) (m : Makes w i) → are_at_index_places bases places 0 listed ≡ true → length bases ≡ 256 → slice_get places (get_or bases (w % 256) 0 + m.inst.row.op2) ≡ Some i.row
-stands_past bases places w i m all count =
-    let r = m.inst.row in
-    let first = first_is w i m in
-    at_from places i.row r (slice_get bases r.op1) (get_or bases (w % 256) 0)
-    (subst (λ p. is_at_index_place places p r (slice_get bases r.op1) ≡ true) (zero-add i.row) (held_at bases places 0 listed i.row r all m.inst.at))
-    (ap (slice_get bases) (sym first) ∙ slice_get-get_or bases (w % 256) 0 (omega (arith, count)))
 
 pub row_between : (starts ends : List ℕ) (first place : ℕ) (r : RowData) → are_in_index_ranges starts ends 0 listed ≡ true → length starts ≡ 256 → length ends ≡ 256 → first < 256 → slice_get listed place ≡ Some r → r.op1 ≡ first → Between place r (get_or starts first 0) (get_or ends first 0)
 row_between starts ends first place r all ls le small at is =

@@ -52,10 +52,6 @@ pub single_at : (n : ℕ) (o : Option Definition) → option_map (λ d. d.is_twi
 single_at n None e h = single_of n None e tt
 single_at n (Some d) e h = single_of n (Some d.is_twice) e h
 
--- a symbol that isn't global, and one that is
-pub named_off : (b c : Bool) (n : ℕ) (new : Option Bool) → b ≡ false → new ≡ twice_of_count n → new ≡ twice_of_count (n + cond (b && c) 1 0)
-named_off b c n new t e = e ∙ ap twice_of_count (sym (add-zero n)) ∙ ap (λ (x : Bool). twice_of_count (n + cond (x && c) 1 0)) (sym t)
-
 pub named_on : (b c : Bool) (n : ℕ) (new : Option Bool) → b ≡ true → new ≡ twice_of_count (n + cond c 1 0) → new ≡ twice_of_count (n + cond (b && c) 1 0)
 named_on b c n new t e = e ∙ ap (λ (x : Bool). twice_of_count (n + cond (x && c) 1 0)) (sym t)
 

@@ -1,5 +1,4 @@
 pub mod LineLaws
-pub mod NameLaws
 pub mod ReadLaws
 pub mod TurnLaws
 pub mod FirstLaws

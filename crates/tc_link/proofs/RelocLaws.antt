@@ -15,7 +15,6 @@ use Rattle.tc_link.specs.GlobalSymbols.{GlobalData}
 use Rattle.tc_link.specs.Relocated.{with_filled_field, with_relocation, with_relocated_item, with_reloc, field_place, reloc_value, relocated_sections, reloc_field_at}
 use Rattle.tc_link.specs.Refusals.{reloc_refusal, reloc, refusal_at}
 use Rattle.tc_reloc.specs.declared.refusals.RelocErr.{RelocErr}
-use Rattle.tc_reloc.specs.Refusals.{reloc_value_refusal}
 use Rattle.tc_link.specs.Shapes.{SectionShape, section_shape}
 use Rattle.tc_link.proofs.ShapeLaws.{filled_shape}
 use Rattle.tc_link.proofs.ItemLaws.{same_item}
@@ -126,9 +125,6 @@ pub shapes_in : (r : Reloc) (ss new : List SectionData) (x : SectionData) (place
     → new ≡ set ss r.section (with_filled_field r place value x) → map section_shape new ≡ map section_shape ss
 shapes_in r ss new x place value h is room e =
     ap (map section_shape) e ∙ set_shape ss r.section x (with_filled_field r place value x) (slice_get-get_or ss r.section x h ∙ ap (λ (s : SectionData). Some s) (sym is)) (filled_shape r place value x room)
-
-pub refusal_in : (g : List GlobalData) (p : PlacedData) (r : Reloc) (place value : ℕ) → place ≡ field_place p r → value ≡ reloc_value g p r → reloc_refusal g p r ≡ reloc_value_refusal r.kind place value
-refusal_in g p r place value pl va = ap (λ v. reloc_value_refusal r.kind (field_place p r) v) (sym va) ∙ ap (λ k. reloc_value_refusal r.kind k value) (sym pl)
 
 -- a further relocation
 pub relocs_next : (g : List GlobalData) (p : PlacedData) (sections ss new : List SectionData) (rs : List Reloc) (i : ℕ) (r : Reloc) → i < length rs → r ≡ get_or rs i r

@@ -45,18 +45,6 @@ nothing : (o : Option ℕ) (x : ℕ) → o ≡ None → o ≡ Some x → ⊥
 nothing o x none some = cc
 
 -- ---- one segment
--- no byte of the segment is in the range
-pub none_copied : (s : SegmentData) (r : Range) (m : Memory) → min (s.at + length s.bytes) (r.at + r.len) ≤ max s.at r.at → IsCopiedToMemory (s ∷ []) r m m
-none_copied s r m beside = record {
-  mapped = λ q. refl;
-  held = λ q b low high is e.
-      elim (held_or_not s q) [
-        | inl here ↦ (let lo = here.0 in let hi = here.1 in absurd (omega arith))
-        | inr out ↦ absurd (nothing (segments_byte (s ∷ []) q) b (byte_passed s [] q out) e)
-      ];
-  outside = λ q out. refl;
-  none = λ q e. refl;
-}
 
 -- the bytes of the segment that are in the range are written
 pub segment_copied : (s : SegmentData) (r : Range) (start end f l : ℕ) (bytes : List ℕ) (m new : Memory) → IsMemoryWritten m start (take (l - f) (drop f bytes)) new → bytes ≡ s.bytes → start ≡ max s.at r.at → end ≡ min (s.at + length s.bytes) (r.at + r.len) → start < end → f ≡ start - s.at → l ≡ end - s.at →

@@ -2,7 +2,7 @@
 use Rattle.std.proofs.Common.{◌≡◌, ◌≢◌, ◌+◌, ◌-◌, ◌*◌, ◌/◌, ◌%◌, ◌^◌, ◌<◌, ◌≤◌, ◌==◌, ◌&&◌, ℕ, Bool, true, false, cond, List, [], ◌∷◌, length, get_or, set, All, Option, Some, None, refl, sym, ap, ◌∙◌, arith, nat_le, add-zero, length-set, inl, inr}
 use Rattle.std.specs.Prelude.{is_some, IfSome}
 use Rattle.std.specs.Int.{bit_at}
-use Rattle.std.proofs.lemmas.Bool.{cases_eq, eqb-true, eq-eqb, ne_eqb, le-leb, lt-leb}
+use Rattle.std.proofs.lemmas.Bool.{cases_eq, eqb-true, eq-eqb, ne_eqb, le-leb}
 use Rattle.std.proofs.lemmas.Nat.{pow_pos, pow-add, div-add-mod'}
 use Rattle.std.proofs.lemmas.Nat.Bits.{bit_at_ones, bit_at_cat_low, same_from_bits_below}
 use Rattle.std.proofs.Math.Nat.{div-div-eq-div-mul, mod-lt}
@@ -97,10 +97,6 @@ module _ (ps : List Page) (i a n : ℕ) (at : IsAt ps i (a / 4096)) (fits : a % 
       memory_of (set ps i (put_in (get_or ps i no_page) t bytes)) ≡ cond (are_in_block (memory_of ps) a n) new (memory_of ps)
   block_written bytes new is true here = is (sym here) ∙ ap (λ (t : Bool). cond t new (memory_of ps)) (here ∙ block_is)
   block_written bytes new is false gone = ap memory_of (set-get_or ps i no_page) ∙ ap (λ (t : Bool). cond t new (memory_of ps)) (gone ∙ block_is)
-
--- bytes that cross a multiple of 64
-pub block_crossed : (m : Memory) (a n : ℕ) → 64 < a % 64 + n → are_in_block m a n ≡ false
-block_crossed m a n h = ap (λ (t : Bool). t && are_mapped m a n) (lt-leb (a % 64 + n) 64 h)
 
 and_false : (b : Bool) → (b && false) ≡ false
 and_false true = refl

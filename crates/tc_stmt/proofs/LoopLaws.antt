@@ -24,17 +24,6 @@ pushed g pre xs i d out new x within e is so_far =
     ∙ append_assoc pre (map g (take i xs)) (g (get_or xs i d) ∷ [])
     ∙ ap (λ ys. pre ++ ys) (sym (map_push g (take i xs) (get_or xs i d)) ∙ ap (map g) (sym (take_more xs i d within)))
 
--- a further item at the end, if the result is viewed through f
-pub pushed_by : {A B C : Type 0} (f : A → C) (g : B → C) (xs : List B) (i : ℕ) (d : B) (out new : List A) (x : A)
-    → i < length xs → new ≡ out ++ x ∷ [] → f x ≡ g (get_or xs i d) → map f out ≡ map g (take i xs) → map f new ≡ map g (take (i + 1) xs)
-pushed_by f g xs i d out new x within e is so_far = pushed g [] xs i d (map f out) (map f new) (f x) within (ap (map f) e ∙ map_push f out x) is so_far
-
--- a further item at the end, if the list is viewed through v and the result through f
-pub pushed_over : {A B C D : Type 0} (f : A → C) (g : D → C) (v : B → D) (xs : List B) (i : ℕ) (d : B) (out new : List A) (x : A)
-    → i < length xs → new ≡ out ++ x ∷ [] → f x ≡ g (v (get_or xs i d)) → map f out ≡ map g (take i (map v xs)) → map f new ≡ map g (take (i + 1) (map v xs))
-pushed_over f g v xs i d out new x within e is so_far =
-    pushed_by f g (map v xs) i (v d) out new x (rw (length-map xs v) within) e (is ∙ ap g (sym (get_or-map v xs i d (v d) within))) so_far
-
 pub rule_more : (width : ℕ) (os : List Operand) (i : ℕ) (d : Operand) (first rule next value : ℕ)
     → i < length os → next ≡ min rule value → value ≡ value_rule width (operand_of (get_or os i d)) → rule ≡ fold (λ r o. min r (value_rule width o)) first (take i (map operand_of os))
     → next ≡ fold (λ r o. min r (value_rule width o)) first (take (i + 1) (map operand_of os))

@@ -19,7 +19,7 @@ use Rattle.tc_link.specs.Refusals.{Refusal}
 use Rattle.tc_link.specs.Errors.{refusal_of}
 use Rattle.tc_link.specs.declared.errors.LinkErr.{LinkErr}
 use Rattle.tc_link.specs.declared.errors.LinkErr.TheVariants as error
-use Rattle.tcd_reading.specs.Reports.{IsReportStatus, Report, says, writes_file}
+use Rattle.tcd_reading.specs.Reports.{IsReportStatus, Report, says}
 use Rattle.tcd_forms.specs.Lines.{certified_line, run_line, bad_link_line}
 use Rattle.tcd_forms.specs.Forms.{object_form, placed_source_form}
 use Rattle.tcd_driver.specs.Check as verdict
@@ -122,13 +122,6 @@ refused_by name l objects (Some q) r some is text = refused q is text
 pub refused_report : {V E : Type 0} (items : V → List ℕ) (name : List ℕ) (l : LayoutData) (objects : List ObjectData) (e : LinkErr) (line : Result V E) (r : Report) → IfSome (refusal_of e) (λ q. image_of_objects objects l ≡ Err q) →
     IfOk line (λ x. IfSome (refusal_of e) (λ q. items x ≡ bad_link_line q)) → (e ≡ error.NoMemory → ⊥) → IsOkAnd line (λ x. r ≡ says BadInput (items x)) → IsLinkReport name l objects r
 refused_report items name l objects e line r is made some said = refused_by name l objects (refusal_of e) r (λ n. some (none_memory e n)) is (line_told items line r (refusal_of e) made said)
-
--- the report on a file of this length, in other terms
-pub file_report : {V E : Type 0} (items : V → List ℕ) (line : Result V E) (text : ℕ → List ℕ) (name : List ℕ) (bytes lent is : List ℕ) (r : Report) → lent ≡ bytes → bytes ≡ is → IfOk line (λ l. items l ≡ text (length lent)) →
-    IsOkAnd line (λ l. r ≡ writes_file name bytes (items l)) → r ≡ writes_file name is (text (length is))
-file_report items (Ok l) text name bytes lent is r e f made said =
-    said ∙ ap (λ (t : List ℕ). writes_file name bytes t) (made ∙ ap (λ (b : List ℕ). text (length b)) e) ∙ ap (λ (b : List ℕ). writes_file name b (text (length b))) f
-file_report items (Err x) text name bytes lent is r e f made said = absurd said
 
 -- ---- all commands
 pub command_decided : (c : Command) → IsDecided (reading_of c)

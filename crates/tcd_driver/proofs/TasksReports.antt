@@ -1,5 +1,5 @@
 -- What `tasks` reports.
-use Rattle.std.proofs.Common.{◌≡◌, ◌-◌, ◌*◌, ◌+◌, ◌^◌, ◌<◌, ◌≤◌, ◌⊎◌, ◌==◌, inl, inr, true, false, ℕ, suc, Bool, refl, List, [], length, get_or, Option, Some, Ok, Err, sym, ap, subst, ◌∙◌, arith}
+use Rattle.std.proofs.Common.{◌≡◌, ◌-◌, ◌*◌, ◌+◌, ◌^◌, ◌<◌, ◌≤◌, ◌⊎◌, ◌==◌, inl, inr, true, false, ℕ, suc, Bool, List, [], length, get_or, Option, Some, Ok, Err, sym, ap, subst, ◌∙◌, arith}
 use Rattle.std.specs.Prelude.{max, if◌then◌else◌}
 use Rattle.std.proofs.lemmas.Bool.Decides.{eqb_tells}
 use Rattle.std.proofs.lemmas.Bool.{cases_lt}
@@ -27,7 +27,7 @@ use Rattle.tcd_reading.specs.Reports.{IsReportStatus, Report, says}
 use Rattle.tcd_reading.specs.Inputs.{Reading}
 use Rattle.tcd_forms.specs.Forms.{cert_form}
 use Rattle.tcd_driver.specs.CellAndTaskForms.{tasks_form}
-use Rattle.tcd_forms.specs.Lines.{certified_tasks_line, refused_sum_line}
+use Rattle.tcd_forms.specs.Lines.{certified_tasks_line}
 use Rattle.tcd_driver.specs.Tasks.{cert_of_task, IsTaskRefused, unaccepted, not_apart, needs_of, sum_of_needs, AreTasksJudged, IsTasksVerdict, no_switch, refused, above, certified, tasks_reading_if, with_name_per_task, task_certs_reading}
 use Rattle.tcd_reading.specs.declared.status.Status.{Status}
 use Rattle.tcd_reading.specs.declared.status.Status.TheVariants.{Done, Refused, BadInput}
@@ -162,18 +162,9 @@ certified_tasks i fields p parts t certs sum n r same is_plan same_t are fit has
     ∙ ap (λ (q : PlanData). says Done (certified_tasks_line (sum_of_needs i p t certs) (q.areas - q.reserve) n)) same
     ∙ ap (λ (m : ℕ). says Done (certified_tasks_line (sum_of_needs i p t certs) (p.areas - p.reserve) m)) many)
 
-pub above_tasks : (i : ImageData) (fields p : PlanData) (t : TasksData) (certs : List CertData) (sum : ℕ) (r : Report) → fields ≡ p → HasRoutine i p t
-    → AreTasksJudged i p t certs (count t) → sum ≡ sum_of_needs i p t certs → fields.areas - fields.reserve < sum → r ≡ says Refused (refused_sum_line sum (fields.areas - fields.reserve)) → IsTasksVerdict i p t certs r
-above_tasks i fields p t certs sum r same has judged is more e =
-    above has judged (subst (λ (s : ℕ). p.areas - p.reserve < s) is (subst (λ (q : PlanData). q.areas - q.reserve < sum) same more))
-    (e ∙ ap (λ (s : ℕ). says Refused (refused_sum_line s (fields.areas - fields.reserve))) is ∙ ap (λ (q : PlanData). says Refused (refused_sum_line (sum_of_needs i p t certs) (q.areas - q.reserve))) same)
-
 -- ---- one task after another
 pub sum_next : (n : ℕ) (f : ℕ → ℕ) → sum_over_chains (n + 1) f ≡ sum_over_chains n f + f n
 sum_next n f = let one : n + 1 ≡ suc n = omega arith in ap (λ (m : ℕ). sum_over_chains m f) one
-
-pub none_tallied : (i : ImageData) (p : PlanData) (t : TasksData) (certs : List CertData) → AreTallied i p t certs 0 0
-none_tallied i p t certs = record { judged = λ u lt. absurd (omega arith); sum = refl; few = omega arith }
 
 judged_next : (i : ImageData) (p : PlanData) (t : TasksData) (certs : List CertData) (n : ℕ) → AreTasksJudged i p t certs n → IsJudged i p t (cert_of_task certs n) n → AreTasksJudged i p t certs (n + 1)
 judged_next i p t certs n before here u lt =

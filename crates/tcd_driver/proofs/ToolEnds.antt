@@ -99,10 +99,6 @@ pub record Answers (c : Command) (asks : List Ask) (IfDone IfRefused : FileMap �
   pub good : (m after : FileMap) (text : List ℕ) → IfDone m after text ⊎ IfRefused m after text → AreGood m asks
   pub apart : (m after other : FileMap) (text line : List ℕ) → IfDone m after text → IfRefused m other line → ⊥
 
--- a command that only is done or finds its input bad
-never_refused : (r : Report) → (r.status ≡ BadInput → ⊥) → (r.status ≡ Done) → r.status ≡ Refused → ⊥
-never_refused r good done refused = refused_undone r refused done
-
 -- ---- equal images, plans and certificates
 accepts_as : (i j : ImageData) (p q : PlanData) (c d : CertData) → i ≡ j → p ≡ q → c ≡ d → Accepts i p c → Accepts j q d
 accepts_as i j p q c d e f g h = subst (λ (x : CertData). Accepts j q x) g (subst (λ (x : PlanData). Accepts j x c) f (subst (λ (x : ImageData). Accepts x p c) e h))

@@ -157,10 +157,6 @@ module _ (P : Command → Type 0) (Q : Type 0) (never : Q → ⊥) where
   then_asked true c some none = (refl, some)
   then_asked false c some none = absurd (never none)
 
-  -- two words for addresses
-  bootgen_of : List ℕ → List ℕ → ℕ → ℕ → Command
-  bootgen_of plan source entry at = asked.bootgen (record { plan = plan; entry = entry; at = at; source = source })
-
   at_asked : (plan source : List ℕ) (entry : ℕ) (o : Option ℕ) → IfSome (option_and_then (λ x. then_some (nat_le x 0xffffff20) (asked.bootgen (record { plan = plan; entry = entry; at = x; source = source }))) o) P →
       IfNone (option_and_then (λ x. then_some (nat_le x 0xffffff20) (asked.bootgen (record { plan = plan; entry = entry; at = x; source = source }))) o) Q →
       (at : ℕ) × (o ≡ Some at) × (at + 224 ≤ 2 ^ 32) × P (asked.bootgen (record { plan = plan; entry = entry; at = at; source = source }))

@@ -12,7 +12,7 @@ use Rattle.depth_cert.specs.Points.{ArePoints}
 use Rattle.depth_cert.specs.Nodes.{NodeData}
 use Rattle.depth_cert.specs.Certs.{CertData, IsCert}
 use Rattle.tcd_plan.proofs.ApartLaws.{IsInOne-fits}
-use Rattle.cfg_recover.specs.Code.{IsCode, HasCode}
+use Rattle.cfg_recover.specs.Code.{IsCode}
 use Rattle.cfg_recover.specs.RulesHoldOrFail.{limits_in}
 use Rattle.cfg_recover.proofs.CodeLaws.{IsCode-one}
 use Rattle.cfg_recover.proofs.FirstFault.{all_done, least_point, in_cert, least_place, address_small}
@@ -29,9 +29,6 @@ module _ (b : Limits) (image : ImageData) (plan : PlanData) (cells : List Cell) 
     λ t shape m code. subst (KeepsCellsAt b plan cells point.state) (IsCode-one image plan point.addr found shape n m there code).0 (both.0 t),
     λ keeps. both.1 (keeps found n there),
   )
-
-  pub keeps_nothing : (HasCode image plan point.addr → ⊥) → KeepsCellsAtPoint b image plan cells point
-  keeps_nothing none shape n code = absurd (none (record { shape = shape; size = n; code = code }))
 
 -- ---- a node
 module _ (b : Limits) (image : ImageData) (plan : PlanData) (cells : List Cell) (node : NodeData) (points : List Point) (same : points ≡ node.points) where

@@ -1,22 +1,19 @@
 -- Cells read one line after another.
-use Rattle.std.proofs.Common.{◌≡◌, ◌≢◌, ℕ, zero, suc, ◌+◌, ◌<◌, ◌≤◌, inl, inr, Bool, true, false, List, [], ◌∷◌, ◌++◌, length, take, map, Some, None, IsTrue, refl, sym, ap, ◌∙◌, subst, arith, nat_lt, nat_le}
-use Rattle.std.specs.Prelude.{All, Any, filter_map, IsSome, IsSomeAnd}
-use Rattle.std.proofs.lemmas.Bool.{cases_lt, ltb-true, lt-ltb, leb-true}
-use Rattle.std.proofs.lemmas.List.{length-append, length-map, take_all, take-append-le}
+use Rattle.std.proofs.Common.{◌≡◌, ◌≢◌, ℕ, zero, suc, ◌+◌, ◌<◌, ◌≤◌, inl, Bool, List, [], ◌∷◌, ◌++◌, length, take, map, IsTrue, refl, sym, ap, ◌∙◌, subst, arith, nat_lt, nat_le}
+use Rattle.std.specs.Prelude.{filter_map}
+use Rattle.std.proofs.lemmas.Bool.{ltb-true, lt-ltb, leb-true}
+use Rattle.std.proofs.lemmas.List.{length-append, length-map}
 use Rattle.std.proofs.lemmas.List.Elements.{All-push, filter_map-append}
-use Rattle.std.proofs.lemmas.List.Quantifiers.{all_pairs_push}
 use Rattle.std.specs.List.{list_any}
 use Rattle.tcd_base.specs.declared.range.Range.{Range}
 use Rattle.tcd_base.specs.Ranges.{is_within_range, IsInOneRange}
 use Rattle.store_ranges.proofs.RomLaws.{any_one, one_any}
-use Rattle.tcd_plan.specs.PlanData.{PlanData, IsPlan}
+use Rattle.tcd_plan.specs.PlanData.{PlanData}
 use Rattle.tcd_text.specs.Lines.{text_lines}
 use Rattle.value_cells.specs.declared.cells.Cell.{Cell}
-use Rattle.value_cells.specs.declared.errors.CellsErr.{CellsErr}
-use Rattle.value_cells.specs.declared.errors.CellsErr.TheVariants.{BadLine}
 use Rattle.tcd_plan.specs.Cutting.{cut_plan_ranges}
-use Rattle.value_cells.specs.Cells.{cell_device, ram_without_cells, with_cells, IsCell, AreCells}
-use Rattle.value_cells.specs.CellListText.{cell_of, cell_of_words, IsCellLine, AreRead, HasRoom, IsRefused, IsBadLine, IsFirstBad, TakesLine}
+use Rattle.value_cells.specs.Cells.{cell_device, ram_without_cells, with_cells, AreCells}
+use Rattle.value_cells.specs.CellListText.{cell_of, cell_of_words, IsCellLine, AreRead, HasRoom, TakesLine}
 use Rattle.value_cells.proofs.CellPlan.{ram_behind, take_whole}
 
 abbrev no_cell : List Cell
@@ -25,33 +22,6 @@ no_cell = []
 none_of : (n : ℕ) → take n no_cell ≡ no_cell
 none_of zero = refl
 none_of (suc n) = refl
-
--- ---- cells of a plan
-pub no_cells : (plan : PlanData) → IsPlan plan → AreCells plan []
-no_cells plan ok = record {
-  each = λ k d lt. absurd (omega arith);
-  once = λ i j d lt within. absurd (omega arith);
-  few_ram = λ n le. rw (none_of n) (ok.ranges).few_ram;
-  few_devices = λ n le. rw (none_of n) (omega (arith, length-append plan.devices [], (ok.ranges).few_devices));
-}
-
-pub one_cell : (plan : PlanData) (cells : List Cell) (c : Cell) → AreCells plan cells → IsCell plan c → All (λ (d : Cell). d.at ≢ c.at) cells → HasRoom plan cells c → AreCells plan (cells ++ c ∷ [])
-one_cell plan cells c are is once room = record {
-  each = All-push (IsCell plan) cells c are.each is;
-  once = all_pairs_push (λ (a b : Cell). b.at ≢ a.at) cells c are.once (λ k d lt same. once k d lt (sym same));
-  few_ram =
-      λ n le.
-      elim (cases_lt (length cells) n) [
-        | inl past ↦ rw (take_all n (cells ++ c ∷ []) (omega (arith, length-append cells (c ∷ [])))) room.ram
-        | inr within ↦ rw (take-append-le n cells (c ∷ []) within) (are.few_ram n within)
-      ];
-  few_devices =
-      λ n le.
-      elim (cases_lt (length cells) n) [
-        | inl past ↦ rw (take_all n (cells ++ c ∷ []) (omega (arith, length-append cells (c ∷ [])))) room.devices
-        | inr within ↦ rw (take-append-le n cells (c ∷ []) within) (are.few_devices n within)
-      ];
-}
 
 -- ---- room for one more
 pub room_ram : (plan : PlanData) (cells : List Cell) (c : Cell) → (with_cells plan (cells ++ c ∷ [])).ram ≡ cut_plan_ranges c.at 4 (ram_without_cells cells plan.ram)
@@ -96,21 +66,6 @@ room_push plan cells c are =
     omega (arith, room_devices plan cells c)
 
 -- ---- one line more
-pub all_other : (cells : List Cell) (at : ℕ) → (Any (λ (d : Cell). d.at ≡ at) cells → ⊥) → All (λ (d : Cell). d.at ≢ at) cells
-all_other [] at none k d lt = absurd (omega arith)
-all_other (c ∷ cs) at none zero d lt = λ same. none (0, c, omega arith, refl, same)
-all_other (c ∷ cs) at none (suc k) d lt = all_other cs at (λ any. none (suc any.0, any.1, omega (arith, any.2), any.3, any.4)) k d (omega arith)
-
-pub bad_cell : (plan : PlanData) (cells : List Cell) (line : List ℕ) (n : ℕ) (c : Cell) (e : CellsErr) → cell_of line ≡ Some c → IsRefused plan cells c n e → IsBadLine plan cells line n e
-bad_cell plan cells line n c (BadLine k) is bad = absurd bad
-bad_cell plan cells line n c it is bad = subst (λ o. IsSomeAnd o (λ d. IsRefused plan cells d n it)) (sym is) bad
-
-no_line : (line : List ℕ) (lt : 0 < length line) → cell_of line ≡ None → IsCellLine line → ⊥
-no_line line lt none (inl e) = absurd (let z : length line ≡ 0 = ap length e in omega arith)
-no_line line lt none (inr some) = absurd (let f : false ≡ true = subst IsSome none some in cc)
-
-pub bad_form : (plan : PlanData) (cells : List Cell) (line : List ℕ) (n : ℕ) → 0 < length line → cell_of line ≡ None → IsBadLine plan cells line n (BadLine n)
-bad_form plan cells line n lt none = (refl, no_line line lt none)
 
 append_none : (cells : List Cell) → cells ++ [] ≡ cells
 append_none [] = refl
@@ -120,16 +75,6 @@ pub takes_none : (plan : PlanData) (cells : List Cell) (line : List ℕ) → len
 unfolding cell_of_words
 takes_none plan cells [] none are = record { form = inl refl; named = sym (append_none cells); are = are }
 takes_none plan cells (x ∷ xs) none are = absurd (omega arith)
-
-pub takes_one : (plan : PlanData) (cells : List Cell) (line : List ℕ) (c : Cell) → cell_of line ≡ Some c → AreCells plan (cells ++ c ∷ []) → TakesLine plan cells line (cells ++ c ∷ [])
-takes_one plan cells line c is are = record {
-  form = inr (subst IsSome (sym is) refl);
-  named = ap (λ l. cells ++ l) (sym (named_one line c is));
-  are = are;
-}
-  where
-    named_one : (line : List ℕ) (c : Cell) → cell_of line ≡ Some c → filter_map cell_of (line ∷ []) ≡ c ∷ []
-    named_one line c is = rw is refl
 
 -- ---- a text
 -- the lines before what is left name the cells
@@ -157,18 +102,6 @@ read_more plan bytes rest line behind number cells more so cut takes = record {
     named = takes.named ∙ ap (λ l. l ++ filter_map cell_of (line ∷ [])) (so.read).named ∙ sym (filter_map-append cell_of so.before (line ∷ []));
     are = takes.are;
   };
-}
-
-pub read_bad : (plan : PlanData) (bytes rest line behind : List ℕ) (number : ℕ) (cells : List Cell) (e : CellsErr) → IsReadSoFar plan bytes rest number cells → text_lines rest ≡ line ∷ text_lines behind
-    → IsBadLine plan cells line (number + 1) e → IsFirstBad plan (text_lines bytes) e
-read_bad plan bytes rest line behind number cells e so cut bad = record {
-  before = so.before;
-  line = line;
-  behind = text_lines behind;
-  split = so.split ∙ ap (λ l. so.before ++ l) cut;
-  cells = cells;
-  read = so.read;
-  bad = subst (λ n. IsBadLine plan cells line (n + 1) e) so.count bad;
 }
 
 append_no_lines : (xs : List (List ℕ)) → xs ++ [] ≡ xs

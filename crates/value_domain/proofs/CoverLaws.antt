@@ -291,9 +291,3 @@ same_value b v w vv vw there back =
     (λ z i. among_member w z (has_step w vw.well) (there z (member_among v z (has_step v vv.well) i)))
     (λ z i. among_member v z (has_step v vv.well) (back z (member_among w z (has_step w vw.well) i)))
     ∙ vw.own
-
--- the least value is the cover
-pub least-cover : (b : Limits) (xs : List ℕ) (v : Val) → AreLimits b → AreCoverable xs → IsLeastValue b xs v → v ≡ cover b xs
-least-cover b xs v limits good l =
-    let c : IsLeastValue b xs (cover b xs) = cover_least b xs limits good in
-    same_value b v (cover b xs) l.value c.value (l.least (cover b xs) c.value c.holds) (c.least v l.value l.holds)

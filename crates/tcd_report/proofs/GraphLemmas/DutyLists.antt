@@ -167,11 +167,6 @@ pub called_none : (plan : PlanData) (s : State) (p : ℕ) (shape : Shape) → ((
 called_none plan s p (Call to) call = absurd (call to refl)
 called_none plan s p shape call = refl
 
--- other instructions make no system call
-pub systems_none : (plan : PlanData) (key : Key) (shape : Shape) → ((tin : ℕ) → shape ≡ Syscall tin → ⊥) → systems_of plan key shape ≡ []
-systems_none plan key (Syscall tin) sys = absurd (sys tin refl)
-systems_none plan key shape sys = refl
-
 called_is : (plan : PlanData) (key : Key) (p : ℕ) (s : State) (shape : Shape) (n : ℕ) → flat_map (entry_in 5) (entries_of plan key p s shape n) ≡ called_of plan s p shape
 unfolding entry_in
 called_is plan key p s (Call to) n = calls_are (entry_in 5) (λ t. t ∷ []) plan key p s to n (λ t. refl) ∙ flat_self (unwrap_or (targets_of plan s p to) [])
