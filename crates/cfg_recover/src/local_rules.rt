@@ -169,13 +169,19 @@ pub(crate) fn first_local_fault(
             ..
         } => {
             let loading = local_access_fault(b, plan, s, *shape);
-            loading.or(rule_unless(loads_into_values(dst, base, after), FIXED_REGISTER))
+            loading.or(rule_unless(
+                keeps_fixed_registers_in_load(dst, base, after),
+                FIXED_REGISTER,
+            ))
         }
         Shape::Store { base, after, .. } => {
             let storing = local_access_fault(b, plan, s, *shape);
-            storing.or(rule_unless(has_base_value(base, after), FIXED_REGISTER))
+            storing.or(rule_unless(keeps_fixed_base(base, after), FIXED_REGISTER))
         }
-        Shape::Branch { x, lowers, .. } => rule_unless(lowers_a_value(x, lowers), FIXED_REGISTER),
+        Shape::Branch { x, lowers, .. } => rule_unless(
+            keeps_fixed_registers_in_branch(x, lowers),
+            FIXED_REGISTER,
+        ),
         Shape::Jump { to } => rule_unless(knows_target(plan, s, to), UNKNOWN_TARGETS),
         Shape::Call { to } => rule_unless(knows_target(plan, s, to), UNKNOWN_TARGETS),
         Shape::Ret => rule_unless(may_return(key, s), BAD_RETURN),
@@ -448,14 +454,14 @@ fn is_allowed_at(plan: &Plan, x: u32, size: u8) -> bool
 
 /// Tests rule 13 for a load: true if none of the registers that it writes is one of the fixed
 /// registers.
-pub(crate) fn loads_into_values(dst: u8, base: Arg, after: bool) -> bool
+pub(crate) fn keeps_fixed_registers_in_load(dst: u8, base: Arg, after: bool) -> bool
     ensures { IsTrue result ↔ (RegisterHasValue dst × HasBaseValue base after) }
 {
-    may_write_register(dst) && has_base_value(base, after)
+    may_write_register(dst) && keeps_fixed_base(base, after)
 }
 
 /// Tests rule 13 for a branch: true if it decrements no register, or one that isn't fixed.
-pub(crate) fn lowers_a_value(x: u8, lowers: bool) -> bool
+pub(crate) fn keeps_fixed_registers_in_branch(x: u8, lowers: bool) -> bool
     ensures { IsTrue result ↔ (IsTrue lowers → RegisterHasValue x) }
 {
     !lowers || may_write_register(x)
@@ -463,7 +469,7 @@ pub(crate) fn lowers_a_value(x: u8, lowers: bool) -> bool
 
 /// Tests rule 13 for the base of a load or a store: true if the access doesn't increase it, or it
 /// isn't one of the fixed registers.
-pub(crate) fn has_base_value(base: Arg, after: bool) -> bool
+pub(crate) fn keeps_fixed_base(base: Arg, after: bool) -> bool
     ensures { IsTrue result ↔ HasBaseValue base after }
 {
     match base {

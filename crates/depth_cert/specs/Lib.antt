@@ -9,4 +9,4 @@ pub mod Spelling
 pub mod SpellingLaws
 pub mod Exits
 pub mod Known
-pub mod Proper
+pub mod WellFormed

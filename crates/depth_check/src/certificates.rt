@@ -11,7 +11,7 @@ use crate::node_covers::has_point;
 use crate::verdicts::judge;
 use cfg_recover::{start_key, start_state};
 use elf_image::Image;
-use packed_cert::{PackedCert, PackedNode};
+use packed_cert::{Cert, Node};
 use tcd_plan::Plan;
 
 /// Whether the rules accept a certificate for an image under a plan. The answer is yes, with the
@@ -19,7 +19,7 @@ use tcd_plan::Plan;
 /// allocates nothing.
 ///
 /// If the answer is yes, every run of the image under the plan is safe with that need.
-pub fn check(image: &Image, plan: &Plan, cert: &PackedCert) -> Verdict
+pub fn check(image: &Image, plan: &Plan, cert: &Cert) -> Verdict
     ensures judges { IsCheckAnswer image.now plan.now cert.now result }
     ensures safe { IfAnswerIsYes result (Safe image.now plan.now) }
 {
@@ -31,11 +31,7 @@ pub fn check(image: &Image, plan: &Plan, cert: &PackedCert) -> Verdict
 /// Returns the certificate's node of the start, as rule 1 asks for it: with a point at the image's
 /// entry that covers the start state. `None` if there is none.
 #[inline(never)]
-pub(crate) fn start_node<'a>(
-    image: &Image,
-    plan: &Plan,
-    cert: &'a PackedCert,
-) -> Option<PackedNode<'a>>
+pub(crate) fn start_node<'a>(image: &Image, plan: &Plan, cert: &'a Cert) -> Option<Node<'a>>
     ensures none { IsNone result → HoldsAtStart image.now plan.now cert.now → ⊥ }
     ensures holds { IfSome result (λ n. HoldsAtStart image.now plan.now cert.now) }
     ensures node { IfSome result

@@ -30,7 +30,7 @@ use cfg_recover::{
     is_flow_access_aligned, misaligned_change, rule_unless, sys_key, system_change, targets,
 };
 use depth_cert::{CALL, Key, SYS};
-use packed_cert::PackedNode;
+use packed_cert::Node;
 use tc_isa::{Shape, Target};
 use value_domain::State;
 use vd_transfer::{Change, address_by};
@@ -154,7 +154,7 @@ fn broken_by_access(at: &PointCheck<'_, '_>, found: &Located) -> Option<u8>
 /// Returns the least rule that a point's duty to leave its node breaks: by RET, or by RFE in the
 /// handler of system calls.
 #[tactic(auto, unfolding(cfg_recover::specs::FlowDuties::flow_leave_of))]
-fn broken_by_leaving(node: &PackedNode<'_>, s: &State, shape: Shape) -> Option<u8>
+fn broken_by_leaving(node: &Node<'_>, s: &State, shape: Shape) -> Option<u8>
     requires { AreWell s.now.regs }
     ensures { FindsLeastBroken (LeavingHolds node.now s.now (flows.flow_leave_of shape)) result }
 {
@@ -318,7 +318,7 @@ fn broken_by_entry(
 
 /// Whether the need of a node is at least the areas of its locals, one for the entry, and the
 /// entered node's need.
-fn has_need_for_entry(node: &PackedNode<'_>, s: &State, entered: &PackedNode<'_>) -> bool
+fn has_need_for_entry(node: &Node<'_>, s: &State, entered: &Node<'_>) -> bool
     ensures { IsTrue result ↔ (length s.now.locals.items + 1 + entered.now.need ≤ node.now.need) }
 {
     s.locals.len() + 1 + usize::from(entered.need) <= usize::from(node.need)
@@ -327,9 +327,9 @@ fn has_need_for_entry(node: &PackedNode<'_>, s: &State, entered: &PackedNode<'_>
 /// Tests rule 4 of an entry: whether the node goes on at `back` after a frame of the entered node
 /// has returned. True if `back` is no address.
 fn has_point_after_entry(
-    node: &PackedNode<'_>,
+    node: &Node<'_>,
     s: &State,
-    entered: &PackedNode<'_>,
+    entered: &Node<'_>,
     kind: u8,
     back: Option<u32>,
 ) -> bool

@@ -12,7 +12,7 @@ ghost use Rattle.depth_check.specs.PointChecks.{IsPointCheck};
 use crate::duty_rules::broken_by_irqs;
 use crate::points::PointCheck;
 use cfg_recover::interrupts;
-use packed_cert::PackedNode;
+use packed_cert::Node;
 use value_domain::{A10_SLOT, Bounds, State, Val, join, leq};
 use vd_transfer::{A10, Base, identity_change, put_register};
 
@@ -38,7 +38,7 @@ impl LastInterrupts {
 
     /// Whether the entries are known to hold in a state of the node's point. It isn't looked up if
     /// interrupts are off.
-    pub(crate) fn covers(&self, node: &PackedNode<'_>, s: &State) -> bool
+    pub(crate) fn covers(&self, node: &Node<'_>, s: &State) -> bool
         requires stacks { AreWellStacks self.now }
         requires stack { IsWell (a10_of s.now) }
         ensures { IsTrue result → (plan : PlanData) (cert : CertData)
@@ -55,7 +55,7 @@ impl LastInterrupts {
 
     /// The join of the last context's A10 and the state's, if the state needs more only because of
     /// A10.
-    fn join_stack(&self, b: &Bounds, node: &PackedNode<'_>, s: &State) -> Option<Val>
+    fn join_stack(&self, b: &Bounds, node: &Node<'_>, s: &State) -> Option<Val>
         requires last { IfSome self.now.last (λ a. IsValue b.now a.sp) }
         requires values { AreValues b.now s.now.regs }
         ensures value { IfSome result (IsValue b.now) }
@@ -76,7 +76,7 @@ impl LastInterrupts {
     /// Keeps the context of a point whose entries hold. This is a function of its own, so that the
     /// loop over points needs no stack for a value.
     #[inline(never)]
-    pub(crate) fn keep_context(&mut self, node: &PackedNode<'_>, at: &PointCheck<'_, '_>)
+    pub(crate) fn keep_context(&mut self, node: &Node<'_>, at: &PointCheck<'_, '_>)
         requires node { at.now.node.now ≡ node.now }
         requires point { IsPointCheck at.now }
         requires holds { InterruptsHold at.now.plan.now at.now.cert.now node.now
@@ -90,7 +90,7 @@ impl LastInterrupts {
 
     /// Keeps the context of a state with an A10 with which the entries hold. The older of the two
     /// contexts is dropped.
-    fn add(&mut self, node: &PackedNode<'_>, s: &State, sp: Val)
+    fn add(&mut self, node: &Node<'_>, s: &State, sp: Val)
         ensures { (plan : PlanData) (cert : CertData) → LastInterruptsHold plan cert self.old
             → IsValue (limits_in plan cert) sp → InterruptsHoldWith plan cert node.now s.now sp
             → LastInterruptsHold plan cert self.new }
@@ -114,7 +114,7 @@ pub(crate) struct InterruptContext {
 
 impl InterruptContext {
     /// The context of a state of the node's point, with this A10.
-    fn at(node: &PackedNode<'_>, s: &State, sp: Val) -> InterruptContext
+    fn at(node: &Node<'_>, s: &State, sp: Val) -> InterruptContext
         ensures same { IsContext result node.now s.now }
         ensures sp { result.sp ≡ sp }
     {
@@ -129,7 +129,7 @@ impl InterruptContext {
 
     /// Whether a state of the node's point has this context, apart from A10, with no fewer areas
     /// left.
-    fn is_like(&self, node: &PackedNode<'_>, s: &State) -> bool
+    fn is_like(&self, node: &Node<'_>, s: &State) -> bool
         ensures { IsTrue result → FitsContext self.now node.now s.now }
     {
         self.ie == s.ie
@@ -140,7 +140,7 @@ impl InterruptContext {
 }
 
 /// Whether the entries of interrupts that hold in this context hold in the state too.
-fn context_covers(context: &Option<InterruptContext>, node: &PackedNode<'_>, s: &State) -> bool
+fn context_covers(context: &Option<InterruptContext>, node: &Node<'_>, s: &State) -> bool
     requires own { IfSome context.now (λ a. IsWell a.sp) }
     requires stack { IsWell (a10_of s.now) }
     ensures { IsTrue result → IsSomeAnd context.now (λ a. IsBelowContext a node.now s.now) }

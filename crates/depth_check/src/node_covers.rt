@@ -8,17 +8,17 @@ ghost use Rattle.depth_cert.specs.Exits.{state_after_exit};
 ghost use Rattle.depth_check.specs.PointChecks.{IsPointCheck};
 
 use crate::points::PointCheck;
-use packed_cert::PackedNode;
+use packed_cert::Node;
 use std::marker::Model;
 use value_domain::State;
 use vd_transfer::Change;
 
 /// Whether the node has a point at this address that covers the state.
-pub(crate) fn has_point(node: &PackedNode<'_>, addr: u32, s: &State) -> bool
+pub(crate) fn has_point(node: &Node<'_>, addr: u32, s: &State) -> bool
     requires { AreWell s.now.regs }
     ensures { IsTrue result ↔ HasPoint node.now addr s.now }
 {
-    match node.state(addr) {
+    match node.point(addr) {
         Some(upper) => upper.covers(s),
         None => false,
     }
@@ -64,11 +64,11 @@ pub(crate) fn has_kept_next(at: &PointCheck<'_, '_>, addr: u32, c: &mut Change) 
 }
 
 /// Whether the node has a point at this address that covers the changed state.
-pub(crate) fn has_changed_point(node: &PackedNode<'_>, addr: u32, s: &State, c: &Change) -> bool
+pub(crate) fn has_changed_point(node: &Node<'_>, addr: u32, s: &State, c: &Change) -> bool
     requires { AreWell (state_after s.now c.now).regs }
     ensures { IsTrue result ↔ HasPoint node.now addr (state_after s.now c.now) }
 {
-    match node.state(addr) {
+    match node.point(addr) {
         Some(upper) => upper.covers_changed(s, c),
         None => false,
     }
@@ -88,10 +88,10 @@ pub(crate) fn has_changed_next(at: &PointCheck<'_, '_>, addr: u32, c: &Change) -
 /// Whether the node has a point at `at` that covers the state after a frame of the entered node has
 /// returned. True if the entered node has no exit.
 pub(crate) fn has_point_after_return(
-    node: &PackedNode<'_>,
+    node: &Node<'_>,
     at: u32,
     s: &State,
-    entered: &PackedNode<'_>,
+    entered: &Node<'_>,
     kind: u8,
 ) -> bool
     requires { AreWell s.now.regs }
@@ -101,14 +101,14 @@ pub(crate) fn has_point_after_return(
     let Some(exit) = entered.exit() else {
         return true;
     };
-    match node.state(at) {
+    match node.point(at) {
         Some(upper) => upper.covers_after(s, &exit, kind),
         None => false,
     }
 }
 
 /// Whether the node has an exit that covers the exit of the state.
-pub(crate) fn has_covering_exit(node: &PackedNode<'_>, s: &State) -> bool
+pub(crate) fn has_covering_exit(node: &Node<'_>, s: &State) -> bool
     requires { AreWell s.now.regs }
     ensures { IsTrue result ↔ HasExit node.now s.now }
 {

@@ -12,7 +12,7 @@ use crate::last_interrupts::LastInterrupts;
 use crate::points::{PointCheck, PointScratch, broken_by_point, walked_point};
 use crate::rules::BAD_VALUES;
 use elf_image::Image;
-use packed_cert::{PackedCert, PackedNode, PointWalk};
+use packed_cert::{Cert, Node, PointWalk};
 use std::marker::Model;
 use tcd_plan::Plan;
 use value_domain::Bounds;
@@ -39,8 +39,8 @@ pub(crate) fn node_fault<'a>(
     b: &Bounds,
     image: &Image,
     plan: &Plan,
-    cert: &PackedCert,
-    node: &PackedNode<'a>,
+    cert: &Cert,
+    node: &Node<'a>,
     scratch: &mut NodeScratch<'a>,
 ) -> Option<Fault>
     requires limits { b.now ≡ limits_in plan.now cert.now }
@@ -117,10 +117,10 @@ fn node_address_limit(addr: u32)
 
 /// Returns true if rule 2 holds at the entry of a node: it has a point there, and values of the
 /// plan in its exit if it has one.
-pub(crate) fn holds_at_entry(b: &Bounds, node: &PackedNode<'_>) -> bool
+pub(crate) fn holds_at_entry(b: &Bounds, node: &Node<'_>) -> bool
     ensures { IsTrue result ↔ HoldsAtEntry b.now node.now }
 {
-    if node.state(node.key.entry).is_none() {
+    if node.point(node.key.entry).is_none() {
         return false;
     }
     match node.exit() {

@@ -27,7 +27,7 @@ use cfg_recover::{
     KnownCodes, Located, OperationCache, check_located, rule_unless, successor_change,
 };
 use elf_image::Image;
-use packed_cert::{PackedCert, PackedNode, PointWalk};
+use packed_cert::{Cert, Node, PointWalk};
 use std::marker::Model;
 use tcd_plan::Plan;
 use value_domain::{Bounds, State, Val, is_value};
@@ -39,8 +39,8 @@ pub(crate) struct PointCheck<'a, 'b> {
     pub(crate) bounds: &'a Bounds,
     pub(crate) image: &'a Image,
     pub(crate) plan: &'a Plan,
-    pub(crate) cert: &'a PackedCert,
-    pub(crate) node: &'a PackedNode<'a>,
+    pub(crate) cert: &'a Cert,
+    pub(crate) node: &'a Node<'a>,
     pub(crate) point: CurrentPoint<'b>,
 }
 
@@ -66,8 +66,8 @@ impl<'a, 'b> PointCheck<'a, 'b> {
         bounds: &'a Bounds,
         image: &'a Image,
         plan: &'a Plan,
-        cert: &'a PackedCert,
-        node: &'a PackedNode<'a>,
+        cert: &'a Cert,
+        node: &'a Node<'a>,
         point: CurrentPoint<'b>,
     ) -> PointCheck<'a, 'b>
         ensures { result ≡ record {
@@ -190,7 +190,7 @@ pub(crate) fn change_at(at: &PointCheck<'_, '_>, found: &Located, scratch: &mut 
 #[inline(always)]
 pub(crate) fn walked_point<'b>(
     b: &Bounds,
-    node: &PackedNode<'_>,
+    node: &Node<'_>,
     addr: u32,
     known: bool,
     interrupts: &LastInterrupts,

@@ -11,7 +11,7 @@ use crate::rules::NO_START;
 use cfg_recover::{KnownCodes, OperationCache, start_key};
 use depth_cert::Key;
 use elf_image::Image;
-use packed_cert::{PackedCert, PointWalk};
+use packed_cert::{Cert, PointWalk};
 use tcd_plan::Plan;
 use value_domain::Bounds;
 
@@ -25,7 +25,7 @@ pub enum Verdict {
 
 /// Returns the verdict on a certificate: yes with the need of the start, or no with the first rule
 /// that fails.
-pub(crate) fn judge(image: &Image, plan: &Plan, cert: &PackedCert) -> Verdict
+pub(crate) fn judge(image: &Image, plan: &Plan, cert: &Cert) -> Verdict
     ensures { IsCheckAnswer image.now plan.now cert.now result }
 {
     let b = Bounds::of(plan, cert.version());

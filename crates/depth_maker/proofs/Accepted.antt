@@ -23,11 +23,11 @@ use Rattle.cfg_recover.specs.Duties.{Duty, jump, enter, resume, leave, Owed, dut
 use Rattle.cfg_recover.specs.RulesHoldOrFail.{IsSoundAlone, limits_in, HasPoint, IsMet, EntryNeedRuleHolds, RuleHolds, HoldsAtNode, Accepts}
 use Rattle.cfg_recover.specs.Assignments.{Place, point, exit, known_at, known_in, CoversAt, asked_by_duty, HasDuty, Closed, first_place, AllFaultless}
 use Rattle.depth_cert.specs.Known.{Known, state, leaving}
-use Rattle.depth_cert.specs.Proper.{IsProperState, IsProperKnown}
+use Rattle.depth_cert.specs.WellFormed.{IsWellFormedState, IsWellFormedKnown}
 use Rattle.cfg_recover.specs.CertRefusals.{MeetsNeeds}
 use Rattle.cfg_recover.proofs.CodeLaws.{IsCode-bounded}
-use Rattle.depth_maker.specs.DutiesGrow.{IsGround}
-use Rattle.depth_maker.specs.ProperAssignments.{AllProper}
+use Rattle.depth_maker.specs.DutiesMonotone.{IsGround}
+use Rattle.depth_maker.specs.WellFormedAssignments.{AllWellFormed}
 use Rattle.frame_places.proofs.KeyLaws.{key_tells, key_same}
 use Rattle.depth_maker.proofs.PlaceLaws.{resumed_some, one_state}
 use Rattle.depth_maker.proofs.KeyDuties.{HasKey, duties_keys}
@@ -185,13 +185,13 @@ module _ (image : ImageData) (plan : PlanData) (cert : CertData) (ground : IsGro
     pub point_faultless : IsFaultless (limits_in plan cert) image plan k p s
     point_faultless = carried (λ k p s. IsFaultless (limits_in plan cert) image plan k p s) (a.node).key k (a.place).addr p (a.place).state s a.key a.addr a.is place_faultless
 
-    place_proper : IsProperState (limits_in plan cert) (a.place).state
-    place_proper =
+    place_well_formed : IsWellFormedState (limits_in plan cert) (a.place).state
+    place_well_formed =
         let is : IsPoint cert.version a.place = All-at (IsPoint cert.version) (a.node).points a.place (node_is a.node a.member).points a.inside in
         record { regs = (is.state).regs; values = place_values; few = (is.state).locals }
 
-    pub point_proper : IsProperState (limits_in plan cert) s
-    point_proper = subst (IsProperState (limits_in plan cert)) a.is place_proper
+    pub point_well_formed : IsWellFormedState (limits_in plan cert) s
+    point_well_formed = subst (IsWellFormedState (limits_in plan cert)) a.is place_well_formed
 
     place_alone : (shape : Shape) (n : ℕ) → IsCode image plan (a.place).addr shape n → IsSoundAlone image plan cert a.node a.place shape n
     place_alone shape n code = record { values = place_values; faultless = place_faultless; code = code }
@@ -249,20 +249,20 @@ module _ (image : ImageData) (plan : PlanData) (cert : CertData) (ground : IsGro
         let m = some_and (λ (z : Exit). ExitCovers z x) (a.node).exit met in
         subst (λ (w : Place × Known). CoversAt (known_in cert) w.0 w.1) f (record { known = leaving m.0; at = known_exit k a.node m.0 a.found m.1; covers = m.2 })
 
-    setting : IsProperState (limits_in plan cert) s → (shape : Shape) (n : ℕ) (d : Owed) → IsCode image plan p shape n → Contains (duties_of (limits_in plan cert) image plan k p s shape n) d → HasKey d.duty
-    setting proper shape n d code c =
-        duties_keys (limits_in plan cert) image plan k p s (record { limits = ground.limits; plan = ground.is_plan; regs = proper.regs; values = proper.values }) (key_is k a.node a.member a.key) shape n
+    setting : IsWellFormedState (limits_in plan cert) s → (shape : Shape) (n : ℕ) (d : Owed) → IsCode image plan p shape n → Contains (duties_of (limits_in plan cert) image plan k p s shape n) d → HasKey d.duty
+    setting well_formed shape n d code c =
+        duties_keys (limits_in plan cert) image plan k p s (record { limits = ground.limits; plan = ground.is_plan; regs = well_formed.regs; values = well_formed.values }) (key_is k a.node a.member a.key) shape n
         (IsCode-bounded image plan p shape n code) d c
 
   -- ---- the assignment
-  pub accepted_proper : AllProper (limits_in plan cert) (known_in cert)
-  accepted_proper (point k p) v e = let a = at_point cert k p v e in subst (IsProperKnown (limits_in plan cert)) (sym a.1) (point_proper k p a.0 a.2)
-  accepted_proper (exit k) v e =
+  pub accepted_well_formed : AllWellFormed (limits_in plan cert) (known_in cert)
+  accepted_well_formed (point k p) v e = let a = at_point cert k p v e in subst (IsWellFormedKnown (limits_in plan cert)) (sym a.1) (point_well_formed k p a.0 a.2)
+  accepted_well_formed (exit k) v e =
       let a = at_exit cert k v e in
       let n = (a.2).node in
       let values = subst (λ (o : Option Exit). IfSome o (λ x. AreValues (limits_in plan cert) x.lower)) (a.2).is ((holds n (a.2).member).entry).exit in
       let is = subst (λ (o : Option Exit). IfSome o (λ e. ((n.key.kind ≡ 1) ⊎ (n.key.kind ≡ 3)) × IsExit cert.version e)) (a.2).is (node_is n (a.2).member).exit in
-      subst (IsProperKnown (limits_in plan cert)) (sym a.1) (record { regs = (is.1).lower; values = values })
+      subst (IsWellFormedKnown (limits_in plan cert)) (sym a.1) (record { regs = (is.1).lower; values = values })
 
   pub accepted_faultless : AllFaultless (limits_in plan cert) image plan (known_in cert)
   accepted_faultless k p s e =
@@ -278,7 +278,7 @@ module _ (image : ImageData) (plan : PlanData) (cert : CertData) (ground : IsGro
   duty_met k p s d h =
       let a = point_of k p s h.at in
       let m = point_met k p s a h.shape h.size h.owed h.code h.listed in
-      let key = setting k p s a (point_proper k p s a) h.shape h.size h.owed h.code h.listed in
+      let key = setting k p s a (point_well_formed k p s a) h.shape h.size h.owed h.code h.listed in
       subst (λ (u : Duty). HasKey u × IsMet cert a.node s u × EntryNeedRuleHolds cert a.node s u) h.is (key, m.0, m.1)
 
   start_is : IsKey (start_key image plan)

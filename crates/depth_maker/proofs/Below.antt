@@ -12,28 +12,28 @@ use Rattle.depth_cert.specs.Exits.{state_after_exit}
 use Rattle.cfg_recover.specs.Duties.{Duty, jump, enter, resume, leave}
 use Rattle.cfg_recover.specs.Assignments.{Place, point, exit, Assignment, same_place, CoversAt, IsBelowAt, raised_at_place, asked_by_duty, asked_by_resume, HasDuty, Asks, Joins, Derived, begins, joins, Closed, first_place, AllFaultless}
 use Rattle.depth_cert.specs.Known.{Known, state, leaving, CoversKnown, joined_known}
-use Rattle.depth_cert.specs.Proper.{IsProperState, IsProperKnown}
+use Rattle.depth_cert.specs.WellFormed.{IsWellFormedState, IsWellFormedKnown}
 use Rattle.cfg_recover.specs.CertRefusals.{HasManyNodes, HasManyPoints, IsPastCertLimits, HasRefusalFault, own, locals, IsRefusalFault, derived, limits}
-use Rattle.depth_maker.specs.DutiesGrow.{IsDutyBelow}
-use Rattle.depth_maker.specs.ProperAssignments.{IsProperDuty, AllProper}
+use Rattle.depth_maker.specs.DutiesMonotone.{IsDutyBelow}
+use Rattle.depth_maker.specs.WellFormedAssignments.{IsWellFormedDuty, AllWellFormed}
 use Rattle.depth_maker.specs.MakerLaws.{AreMakerLaws}
 use Rattle.depth_maker.proofs.PlaceLaws.{place_tells, over_state, over_exit, resumed_some, from_if}
 
 module _ (b : Limits) (image : ImageData) (plan : PlanData) (laws : AreMakerLaws b image plan) where
   -- ---- what flows in
-  asked_proper : (a : Assignment) (key : Key) (s : State) (d : Duty) (y : Place) (v : Known) → AllProper b a → IsProperState b s → IsProperDuty b d → asked_by_duty a key s d ≡ Some (y, v) → IsProperKnown b v
-  asked_proper a key s (jump q t) y v cells ps pd is =
-      let f : (point key q, state t) ≡ (y, v) = cc in subst (IsProperKnown b) (ap (λ (p : Place × Known). p.1) f) pd
-  asked_proper a key s (enter k t) y v cells ps pd is =
-      let f : (point k k.entry, state t) ≡ (y, v) = cc in subst (IsProperKnown b) (ap (λ (p : Place × Known). p.1) f) pd
-  asked_proper a key s (resume k q) y v cells ps pd is =
+  asked_well_formed : (a : Assignment) (key : Key) (s : State) (d : Duty) (y : Place) (v : Known) → AllWellFormed b a → IsWellFormedState b s → IsWellFormedDuty b d → asked_by_duty a key s d ≡ Some (y, v) → IsWellFormedKnown b v
+  asked_well_formed a key s (jump q t) y v cells ps pd is =
+      let f : (point key q, state t) ≡ (y, v) = cc in subst (IsWellFormedKnown b) (ap (λ (p : Place × Known). p.1) f) pd
+  asked_well_formed a key s (enter k t) y v cells ps pd is =
+      let f : (point k k.entry, state t) ≡ (y, v) = cc in subst (IsWellFormedKnown b) (ap (λ (p : Place × Known). p.1) f) pd
+  asked_well_formed a key s (resume k q) y v cells ps pd is =
       let r = resumed_some key s k q (a (exit k)) y v is in
-      subst (IsProperKnown b) r.3 (laws.after_proper s r.0 k.kind ps (cells (exit k) (leaving r.0) r.1))
-  asked_proper a key s (leave x) y v cells ps pd is =
-      let f : (exit key, leaving x) ≡ (y, v) = cc in subst (IsProperKnown b) (ap (λ (p : Place × Known). p.1) f) pd
+      subst (IsWellFormedKnown b) r.3 (laws.after_well_formed s r.0 k.kind ps (cells (exit k) (leaving r.0) r.1))
+  asked_well_formed a key s (leave x) y v cells ps pd is =
+      let f : (exit key, leaving x) ≡ (y, v) = cc in subst (IsWellFormedKnown b) (ap (λ (p : Place × Known). p.1) f) pd
 
   -- two duties, of which one asks for no more
-  incoming_rises : (a c : Assignment) → IsBelowAt a c → AllProper b a → AllProper b c → (key : Key) (s t : State) → IsProperState b s → IsProperState b t → Covers t s → (d e : Duty) → IsDutyBelow d e
+  incoming_rises : (a c : Assignment) → IsBelowAt a c → AllWellFormed b a → AllWellFormed b c → (key : Key) (s t : State) → IsWellFormedState b s → IsWellFormedState b t → Covers t s → (d e : Duty) → IsDutyBelow d e
       → (y : Place) (v : Known) → asked_by_duty a key s d ≡ Some (y, v) → (w : Known) × (asked_by_duty c key t e ≡ Some (y, w)) × CoversKnown w v
   incoming_rises a c below pa pc key s t ps pt ts (jump q u) (jump r w) h y v is =
       let f : (point key q, state u) ≡ (y, v) = cc in
@@ -68,19 +68,19 @@ module _ (b : Limits) (image : ImageData) (plan : PlanData) (laws : AreMakerLaws
   incoming_rises a c below pa pc key s t ps pt ts (leave x) (enter j w) h y v is = absurd h
   incoming_rises a c below pa pc key s t ps pt ts (leave x) (resume j r) h y v is = absurd h
 
-  pub duty_proper : (a : Assignment) (key : Key) (p : ℕ) (s : State) (d : Duty) → AllProper b a → HasDuty b image plan a key p s d → IsProperDuty b d
-  duty_proper a key p s d cells h =
-      subst (IsProperDuty b) h.is (laws.duties_proper key p s h.shape h.size h.owed (cells (point key p) (state s) h.at) h.faultless h.code h.listed)
+  pub duty_well_formed : (a : Assignment) (key : Key) (p : ℕ) (s : State) (d : Duty) → AllWellFormed b a → HasDuty b image plan a key p s d → IsWellFormedDuty b d
+  duty_well_formed a key p s d cells h =
+      subst (IsWellFormedDuty b) h.is (laws.duties_well_formed key p s h.shape h.size h.owed (cells (point key p) (state s) h.at) h.faultless h.code h.listed)
 
-  pub asks_proper : (a : Assignment) (y : Place) (v : Known) → AllProper b a → Asks b image plan a y v → IsProperKnown b v
-  asks_proper a y v cells k =
-      asked_proper a k.key k.before k.duty y v cells (cells (point k.key k.addr) (state k.before) (k.has).at) (duty_proper a k.key k.addr k.before k.duty cells k.has) k.asks
+  pub asks_well_formed : (a : Assignment) (y : Place) (v : Known) → AllWellFormed b a → Asks b image plan a y v → IsWellFormedKnown b v
+  asks_well_formed a y v cells k =
+      asked_well_formed a k.key k.before k.duty y v cells (cells (point k.key k.addr) (state k.before) (k.has).at) (duty_well_formed a k.key k.addr k.before k.duty cells k.has) k.asks
 
   -- ---- below a closed one
-  module _ (c : Assignment) (closed : Closed b image plan c) (faultless : AllFaultless b image plan c) (pc : AllProper b c) where
+  module _ (c : Assignment) (closed : Closed b image plan c) (faultless : AllFaultless b image plan c) (pc : AllWellFormed b c) where
     -- a duty of a smaller assignment's point, and the closed one's that asks for no less
-    pub duty_above : (a : Assignment) → IsBelowAt a c → AllProper b a → (key : Key) (p : ℕ) (s : State) (d : Duty) → HasDuty b image plan a key p s d
-        → (t : State) × (e : Duty) × HasDuty b image plan c key p t e × Covers t s × IsProperState b t × IsDutyBelow d e
+    pub duty_above : (a : Assignment) → IsBelowAt a c → AllWellFormed b a → (key : Key) (p : ℕ) (s : State) (d : Duty) → HasDuty b image plan a key p s d
+        → (t : State) × (e : Duty) × HasDuty b image plan c key p t e × Covers t s × IsWellFormedState b t × IsDutyBelow d e
     duty_above a below pa key p s d h =
         let o = below (point key p) (state s) h.at in
         let up = over_state o.known s o.covers in
@@ -96,51 +96,51 @@ module _ (b : Limits) (image : ImageData) (plan : PlanData) (laws : AreMakerLaws
           subst (λ (u : Duty). IsDutyBelow u (e.0).duty) h.is (e.2).duty,
         )
 
-    pub asks_covered : (a : Assignment) → IsBelowAt a c → AllProper b a → (y : Place) (v : Known) → Asks b image plan a y v → CoversAt c y v
+    pub asks_covered : (a : Assignment) → IsBelowAt a c → AllWellFormed b a → (y : Place) (v : Known) → Asks b image plan a y v → CoversAt c y v
     asks_covered a below pa y v k =
         let up = duty_above a below pa k.key k.addr k.before k.duty k.has in
         let r = incoming_rises a c below pa pc k.key k.before up.0 (pa (point k.key k.addr) (state k.before) (k.has).at) up.4 up.3 k.duty up.1 up.5 y v k.asks in
         let there : Asks b image plan c y r.0 = record { key = k.key; addr = k.addr; before = up.0; duty = up.1; has = up.2; asks = r.1 } in
         let o = closed.duties y r.0 there in
-        record { known = o.known; at = o.at; covers = laws.covers_through v r.0 o.known (asks_proper a y v pa k) (asks_proper c y r.0 pc there) o.covers r.2 }
+        record { known = o.known; at = o.at; covers = laws.covers_through v r.0 o.known (asks_well_formed a y v pa k) (asks_well_formed c y r.0 pc there) o.covers r.2 }
 
-    raised_covered : (o : Option Known) (v known top : Known) → ((w : Known) → o ≡ Some w → IsProperKnown b w × CoversKnown top w) → IsProperKnown b v → IsProperKnown b top → CoversKnown top v → raised_at_place b o v ≡ Some known
-        → IsProperKnown b known × CoversKnown top known
-    raised_covered None v known top old pv pt h is = let e : v ≡ known = cc in (subst (IsProperKnown b) e pv, subst (CoversKnown top) e h)
+    raised_covered : (o : Option Known) (v known top : Known) → ((w : Known) → o ≡ Some w → IsWellFormedKnown b w × CoversKnown top w) → IsWellFormedKnown b v → IsWellFormedKnown b top → CoversKnown top v → raised_at_place b o v ≡ Some known
+        → IsWellFormedKnown b known × CoversKnown top known
+    raised_covered None v known top old pv pt h is = let e : v ≡ known = cc in (subst (IsWellFormedKnown b) e pv, subst (CoversKnown top) e h)
     raised_covered (Some w) v known top old pv pt h is =
         let g = old w refl in
         let l = laws.joined_least w v top g.0 pv pt g.1 h in
         let e : l.0 ≡ known = (let q : Some l.0 ≡ Some known = sym l.1 ∙ is in cc) in
-        (laws.joined_proper w v known g.0 pv is, subst (CoversKnown top) e l.2)
+        (laws.joined_well_formed w v known g.0 pv is, subst (CoversKnown top) e l.2)
 
     -- one join stays below
-    pub joined_below : (a after : Assignment) (y : Place) → IsBelowAt a c × AllProper b a → Joins b image plan a after y → IsBelowAt after c × AllProper b after
+    pub joined_below : (a after : Assignment) (y : Place) → IsBelowAt a c × AllWellFormed b a → Joins b image plan a after y → IsBelowAt after c × AllWellFormed b after
     joined_below a after y stays j =
         let top = asks_covered a stays.0 stays.1 y j.value j.asks in
         let ptop = pc y top.known top.at in
-        let old : (w : Known) → a y ≡ Some w → IsProperKnown b w × CoversKnown top.known w =
+        let old : (w : Known) → a y ≡ Some w → IsWellFormedKnown b w × CoversKnown top.known w =
         λ w at. (let h = stays.0 y w at in
         (stays.1 y w at, (let same : h.known ≡ top.known = (let q : Some h.known ≡ Some top.known = sym h.at ∙ top.at in cc) in subst (λ (k : Known). CoversKnown k w) same h.covers))) in
-        let new = raised_covered (a y) j.value j.known top.known old (asks_proper a y j.value stays.1 j.asks) ptop top.covers j.raises in
-        let each : (x : Place) (s : Known) → after x ≡ Some s → CoversAt c x s × IsProperKnown b s =
+        let new = raised_covered (a y) j.value j.known top.known old (asks_well_formed a y j.value stays.1 j.asks) ptop top.covers j.raises in
+        let each : (x : Place) (s : Known) → after x ≡ Some s → CoversAt c x s × IsWellFormedKnown b s =
         λ x s at. elim (from_if (same_place x y) j.known (a x) (after x) s (j.is x) at) [
           | inl h ↦ (let e = place_tells x y h.0 in
-              (record { known = top.known; at = ap c e ∙ top.at; covers = subst (CoversKnown top.known) h.1 new.1 }, subst (IsProperKnown b) h.1 new.0))
+              (record { known = top.known; at = ap c e ∙ top.at; covers = subst (CoversKnown top.known) h.1 new.1 }, subst (IsWellFormedKnown b) h.1 new.0))
           | inr h ↦ (stays.0 x s h.1, stays.1 x s h.1)
         ] in
         ((λ x s at. (each x s at).0), (λ x s at. (each x s at).1))
 
-    start_below : (a : Assignment) → ((x : Place) → a x ≡ (if same_place x (first_place image plan) then Some (state (start_state plan)) else None)) → IsBelowAt a c × AllProper b a
+    start_below : (a : Assignment) → ((x : Place) → a x ≡ (if same_place x (first_place image plan) then Some (state (start_state plan)) else None)) → IsBelowAt a c × AllWellFormed b a
     start_below a is =
-        let each : (x : Place) (s : Known) → a x ≡ Some s → CoversAt c x s × IsProperKnown b s =
+        let each : (x : Place) (s : Known) → a x ≡ Some s → CoversAt c x s × IsWellFormedKnown b s =
         λ x s at. elim (from_if (same_place x (first_place image plan)) (state (start_state plan)) None (a x) s (is x) at) [
           | inl h ↦ (let e = place_tells x (first_place image plan) h.0 in
-              (record { known = closed.start.known; at = ap c e ∙ closed.start.at; covers = subst (CoversKnown closed.start.known) h.1 closed.start.covers }, subst (IsProperKnown b) h.1 laws.start_proper))
+              (record { known = closed.start.known; at = ap c e ∙ closed.start.at; covers = subst (CoversKnown closed.start.known) h.1 closed.start.covers }, subst (IsWellFormedKnown b) h.1 laws.start_well_formed))
           | inr h ↦ (let q : None ≡ Some s = h.1 in cc)
         ] in
         ((λ x s at. (each x s at).0), (λ x s at. (each x s at).1))
 
-    pub derived_below : (a : Assignment) → Derived b image plan a → IsBelowAt a c × AllProper b a
+    pub derived_below : (a : Assignment) → Derived b image plan a → IsBelowAt a c × AllWellFormed b a
     derived_below _ (begins a is) = start_below a is
     derived_below _ (joins a after y d j) = joined_below a after y (derived_below a d) j
 
@@ -159,7 +159,7 @@ module _ (b : Limits) (image : ImageData) (plan : PlanData) (laws : AreMakerLaws
         let top = asks_covered a h.0 h.1 y v k in
         let o = h.0 y w at in
         let same : o.known ≡ top.known = (let q : Some o.known ≡ Some top.known = sym o.at ∙ top.at in cc) in
-        let l = laws.joined_least w v top.known (h.1 y w at) (asks_proper a y v h.1 k) (pc y top.known top.at) (subst (λ (z : Known). CoversKnown z w) same o.covers) top.covers in
+        let l = laws.joined_least w v top.known (h.1 y w at) (asks_well_formed a y v h.1 k) (pc y top.known top.at) (subst (λ (z : Known). CoversKnown z w) same o.covers) top.covers in
         let q : None ≡ Some l.0 = sym none ∙ l.1 in cc
 
     stands_above : (a : Assignment) → IsBelowAt a c → (x : Place) → IsSome (a x) → IsSome (c x)

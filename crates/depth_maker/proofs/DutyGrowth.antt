@@ -35,7 +35,7 @@ use Rattle.depth_cert.proofs.ExitValues.{after-at, with_lower_length}
 use Rattle.cfg_recover.proofs.DutyView.{DutyAt, next, straight, taken, target, called, called_back, system, system_back, misaligned, interrupt, returns, resumes, duty_at, duty_listed}
 pub use Rattle.cfg_recover.proofs.Members.{contained_map, contained_flat, contained_filter}
 use Rattle.cfg_recover.proofs.Members.{contains_filter}
-use Rattle.depth_maker.specs.DutiesGrow.{IsDutyBelow, IsOwedBelow, DutiesGrow, AfterGrows}
+use Rattle.depth_maker.specs.DutiesMonotone.{IsDutyBelow, IsOwedBelow, DutiesMonotone, AfterMonotone}
 use Rattle.depth_maker.proofs.StateGrowth.{reg_grows, set_covers}
 use Rattle.depth_maker.proofs.EffectGrowth.{transfer_covers, address_grows, address_value, branch_grows}
 use Rattle.depth_maker.proofs.OwnGrowth.{targets_within, aligned_falls, setting_of}
@@ -85,7 +85,7 @@ after_regs vs ws xs ys lv lw lx below there r lt =
       | inr f ↦ rw f (below r within)
     ])
 
-pub after_grows : AfterGrows
+pub after_grows : AfterMonotone
 after_grows b s t x y kind ps pt px py c d = record {
   regs = after_regs s.regs t.regs x.lower y.lower ps.regs pt.regs px.regs c.regs d.lower;
   context = elim (cases_Bool (eqb kind 1)) [
@@ -178,6 +178,6 @@ module _ (b : Limits) (image : ImageData) (plan : PlanData) (key : Key) (p : ℕ
     above_by _ d code returns = above Ret d _ returns refl (exit_covers s t low.regs high.regs c)
     above_by _ d code (resumes e) = above Rfe d _ (resumes e) refl (exit_covers s t low.regs high.regs c)
 
-pub duties_grow : DutiesGrow
+pub duties_grow : DutiesMonotone
 duties_grow b image plan key p s t shape n d ground ps pt c faultless code i =
     (above_by b image plan key p s t ground.is_image (setting_of b image plan s ground ps) (setting_of b image plan t ground pt) c faultless n shape d code (duty_at b image plan key p s n shape d i))

@@ -13,13 +13,13 @@ use Rattle.value_domain.specs.Values.{IsBelow, IsValue, any_val, word_val}
 use Rattle.vd_transfer.specs.Registers.{slot}
 use Rattle.depth_cert.specs.declared.keys.Key.{Key}
 use Rattle.depth_cert.specs.Known.{CoversKnown, Known, leaving, state}
-use Rattle.depth_cert.specs.Proper.{IsProperState}
+use Rattle.depth_cert.specs.WellFormed.{IsWellFormedState}
 use Rattle.cfg_recover.specs.Assignments.{Assignment, CoversAt, Joins, Place, point}
 use Rattle.cfg_recover.specs.Duties.{Owed, enter, interrupts_of, owed}
 use Rattle.cfg_recover.specs.Entries.{irqs_of, entry_state_with, irq_entry, irq_key, entry_stack_of}
 use Rattle.cfg_recover.proofs.EntryLaws.{entry_length}
 use Rattle.cfg_recover.proofs.Members.{contains_filter, contains_map}
-use Rattle.depth_maker.specs.ProperAssignments.{IsProperDuty, AllProper}
+use Rattle.depth_maker.specs.WellFormedAssignments.{IsWellFormedDuty, AllWellFormed}
 use Rattle.depth_maker.specs.MakerLaws.{AreMakerLaws}
 use Rattle.depth_maker.specs.InterruptHandlers.{AreHandlersEntered, IsWithinContext, ContextsEntered, IsContextOf, IsContextEntered, context_stack}
 use Rattle.depth_maker.specs.TableView.{TableView}
@@ -32,22 +32,22 @@ use Rattle.depth_maker.proofs.TableLaws.{covers_stays}
 
 -- ---- as the table rises
 -- values only grow
-one_stays : (b : Limits) (image : ImageData) (plan : PlanData) (laws : AreMakerLaws b image plan) (a after : Assignment) (y : Place) (proper : AllProper b a) (j : Joins b image plan a after y) (interrupts : Option InterruptContext)
+one_stays : (b : Limits) (image : ImageData) (plan : PlanData) (laws : AreMakerLaws b image plan) (a after : Assignment) (y : Place) (well_formed : AllWellFormed b a) (j : Joins b image plan a after y) (interrupts : Option InterruptContext)
     → IsContextEntered b plan a interrupts → IsContextEntered b plan after interrupts
-one_stays b image plan laws a after y proper j None h = tt
-one_stays b image plan laws a after y proper j (Some x) h = record {
+one_stays b image plan laws a after y well_formed j None h = tt
+one_stays b image plan laws a after y well_formed j (Some x) h = record {
   stack = h.stack;
   each = λ p c lt.
       let e = h.each p c lt in
       record {
-        proper = e.proper;
-        covers = covers_stays b image plan laws a after y proper j (point (irq_key plan p) (irq_key plan p).entry) (state (entry_state_with (context_stack plan x) false p true)) e.proper e.covers;
+        well_formed = e.well_formed;
+        covers = covers_stays b image plan laws a after y well_formed j (point (irq_key plan p) (irq_key plan p).entry) (state (entry_state_with (context_stack plan x) false p true)) e.well_formed e.covers;
       };
 }
 
-pub interrupts_stay : (b : Limits) (image : ImageData) (plan : PlanData) (laws : AreMakerLaws b image plan) (a after : Assignment) (y : Place) (proper : AllProper b a) (j : Joins b image plan a after y) (interrupts : LastInterrupts)
+pub interrupts_stay : (b : Limits) (image : ImageData) (plan : PlanData) (laws : AreMakerLaws b image plan) (a after : Assignment) (y : Place) (well_formed : AllWellFormed b a) (j : Joins b image plan a after y) (interrupts : LastInterrupts)
     → ContextsEntered b plan a interrupts → ContextsEntered b plan after interrupts
-interrupts_stay b image plan laws a after y proper j interrupts h = (one_stays b image plan laws a after y proper j interrupts.last h.0, one_stays b image plan laws a after y proper j interrupts.before h.1)
+interrupts_stay b image plan laws a after y well_formed j interrupts h = (one_stays b image plan laws a after y well_formed j interrupts.last h.0, one_stays b image plan laws a after y well_formed j interrupts.before h.1)
 
 -- the same values
 one_again : (b : Limits) (plan : PlanData) (a after : Assignment) → ((q : Place) → after q ≡ a q) → (interrupts : Option InterruptContext) → IsContextEntered b plan a interrupts → IsContextEntered b plan after interrupts
@@ -57,7 +57,7 @@ one_again b plan a after same (Some x) h = record {
   each = λ p c lt.
       let e = h.each p c lt in
       record {
-        proper = e.proper;
+        well_formed = e.well_formed;
         covers = record { known = (e.covers).known; at = same (point (irq_key plan p) (irq_key plan p).entry) ∙ (e.covers).at; covers = (e.covers).covers };
       };
 }
@@ -116,16 +116,16 @@ interrupts_settle b plan t k p s h entered asks d c =
     subst (λ (o : Owed). Settled t k p s o.duty) r.2 covered
 
 -- the context of a point whose entries are covered
-pub interrupts_new : (b : Limits) (plan : PlanData) (t : TableView) (k : Key) (p : ℕ) (s : State) (h : InterruptContext) → IsContextOf h k.is s → IsProperState b s → IsTrue s.ie
-    → ((d : Owed) → Contains (interrupts_of plan k s) d → IsProperDuty b d.duty) → ((d : Owed) → Contains (interrupts_of plan k s) d → Settled t k p s d.duty) → AreHandlersEntered b plan t.cells h
-interrupts_new b plan t k p s h from ps on proper settled = record {
+pub interrupts_new : (b : Limits) (plan : PlanData) (t : TableView) (k : Key) (p : ℕ) (s : State) (h : InterruptContext) → IsContextOf h k.is s → IsWellFormedState b s → IsTrue s.ie
+    → ((d : Owed) → Contains (interrupts_of plan k s) d → IsWellFormedDuty b d.duty) → ((d : Owed) → Contains (interrupts_of plan k s) d → Settled t k p s d.duty) → AreHandlersEntered b plan t.cells h
+interrupts_new b plan t k p s h from ps on well_formed settled = record {
   stack = subst (IsValue b) (sym from.sp) (ps.values 22 (omega (arith, ps.regs)));
   each = λ q c lt.
       let f : ℕ → Owed = λ (q : ℕ). owed 11 (enter (irq_key plan q) (irq_entry plan k s q)) in
       let i = contains_map f (irqs_of plan s) q (takes s.ie s.ccpn plan.irqs q on c (omega (arith, lt, from.ccpn))) in
       let e = sym (stack_same plan k s h from) in
       record {
-        proper = subst (λ (v : Val). IsProperState b (entry_state_with v false q true)) e (proper (f q) i);
+        well_formed = subst (λ (v : Val). IsWellFormedState b (entry_state_with v false q true)) e (well_formed (f q) i);
         covers = subst (λ (v : Val). CoversAt t.cells (point (irq_key plan q) (irq_key plan q).entry) (state (entry_state_with v false q true))) e (settled (f q) i);
       };
 }

@@ -14,8 +14,8 @@ use Rattle.cfg_recover.specs.CertRefusals.{derived}
 use Rattle.depth_maker.specs.MakerLaws.{AreMakerLaws}
 use Rattle.depth_maker.specs.TableView.{seen}
 use Rattle.depth_maker.specs.Joins.{Marks, JoinKeeps, Joined, JoinedAlone}
-use Rattle.depth_maker.specs.TableInvariant.{IsTable, IsFine, TableReadsExits, CellsProper}
-use Rattle.depth_maker.proofs.TableLaws.{table_rises, settled_stays, joined_covers, derived_proper}
+use Rattle.depth_maker.specs.TableInvariant.{IsTable, IsFine, TableReadsExits, CellsWellFormed}
+use Rattle.depth_maker.proofs.TableLaws.{table_rises, settled_stays, joined_covers, derived_well_formed}
 use Rattle.depth_maker.proofs.PlaceKinds.{unjoined_fault}
 use Rattle.frame_places.specs.declared.places.Spot.{Spot}
 use Rattle.frame_places.specs.declared.places.Mark.{Mark}
@@ -25,7 +25,7 @@ use Rattle.frame_places.specs.declared.refusals.Refusal.TheVariants.{Fault}
 use Rattle.depth_maker.specs.declared.table.Table as made
 use Rattle.frame_places.specs.Spots.{spot_eq}
 use Rattle.depth_maker.specs.SpotsAsPlaces.{spot_of, place_of_spot}
-use Rattle.depth_maker.proofs.Below.{asks_proper}
+use Rattle.depth_maker.proofs.Below.{asks_well_formed}
 use Rattle.depth_maker.proofs.CountedLemmas.{counted_after}
 use Rattle.depth_maker.proofs.LevelLaws.{rank_rises}
 use Rattle.depth_maker.proofs.LevelSteps.{level_rises}
@@ -45,10 +45,10 @@ idle_not_queued (Some Queued) e = cc
 idle_not_queued _ e = refl
 
 -- ---- the values of a table
-pub cells_proper : (b : Limits) (image : ImageData) (plan : PlanData) (laws : AreMakerLaws b image plan) (t : made.Table) → IsFine b image plan t → CellsProper b t.places
+pub cells_well_formed : (b : Limits) (image : ImageData) (plan : PlanData) (laws : AreMakerLaws b image plan) (t : made.Table) → IsFine b image plan t → CellsWellFormed b t.places
 unfolding seen
-cells_proper b image plan laws t fine q v at =
-    derived_proper b image plan laws (seen t).cells (fine.table).derived (place_of_spot q) v (ap (value_for t.places) (forth q) ∙ at)
+cells_well_formed b image plan laws t fine q v at =
+    derived_well_formed b image plan laws (seen t).cells (fine.table).derived (place_of_spot q) v (ap (value_for t.places) (forth q) ∙ at)
 
 -- v was joined at y alone, and then the readers of y were queued
 module _ (b : Limits) (image : ImageData) (plan : PlanData) (laws : AreMakerLaws b image plan) (s m t : made.Table) (y : Spot) (v : Known)
@@ -128,8 +128,8 @@ module _ (b : Limits) (image : ImageData) (plan : PlanData) (laws : AreMakerLaws
 
   higher : level_of_place (value_for s.places y) < level_of_place (Some u)
   higher =
-      rank_rises b image plan laws (value_for s.places y) v u (cells_proper b image plan laws s fine y)
-      (asks_proper b image plan laws (seen s).cells (place_of_spot y) v (derived_proper b image plan laws (seen s).cells (fine.table).derived) asks) rose.raises rose.new small
+      rank_rises b image plan laws (value_for s.places y) v u (cells_well_formed b image plan laws s fine y)
+      (asks_well_formed b image plan laws (seen s).cells (place_of_spot y) v (derived_well_formed b image plan laws (seen s).cells (fine.table).derived) asks) rose.raises rose.new small
 
   the_keeping : JoinKeeps b image plan s t
   unfolding seen
@@ -153,7 +153,7 @@ module _ (b : Limits) (image : ImageData) (plan : PlanData) (laws : AreMakerLaws
 
   the_covered : EntriesCovered b plan (seen t).cells t.covered
   the_covered =
-      covered_stay b image plan laws (seen s).cells (seen t).cells (place_of_spot y) (derived_proper b image plan laws (seen s).cells (fine.table).derived) the_joining t.covered
+      covered_stay b image plan laws (seen s).cells (seen t).cells (place_of_spot y) (derived_well_formed b image plan laws (seen s).cells (fine.table).derived) the_joining t.covered
       (subst (EntriesCovered b plan (seen s).cells) (sym (covered ∙ rose.covered)) fine.covered)
 
   pub the_joined : Joined b image plan s t y v
@@ -172,7 +172,7 @@ module _ (b : Limits) (image : ImageData) (plan : PlanData) (laws : AreMakerLaws
             | inr r ↦ fine.plain q (sym r.0 ∙ at)
           ];
     };
-    covers = joined_covers b image plan laws (seen s).cells (seen t).cells (place_of_spot y) (derived_proper b image plan laws (seen s).cells (fine.table).derived) the_joining;
+    covers = joined_covers b image plan laws (seen s).cells (seen t).cells (place_of_spot y) (derived_well_formed b image plan laws (seen s).cells (fine.table).derived) the_joining;
     keeps = the_keeping;
   }
 

@@ -14,13 +14,13 @@ use Rattle.value_domain.specs.Values.{join_of, IsBelow, IsValue, any_val, word_v
 use Rattle.value_domain.proofs.JoinLaws.{join_least}
 use Rattle.vd_transfer.specs.Registers.{slot}
 use Rattle.depth_cert.specs.Known.{CoversKnown, Known, leaving, state}
-use Rattle.depth_cert.specs.Proper.{IsProperState}
+use Rattle.depth_cert.specs.WellFormed.{IsWellFormedState}
 use Rattle.cfg_recover.specs.Assignments.{Assignment, CoversAt, Place, point}
 use Rattle.cfg_recover.specs.Entries.{entry_state_with, irq_key}
 use Rattle.cfg_recover.proofs.EntryLaws.{entry_length}
 use Rattle.cfg_recover.proofs.FlowStates.{entry_values}
 use Rattle.depth_maker.specs.InterruptHandlers.{AreHandlersEntered, joined_context}
-use Rattle.depth_maker.specs.ProperAssignments.{AllProper}
+use Rattle.depth_maker.specs.WellFormedAssignments.{AllWellFormed}
 use Rattle.depth_maker.specs.declared.interrupt_contexts.InterruptContext.{InterruptContext}
 
 -- ---- one value of an entry
@@ -51,12 +51,12 @@ stack_covered x v w p c below = record {
   locals = c.locals;
 }
 
-module _ (b : Limits) (a : Assignment) (limits : AreLimits b) (proper : AllProper b a) where
+module _ (b : Limits) (a : Assignment) (limits : AreLimits b) (well_formed : AllWellFormed b a) where
   -- ---- one entry
   module _ (v w : Val) (vv : IsValue b v) (vw : IsValue b w) (y : Place) (p : ℕ) where
     known_joined : (u : Known) → a y ≡ Some u → CoversKnown u (state (entry_state_with v false p true)) → CoversKnown u (state (entry_state_with w false p true)) → CoversKnown u (state (entry_state_with (join_of b v w) false p true))
     known_joined (state x) e h k =
-        let px : IsProperState b x = proper y (state x) e in
+        let px : IsWellFormedState b x = well_formed y (state x) e in
         stack_covered x v (join_of b v w) p h ((join_least b v w limits vv vw).least (get_or x.regs 22 any_val) (px.values 22 (omega (arith, px.regs))) (stack_here x v p h) (stack_here x w p k))
     known_joined (leaving x) e h k = absurd h
 
@@ -71,14 +71,14 @@ module _ (b : Limits) (a : Assignment) (limits : AreLimits b) (proper : AllPrope
     stack_joined true x c d = entry_joined c d
     stack_joined false x c d = c
 
-    stack_proper : (inner : Bool) (x : Val) → IsProperState b (entry_state_with (if inner then v else x) false p true) → IsProperState b (entry_state_with (if inner then join_of b v w else x) false p true)
+    stack_well_formed : (inner : Bool) (x : Val) → IsWellFormedState b (entry_state_with (if inner then v else x) false p true) → IsWellFormedState b (entry_state_with (if inner then join_of b v w else x) false p true)
     unfolding slot
-    stack_proper true x c = record {
+    stack_well_formed true x c = record {
       regs = entry_length (join_of b v w) false p true;
       values = entry_values b (join_of b v w) false p true limits (join_least b v w limits vv vw).value;
       few = c.few;
     }
-    stack_proper false x c = c
+    stack_well_formed false x c = c
 
   -- ---- two contexts
   pub contexts_join : (plan : PlanData) (h g : InterruptContext) → g.is ≡ h.is → g.ccpn ≡ h.ccpn → AreHandlersEntered b plan a h → AreHandlersEntered b plan a g → AreHandlersEntered b plan a (joined_context b h g.sp)
@@ -91,7 +91,7 @@ module _ (b : Limits) (a : Assignment) (limits : AreLimits b) (proper : AllPrope
         let j = eg.each p c (omega (arith, level, lt)) in
         let other : CoversAt a y (state (entry_state_with (if h.is then g.sp else x) false p true)) = subst (λ (t : Bool). CoversAt a y (state (entry_state_with (if t then g.sp else x) false p true))) same j.covers in
         record {
-          proper = stack_proper h.sp g.sp eh.stack eg.stack y p h.is x i.proper;
+          well_formed = stack_well_formed h.sp g.sp eh.stack eg.stack y p h.is x i.well_formed;
           covers = stack_joined h.sp g.sp eh.stack eg.stack y p h.is x i.covers other;
         };
   }

@@ -15,15 +15,15 @@ use Rattle.depth_cert.specs.declared.points.Exit.{Exit}
 use Rattle.cfg_recover.specs.Entries.{start_state}
 use Rattle.depth_cert.specs.Exits.{ExitCovers, joined_exit}
 use Rattle.depth_cert.specs.Known.{Known, state, leaving, CoversKnown, joined_known}
-use Rattle.depth_cert.specs.Proper.{IsProperState, IsProperExit, IsProperKnown}
+use Rattle.depth_cert.specs.WellFormed.{IsWellFormedState, IsWellFormedExit, IsWellFormedKnown}
 use Rattle.cfg_recover.proofs.EntryLaws.{entry_length}
 use Rattle.cfg_recover.proofs.FlowStates.{entry_values}
-use Rattle.depth_maker.specs.DutiesGrow.{IsGround}
+use Rattle.depth_maker.specs.DutiesMonotone.{IsGround}
 use Rattle.depth_maker.proofs.StateGrowth.{below_same, below_through, covers_same, covers_through, same_locals, set_locals}
 use Rattle.depth_maker.proofs.EffectGrowth.{word_value}
 use Rattle.depth_maker.proofs.OwnGrowth.{faults_fall}
 use Rattle.depth_maker.proofs.DutyGrowth.{after_grows, duties_grow}
-use Rattle.depth_maker.proofs.ProperDuties.{after_proper, duties_proper}
+use Rattle.depth_maker.proofs.WellFormedDuties.{after_well_formed, duties_well_formed}
 use Rattle.depth_maker.specs.MakerLaws.{AreMakerLaws}
 
 -- ---- coverings
@@ -31,7 +31,7 @@ known_same : (v : Known) → CoversKnown v v
 known_same (state s) = covers_same s
 known_same (leaving x) = record { lower = below_same x.lower; enabled = λ e. e; priority = omega arith }
 
-known_through : (b : Limits) (v w u : Known) → IsProperKnown b v → IsProperKnown b w → CoversKnown u w → CoversKnown w v → CoversKnown u v
+known_through : (b : Limits) (v w u : Known) → IsWellFormedKnown b v → IsWellFormedKnown b w → CoversKnown u w → CoversKnown w v → CoversKnown u v
 known_through b (state s) (state t) (state u) ps pt h k = covers_through u t s (ps.regs ∙ sym pt.regs) h k
 known_through b (leaving x) (leaving y) (leaving z) px py h k = record {
   lower = below_through x.lower y.lower z.lower (px.regs ∙ sym py.regs) k.lower h.lower;
@@ -52,7 +52,7 @@ joined_parts b s t u e =
     ]
 
 module _ (b : Limits) (limits : AreLimits b) where
-  state_join : (s t : State) → IsProperState b s → IsProperState b t → length s.locals.items ≡ length t.locals.items → IsProperState b (joined_of b s t) × Covers (joined_of b s t) s × Covers (joined_of b s t) t
+  state_join : (s t : State) → IsWellFormedState b s → IsWellFormedState b t → length s.locals.items ≡ length t.locals.items → IsWellFormedState b (joined_of b s t) × Covers (joined_of b s t) s × Covers (joined_of b s t) t
   state_join s t ps pt same =
       let j = joined_least b s t limits (ps.regs ∙ sym pt.regs) same ps.values pt.values in (
         record {
@@ -64,7 +64,7 @@ module _ (b : Limits) (limits : AreLimits b) where
         j.right,
       )
 
-  state_least : (s t d : State) → IsProperState b s → IsProperState b t → IsProperState b d → Covers d s → Covers d t → (u : Known) × (joined_known b (state s) (state t) ≡ Some u) × CoversKnown (state d) u
+  state_least : (s t d : State) → IsWellFormedState b s → IsWellFormedState b t → IsWellFormedState b d → Covers d s → Covers d t → (u : Known) × (joined_known b (state s) (state t) ≡ Some u) × CoversKnown (state d) u
   state_least s t d ps pt pd h k =
       let same : length s.locals.items ≡ length t.locals.items = sym (same_locals d s h) ∙ same_locals d t k in
       let j = joined_least b s t limits (ps.regs ∙ sym pt.regs) same ps.values pt.values in
@@ -80,14 +80,14 @@ module _ (b : Limits) (limits : AreLimits b) where
       any_default (v ∷ vs) zero d e h = refl
       any_default (v ∷ vs) (suc i) d e h = any_default vs i d e (omega arith)
 
-  module _ (x y : Exit) (px : IsProperExit b x) (py : IsProperExit b y) where
+  module _ (x y : Exit) (px : IsWellFormedExit b x) (py : IsWellFormedExit b y) where
     same : length x.lower ≡ length y.lower
     same = px.regs ∙ sym py.regs
 
     long : length (joined_regs b x.lower y.lower) ≡ length x.lower
     long = length-joined b x.lower y.lower same
 
-    exit_join : IsProperExit b (joined_exit b x y) × ExitCovers (joined_exit b x y) x × ExitCovers (joined_exit b x y) y
+    exit_join : IsWellFormedExit b (joined_exit b x y) × ExitCovers (joined_exit b x y) x × ExitCovers (joined_exit b x y) y
     exit_join = (
       record {
         regs = long ∙ px.regs;
@@ -105,7 +105,7 @@ module _ (b : Limits) (limits : AreLimits b) where
       },
     )
 
-    exit_least : (z : Exit) → IsProperExit b z → ExitCovers z x → ExitCovers z y → ExitCovers z (joined_exit b x y)
+    exit_least : (z : Exit) → IsWellFormedExit b z → ExitCovers z x → ExitCovers z y → ExitCovers z (joined_exit b x y)
     exit_least z pz h k = record {
       lower = λ r lt.
           rw (exit_at x.lower y.lower r (omega (arith, long)) same)
@@ -116,22 +116,22 @@ module _ (b : Limits) (limits : AreLimits b) where
     }
 
   -- ---- both
-  known_join : (v w u : Known) → IsProperKnown b v → IsProperKnown b w → joined_known b v w ≡ Some u → IsProperKnown b u × CoversKnown u v × CoversKnown u w
+  known_join : (v w u : Known) → IsWellFormedKnown b v → IsWellFormedKnown b w → joined_known b v w ≡ Some u → IsWellFormedKnown b u × CoversKnown u v × CoversKnown u w
   known_join (state s) (state t) u pv pw e = at (joined_states b s t) refl e where
-    at : (o : Option State) → joined_states b s t ≡ o → option_map state o ≡ Some u → IsProperKnown b u × CoversKnown u (state s) × CoversKnown u (state t)
+    at : (o : Option State) → joined_states b s t ≡ o → option_map state o ≡ Some u → IsWellFormedKnown b u × CoversKnown u (state s) × CoversKnown u (state t)
     at None f g = absurd (let h : None ≡ Some u = g in cc)
     at (Some j) f g =
         let k = joined_parts b s t j f in
         let h = state_join s t pv pw k.0 in
         let is : state (joined_of b s t) ≡ u = ap state k.1 ∙ (let i : Some (state j) ≡ Some u = g in cc) in
-        subst (λ (z : Known). IsProperKnown b z × CoversKnown z (state s) × CoversKnown z (state t)) is h
+        subst (λ (z : Known). IsWellFormedKnown b z × CoversKnown z (state s) × CoversKnown z (state t)) is h
   known_join (leaving x) (leaving y) u pv pw e =
       let f : leaving (joined_exit b x y) ≡ u = (let g : Some (leaving (joined_exit b x y)) ≡ Some u = e in cc) in
-      subst (λ (z : Known). IsProperKnown b z × CoversKnown z (leaving x) × CoversKnown z (leaving y)) f (exit_join x y pv pw)
+      subst (λ (z : Known). IsWellFormedKnown b z × CoversKnown z (leaving x) × CoversKnown z (leaving y)) f (exit_join x y pv pw)
   known_join (state s) (leaving y) u pv pw e = absurd (let f : None ≡ Some u = e in cc)
   known_join (leaving x) (state t) u pv pw e = absurd (let f : None ≡ Some u = e in cc)
 
-  known_least : (v w d : Known) → IsProperKnown b v → IsProperKnown b w → IsProperKnown b d → CoversKnown d v → CoversKnown d w → (u : Known) × (joined_known b v w ≡ Some u) × CoversKnown d u
+  known_least : (v w d : Known) → IsWellFormedKnown b v → IsWellFormedKnown b w → IsWellFormedKnown b d → CoversKnown d v → CoversKnown d w → (u : Known) × (joined_known b v w ≡ Some u) × CoversKnown d u
   known_least (state s) (state t) (state d) pv pw pd h k = state_least s t d pv pw pd h k
   known_least (leaving x) (leaving y) (leaving z) pv pw pd h k = (leaving (joined_exit b x y), refl, exit_least x y pv pw z pd h k)
   known_least (state s) (state t) (leaving z) pv pw pd h k = absurd h
@@ -141,8 +141,8 @@ module _ (b : Limits) (limits : AreLimits b) where
   known_least (leaving x) (state t) (leaving z) pv pw pd h k = absurd k
   known_least (leaving x) (leaving y) (state d) pv pw pd h k = absurd h
 
-start_proper : (b : Limits) (image : ImageData) (plan : PlanData) → IsGround b image plan → IsProperState b (start_state plan)
-start_proper b image plan ground =
+start_well_formed : (b : Limits) (image : ImageData) (plan : PlanData) → IsGround b image plan → IsWellFormedState b (start_state plan)
+start_well_formed b image plan ground =
     let small = (ground.is_plan).words.sp in
     record {
       regs = entry_length (word_val plan.sp) plan.start_ie plan.start_ccpn false;
@@ -155,12 +155,12 @@ lawful b image plan ground = record {
   covers_same = known_same;
   covers_through = known_through b;
   joined_above = λ v w u pv pw e. let k = known_join b ground.limits v w u pv pw e in (k.1, k.2);
-  joined_proper = λ v w u pv pw e. (known_join b ground.limits v w u pv pw e).0;
+  joined_well_formed = λ v w u pv pw e. (known_join b ground.limits v w u pv pw e).0;
   joined_least = known_least b ground.limits;
-  start_proper = start_proper b image plan ground;
+  start_well_formed = start_well_formed b image plan ground;
   faults_fall = λ key p s t ps pt c h. faults_fall b image plan key p s t ground ps pt c h;
   duties_grow = λ key p s t shape n d ps pt c h code i. duties_grow b image plan key p s t shape n d ground ps pt c h code i;
-  duties_proper = λ key p s shape n d ps h code i. duties_proper b image plan key p s shape n d ground ps h code i;
+  duties_well_formed = λ key p s shape n d ps h code i. duties_well_formed b image plan key p s shape n d ground ps h code i;
   after_grows = after_grows b;
-  after_proper = after_proper b;
+  after_well_formed = after_well_formed b;
 }

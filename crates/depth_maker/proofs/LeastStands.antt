@@ -6,12 +6,12 @@ use Rattle.cfg_recover.specs.Assignments.{Assignment, Derived, Closed, AllFaultl
 use Rattle.cfg_recover.specs.CertRefusals.{IsPastCertLimits, IsLeastAssignment}
 use Rattle.depth_maker.specs.MakerLaws.{AreMakerLaws}
 use Rattle.depth_maker.proofs.Below.{fault_refuted}
-use Rattle.depth_maker.proofs.TableLaws.{derived_proper}
+use Rattle.depth_maker.proofs.TableLaws.{derived_well_formed}
 
 pub least_stands : (b : Limits) (image : ImageData) (plan : PlanData) → AreMakerLaws b image plan → (a : Assignment) → Derived b image plan a → Closed b image plan a → AllFaultless b image plan a → (IsPastCertLimits a → ⊥)
     → IsLeastAssignment b image plan a
 least_stands b image plan laws a derived closed faultless within = record {
   derived = derived;
   closed = closed;
-  faultless = fault_refuted b image plan laws a closed faultless (derived_proper b image plan laws a derived) within;
+  faultless = fault_refuted b image plan laws a closed faultless (derived_well_formed b image plan laws a derived) within;
 }

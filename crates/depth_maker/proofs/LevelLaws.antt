@@ -18,7 +18,7 @@ use Rattle.depth_cert.specs.Keys.{cert_flag_byte}
 use Rattle.depth_cert.specs.declared.points.Exit as exits
 use Rattle.cfg_recover.specs.Assignments.{raised_at_place}
 use Rattle.depth_cert.specs.Known.{Known, state, leaving, CoversKnown, known_priority}
-use Rattle.depth_cert.specs.Proper.{IsProperState, IsProperExit, IsProperKnown}
+use Rattle.depth_cert.specs.WellFormed.{IsWellFormedState, IsWellFormedExit, IsWellFormedKnown}
 use Rattle.depth_maker.specs.TableLevels.{level_of_place, level_of_known, level_of_values}
 use Rattle.depth_maker.specs.MakerLaws.{AreMakerLaws}
 
@@ -152,7 +152,7 @@ locals_back (u ∷ us) (x ∷ xs) h le = (
 )
 
 -- ---- what is known
-state_back : (b : Limits) (s u : State) → IsProperState b s → IsProperState b u → Covers u s → u.ccpn < 256 → level_of_known (state u) ≤ level_of_known (state s) → Covers s u
+state_back : (b : Limits) (s u : State) → IsWellFormedState b s → IsWellFormedState b u → Covers u s → u.ccpn < 256 → level_of_known (state u) ≤ level_of_known (state s) → Covers s u
 state_back b s u ps pu c small le =
     let same = ps.regs ∙ sym pu.regs in
     let ws = values_well b s.regs ps.values in
@@ -172,7 +172,7 @@ state_back b s u ps pu c small le =
       locals = locals_back u.locals.items s.locals.items c.locals (omega (arith, le, regs, ie, lower, locals, prio));
     }
 
-exit_back : (b : Limits) (x y : exits.Exit) → IsProperExit b x → IsProperExit b y → CoversKnown (leaving y) (leaving x) → y.ccpn < 256 → level_of_known (leaving y) ≤ level_of_known (leaving x) → CoversKnown (leaving x) (leaving y)
+exit_back : (b : Limits) (x y : exits.Exit) → IsWellFormedExit b x → IsWellFormedExit b y → CoversKnown (leaving y) (leaving x) → y.ccpn < 256 → level_of_known (leaving y) ≤ level_of_known (leaving x) → CoversKnown (leaving x) (leaving y)
 exit_back b x y px py c small le =
     let same = px.regs ∙ sym py.regs in
     let wx = values_well b x.lower px.values in
@@ -186,7 +186,7 @@ exit_back b x y px py c small le =
       priority = omega (arith, le, regs, ie, prio, small);
     }
 
-known_back : (b : Limits) (w u : Known) → IsProperKnown b w → IsProperKnown b u → CoversKnown u w → known_priority u < 256 → level_of_known u ≤ level_of_known w → CoversKnown w u
+known_back : (b : Limits) (w u : Known) → IsWellFormedKnown b w → IsWellFormedKnown b u → CoversKnown u w → known_priority u < 256 → level_of_known u ≤ level_of_known w → CoversKnown w u
 known_back b (state s) (state u) ps pu c small le = state_back b s u ps pu c small le
 known_back b (leaving x) (leaving y) px py c small le = exit_back b x y px py c small le
 known_back b (state s) (leaving y) ps py c small le = absurd c
@@ -199,12 +199,12 @@ priority_falls (state u) (leaving x) c = absurd c
 priority_falls (leaving y) (state s) c = absurd c
 
 -- the join of something that isn't covered has a higher rank
-pub rank_rises : (b : Limits) (image : ImageData) (plan : PlanData) → AreMakerLaws b image plan → (o : Option Known) (v u : Known) → ((w : Known) → o ≡ Some w → IsProperKnown b w) → IsProperKnown b v → raised_at_place b o v ≡ Some u
+pub rank_rises : (b : Limits) (image : ImageData) (plan : PlanData) → AreMakerLaws b image plan → (o : Option Known) (v u : Known) → ((w : Known) → o ≡ Some w → IsWellFormedKnown b w) → IsWellFormedKnown b v → raised_at_place b o v ≡ Some u
     → ((w : Known) → o ≡ Some w → CoversKnown w v → ⊥) → known_priority v < 256 → level_of_place o < level_of_place (Some u)
 rank_rises b image plan laws None v u po pv is new small = omega arith
 rank_rises b image plan laws (Some w) v u po pv is new small =
     let pw = po w refl in
-    let pu = laws.joined_proper w v u pw pv is in
+    let pu = laws.joined_well_formed w v u pw pv is in
     let above = laws.joined_above w v u pw pv is in
     elim (cases_lt (level_of_known w) (level_of_known u)) [
       | inl lt ↦ omega (arith, lt)
@@ -215,7 +215,7 @@ rank_rises b image plan laws (Some w) v u po pv is new small =
 abbrev pub most_rank : ℕ
 most_rank = 2 ^ 37
 
-state_most : (b : Limits) (s : State) → AreLimits b → IsProperState b s → level_of_known (state s) ≤ most_rank
+state_most : (b : Limits) (s : State) → AreLimits b → IsWellFormedState b s → level_of_known (state s) ≤ most_rank
 state_most b s limits p =
     let regs = regs_most s.regs (values_well b s.regs p.values) in
     let e = subst (λ (n : ℕ). level_of_values s.regs ≤ n * 2 ^ 32) p.regs regs in
@@ -225,7 +225,7 @@ state_most b s limits p =
     byte_most true = omega arith
     byte_most false = omega arith
 
-exit_most : (b : Limits) (x : exits.Exit) → IsProperExit b x → level_of_known (leaving x) ≤ most_rank
+exit_most : (b : Limits) (x : exits.Exit) → IsWellFormedExit b x → level_of_known (leaving x) ≤ most_rank
 exit_most b x p =
     let regs = regs_most x.lower (values_well b x.lower p.values) in
     let e = subst (λ (n : ℕ). level_of_values x.lower ≤ n * 2 ^ 32) p.regs regs in
@@ -235,10 +235,10 @@ exit_most b x p =
     byte_most true = omega arith
     byte_most false = omega arith
 
-known_most : (b : Limits) (v : Known) → AreLimits b → IsProperKnown b v → level_of_known v ≤ most_rank
+known_most : (b : Limits) (v : Known) → AreLimits b → IsWellFormedKnown b v → level_of_known v ≤ most_rank
 known_most b (state s) limits p = state_most b s limits p
 known_most b (leaving x) limits p = exit_most b x p
 
-pub at_most : (b : Limits) (o : Option Known) → AreLimits b → ((v : Known) → o ≡ Some v → IsProperKnown b v) → level_of_place o ≤ 1 + most_rank
+pub at_most : (b : Limits) (o : Option Known) → AreLimits b → ((v : Known) → o ≡ Some v → IsWellFormedKnown b v) → level_of_place o ≤ 1 + most_rank
 at_most b None limits p = omega arith
 at_most b (Some v) limits p = omega (arith, known_most b v limits (p v refl))

@@ -18,7 +18,7 @@ use Rattle.depth_maker.specs.declared.table.Table as made
 use Rattle.frame_places.specs.Marks.{AllListed, mark_for, value_for}
 use Rattle.depth_maker.specs.TableLevels.{level, level_of_place, LevelRises, LevelAdvances}
 use Rattle.frame_places.specs.Spots.{spot_eq}
-use Rattle.depth_maker.specs.TableInvariant.{CellsProper}
+use Rattle.depth_maker.specs.TableInvariant.{CellsWellFormed}
 use Rattle.depth_maker.specs.AssignmentCounts.{IsCountedIn}
 use Rattle.frame_places.specs.Counting.{counted_frames_after, counted_points_after}
 use Rattle.depth_maker.proofs.CountedLemmas.{few_spots}
@@ -120,12 +120,12 @@ rises_then s m t (inr a) (inr b) = inr (b.0 ∙ a.0, b.1 ∙ a.1)
 abbrev pub most_level : ℕ
 most_level = 2 ^ 55
 
-pub level_most : (b : Limits) (t : made.Table) → AreLimits b → CellsProper b t.places → IsCountedIn t.places t.points.items t.frames.items → level t ≤ most_level
+pub level_most : (b : Limits) (t : made.Table) → AreLimits b → CellsWellFormed b t.places → IsCountedIn t.places t.points.items t.frames.items → level t ≤ most_level
 unfolding level
-level_most b t limits proper counted =
+level_most b t limits well_formed counted =
     let few = few_spots t.points.items t.frames.items counted.few in
-    let ps = sum_by-le (λ (q : Spot). level_of_place (value_for t.places q)) (1 + most_rank) t.points.items (λ k d lt. at_most b (value_for t.places _) limits (proper _)) in
-    let ks = sum_by-le (λ (k : Key). level_of_place (value_for t.places (Exit k))) (1 + most_rank) t.frames.items (λ k d lt. at_most b (value_for t.places (Exit _)) limits (proper (Exit _))) in
+    let ps = sum_by-le (λ (q : Spot). level_of_place (value_for t.places q)) (1 + most_rank) t.points.items (λ k d lt. at_most b (value_for t.places _) limits (well_formed _)) in
+    let ks = sum_by-le (λ (k : Key). level_of_place (value_for t.places (Exit k))) (1 + most_rank) t.frames.items (λ k d lt. at_most b (value_for t.places (Exit _)) limits (well_formed (Exit _))) in
     omega (arith, few.0, few.1, ps, ks)
 
 -- ---- turns

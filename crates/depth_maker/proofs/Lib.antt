@@ -21,7 +21,7 @@ pub mod PassingLaws
 pub mod PlaceKinds
 pub mod PlaceLaws
 pub mod PlaceRanges
-pub mod ProperDuties
+pub mod WellFormedDuties
 pub mod Reached
 pub mod JoinedContexts
 pub mod JoinLemmas

@@ -14,13 +14,13 @@ use Rattle.cfg_recover.specs.RulesHoldOrFail.{Accepts, limits_in}
 use Rattle.cfg_recover.specs.Assignments.{Place, point, exit, Assignment, frame_of_place, Derived, Closed, IsBelowAt, known_in}
 use Rattle.depth_cert.specs.Known.{Known, state, leaving, CoversKnown}
 use Rattle.cfg_recover.specs.CertRefusals.{MeetsNeeds, IsRefusal}
-use Rattle.depth_maker.specs.DutiesGrow.{IsGround}
+use Rattle.depth_maker.specs.DutiesMonotone.{IsGround}
 use Rattle.depth_maker.specs.MakerLaws.{IsMakerSolution, RefusalsHold, WrittenIsMade, RefusedIsNone, MadeIsLeast}
 use Rattle.depth_maker.specs.LeastCertMade.{needs_in, IsNoWorse, IsMade, IsWritten}
 use Rattle.depth_maker.proofs.Lawful.{lawful}
 use Rattle.depth_maker.proofs.Below.{derived_below}
-use Rattle.depth_maker.proofs.TableLaws.{derived_proper}
-use Rattle.depth_maker.proofs.Accepted.{accepted_closed, accepted_faultless, accepted_proper, at_point, at_exit, All-at, find_agrees}
+use Rattle.depth_maker.proofs.TableLaws.{derived_well_formed}
+use Rattle.depth_maker.proofs.Accepted.{accepted_closed, accepted_faultless, accepted_well_formed, at_point, at_exit, All-at, find_agrees}
 use Rattle.depth_maker.proofs.Sizes.{cert_within}
 use Rattle.depth_maker.proofs.NeedLaws.{derived_needs, refusal_refuted}
 use Rattle.depth_maker.proofs.Solved.{solution_accepted}
@@ -59,7 +59,7 @@ module _ (image : ImageData) (plan : PlanData) (cert : CertData) (ground : IsGro
   solution = record {
     closed = w.closed;
     faultless = w.faultless;
-    proper = derived_proper (limits_in plan cert) image plan (lawful (limits_in plan cert) image plan ground) (known_in cert) w.derived;
+    well_formed = derived_well_formed (limits_in plan cert) image plan (lawful (limits_in plan cert) image plan ground) (known_in cert) w.derived;
     within = cert_within cert w.is_cert;
     needs =
         meets_alike (limits_in plan cert) image plan (known_in cert) (needs_in cert) (λ k. need_of (find_node k cert.nodes)) w.closed
@@ -71,7 +71,7 @@ module _ (image : ImageData) (plan : PlanData) (cert : CertData) (ground : IsGro
       → IsBelowAt (known_in cert) (known_in other)
   least_below other above d is_cert accepted =
       (derived_below (limits_in plan other) image plan (lawful (limits_in plan other) image plan above) (known_in other) (accepted_closed image plan other above entry is_cert accepted)
-      (accepted_faultless image plan other above entry is_cert accepted) (accepted_proper image plan other above entry is_cert accepted) (known_in cert) d).0
+      (accepted_faultless image plan other above entry is_cert accepted) (accepted_well_formed image plan other above entry is_cert accepted) (known_in cert) d).0
 
   least_needs : (other : CertData) → other.version ≡ cert.version → IsGround (limits_in plan other) image plan → Derived (limits_in plan other) image plan (known_in cert) → IsCert other → Accepts image plan other
       → (k : Key) → needs_in cert k ≤ needs_in other k

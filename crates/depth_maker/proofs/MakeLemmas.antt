@@ -15,8 +15,8 @@ use Rattle.depth_cert.proofs.SizeLaws.{cert_most}
 use Rattle.cfg_recover.specs.Entries.{start_key}
 use Rattle.cfg_recover.specs.Assignments.{point, exit}
 use Rattle.cfg_recover.specs.CertRefusals.{IsRefusalFault, IsLeastAssignment, IsRefusal, IsRefusalWith, fault, recursion, need}
-use Rattle.depth_maker.specs.DutiesGrow.{IsGround}
-use Rattle.depth_maker.specs.Answers.{IsGroundOf, IsRefused, Refuses, AnsweredOn}
+use Rattle.depth_maker.specs.DutiesMonotone.{IsGround}
+use Rattle.depth_maker.specs.Answers.{IsGroundOf, IsRefused, Refuses, RefusalIsRight}
 use Rattle.depth_maker.specs.LeastCertMade.{AreMade, IsMade}
 use Rattle.depth_maker.specs.SpelledCert.{AreSpelledBytes}
 use Rattle.depth_maker.specs.Needs.{NeedsOn, NeedsAre}
@@ -36,14 +36,14 @@ use Rattle.depth_maker.proofs.LeastStands.{least_stands}
 use Rattle.depth_maker.proofs.MadeLaws.{made, refused}
 
 -- ---- refusals
-pub fault_refuses : (g : Ground) (rule : ℕ) (k : Key) (p : ℕ) → AnsweredOn g (Fault rule (Point k p)) → Refuses g (Refused rule k p)
+pub fault_refuses : (g : Ground) (rule : ℕ) (k : Key) (p : ℕ) → RefusalIsRight g (Fault rule (Point k p)) → Refuses g (Refused rule k p)
 fault_refuses g rule k p a =
     let e : point k p ≡ point a.0 a.1 = a.2 in
     let key : a.0 ≡ k = cc in
     let addr : a.1 ≡ p = cc in
     fault rule k p (subst (λ (n : ℕ). IsRefusalFault g.bounds.now g.image.now g.plan.now rule k n) addr (subst (λ (z : Key). IsRefusalFault g.bounds.now g.image.now g.plan.now rule z a.1) key a.3))
 
-pub no_exit_refuses : (g : Ground) (rule : ℕ) (k : Key) → AnsweredOn g (Fault rule (Exit k)) → ⊥
+pub no_exit_refuses : (g : Ground) (rule : ℕ) (k : Key) → RefusalIsRight g (Fault rule (Exit k)) → ⊥
 no_exit_refuses g rule k a = absurd (let e : exit k ≡ point a.0 a.1 = a.2 in cc)
 
 -- the table's assignment is the least

@@ -12,14 +12,14 @@ use Rattle.cfg_recover.specs.RulesHoldOrFail.{limits_in, Accepts}
 use Rattle.cfg_recover.specs.Assignments.{point, Assignment, known_in, IsBelowAt, Derived, Closed, HasDuty, AllFaultless, EntersInAssignment}
 use Rattle.depth_cert.specs.Known.{Known, state}
 use Rattle.cfg_recover.specs.CertRefusals.{MeetsNeeds, Reaches, here, by_entry, Recurs, IsRefusalWith, fault, recursion, need, IsRefusalFault}
-use Rattle.depth_maker.specs.DutiesGrow.{IsGround, IsDutyBelow}
+use Rattle.depth_maker.specs.DutiesMonotone.{IsGround, IsDutyBelow}
 use Rattle.depth_maker.proofs.StateGrowth.{same_locals}
-use Rattle.depth_maker.specs.ProperAssignments.{AllProper}
+use Rattle.depth_maker.specs.WellFormedAssignments.{AllWellFormed}
 use Rattle.depth_maker.specs.MakerLaws.{AreMakerLaws}
 use Rattle.depth_maker.proofs.PlaceLaws.{over_state}
 use Rattle.depth_maker.proofs.Below.{derived_below, duty_above, fault_refuted}
 use Rattle.depth_maker.proofs.Lawful.{lawful}
-use Rattle.depth_maker.proofs.Accepted.{accepted_proper, accepted_faultless, accepted_closed, accepted_needs, accepted_start_need, need_in}
+use Rattle.depth_maker.proofs.Accepted.{accepted_well_formed, accepted_faultless, accepted_closed, accepted_needs, accepted_start_need, need_in}
 use Rattle.depth_maker.proofs.Sizes.{accepted_within}
 
 -- a duty that asks for no less than an entry is an entry of the same frame
@@ -27,16 +27,16 @@ enters_above : (t : Key) (u : State) (e : Duty) → IsDutyBelow (enter t u) e �
 enters_above t u (enter j w) h = (w, ap (λ (k : Key). enter k w) (sym h.0))
 enters_above t u _ h = absurd h
 
-module _ (b : Limits) (image : ImageData) (plan : PlanData) (laws : AreMakerLaws b image plan) (c : Assignment) (closed : Closed b image plan c) (faultless : AllFaultless b image plan c) (pc : AllProper b c) where
+module _ (b : Limits) (image : ImageData) (plan : PlanData) (laws : AreMakerLaws b image plan) (c : Assignment) (closed : Closed b image plan c) (faultless : AllFaultless b image plan c) (pc : AllWellFormed b c) where
   -- an entry of a smaller assignment is one of the closed one, with as many locals
-  pub entered_above : (a : Assignment) → IsBelowAt a c → AllProper b a → (k : Key) (p : ℕ) (s : State) (t : Key) → EntersInAssignment b image plan a k p s t
+  pub entered_above : (a : Assignment) → IsBelowAt a c → AllWellFormed b a → (k : Key) (p : ℕ) (s : State) (t : Key) → EntersInAssignment b image plan a k p s t
       → (u : State) × EntersInAssignment b image plan c k p u t × (length u.locals.items ≡ length s.locals.items)
   entered_above a below pa k p s t h =
       let up = duty_above b image plan laws c closed faultless pc a below pa k p s (enter t h.entered) h.has in
       let e = enters_above t h.entered up.1 up.5 in
       (up.0, record { entered = e.0; has = subst (λ (d : Duty). HasDuty b image plan c k p up.0 d) e.1 up.2 }, same_locals up.0 s up.3)
 
-  pub needs_below : (a : Assignment) → IsBelowAt a c → AllProper b a → (needs : Key → ℕ) → MeetsNeeds b image plan c needs → MeetsNeeds b image plan a needs
+  pub needs_below : (a : Assignment) → IsBelowAt a c → AllWellFormed b a → (needs : Key → ℕ) → MeetsNeeds b image plan c needs → MeetsNeeds b image plan a needs
   needs_below a below pa needs m = record {
     locals = λ k p s e.
         let o = below (point k p) (state s) e in
@@ -65,7 +65,7 @@ module _ (image : ImageData) (plan : PlanData) (cert : CertData) (ground : IsGro
   pub accepted_refutes : (r : ℕ) (k : Key) (p : ℕ) → IsRefusalFault (limits_in plan cert) image plan r k p → ⊥
   accepted_refutes =
       fault_refuted (limits_in plan cert) image plan (lawful (limits_in plan cert) image plan ground) (known_in cert) (accepted_closed image plan cert ground entry is_cert accepted)
-      (accepted_faultless image plan cert ground entry is_cert accepted) (accepted_proper image plan cert ground entry is_cert accepted) (accepted_within image plan cert ground entry is_cert accepted)
+      (accepted_faultless image plan cert ground entry is_cert accepted) (accepted_well_formed image plan cert ground entry is_cert accepted) (accepted_within image plan cert ground entry is_cert accepted)
 
   -- the needs of a certificate meet those of each derived assignment
   pub derived_needs : (a : Assignment) → Derived (limits_in plan cert) image plan a → MeetsNeeds (limits_in plan cert) image plan a (need_in image plan cert ground entry is_cert accepted)
@@ -73,9 +73,9 @@ module _ (image : ImageData) (plan : PlanData) (cert : CertData) (ground : IsGro
       let laws = lawful (limits_in plan cert) image plan ground in
       let closed = accepted_closed image plan cert ground entry is_cert accepted in
       let faultless = accepted_faultless image plan cert ground entry is_cert accepted in
-      let proper = accepted_proper image plan cert ground entry is_cert accepted in
-      let h = derived_below (limits_in plan cert) image plan laws (known_in cert) closed faultless proper a d in
-      needs_below (limits_in plan cert) image plan laws (known_in cert) closed faultless proper a h.0 h.1 (need_in image plan cert ground entry is_cert accepted) (accepted_needs image plan cert ground entry is_cert accepted)
+      let well_formed = accepted_well_formed image plan cert ground entry is_cert accepted in
+      let h = derived_below (limits_in plan cert) image plan laws (known_in cert) closed faultless well_formed a d in
+      needs_below (limits_in plan cert) image plan laws (known_in cert) closed faultless well_formed a h.0 h.1 (need_in image plan cert ground entry is_cert accepted) (accepted_needs image plan cert ground entry is_cert accepted)
 
   -- no refusal holds
   pub refusal_refuted : (r : ℕ) (k : Key) (p : ℕ) → IsRefusalWith (limits_in plan cert) image plan r k p → ⊥

@@ -7,7 +7,7 @@ use Rattle.depth_cert.specs.declared.keys.Key.{Key}
 use Rattle.cfg_recover.specs.Entries.{start_key}
 use Rattle.cfg_recover.specs.CertRefusals.{MeetsNeeds}
 use Rattle.frame_places.specs.Numbers.{frame_number_in}
-use Rattle.depth_maker.specs.ProperAssignments.{AllProper}
+use Rattle.depth_maker.specs.WellFormedAssignments.{AllWellFormed}
 use Rattle.frame_places.specs.RowNeeds.{AreRowsWithin, LeastNeeds}
 use Rattle.depth_maker.specs.Rows.{IsRowSource, RowsOn}
 use Rattle.depth_maker.specs.Needs.{NeedsOn}
@@ -16,19 +16,19 @@ use Rattle.depth_maker.specs.SpotsAsPlaces.{place_of_spot}
 use Rattle.depth_maker.specs.TableView.{seen}
 use Rattle.depth_maker.proofs.Lawful.{lawful}
 use Rattle.depth_maker.proofs.NeedLaws.{no_recursion}
-use Rattle.depth_maker.proofs.TableLaws.{derived_proper}
+use Rattle.depth_maker.proofs.TableLaws.{derived_well_formed}
 use Rattle.depth_maker.proofs.RowLaws.{above_by, least_by, rows_within}
 use Rattle.frame_places.specs.declared.needs.row.NeedRow.{NeedRow}
 use Rattle.depth_maker.specs.declared.rows.Source.{Source}
 use Rattle.std.specs.declared.alloc.AllocError.{AllocError}
 
-all_proper : (s : Source) → IsRowSource s → AllProper (s.ground.now).bounds.now (seen s.table.now).cells
-all_proper s source = derived_proper _ _ _ (lawful _ _ _ (s.ground.now).sound) (seen s.table.now).cells (source.done).derived
+all_well_formed : (s : Source) → IsRowSource s → AllWellFormed (s.ground.now).bounds.now (seen s.table.now).cells
+all_well_formed s source = derived_well_formed _ _ _ (lawful _ _ _ (s.ground.now).sound) (seen s.table.now).cells (source.done).derived
 
 pub source_within : (s : Source) (rows : List NeedRow) → IsRowSource s → RowsOn s.ground.now s.table.now rows → AreRowsWithin rows (length (s.table.now).frames.items)
 unfolding seen
 source_within s rows source are =
-    rows_within _ _ _ (seen s.table.now).cells (source.done).closed (map place_of_spot (s.table.now).points.items) (s.table.now).frames.items ((source.done).counted).each rows are (all_proper s source) ((s.ground.now).sound).limits
+    rows_within _ _ _ (seen s.table.now).cells (source.done).closed (map place_of_spot (s.table.now).points.items) (s.table.now).frames.items ((source.done).counted).each rows are (all_well_formed s source) ((s.ground.now).sound).limits
 
 pub source_needs : (s : Source) (rows : List NeedRow) (cap : ℕ) → IsRowSource s → RowsOn s.ground.now s.table.now rows → cap ≡ ((s.ground.now).plan.now).areas - ((s.ground.now).plan.now).reserve
     → (r : Result (Option (Vec ℕ Global)) AllocError) (o : Option (Vec ℕ Global)) → r ≡ Ok o → LeastNeeds (length (s.table.now).frames.items) rows cap r → NeedsOn s o
@@ -38,7 +38,7 @@ source_needs s rows cap source are is r o e h = at o (subst (LeastNeeds (length 
   at None none =
       subst (λ (n : ℕ). (need : Key → ℕ) → MeetsNeeds (s.ground.now).bounds.now (s.ground.now).image.now (s.ground.now).plan.now (seen s.table.now).cells need → n < need (start_key (s.ground.now).image.now (s.ground.now).plan.now)) is
       (above_by _ _ _ (seen s.table.now).cells (source.done).closed (map place_of_spot (s.table.now).points.items) (s.table.now).frames.items ((source.done).counted).each rows are (lawful _ _ _ (s.ground.now).sound)
-      (source.done).derived (source.done).faultless (all_proper s source) cap none)
+      (source.done).derived (source.done).faultless (all_well_formed s source) cap none)
   at (Some needs) some = (
     least_by _ _ _ (seen s.table.now).cells (source.done).closed (map place_of_spot (s.table.now).points.items) (s.table.now).frames.items ((source.done).counted).each rows are needs.items some.0 some.1 some.2,
     (λ k. subst (λ (n : ℕ). slice_index needs.items (frame_number_in (s.table.now).frames.items k) ≤ n) is (some.3 (frame_number_in (s.table.now).frames.items k))),

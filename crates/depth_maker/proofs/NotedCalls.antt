@@ -10,7 +10,7 @@ use Rattle.value_domain.specs.declared.states.State.{State}
 use Rattle.value_domain.specs.Limits.{Limits}
 use Rattle.depth_cert.specs.declared.keys.Key.{Key}
 use Rattle.depth_cert.specs.Known.{state}
-use Rattle.depth_cert.specs.Proper.{IsProperState}
+use Rattle.depth_cert.specs.WellFormed.{IsWellFormedState}
 use Rattle.cfg_recover.specs.Assignments.{point}
 use Rattle.cfg_recover.specs.Duties.{Owed, enter, entered_and_back, owed, resume}
 use Rattle.cfg_recover.specs.Entries.{call_entry, call_key}
@@ -42,29 +42,29 @@ module _ (b : Limits) (image : ImageData) (plan : PlanData) (k : Key) (p : ℕ) 
   called back q = entered_and_back 5 (call_key k q) (call_entry u) back
 
   -- the entry of a call is at the limits
-  pub entry_proper : IsProperState b u → IsProperState b (call_entry u)
-  entry_proper proper = record { regs = proper.regs; values = proper.values; few = omega arith }
+  pub entry_well_formed : IsWellFormedState b u → IsWellFormedState b (call_entry u)
+  entry_well_formed well_formed = record { regs = well_formed.regs; values = well_formed.values; few = omega arith }
 
   -- nothing has to be joined
-  pub enters_already : (laws : AreMakerLaws b image plan) (s : made.Table) (h : LastCall) (targets : List ℕ) → IsFine b image plan s → IsProperState b u → AreCallsCovered b (seen s).cells h → IsWithinCall h k targets (state (call_entry u))
+  pub enters_already : (laws : AreMakerLaws b image plan) (s : made.Table) (h : LastCall) (targets : List ℕ) → IsFine b image plan s → IsWellFormedState b u → AreCallsCovered b (seen s).cells h → IsWithinCall h k targets (state (call_entry u))
       → DutiesJoined b image plan s s k p u (map entered targets)
-  enters_already laws s h targets fine proper covered asks = record {
+  enters_already laws s h targets fine well_formed covered asks = record {
     fine = fine;
     keeps = keeps_all b image plan s;
-    settled = λ free d c. call_settles b image plan laws (seen s) k p u (call_entry u) h targets covered (entry_proper proper) asks d c;
+    settled = λ free d c. call_settles b image plan laws (seen s) k p u (call_entry u) h targets covered (entry_well_formed well_formed) asks d c;
   }
 
   -- the call of the point is noted
-  pub call_noted : (s m : made.Table) (h : LastCall) (targets : List ℕ) → IsCallOf h k targets (state (call_entry u)) → IsProperState b u
+  pub call_noted : (s m : made.Table) (h : LastCall) (targets : List ℕ) → IsCallOf h k targets (state (call_entry u)) → IsWellFormedState b u
       → is_queued (mark_for m.places (spot_of (point k p))) ≡ false → DutiesJoined b image plan s m k p u (map entered targets)
       → DutiesJoined b image plan s (record m { covered = record { interrupts = (m.covered).interrupts; call = Some h } }) k p u (map entered targets)
   unfolding seen level
-  call_noted s m h targets from proper free paid = record {
+  call_noted s m h targets from well_formed free paid = record {
     fine = record {
       table = (paid.fine).table;
       listed = (paid.fine).listed;
       counted = (paid.fine).counted;
-      covered = ((paid.fine).covered.0, call_new b (seen m) k p u (call_entry u) h targets from (entry_proper proper) (λ d c. paid.settled free d c));
+      covered = ((paid.fine).covered.0, call_new b (seen m) k p u (call_entry u) h targets from (entry_well_formed well_formed) (λ d c. paid.settled free d c));
       exits = (paid.fine).exits;
       readers = (paid.fine).readers;
       plain = (paid.fine).plain;

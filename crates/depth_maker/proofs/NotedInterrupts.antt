@@ -6,7 +6,7 @@ use Rattle.tcd_plan.specs.PlanData.{PlanData}
 use Rattle.value_domain.specs.declared.states.State.{State}
 use Rattle.value_domain.specs.Limits.{AreLimits, Limits}
 use Rattle.depth_cert.specs.declared.keys.Key.{Key}
-use Rattle.depth_cert.specs.Proper.{IsProperState}
+use Rattle.depth_cert.specs.WellFormed.{IsWellFormedState}
 use Rattle.cfg_recover.specs.Assignments.{point}
 use Rattle.cfg_recover.specs.Duties.{Owed, interrupts_of}
 use Rattle.frame_places.specs.Marks.{is_queued, mark_for}
@@ -23,8 +23,8 @@ use Rattle.depth_maker.specs.declared.interrupt_contexts.LastInterrupts.{LastInt
 use Rattle.depth_maker.specs.declared.table.Table as made
 use Rattle.depth_maker.proofs.InterruptLaws.{interrupts_new, interrupts_settle}
 use Rattle.depth_maker.proofs.JoinedContexts.{contexts_join}
-use Rattle.depth_maker.proofs.PartLemmas.{keeps_all, owed_proper}
-use Rattle.depth_maker.proofs.TableLaws.{derived_proper}
+use Rattle.depth_maker.proofs.PartLemmas.{keeps_all, owed_well_formed}
+use Rattle.depth_maker.proofs.TableLaws.{derived_well_formed}
 
 module _ (b : Limits) (image : ImageData) (plan : PlanData) (k : Key) (p : ℕ) (u : State) where
   -- nothing has to be joined
@@ -61,11 +61,11 @@ module _ (b : Limits) (image : ImageData) (plan : PlanData) (k : Key) (p : ℕ) 
     settled = paid.settled;
   }
 
-  module _ (laws : AreMakerLaws b image plan) (s m : made.Table) (pu : IsProperState b u) (on : IsTrue u.ie) (owes : (d : Owed) → Contains (interrupts_of plan k u) d → VisitedPointOwes b image plan k p u d.duty)
+  module _ (laws : AreMakerLaws b image plan) (s m : made.Table) (pu : IsWellFormedState b u) (on : IsTrue u.ie) (owes : (d : Owed) → Contains (interrupts_of plan k u) d → VisitedPointOwes b image plan k p u d.duty)
       (free : is_queued (mark_for m.places (spot_of (point k p))) ≡ false) (paid : DutiesJoined b image plan s m k p u (interrupts_of plan k u)) where
     -- the entries of the point are covered
     point_entered : (h : InterruptContext) → IsContextOf h k.is u → AreHandlersEntered b plan (seen m).cells h
-    point_entered h from = interrupts_new b plan (seen m) k p u h from pu on (λ d c. owed_proper b image plan k p u laws d.duty pu (owes d c)) (λ d c. paid.settled free d c)
+    point_entered h from = interrupts_new b plan (seen m) k p u h from pu on (λ d c. owed_well_formed b image plan k p u laws d.duty pu (owes d c)) (λ d c. paid.settled free d c)
 
     -- the context of the point is noted
     pub joined_and_noted : (h : InterruptContext) → IsContextOf h k.is u
@@ -79,6 +79,6 @@ module _ (b : Limits) (image : ImageData) (plan : PlanData) (k : Key) (p : ℕ) 
         let g : InterruptContext = record { is = k.is; sp = a10_of u; ccpn = u.ccpn } in
         let cells = (seen m).cells in
         let entered : AreHandlersEntered b plan cells h = subst (IsContextEntered b plan cells) last (paid.fine).covered.0.0 in
-        let proper = derived_proper b image plan laws cells ((paid.fine).table).derived in
-        let both = contexts_join b cells limits proper plan h g (sym alike.same) (sym alike.ccpn) entered (point_entered g (record { same = refl; sp = refl; ccpn = refl })) in
+        let well_formed = derived_well_formed b image plan laws cells ((paid.fine).table).derived in
+        let both = contexts_join b cells limits well_formed plan h g (sym alike.same) (sym alike.ccpn) entered (point_entered g (record { same = refl; sp = refl; ccpn = refl })) in
         contexts_noted s m (record { last = Some (joined_context b h (a10_of u)); before = (m.covered).interrupts.before }) (both, (paid.fine).covered.0.1) paid

@@ -20,7 +20,7 @@ use Rattle.depth_cert.specs.Spelling.{bytes_of_cert, bytes_of_exit, bytes_of_key
 use Rattle.cfg_recover.proofs.Members.{contains_map}
 use Rattle.cfg_recover.specs.Assignments.{point, exit}
 use Rattle.depth_cert.specs.Known.{Known, state, leaving, IsNoExit, exit_if_known}
-use Rattle.depth_cert.specs.Proper.{IsProperExit}
+use Rattle.depth_cert.specs.WellFormed.{IsWellFormedExit}
 use Rattle.depth_maker.specs.Needs.{need_by}
 use Rattle.depth_maker.specs.Rows.{IsRowSource}
 use Rattle.depth_maker.specs.SpelledCert.{AreSpelledFrames, AreSpelledPointsOf, IsSpelledFrameOf, SpellsTableCert, HasSpelledCcpns, IsSpelledVersion, IsSpelledInOrder, IsSpelledOn, SpellsTablePoint, SpellsTablePoints, SpellsTableExit, SpellsTableNode, SpellsTableNodes, spelled_cert_on, spelled_exit_on, spelled_known_on, spelled_node_on, spelled_point_on, spelled_state_at}
@@ -41,7 +41,7 @@ use Rattle.depth_maker.proofs.CountedLemmas.{few_spots}
 use Rattle.depth_maker.proofs.FindLemmas.{flat_twice, has_filter, length_kept}
 use Rattle.depth_maker.proofs.PlaceKinds.{IsOfKind, derived_kinds}
 use Rattle.depth_maker.proofs.PlaceRanges.{derived_in_range}
-use Rattle.depth_maker.proofs.RowSteps.{done_proper}
+use Rattle.depth_maker.proofs.RowSteps.{done_well_formed}
 use Rattle.depth_maker.proofs.SpelledLaws.{are_ranged, is_written, point_here, value_in}
 
 -- values at the limits are well-formed
@@ -89,7 +89,7 @@ no_exit_there s source k w at none = of_kind w (derived_kinds _ _ _ (seen s.tabl
 pub exit_well : (s : Source) → IsRowSource s → (k : Key) (x : exits.Exit) → spelled_known_on s (exit k) ≡ Some (leaving x) → All IsWell x.lower
 unfolding seen
 exit_well s source k x at =
-    let good : IsProperExit (s.ground.now).bounds.now x = done_proper s.ground.now s.table.now source.done (Exit k) (leaving x) at in
+    let good : IsWellFormedExit (s.ground.now).bounds.now x = done_well_formed s.ground.now s.table.now source.done (Exit k) (leaving x) at in
     well_values (s.ground.now).bounds.now x.lower good.values
 
 pub writes_exit : (s : Source) (k : Key) (x : exits.Exit) (old new : List ℕ) → spelled_known_on s (exit k) ≡ Some (leaving x) → x.ccpn < 2 ^ 8 → new ≡ old ++ bytes_of_exit (Some x) → SpellsTableExit s k old new

@@ -28,8 +28,8 @@ use Rattle.store_ranges.specs.Accesses.{are_aligned}
 use Rattle.cfg_recover.proofs.CodeLaws.{IsCode-bounded}
 use Rattle.cfg_recover.proofs.Members.{contains_among}
 use Rattle.cfg_recover.proofs.LocalLaws.{are_aligned-is}
-use Rattle.depth_maker.specs.DutiesGrow.{IsGround, FaultsFall}
-use Rattle.depth_cert.specs.Proper.{IsProperState}
+use Rattle.depth_maker.specs.DutiesMonotone.{IsGround, FaultsFall}
+use Rattle.depth_cert.specs.WellFormed.{IsWellFormedState}
 use Rattle.depth_maker.proofs.StateGrowth.{same_locals, reg_grows}
 use Rattle.depth_maker.proofs.EffectGrowth.{address_grows, address_value}
 
@@ -119,8 +119,8 @@ module _ (b : Limits) (plan : PlanData) (s t : State) (low : IsSoundSetting b pl
     writes = h.writes;
   }
 
-pub setting_of : (b : Limits) (image : ImageData) (plan : PlanData) (s : State) → IsGround b image plan → IsProperState b s → IsSoundSetting b plan s
-setting_of b image plan s ground proper = record { limits = ground.limits; plan = ground.is_plan; regs = proper.regs; values = proper.values }
+pub setting_of : (b : Limits) (image : ImageData) (plan : PlanData) (s : State) → IsGround b image plan → IsWellFormedState b s → IsSoundSetting b plan s
+setting_of b image plan s ground well_formed = record { limits = ground.limits; plan = ground.is_plan; regs = well_formed.regs; values = well_formed.values }
 
 pub faults_fall : FaultsFall
 faults_fall b image plan key p s t ground ps pt c h r = record {

@@ -21,13 +21,13 @@ use Rattle.cfg_recover.specs.declared.local_rules.Located.{Located}
 use Rattle.cfg_recover.proofs.Members.{contains_map}
 use Rattle.cfg_recover.specs.Assignments.{Assignment, point, exit, HasDuty, Asks, Derived, raised_at_place, asked_by_resume}
 use Rattle.depth_cert.specs.Known.{Known, state, leaving}
-use Rattle.depth_cert.specs.Proper.{IsProperState}
+use Rattle.depth_cert.specs.WellFormed.{IsWellFormedState}
 use Rattle.cfg_recover.proofs.CodeLaws.{IsCode-one}
-use Rattle.depth_maker.specs.ProperAssignments.{IsProperDuty}
+use Rattle.depth_maker.specs.WellFormedAssignments.{IsWellFormedDuty}
 use Rattle.depth_maker.specs.MakerLaws.{AreMakerLaws}
 use Rattle.depth_maker.specs.Covered.{EntriesCovered}
 use Rattle.depth_maker.specs.TableView.{seen}
-use Rattle.depth_maker.specs.TableInvariant.{Settled, IsResumed, TableReadsExits, FineOn, IsFine}
+use Rattle.depth_maker.specs.TableInvariant.{Settled, IsResumed, TableReadsExits, TableHolds, IsFine}
 use Rattle.depth_maker.proofs.PlaceLaws.{one_state}
 use Rattle.depth_maker.proofs.TableLaws.{table_marked, settled_again}
 use Rattle.frame_places.specs.declared.places.Spot.{Spot}
@@ -76,7 +76,7 @@ module _ (b : Limits) (image : ImageData) (plan : PlanData) (k : Key) (p : ℕ) 
   pub duties_none : (s : made.Table) → IsFine b image plan s → DutiesJoined b image plan s s k p u []
   duties_none s fine = record { fine = fine; keeps = keeps_all b image plan s; settled = λ free d c. absurd (omega (arith, c.1)) }
 
-  pub duties_then : (s m t : made.Table) (ds es : List Owed) → IsProperState b u → ((d : Owed) → Contains ds d → IsProperDuty b d.duty) → DutiesJoined b image plan s m k p u ds → DutiesJoined b image plan m t k p u es
+  pub duties_then : (s m t : made.Table) (ds es : List Owed) → IsWellFormedState b u → ((d : Owed) → Contains ds d → IsWellFormedDuty b d.duty) → DutiesJoined b image plan s m k p u ds → DutiesJoined b image plan m t k p u es
       → DutiesJoined b image plan s t k p u (ds ++ es)
   duties_then s m t ds es pu pd first then_ = record {
     fine = then_.fine;
@@ -194,7 +194,7 @@ module _ (b : Limits) (image : ImageData) (plan : PlanData) (k : Key) (p : ℕ) 
   unfolding seen
   visited_kept s t v fine keeps = record {
     fine = fine;
-    proper = v.proper;
+    well_formed = v.well_formed;
     at = λ free. (keeps.each (spot_of (point k p)) free).1 ∙ v.at (sym (ap is_queued (keeps.each (spot_of (point k p)) free).0) ∙ free);
     stands = stands_kept s t keeps v.stands;
   }
@@ -203,12 +203,12 @@ module _ (b : Limits) (image : ImageData) (plan : PlanData) (k : Key) (p : ℕ) 
   visited_after s t ds v paid = visited_kept s t v paid.fine paid.keeps
 
   -- duties are at the limits
-  pub owed_proper : (laws : AreMakerLaws b image plan) (d : Duty) → IsProperState b u → VisitedPointOwes b image plan k p u d → IsProperDuty b d
-  owed_proper laws d proper o = subst (IsProperDuty b) o.is (laws.duties_proper k p u o.shape o.size o.owed proper o.faultless o.code o.listed)
+  pub owed_well_formed : (laws : AreMakerLaws b image plan) (d : Duty) → IsWellFormedState b u → VisitedPointOwes b image plan k p u d → IsWellFormedDuty b d
+  owed_well_formed laws d well_formed o = subst (IsWellFormedDuty b) o.is (laws.duties_well_formed k p u o.shape o.size o.owed well_formed o.faultless o.code o.listed)
 
   pub duties_both : (laws : AreMakerLaws b image plan) (s m t : made.Table) (ds es : List Owed) → IsVisited b image plan s k p u → ((d : Owed) → Contains ds d → VisitedPointOwes b image plan k p u d.duty)
       → DutiesJoined b image plan s m k p u ds → DutiesJoined b image plan m t k p u es → DutiesJoined b image plan s t k p u (ds ++ es)
-  duties_both laws s m t ds es v owes first then_ = duties_then s m t ds es v.proper (λ d c. owed_proper laws d.duty v.proper (owes d c)) first then_
+  duties_both laws s m t ds es v owes first then_ = duties_then s m t ds es v.well_formed (λ d c. owed_well_formed laws d.duty v.well_formed (owes d c)) first then_
 
   pub duties_from : (s m t : made.Table) (ds : List Owed) → JoinKeeps b image plan s m → DutiesJoined b image plan m t k p u ds → DutiesJoined b image plan s t k p u ds
   duties_from s m t ds keeps paid = record { fine = paid.fine; keeps = Keeps-trans b image plan s m t keeps paid.keeps; settled = paid.settled }
@@ -391,7 +391,7 @@ unfolding seen
 asks_again b image plan s m y v places asks = subst (λ (a : Assignment). Asks b image plan a (place_of_spot y) v) (λ i q. sym (same_value s.places m.places places (spot_of q)) i) asks
 
 -- nothing at all changed
-pub all_left : (g : Ground) (s : made.Table) → FineOn g s → IsLeft g s s
+pub all_left : (g : Ground) (s : made.Table) → TableHolds g s → IsLeft g s s
 all_left g s fine = record { fine = fine; keeps = keeps_all g.bounds.now g.image.now g.plan.now s; entries = refl; rest = refl }
 
 -- the visited place is the same

@@ -14,7 +14,7 @@ use Rattle.value_domain.specs.Limits.{Limits}
 use Rattle.vd_transfer.specs.EffectsOnStates.{transfer_of}
 use Rattle.depth_cert.specs.declared.keys.Key.{Key}
 use Rattle.depth_cert.specs.Known.{state}
-use Rattle.depth_cert.specs.Proper.{IsProperState}
+use Rattle.depth_cert.specs.WellFormed.{IsWellFormedState}
 use Rattle.cfg_recover.specs.Code.{IsCode}
 use Rattle.cfg_recover.specs.LocalRules.{targets_of}
 use Rattle.cfg_recover.specs.LocalFaults.{IsFaultless}
@@ -42,7 +42,7 @@ use Rattle.depth_maker.specs.declared.table.Table as made
 use Rattle.depth_maker.proofs.DutyParts.{interrupts_off}
 use Rattle.depth_maker.proofs.JoinLemmas.{the_joined}
 use Rattle.depth_maker.proofs.NotedInterrupts.{duties_already}
-use Rattle.depth_maker.proofs.PartLemmas.{Keeps-trans, duties_all, duties_jump, duties_none, duties_then, has_duty_at, jump_asks, owed_proper}
+use Rattle.depth_maker.proofs.PartLemmas.{Keeps-trans, duties_all, duties_jump, duties_none, duties_then, has_duty_at, jump_asks, owed_well_formed}
 
 -- ---- the instructions
 nothing_duties : (b : Limits) (image : ImageData) (plan : PlanData) (p n : ℕ) (k : Key) (u : State) → duties_of b image plan k p u Nothing n ≡ owed 4 (jump (machine_address_ahead p n) u) ∷ interrupts_of plan k u
@@ -134,13 +134,13 @@ module _ (b : Limits) (image : ImageData) (plan : PlanData) (k : Key) (p : ℕ) 
         (owes (owed 4 (jump next u)) (Contains-append_left (owed 4 (jump next u) ∷ []) (interrupts_of plan k u) (owed 4 (jump next u)) (Contains-push [] (owed 4 (jump next u))))))
 
     -- the successor was unknown, and has the state of the point now
-    pub passed_on : (laws : AreMakerLaws b image plan) (t : made.Table) → IsFine b image plan s → IsProperState b u → DutiesJoined b image plan s s k p u (interrupts_of plan k u) → u.ccpn < 256
+    pub passed_on : (laws : AreMakerLaws b image plan) (t : made.Table) → IsFine b image plan s → IsWellFormedState b u → DutiesJoined b image plan s s k p u (interrupts_of plan k u) → u.ccpn < 256
         → JoinedAlone b s t (Point k next) (state u) → VisitJoinsPoint b image plan s t (Point k p)
-    passed_on laws t fine proper irqs small rose =
+    passed_on laws t fine well_formed irqs small rose =
         let joined : Joined b image plan s t (Point k next) (state u) =
         the_joined b image plan laws s t t (Point k next) (state u) passing_asks rose (Requeues-none t.places (IsAmongReaders (get spot_eq s.readers (Point k next))) (λ q h. fine.exits k next q h)) rose.listed refl refl refl refl refl fine small in
-        let both = duties_then b image plan k p u s s t (interrupts_of plan k u) (owed 4 (jump next u) ∷ []) proper
-        (λ d c. owed_proper b image plan k p u laws d.duty proper (owes d (Contains-append_right (owed 4 (jump next u) ∷ []) (interrupts_of plan k u) d c))) irqs (duties_jump b image plan k p u s t 4 next u joined) in
+        let both = duties_then b image plan k p u s s t (interrupts_of plan k u) (owed 4 (jump next u) ∷ []) well_formed
+        (λ d c. owed_well_formed b image plan k p u laws d.duty well_formed (owes d (Contains-append_right (owed 4 (jump next u) ∷ []) (interrupts_of plan k u) d c))) irqs (duties_jump b image plan k p u s t 4 next u joined) in
         duties_all b image plan k p u s t passes.shape passes.size at faultless passes.code
         (subst (λ (ds : List Owed). DutiesJoined b image plan s t k p u ds) (sym (passes.duties b k u)) (turned s t (interrupts_of plan k u) (owed 4 (jump next u) ∷ []) both))
 

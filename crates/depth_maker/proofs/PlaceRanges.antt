@@ -15,16 +15,16 @@ use Rattle.cfg_recover.specs.LocalRules.{LocalRule}
 use Rattle.cfg_recover.specs.Duties.{Duty, jump, enter, resume, leave, Owed, duties_of}
 use Rattle.cfg_recover.specs.Assignments.{Place, point, exit, Assignment, same_place, asked_by_duty, Asks, Derived, begins, joins, first_place}
 use Rattle.depth_cert.specs.Known.{Known, state, leaving}
-use Rattle.depth_cert.specs.Proper.{IsProperState}
+use Rattle.depth_cert.specs.WellFormed.{IsWellFormedState}
 use Rattle.cfg_recover.proofs.DutyView.{DutyAt, next, straight, taken, target, called_back, system_back, returns, resumes, duty_at}
 use Rattle.cfg_recover.proofs.CodeLaws.{IsCode-bounded}
-use Rattle.depth_maker.specs.DutiesGrow.{IsGround}
-use Rattle.depth_maker.specs.ProperAssignments.{AllProper}
+use Rattle.depth_maker.specs.DutiesMonotone.{IsGround}
+use Rattle.depth_maker.specs.WellFormedAssignments.{AllWellFormed}
 use Rattle.depth_maker.proofs.PlaceLaws.{place_tells, from_if, resumed_some}
 use Rattle.depth_maker.proofs.OwnGrowth.{setting_of}
 use Rattle.depth_maker.proofs.KeyDuties.{HasKey, duties_keys, target_small}
 use Rattle.depth_maker.proofs.Lawful.{lawful}
-use Rattle.depth_maker.proofs.TableLaws.{derived_proper}
+use Rattle.depth_maker.proofs.TableLaws.{derived_well_formed}
 
 -- a frame that may have an exit
 abbrev pub MayLeave : Key → Type 0
@@ -45,14 +45,14 @@ StaysInRange key (leave x) = MayLeave key
 moved_small : (p n : ℕ) → machine_address_ahead p n < 2 ^ 32
 moved_small p n = omega arith
 
-module _ (b : Limits) (image : ImageData) (plan : PlanData) (key : Key) (p : ℕ) (s : State) (ground : IsGround b image plan) (proper : IsProperState b s) (is_key : IsKey key) where
+module _ (b : Limits) (image : ImageData) (plan : PlanData) (key : Key) (p : ℕ) (s : State) (ground : IsGround b image plan) (well_formed : IsWellFormedState b s) (is_key : IsKey key) where
   -- only a called function returns; of the handlers, only that of system calls returns to its
   -- caller
   stays_by : (shape : Shape) (n : ℕ) (d : Owed) → IsShape shape → LocalRule b plan key p s shape 6 → DutyAt b image plan key p s n shape d → StaysInRange key d.duty
   stays_by _ n _ is own (next shape e) = moved_small p n
   stays_by _ n _ is own (straight test x y by lowers t e) = moved_small p n
   stays_by _ n _ is own (taken test x y by lowers t e) = moved_small p by
-  stays_by _ n _ is own (target to q c) = target_small b image plan key p s (setting_of b image plan s ground proper) is_key to is q c
+  stays_by _ n _ is own (target to q c) = target_small b image plan key p s (setting_of b image plan s ground well_formed) is_key to is q c
   stays_by _ n _ is own (called_back to q c) = moved_small p n
   stays_by _ n _ is own (system_back tin) = moved_small p n
   stays_by _ n _ is own returns = inl (own.returns refl).0
@@ -70,10 +70,10 @@ asked_in_range a key s (resume k q) y v is has stays e = subst IsInRange (resume
 asked_in_range a key s (leave x) y v is has stays e = let f : (exit key, leaving x) ≡ (y, v) = cc in subst (λ (w : Place × Known). IsInRange w.0) f (is, stays)
 
 module _ (b : Limits) (image : ImageData) (plan : PlanData) (ground : IsGround b image plan) where
-  asks_in_range : (a : Assignment) → AllProper b a → ((x : Place) (v : Known) → a x ≡ Some v → IsInRange x) → (y : Place) (v : Known) → Asks b image plan a y v → IsInRange y
-  asks_in_range a proper old y v k =
+  asks_in_range : (a : Assignment) → AllWellFormed b a → ((x : Place) (v : Known) → a x ≡ Some v → IsInRange x) → (y : Place) (v : Known) → Asks b image plan a y v → IsInRange y
+  asks_in_range a well_formed old y v k =
       let h = k.has in
-      let s = proper (point k.key k.addr) (state k.before) h.at in
+      let s = well_formed (point k.key k.addr) (state k.before) h.at in
       let is = (old (point k.key k.addr) (state k.before) h.at).0 in
       let shape = IsCode-bounded image plan k.addr h.shape h.size h.code in
       let keys = duties_keys b image plan k.key k.addr k.before (setting_of b image plan k.before ground s) is h.shape h.size shape h.owed h.listed in
@@ -92,6 +92,6 @@ module _ (b : Limits) (image : ImageData) (plan : PlanData) (ground : IsGround b
       ]
   derived_in_range _ (joins a after z d j) y v at =
       elim (from_if (same_place y z) j.known (a y) (after y) v (j.is y) at) [
-        | inl h ↦ subst IsInRange (sym (place_tells y z h.0)) (asks_in_range a (derived_proper b image plan (lawful b image plan ground) a d) (derived_in_range a d) z j.value j.asks)
+        | inl h ↦ subst IsInRange (sym (place_tells y z h.0)) (asks_in_range a (derived_well_formed b image plan (lawful b image plan ground) a d) (derived_in_range a d) z j.value j.asks)
         | inr h ↦ derived_in_range a d y v h.1
       ]

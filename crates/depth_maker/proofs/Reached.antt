@@ -11,7 +11,7 @@ use Rattle.cfg_recover.specs.Duties.{Duty, jump, enter, resume, leave}
 use Rattle.cfg_recover.specs.Assignments.{Place, point, exit, Assignment, same_place, frame_of_place, asked_by_duty, HasDuty, Joins, Derived, begins, joins, Closed, first_place, AllFaultless, EntersInAssignment}
 use Rattle.depth_cert.specs.Known.{Known, state, leaving}
 use Rattle.cfg_recover.specs.CertRefusals.{MeetsNeeds, Reaches, here, by_entry}
-use Rattle.depth_maker.specs.ProperAssignments.{AllProper}
+use Rattle.depth_maker.specs.WellFormedAssignments.{AllWellFormed}
 use Rattle.depth_maker.specs.MakerLaws.{AreMakerLaws}
 use Rattle.depth_maker.proofs.PlaceLaws.{place_tells, place_same, from_if, resumed_some}
 use Rattle.depth_maker.proofs.Below.{derived_below}
@@ -58,7 +58,7 @@ module _ (b : Limits) (image : ImageData) (plan : PlanData) where
   reaches_then c j t p s e _ here = by_entry j p s t e here
   reaches_then c j t p s e _ (by_entry k q u l f r) = by_entry k q u l f (reaches_then c j t p s e l r)
 
-  module _ (laws : AreMakerLaws b image plan) (c : Assignment) (closed : Closed b image plan c) (faultless : AllFaultless b image plan c) (pc : AllProper b c) where
+  module _ (laws : AreMakerLaws b image plan) (c : Assignment) (closed : Closed b image plan c) (faultless : AllFaultless b image plan c) (pc : AllWellFormed b c) where
     joined_reached : (a after : Assignment) (y : Place) → Derived b image plan a → Joins b image plan a after y
         → ((x : Place) (v : Known) → a x ≡ Some v → Reaches b image plan c (frame_of_place x) (start_key image plan)) → Reaches b image plan c (frame_of_place y) (start_key image plan)
     joined_reached a after y d j old =

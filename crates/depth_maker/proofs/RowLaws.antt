@@ -23,7 +23,7 @@ use Rattle.cfg_recover.proofs.Members.{contains_map}
 use Rattle.depth_maker.specs.AssignmentCounts.{AreCounted}
 use Rattle.depth_maker.specs.EnteredFrames.{entered_in}
 use Rattle.frame_places.specs.Numbers.{frame_number_in}
-use Rattle.depth_maker.specs.ProperAssignments.{AllProper}
+use Rattle.depth_maker.specs.WellFormedAssignments.{AllWellFormed}
 use Rattle.depth_maker.specs.MakerLaws.{AreMakerLaws}
 use Rattle.frame_places.specs.RowNeeds.{MeetsRows, AreNeedsLow, AreRowsWithin}
 use Rattle.depth_maker.specs.Rows.{AreRows}
@@ -121,10 +121,10 @@ module _ (b : Limits) (image : ImageData) (plan : PlanData) (a : Assignment) (cl
   }
 
   -- the rows are about these frames
-  pub rows_within : AllProper b a → AreLimits b → AreRowsWithin rows (length ks)
-  rows_within proper limits = record {
+  pub rows_within : AllWellFormed b a → AreLimits b → AreRowsWithin rows (length ks)
+  rows_within well_formed limits = record {
     node = λ row c. let s = are.sound row c in subst (λ (n : ℕ). n < length ks) (sym (s.4).node) (numbered_at ks s.0 first (known (point s.0 s.1) (state s.2) s.3)).0;
-    held = λ row c. let s = are.sound row c in let f = (proper (point s.0 s.1) (state s.2) s.3).few in omega (arith, (s.4).held, f, limits.few_locals);
+    held = λ row c. let s = are.sound row c in let f = (well_formed (point s.0 s.1) (state s.2) s.3).few in omega (arith, (s.4).held, f, limits.few_locals);
     into = λ row t c i.
         let s = are.sound row c in
         let r = s.4 in
@@ -138,11 +138,11 @@ module _ (b : Limits) (image : ImageData) (plan : PlanData) (a : Assignment) (cl
   some_of (Some v) h = (v, refl)
 
   -- if some number of each choice is above the cap, the start's is
-  pub above_by : (laws : AreMakerLaws b image plan) (derived : Derived b image plan a) (faultless : AllFaultless b image plan a) (proper : AllProper b a) (cap : ℕ)
+  pub above_by : (laws : AreMakerLaws b image plan) (derived : Derived b image plan a) (faultless : AllFaultless b image plan a) (well_formed : AllWellFormed b a) (cap : ℕ)
       → ((other : ℕ → ℕ) → MeetsRows other rows → (i : ℕ) × (i < length ks) × (cap < other i)) → (need : Key → ℕ) → MeetsNeeds b image plan a need → cap < need (start_key image plan)
-  above_by laws derived faultless proper cap none need m =
+  above_by laws derived faultless well_formed cap none need m =
       let h = none (λ i. need (get_or ks i first)) (meets_rows need m) in
       let k = get_or ks h.0 first in
       let e = some_of (a (point k k.entry)) (counted.entered k (Contains-get_or ks h.0 first h.1)) in
-      let most = needs_at_most b image plan laws a closed faultless proper a derived need m (point k k.entry) e.0 e.1 in
+      let most = needs_at_most b image plan laws a closed faultless well_formed a derived need m (point k k.entry) e.0 e.1 in
       omega (arith, h.2, most)

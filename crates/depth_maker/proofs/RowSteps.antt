@@ -18,7 +18,7 @@ use Rattle.frame_places.specs.declared.places.Marked.{Marked}
 use Rattle.value_domain.specs.declared.states.State.{State}
 use Rattle.depth_cert.specs.declared.keys.Key.{Key}
 use Rattle.cfg_recover.specs.Assignments.{point, exit}
-use Rattle.depth_cert.specs.Proper.{IsProperKnown}
+use Rattle.depth_cert.specs.WellFormed.{IsWellFormedKnown}
 use Rattle.depth_maker.specs.Rows.{IsRowAt, AddsPointRow, RowFramesKnownBy, HaveRows, IsDraft, IsKnownRowPoint, IsPlainRow, IsPointRow, IsRowSource, RowsOn}
 use Rattle.depth_maker.specs.TableInvariant.{IsDone}
 use Rattle.depth_maker.specs.TableView.{seen}
@@ -29,7 +29,7 @@ use Rattle.depth_maker.proofs.PlaceKinds.{IsOfKind, derived_kinds}
 use Rattle.depth_maker.proofs.PlaceLaws.{one_state}
 use Rattle.depth_maker.proofs.PointEntries.{has_entry}
 use Rattle.depth_maker.proofs.RowLaws.{known_frame, enters_of, entered_frame}
-use Rattle.depth_maker.proofs.TableLaws.{derived_proper}
+use Rattle.depth_maker.proofs.TableLaws.{derived_well_formed}
 use Rattle.depth_maker.specs.declared.inputs_and_limits.Ground.{Ground}
 use Rattle.depth_maker.specs.declared.inputs_and_limits.Visit.{Visit}
 use Rattle.frame_places.specs.declared.places.Spot.{Spot}
@@ -41,10 +41,10 @@ use Rattle.depth_maker.specs.declared.rows.Source.{Source}
 use Rattle.depth_maker.specs.declared.table.Table as made
 
 -- what is known in a table without work is at the limits, and at a point it is a state
-pub done_proper : (g : Ground) (t : made.Table) → IsDone g t → (q : Spot) (v : Known) → value_for t.places q ≡ Some v → IsProperKnown g.bounds.now v
+pub done_well_formed : (g : Ground) (t : made.Table) → IsDone g t → (q : Spot) (v : Known) → value_for t.places q ≡ Some v → IsWellFormedKnown g.bounds.now v
 unfolding seen
-done_proper g t done (Point k p) v at = derived_proper _ _ _ (lawful _ _ _ g.sound) (seen t).cells done.derived (point k p) v at
-done_proper g t done (Exit k) v at = derived_proper _ _ _ (lawful _ _ _ g.sound) (seen t).cells done.derived (exit k) v at
+done_well_formed g t done (Point k p) v at = derived_well_formed _ _ _ (lawful _ _ _ g.sound) (seen t).cells done.derived (point k p) v at
+done_well_formed g t done (Exit k) v at = derived_well_formed _ _ _ (lawful _ _ _ g.sound) (seen t).cells done.derived (exit k) v at
 
 pub done_state : (g : Ground) (t : made.Table) → IsDone g t → (k : Key) (p : ℕ) (w : Known) → value_for t.places (Point k p) ≡ Some w → (u : State) × (w ≡ state u)
 unfolding seen

@@ -18,7 +18,7 @@ use Rattle.cfg_recover.specs.Assignments.{Place, point, exit, same_place, known_
 use Rattle.depth_cert.specs.Known.{Known}
 use Rattle.cfg_recover.specs.CertRefusals.{HasManyNodes, HasManyPoints, IsPastCertLimits}
 use Rattle.cfg_recover.proofs.Members.{contains_map, contains_flat}
-use Rattle.depth_maker.specs.DutiesGrow.{IsGround}
+use Rattle.depth_maker.specs.DutiesMonotone.{IsGround}
 use Rattle.frame_places.proofs.KeyLaws.{key_tells, key_same}
 use Rattle.depth_maker.proofs.PlaceLaws.{place_tells, place_same}
 use Rattle.depth_maker.proofs.Accepted.{at_point, at_exit}

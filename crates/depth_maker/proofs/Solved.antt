@@ -25,9 +25,9 @@ use Rattle.cfg_recover.specs.Duties.{Duty, jump, enter, resume, leave, Owed, dut
 use Rattle.cfg_recover.specs.RulesHoldOrFail.{limits_in, HasPoint, IsMet, EntryNeedRuleHolds, NeedRuleHolds, RuleHolds, HoldsAtNode, Accepts}
 use Rattle.cfg_recover.specs.Assignments.{Place, point, exit, known_at, known_in, CoversAt, asked_by_duty, asked_by_resume, HasDuty}
 use Rattle.depth_cert.specs.Known.{Known, state, leaving, CoversKnown}
-use Rattle.depth_cert.specs.Proper.{IsProperState}
+use Rattle.depth_cert.specs.WellFormed.{IsWellFormedState}
 use Rattle.cfg_recover.proofs.CodeLaws.{IsCode-bounded}
-use Rattle.depth_maker.specs.DutiesGrow.{IsGround}
+use Rattle.depth_maker.specs.DutiesMonotone.{IsGround}
 use Rattle.depth_maker.specs.MakerLaws.{IsMakerSolution}
 use Rattle.depth_maker.proofs.KeyDuties.{HasKey, duties_keys}
 use Rattle.depth_maker.proofs.Accepted.{at_point, at_exit, find_agrees}
@@ -89,8 +89,8 @@ module _ (image : ImageData) (plan : PlanData) (cert : CertData) (ground : IsGro
     faultless : IsFaultless (limits_in plan cert) image plan n.key q.addr q.state
     faultless = solution.faultless n.key q.addr q.state known
 
-    proper : IsProperState (limits_in plan cert) q.state
-    proper = solution.proper (point n.key q.addr) (state q.state) known
+    well_formed : IsWellFormedState (limits_in plan cert) q.state
+    well_formed = solution.well_formed (point n.key q.addr) (state q.state) known
 
     -- what is known at a place of this node
     here : (p : ℕ) (u : Known) (s : State) → known_in cert (point n.key p) ≡ Some u → CoversKnown u (state s) → HasPoint n p s
@@ -103,7 +103,7 @@ module _ (image : ImageData) (plan : PlanData) (cert : CertData) (ground : IsGro
 
       has_key : (d : Owed) → Contains (duties_of (limits_in plan cert) image plan n.key q.addr q.state shape size) d → HasKey d.duty
       has_key d c =
-          duties_keys (limits_in plan cert) image plan n.key q.addr q.state (record { limits = ground.limits; plan = ground.is_plan; regs = proper.regs; values = proper.values }) key shape size
+          duties_keys (limits_in plan cert) image plan n.key q.addr q.state (record { limits = ground.limits; plan = ground.is_plan; regs = well_formed.regs; values = well_formed.values }) key shape size
           (IsCode-bounded image plan q.addr shape size code) d c
 
       covered : (d : Duty) → HasDuty (limits_in plan cert) image plan (known_in cert) n.key q.addr q.state d → (y : Place) (v : Known) → asked_by_duty (known_in cert) n.key q.state d ≡ Some (y, v) → CoversAt (known_in cert) y v
@@ -149,7 +149,7 @@ module _ (image : ImageData) (plan : PlanData) (cert : CertData) (ground : IsGro
 
     rule_holds : (r : ℕ) → RuleHolds image plan cert n q r
     rule_holds r = record {
-      values = λ e. proper.values;
+      values = λ e. well_formed.values;
       own = λ v. faultless r;
       covered = λ shape size d alone c e. met shape size alone.code d.duty (has_key shape size alone.code d c) (duty shape size alone.code d c);
       needs = λ shape size e alone. has_need shape size alone.code;
@@ -158,7 +158,7 @@ module _ (image : ImageData) (plan : PlanData) (cert : CertData) (ground : IsGro
   exit_values : (n : NodeData) → Contains cert.nodes n → (o : Option Exit) → n.exit ≡ o → IfSome o (λ x. AreValues (limits_in plan cert) x.lower)
   exit_values n c None e = tt
   exit_values n c (Some x) e =
-      (solution.proper (exit n.key) (leaving x)
+      (solution.well_formed (exit n.key) (leaving x)
       (ap (option_and_then (known_at (exit n.key))) (agrees n.key (node_is n c).key ∙ node_found n c) ∙ ap (option_map leaving) e)).values
 
   holds : (n : NodeData) → Contains cert.nodes n → HoldsAtNode image plan cert n

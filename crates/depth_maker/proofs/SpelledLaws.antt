@@ -29,11 +29,11 @@ use Rattle.depth_cert.specs.Certs.{CertData, IsCert}
 use Rattle.cfg_recover.specs.Entries.{start_key}
 use Rattle.cfg_recover.specs.Assignments.{Place, point, exit, Assignment, same_place, frame_of_place, known_at, known_in, Closed, Derived, AllFaultless}
 use Rattle.depth_cert.specs.Known.{Known, state, leaving, exit_if_known}
-use Rattle.depth_cert.specs.Proper.{IsProperState, IsProperExit, IsProperKnown}
+use Rattle.depth_cert.specs.WellFormed.{IsWellFormedState, IsWellFormedExit, IsWellFormedKnown}
 use Rattle.depth_maker.specs.LeastCertMade.{AreLeastNeeds, IsWritten, needs_in}
 use Rattle.cfg_recover.proofs.Members.{contains_map}
 use Rattle.depth_maker.specs.AssignmentCounts.{AreCounted}
-use Rattle.depth_maker.specs.DutiesGrow.{IsGround}
+use Rattle.depth_maker.specs.DutiesMonotone.{IsGround}
 use Rattle.frame_places.specs.Spots.{AreRangedSpots, is_point_of, spot_address, spot_number}
 use Rattle.depth_maker.specs.SpelledCert.{HasSpelledCcpns, spelled_addresses_in, spelled_cert_with, spelled_node_at, spelled_point_at, spelled_state_at}
 use Rattle.depth_maker.specs.SpotsAsPlaces.{place_of_spot}
@@ -50,7 +50,7 @@ use Rattle.depth_maker.proofs.PlaceLaws.{place_tells, place_same}
 use Rattle.depth_maker.proofs.PlaceRanges.{IsInRange, derived_in_range}
 use Rattle.depth_maker.proofs.PointEntries.{placed}
 use Rattle.depth_maker.proofs.Sizes.{decides}
-use Rattle.depth_maker.proofs.TableLaws.{derived_proper}
+use Rattle.depth_maker.proofs.TableLaws.{derived_well_formed}
 
 -- ---- values
 -- a value at the limits is one that certificates of the version may have
@@ -94,8 +94,8 @@ module _ (b : Limits) (image : ImageData) (plan : PlanData) (ground : IsGround b
   kind : (y : Place) (v : Known) → a y ≡ Some v → IsOfKind y v
   kind = derived_kinds b image plan a derived
 
-  proper : (y : Place) (v : Known) → a y ≡ Some v → IsProperKnown b v
-  proper = derived_proper b image plan (lawful b image plan ground) a derived
+  well_formed : (y : Place) (v : Known) → a y ≡ Some v → IsWellFormedKnown b v
+  well_formed = derived_well_formed b image plan (lawful b image plan ground) a derived
 
   in_range : (y : Place) (v : Known) → a y ≡ Some v → IsInRange y
   in_range = derived_in_range b image plan ground a derived
@@ -260,7 +260,7 @@ module _ (b : Limits) (image : ImageData) (plan : PlanData) (ground : IsGround b
       at (leaving x) e h = absurd h
       at (state s) e h =
           let is : s ≡ spelled_state_at (a (point k p)) = sym (ap spelled_state_at e) in
-          let good : IsProperState b s = proper (point k p) (state s) e in
+          let good : IsWellFormedState b s = well_formed (point k p) (state s) e in
           let same : IsState version s = record {
             regs = good.regs;
             values = values_well plan version s.regs (subst (λ (b : Limits). AreValues b s.regs) of_version good.values);
@@ -271,7 +271,7 @@ module _ (b : Limits) (image : ImageData) (plan : PlanData) (ground : IsGround b
 
     exits_are : (k : Key) (o : Option Known) → a (exit k) ≡ o → IfSome (exit_if_known o) (λ e. e.ccpn < 2 ^ 8) → IfSome (exit_if_known o) (λ e. ((k.kind ≡ 1) ⊎ (k.kind ≡ 3)) × IsExit version e)
     exits_are k (Some (leaving x)) e byte =
-        let good : IsProperExit b x = proper (exit k) (leaving x) e in
+        let good : IsWellFormedExit b x = well_formed (exit k) (leaving x) e in
         ((in_range (exit k) (leaving x) e).1, record { lower = good.regs; values = values_well plan version x.lower (subst (λ (b : Limits). AreValues b x.lower) of_version good.values); ccpn = byte })
     exits_are k _ e byte = tt
 

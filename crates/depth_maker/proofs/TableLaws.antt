@@ -12,14 +12,14 @@ use Rattle.depth_cert.specs.Exits.{state_after_exit}
 use Rattle.cfg_recover.specs.Duties.{Duty, jump, enter, resume, leave}
 use Rattle.cfg_recover.specs.Assignments.{Place, point, exit, Assignment, same_place, CoversAt, raised_at_place, asked_by_duty, Joins, Derived, begins, joins, Closed, first_place, AllFaultless}
 use Rattle.depth_cert.specs.Known.{Known, state, leaving, CoversKnown}
-use Rattle.depth_cert.specs.Proper.{IsProperState, IsProperKnown}
-use Rattle.depth_maker.specs.ProperAssignments.{IsProperDuty, AllProper}
+use Rattle.depth_cert.specs.WellFormed.{IsWellFormedState, IsWellFormedKnown}
+use Rattle.depth_maker.specs.WellFormedAssignments.{IsWellFormedDuty, AllWellFormed}
 use Rattle.depth_maker.specs.MakerLaws.{AreMakerLaws}
 use Rattle.depth_maker.specs.TableView.{TableView}
 use Rattle.depth_maker.specs.Joins.{Marks}
 use Rattle.depth_maker.specs.TableInvariant.{IsTable, Settled, IsResumed}
 use Rattle.depth_maker.proofs.PlaceLaws.{place_tells, place_same, from_if, resumed_some}
-use Rattle.depth_maker.proofs.Below.{asks_proper}
+use Rattle.depth_maker.proofs.Below.{asks_well_formed}
 
 same_or_not : (v : Bool) → (v ≡ true) ⊎ (v ≡ false)
 same_or_not true = inl refl
@@ -27,40 +27,40 @@ same_or_not false = inr refl
 
 module _ (b : Limits) (image : ImageData) (plan : PlanData) (laws : AreMakerLaws b image plan) where
   -- ---- what derived assignments know
-  raised_proper : (o : Option Known) (v u : Known) → ((w : Known) → o ≡ Some w → IsProperKnown b w) → IsProperKnown b v → raised_at_place b o v ≡ Some u → IsProperKnown b u
-  raised_proper None v u old pv is = let e : v ≡ u = cc in subst (IsProperKnown b) e pv
-  raised_proper (Some w) v u old pv is = laws.joined_proper w v u (old w refl) pv is
+  raised_well_formed : (o : Option Known) (v u : Known) → ((w : Known) → o ≡ Some w → IsWellFormedKnown b w) → IsWellFormedKnown b v → raised_at_place b o v ≡ Some u → IsWellFormedKnown b u
+  raised_well_formed None v u old pv is = let e : v ≡ u = cc in subst (IsWellFormedKnown b) e pv
+  raised_well_formed (Some w) v u old pv is = laws.joined_well_formed w v u (old w refl) pv is
 
-  pub joined_proper : (a after : Assignment) (y : Place) → AllProper b a → Joins b image plan a after y → AllProper b after
-  joined_proper a after y proper j x s at =
+  pub joined_well_formed : (a after : Assignment) (y : Place) → AllWellFormed b a → Joins b image plan a after y → AllWellFormed b after
+  joined_well_formed a after y well_formed j x s at =
       elim (from_if (same_place x y) j.known (a x) (after x) s (j.is x) at) [
-        | inl h ↦ subst (IsProperKnown b) h.1 (raised_proper (a y) j.value j.known (proper y) (asks_proper b image plan laws a y j.value proper j.asks) j.raises)
-        | inr h ↦ proper x s h.1
+        | inl h ↦ subst (IsWellFormedKnown b) h.1 (raised_well_formed (a y) j.value j.known (well_formed y) (asks_well_formed b image plan laws a y j.value well_formed j.asks) j.raises)
+        | inr h ↦ well_formed x s h.1
       ]
 
-  begun_proper : (a : Assignment) → ((x : Place) → a x ≡ (if same_place x (first_place image plan) then Some (state (start_state plan)) else None)) → AllProper b a
-  begun_proper a is x s at =
+  begun_well_formed : (a : Assignment) → ((x : Place) → a x ≡ (if same_place x (first_place image plan) then Some (state (start_state plan)) else None)) → AllWellFormed b a
+  begun_well_formed a is x s at =
       elim (from_if (same_place x (first_place image plan)) (state (start_state plan)) None (a x) s (is x) at) [
-        | inl h ↦ subst (IsProperKnown b) h.1 laws.start_proper
+        | inl h ↦ subst (IsWellFormedKnown b) h.1 laws.start_well_formed
         | inr h ↦ (let q : None ≡ Some s = h.1 in cc)
       ]
 
-  pub derived_proper : (a : Assignment) → Derived b image plan a → AllProper b a
-  derived_proper _ (begins a is) = begun_proper a is
-  derived_proper _ (joins a after y d j) = joined_proper a after y (derived_proper a d) j
+  pub derived_well_formed : (a : Assignment) → Derived b image plan a → AllWellFormed b a
+  derived_well_formed _ (begins a is) = begun_well_formed a is
+  derived_well_formed _ (joins a after y d j) = joined_well_formed a after y (derived_well_formed a d) j
 
-  raised_above : (o : Option Known) (v u w : Known) → ((w : Known) → o ≡ Some w → IsProperKnown b w) → IsProperKnown b v → raised_at_place b o v ≡ Some u → o ≡ Some w → CoversKnown u w
+  raised_above : (o : Option Known) (v u w : Known) → ((w : Known) → o ≡ Some w → IsWellFormedKnown b w) → IsWellFormedKnown b v → raised_at_place b o v ≡ Some u → o ≡ Some w → CoversKnown u w
   raised_above None v u w old pv is at = absurd (let q : None ≡ Some w = at in cc)
   raised_above (Some x) v u w old pv is at = let e : x ≡ w = (let f : Some x ≡ Some w = at in cc) in subst (CoversKnown u) e (laws.joined_above x v u (old x refl) pv is).0
 
-  raised_covers : (o : Option Known) (v u : Known) → ((w : Known) → o ≡ Some w → IsProperKnown b w) → IsProperKnown b v → raised_at_place b o v ≡ Some u → CoversKnown u v
+  raised_covers : (o : Option Known) (v u : Known) → ((w : Known) → o ≡ Some w → IsWellFormedKnown b w) → IsWellFormedKnown b v → raised_at_place b o v ≡ Some u → CoversKnown u v
   raised_covers None v u old pv is = let e : v ≡ u = (let f : Some v ≡ Some u = is in cc) in subst (λ (k : Known). CoversKnown k v) e (laws.covers_same v)
   raised_covers (Some w) v u old pv is = (laws.joined_above w v u (old w refl) pv is).1
 
   -- ---- one join
-  module _ (a after : Assignment) (y : Place) (proper : AllProper b a) (j : Joins b image plan a after y) where
-    value_proper : IsProperKnown b j.value
-    value_proper = asks_proper b image plan laws a y j.value proper j.asks
+  module _ (a after : Assignment) (y : Place) (well_formed : AllWellFormed b a) (j : Joins b image plan a after y) where
+    value_well_formed : IsWellFormedKnown b j.value
+    value_well_formed = asks_well_formed b image plan laws a y j.value well_formed j.asks
 
     pub joined_at : after y ≡ Some j.known
     joined_at = j.is y ∙ ap (λ t. if t then Some j.known else a y) (place_same y)
@@ -69,9 +69,9 @@ module _ (b : Limits) (image : ImageData) (plan : PlanData) (laws : AreMakerLaws
     joined_other x apart = j.is x ∙ ap (λ t. if t then Some j.known else a x) apart
 
     pub joined_covers : CoversAt after y j.value
-    joined_covers = record { known = j.known; at = joined_at; covers = raised_covers (a y) j.value j.known (proper y) value_proper j.raises }
+    joined_covers = record { known = j.known; at = joined_at; covers = raised_covers (a y) j.value j.known (well_formed y) value_well_formed j.raises }
 
-    covers_case : (t : Bool) (z : Place) (v : Known) → same_place z y ≡ t → IsProperKnown b v → CoversAt a z v → CoversAt after z v
+    covers_case : (t : Bool) (z : Place) (v : Known) → same_place z y ≡ t → IsWellFormedKnown b v → CoversAt a z v → CoversAt after z v
     covers_case false z v apart pv h = record { known = h.known; at = joined_other z apart ∙ h.at; covers = h.covers }
     covers_case true z v eq pv h =
         let e = place_tells z y eq in
@@ -79,11 +79,11 @@ module _ (b : Limits) (image : ImageData) (plan : PlanData) (laws : AreMakerLaws
         record {
           known = j.known;
           at = ap after e ∙ joined_at;
-          covers = laws.covers_through v h.known j.known pv (proper z h.known h.at) (raised_above (a y) j.value j.known h.known (proper y) value_proper j.raises at) h.covers;
+          covers = laws.covers_through v h.known j.known pv (well_formed z h.known h.at) (raised_above (a y) j.value j.known h.known (well_formed y) value_well_formed j.raises at) h.covers;
         }
 
     -- what was covered is covered still
-    pub covers_stays : (z : Place) (v : Known) → IsProperKnown b v → CoversAt a z v → CoversAt after z v
+    pub covers_stays : (z : Place) (v : Known) → IsWellFormedKnown b v → CoversAt a z v → CoversAt after z v
     covers_stays z v pv h = covers_case (same_place z y) z v refl pv h
 
   -- a derived assignment covers the start
@@ -93,18 +93,18 @@ module _ (b : Limits) (image : ImageData) (plan : PlanData) (laws : AreMakerLaws
     at = is (first_place image plan) ∙ ap (λ t. if t then Some (state (start_state plan)) else None) (place_same (first_place image plan));
     covers = laws.covers_same (state (start_state plan));
   }
-  derived_start _ (joins a after y d j) = covers_stays a after y (derived_proper a d) j (first_place image plan) (state (start_state plan)) laws.start_proper (derived_start a d)
+  derived_start _ (joins a after y d j) = covers_stays a after y (derived_well_formed a d) j (first_place image plan) (state (start_state plan)) laws.start_well_formed (derived_start a d)
 
   -- ---- tables
   module _ (t u : TableView) (y : Place) (is : IsTable b image plan t) (j : Joins b image plan t.cells u.cells y) (m : Marks t u y) where
-    proper : AllProper b t.cells
-    proper = derived_proper t.cells is.derived
+    well_formed : AllWellFormed b t.cells
+    well_formed = derived_well_formed t.cells is.derived
 
     -- if a point has no new work, its duties are settled still
-    pub settled_stays : (k : Key) (p : ℕ) (s : State) (d : Duty) → u.queued (point k p) ≡ false → IsProperState b s → IsProperDuty b d → Settled t k p s d → Settled u k p s d
-    settled_stays k p s (jump q v) free ps pd h = covers_stays t.cells u.cells y proper j (point k q) (state v) pd h
-    settled_stays k p s (enter l v) free ps pd h = covers_stays t.cells u.cells y proper j (point l l.entry) (state v) pd h
-    settled_stays k p s (leave x) free ps pd h = covers_stays t.cells u.cells y proper j (exit k) (leaving x) pd h
+    pub settled_stays : (k : Key) (p : ℕ) (s : State) (d : Duty) → u.queued (point k p) ≡ false → IsWellFormedState b s → IsWellFormedDuty b d → Settled t k p s d → Settled u k p s d
+    settled_stays k p s (jump q v) free ps pd h = covers_stays t.cells u.cells y well_formed j (point k q) (state v) pd h
+    settled_stays k p s (enter l v) free ps pd h = covers_stays t.cells u.cells y well_formed j (point l l.entry) (state v) pd h
+    settled_stays k p s (leave x) free ps pd h = covers_stays t.cells u.cells y well_formed j (exit k) (leaving x) pd h
     settled_stays k p s (resume l q) free ps pd h =
         let told : (same_place (exit l) y ≡ true) → ⊥ =
         λ eq. elim (m.each (point k p)) [
@@ -112,18 +112,18 @@ module _ (b : Limits) (image : ImageData) (plan : PlanData) (laws : AreMakerLaws
           | inr n ↦ n.3 (subst (λ (z : Place). t.reads z (point k p)) (place_tells (exit l) y eq) h.1)
         ] in
         let apart : same_place (exit l) y ≡ false = elim (same_or_not (same_place (exit l) y)) [ inl n ↦ absurd (told n) | inr n ↦ n ] in
-        ((λ x at. let old : t.cells (exit l) ≡ Some x = sym (joined_other t.cells u.cells y proper j (exit l) apart) ∙ at in back x old (h.0 x old)), m.reads (exit l) (point k p) h.1)
+        ((λ x at. let old : t.cells (exit l) ≡ Some x = sym (joined_other t.cells u.cells y well_formed j (exit l) apart) ∙ at in back x old (h.0 x old)), m.reads (exit l) (point k p) h.1)
       where
         back : (x : Known) → t.cells (exit l) ≡ Some x → IsResumed t k s l q x → IsResumed u k s l q x
         back (state v) at h = tt
-        back (leaving x) at h = covers_stays t.cells u.cells y proper j (point k q) (state (state_after_exit s x l.kind)) (laws.after_proper s x l.kind ps (proper (exit l) (leaving x) at)) h
+        back (leaving x) at h = covers_stays t.cells u.cells y well_formed j (point k q) (state (state_after_exit s x l.kind)) (laws.after_well_formed s x l.kind ps (well_formed (exit l) (leaving x) at)) h
 
     -- if a point has no new work, its state is the old one
     pub idle_before : (x : Place) → u.idle x ≡ true → (t.idle x ≡ true) × (u.cells x ≡ t.cells x)
     idle_before x is =
         elim (m.each x) [
           | inl n ↦ (let r : true ≡ false = sym is ∙ n.1 in cc)
-          | inr n ↦ (sym n.0 ∙ is, joined_other t.cells u.cells y proper j x n.2)
+          | inr n ↦ (sym n.0 ∙ is, joined_other t.cells u.cells y well_formed j x n.2)
         ]
 
   -- a join leaves a table
@@ -134,9 +134,9 @@ module _ (b : Limits) (image : ImageData) (plan : PlanData) (laws : AreMakerLaws
     settled = λ k p s shape n d at idle code c.
         let o = idle_before t u y is j m (point k p) idle in
         let before : t.cells (point k p) ≡ Some (state s) = sym o.1 ∙ at in
-        let ps = derived_proper t.cells is.derived (point k p) (state s) before in
+        let ps = derived_well_formed t.cells is.derived (point k p) (state s) before in
         let fine = is.own k p s before o.0 in
-        settled_stays t u y is j m k p s d.duty (apart (point k p) idle) ps (laws.duties_proper k p s shape n d ps fine code c) (is.settled k p s shape n d before o.0 code c);
+        settled_stays t u y is j m k p s d.duty (apart (point k p) idle) ps (laws.duties_well_formed k p s shape n d ps fine code c) (is.settled k p s shape n d before o.0 code c);
   }
 
   -- ---- the same values
@@ -160,9 +160,6 @@ module _ (b : Limits) (image : ImageData) (plan : PlanData) (laws : AreMakerLaws
       own = λ k p s at now. is.own k p s (sym (cells (point k p)) ∙ at) (idle (point k p) now);
       settled = λ k p s shape n d at now code c. settled_again k p s d.duty (is.settled k p s shape n d (sym (cells (point k p)) ∙ at) (idle (point k p) now) code c);
     }
-
-      moved : (P : Key → ℕ → State → Type 0) (l : Key) (q : ℕ) (r : State) → (l ≡ k) × (q ≡ p) × (r ≡ s) → P k p s → P l q r
-      moved P l q r e h = subst (λ (z : Key). P z q r) (sym e.0) (subst (λ (z : ℕ). P k z r) (sym e.1) (subst (λ (z : State). P k p z) (sym e.2) h))
 
   -- a settled duty is covered
   pub settled_covers : (t : TableView) (k : Key) (p : ℕ) (s : State) (d : Duty) (y : Place) (v : Known) → Settled t k p s d → asked_by_duty t.cells k s d ≡ Some (y, v) → CoversAt t.cells y v

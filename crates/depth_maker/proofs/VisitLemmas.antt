@@ -15,7 +15,7 @@ use Rattle.cfg_recover.specs.Assignments.{Assignment, Place, point, exit, same_p
 use Rattle.depth_cert.specs.Known.{IsKnownState, Known, state, leaving}
 use Rattle.depth_maker.specs.Covered.{EntriesCovered}
 use Rattle.depth_maker.specs.MakerLaws.{AreMakerLaws}
-use Rattle.depth_maker.proofs.TableLaws.{derived_proper, table_closed, table_marked, settled_again}
+use Rattle.depth_maker.proofs.TableLaws.{derived_well_formed, table_closed, table_marked, settled_again}
 use Rattle.depth_maker.proofs.PlaceKinds.{IsOfKind, derived_kinds}
 use Rattle.depth_maker.proofs.CoveredLaws.{covered_again}
 use Rattle.depth_maker.proofs.LevelSteps.{rises_then, same_level}
@@ -316,7 +316,7 @@ state_there b image plan t k p y old u fine entry value stands read =
 pub visited_at : (b : Limits) (image : ImageData) (plan : PlanData) (laws : AreMakerLaws b image plan) (t : made.Table) (k : Key) (p : ℕ) (u : State) → IsFine b image plan t → PlaceHasNumber t.places t.near (Point k p)
     → value_for t.places (Point k p) ≡ Some (state u) → IsVisited b image plan t k p u
 unfolding seen
-visited_at b image plan laws t k p u fine stands at = record { fine = fine; proper = derived_proper b image plan laws (seen t).cells (fine.table).derived (point k p) (state u) at; at = λ free. at; stands = stands }
+visited_at b image plan laws t k p u fine stands at = record { fine = fine; well_formed = derived_well_formed b image plan laws (seen t).cells (fine.table).derived (point k p) (state u) at; at = λ free. at; stands = stands }
 
 -- an exit owes nothing
 pub duties_exit : (b : Limits) (image : ImageData) (plan : PlanData) (s : made.Table) (k : Key) → IsFine b image plan s → VisitJoinsPoint b image plan s s (Exit k)

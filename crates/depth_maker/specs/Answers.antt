@@ -52,5 +52,5 @@ Answered b image plan (refusal.Fault rule x) = (k : Key) × (p : ℕ) × (place_
 Answered b image plan refusal.NoMemory = Unit {0}
 
 -- the fault holds
-abbrev pub AnsweredOn : Ground → Refusal → Type 0
-AnsweredOn g e = Answered g.bounds.now g.image.now g.plan.now e
+abbrev pub RefusalIsRight : Ground → Refusal → Type 0
+RefusalIsRight g e = Answered g.bounds.now g.image.now g.plan.now e

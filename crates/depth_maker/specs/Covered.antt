@@ -4,7 +4,7 @@ use Rattle.tcd_plan.specs.PlanData.{PlanData}
 use Rattle.value_domain.specs.Limits.{Limits}
 use Rattle.depth_cert.specs.declared.keys.Key.{Key}
 use Rattle.depth_cert.specs.Known.{Known, CoversKnown}
-use Rattle.depth_cert.specs.Proper.{IsProperKnown}
+use Rattle.depth_cert.specs.WellFormed.{IsWellFormedKnown}
 use Rattle.cfg_recover.specs.Assignments.{Assignment, CoversAt, point}
 use Rattle.depth_maker.specs.InterruptHandlers.{ContextsEntered}
 use Rattle.depth_maker.specs.declared.covered.CoveredEntries.{CoveredEntries}
@@ -17,7 +17,7 @@ called_key h t = record { kind = call_kind; entry = t; prio = h.prio; is = h.is 
 
 -- the entries of the functions are covered
 pub record AreCallsCovered (b : Limits) (a : Assignment) (h : LastCall) : Type 0 where
-  pub proper : IsProperKnown b h.entry
+  pub well_formed : IsWellFormedKnown b h.entry
   pub each : (t : ℕ) → Contains h.targets.items t → CoversAt a (point (called_key h t) t) h.entry
 
 -- the last call whose entries are known to be covered is this one: of these functions, from a frame

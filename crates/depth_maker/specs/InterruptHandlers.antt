@@ -8,7 +8,7 @@ use Rattle.value_domain.specs.Limits.{Limits}
 use Rattle.vd_transfer.specs.Registers.{a10_of}
 use Rattle.value_domain.specs.Values.{join_of, IsBelow, IsValue, word_val}
 use Rattle.depth_cert.specs.Known.{state}
-use Rattle.depth_cert.specs.Proper.{IsProperState}
+use Rattle.depth_cert.specs.WellFormed.{IsWellFormedState}
 use Rattle.cfg_recover.specs.Assignments.{Assignment, CoversAt, point}
 use Rattle.cfg_recover.specs.Entries.{entry_state_with, irq_key}
 use Rattle.depth_maker.specs.declared.interrupt_contexts.InterruptContext.{InterruptContext}
@@ -26,7 +26,7 @@ context_stack plan h = if h.is then h.sp else word_val plan.isp
 -- the interrupt handler of priority p has its entry covered in the assignment, as it is entered
 -- from the noted context
 pub record IsHandlerEntered (b : Limits) (plan : PlanData) (a : Assignment) (h : InterruptContext) (p : ℕ) : Type 0 where
-  pub proper : IsProperState b (entry_state_with (context_stack plan h) false p true)
+  pub well_formed : IsWellFormedState b (entry_state_with (context_stack plan h) false p true)
   pub covers : CoversAt a (point (irq_key plan p) (irq_key plan p).entry) (state (entry_state_with (context_stack plan h) false p true))
 
 -- all interrupt handlers above the noted context's priority have their entries covered in the

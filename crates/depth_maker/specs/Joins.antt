@@ -9,10 +9,10 @@ use Rattle.depth_cert.specs.declared.keys.Key.{Key}
 use Rattle.cfg_recover.specs.Duties.{Duty}
 use Rattle.cfg_recover.specs.Assignments.{point, CoversAt, Asks, raised_at_place, Place, same_place}
 use Rattle.depth_cert.specs.Known.{Known, CoversKnown}
-use Rattle.depth_cert.specs.Proper.{IsProperState}
-use Rattle.depth_maker.specs.ProperAssignments.{IsProperDuty}
+use Rattle.depth_cert.specs.WellFormed.{IsWellFormedState}
+use Rattle.depth_maker.specs.WellFormedAssignments.{IsWellFormedDuty}
 use Rattle.depth_maker.specs.TableView.{seen, TableView}
-use Rattle.depth_maker.specs.TableInvariant.{Settled, FineOn, IsFine}
+use Rattle.depth_maker.specs.TableInvariant.{Settled, TableHolds, IsFine}
 use Rattle.frame_places.specs.declared.places.Spot.{Spot}
 use Rattle.frame_places.specs.declared.refusals.Refusal.{Refusal}
 use Rattle.frame_places.specs.Spots.{spot_eq}
@@ -25,7 +25,7 @@ use Rattle.depth_maker.specs.AssignmentCounts.{AreFew}
 use Rattle.depth_maker.specs.TableLevels.{LevelRises}
 use Rattle.depth_maker.specs.declared.inputs_and_limits.Ground.{Ground}
 use Rattle.depth_maker.specs.declared.table.Table as made
-use Rattle.depth_maker.specs.Answers.{AnsweredOn}
+use Rattle.depth_maker.specs.Answers.{RefusalIsRight}
 
 -- v, which wasn't covered, was joined at y alone: y is queued now, and counted
 pub record JoinedAlone (b : Limits) (s t : made.Table) (y : Spot) (v : Known) : Type 0 where
@@ -50,7 +50,7 @@ pub record JoinKeeps (b : Limits) (image : ImageData) (plan : PlanData) (s t : m
   pub read :
       (z x : Spot) → IsAmongReaders (get spot_eq s.readers z) x → is_queued (mark_for t.places x) ≡ false → value_for t.places z ≡ value_for s.places z
   pub settled :
-      (k : Key) (p : ℕ) (u : State) (d : Duty) → is_queued (mark_for t.places (spot_of (point k p))) ≡ false → IsProperState b u → IsProperDuty b d
+      (k : Key) (p : ℕ) (u : State) (d : Duty) → is_queued (mark_for t.places (spot_of (point k p))) ≡ false → IsWellFormedState b u → IsWellFormedDuty b d
       → Settled (seen s) k p u d → Settled (seen t) k p u d
   pub rises : LevelRises s t
   pub near : t.near ≡ s.near
@@ -64,7 +64,7 @@ pub record Joined (b : Limits) (image : ImageData) (plan : PlanData) (s t : made
 
 -- nothing was joined: at most there is more room for places
 pub record IsLeft (g : Ground) (s t : made.Table) : Type 0 where
-  pub fine : FineOn g t
+  pub fine : TableHolds g t
   pub keeps : JoinKeeps g.bounds.now g.image.now g.plan.now s t
   pub entries : t.places.entries ≡ s.places.entries
   pub rest : t ≡ record s { places = t.places }
@@ -82,14 +82,14 @@ JoinedAloneOn g s t y v = JoinedAlone g.bounds.now s t y v
 abbrev pub AddsOn : Ground → made.Table → made.Table → Spot → Known → Result (Option ℕ) Refusal → Type 0
 AddsOn g s t y v (Ok None) = JoinedAloneOn g s t y v
 AddsOn g s t y v (Ok (Some number)) = PlaceHasNumber t.places number y × IsLeft g s t
-AddsOn g s t y v (Err e) = AnsweredOn g e
+AddsOn g s t y v (Err e) = RefusalIsRight g e
 
 -- v was joined at y: alone if the result is true; otherwise it was covered already, or more places
 -- rose
 abbrev pub JoinsOn : Ground → made.Table → made.Table → Spot → Known → Result Bool Refusal → Type 0
 JoinsOn g s t y v (Ok true) = JoinedAloneOn g s t y v
 JoinsOn g s t y v (Ok false) = Joined g.bounds.now g.image.now g.plan.now s t y v
-JoinsOn g s t y v (Err e) = AnsweredOn g e
+JoinsOn g s t y v (Err e) = RefusalIsRight g e
 
 -- v was joined at y
 abbrev pub JoinedOn : Ground → made.Table → made.Table → Spot → Known → Type 0

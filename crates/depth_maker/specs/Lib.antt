@@ -1,6 +1,6 @@
 -- The maker's laws, and its table.
-pub mod DutiesGrow
-pub mod ProperAssignments
+pub mod DutiesMonotone
+pub mod WellFormedAssignments
 pub mod Recursing
 pub mod MakerLaws
 pub mod TableView

@@ -11,8 +11,8 @@ use Rattle.cfg_recover.specs.Entries.{start_key, start_state}
 use Rattle.cfg_recover.specs.RulesHoldOrFail.{Accepts, limits_in}
 use Rattle.cfg_recover.specs.Assignments.{Assignment, Closed, Derived, IsBelowAt, known_in, AllFaultless}
 use Rattle.cfg_recover.specs.CertRefusals.{IsRefusalFault, IsRefusalWith, IsPastCertLimits, MeetsNeeds, IsRefusal}
-use Rattle.depth_maker.specs.DutiesGrow.{IsGround, IsOwedBelow}
-use Rattle.depth_maker.specs.ProperAssignments.{AllProper, IsProperDuty}
+use Rattle.depth_maker.specs.DutiesMonotone.{IsGround, IsOwedBelow}
+use Rattle.depth_maker.specs.WellFormedAssignments.{AllWellFormed, IsWellFormedDuty}
 use Rattle.tc_isa.specs.declared.shapes.Shape.{Shape}
 use Rattle.value_domain.specs.declared.states.State.{State}
 use Rattle.value_domain.specs.State.{Covers}
@@ -22,7 +22,7 @@ use Rattle.depth_cert.specs.Exits.{state_after_exit, ExitCovers}
 use Rattle.cfg_recover.specs.LocalFaults.{IsFaultless}
 use Rattle.cfg_recover.specs.Duties.{Owed, duties_of}
 use Rattle.depth_cert.specs.Known.{Known, CoversKnown, joined_known}
-use Rattle.depth_cert.specs.Proper.{IsProperState, IsProperExit, IsProperKnown}
+use Rattle.depth_cert.specs.WellFormed.{IsWellFormedState, IsWellFormedExit, IsWellFormedKnown}
 use Rattle.depth_maker.specs.declared.answering.MakeErr.TheVariants.{Refused}
 use Rattle.depth_maker.specs.Answers.{IsRefused, NoneAccepted}
 use Rattle.value_domain.specs.VersionLimits.{limits_for}
@@ -31,14 +31,14 @@ use Rattle.depth_maker.specs.LeastCertMade.{IsMade, IsWritten, IsLeastAccepted}
 -- law of the maker: every derived assignment is below every closed one without faults of its own
 abbrev pub DerivedIsBelow : Type 0
 DerivedIsBelow =
-    (b : Limits) (image : ImageData) (plan : PlanData) (c a : Assignment) → IsGround b image plan → Closed b image plan c → AllFaultless b image plan c → AllProper b c
+    (b : Limits) (image : ImageData) (plan : PlanData) (c a : Assignment) → IsGround b image plan → Closed b image plan c → AllFaultless b image plan c → AllWellFormed b c
     → Derived b image plan a → IsBelowAt a c
 
 -- law of the maker: if there is a closed assignment within the limits without faults of its own, no
 -- derived one has a fault
 abbrev pub FaultsRefute : Type 0
 FaultsRefute =
-    (b : Limits) (image : ImageData) (plan : PlanData) (c : Assignment) (r : ℕ) (k : Key) (p : ℕ) → IsGround b image plan → Closed b image plan c → AllFaultless b image plan c → AllProper b c
+    (b : Limits) (image : ImageData) (plan : PlanData) (c : Assignment) (r : ℕ) (k : Key) (p : ℕ) → IsGround b image plan → Closed b image plan c → AllFaultless b image plan c → AllWellFormed b c
     → (IsPastCertLimits c → ⊥) → IsRefusalFault b image plan r k p → ⊥
 
 -- a solution, as the maker's laws call it, such as an accepted certificate: a closed assignment
@@ -46,7 +46,7 @@ FaultsRefute =
 pub record IsMakerSolution (b : Limits) (image : ImageData) (plan : PlanData) (a : Assignment) (need : Key → ℕ) : Type 0 where
   pub closed : Closed b image plan a
   pub faultless : AllFaultless b image plan a
-  pub proper : AllProper b a
+  pub well_formed : AllWellFormed b a
   pub within : IsPastCertLimits a → ⊥
   pub needs : MeetsNeeds b image plan a need
   pub start : need (start_key image plan) ≤ plan.areas - plan.reserve
@@ -75,25 +75,25 @@ SolutionIsAccepted =
 -- covering is transitive, joins are least, and what points owe grows with their states
 pub record AreMakerLaws (b : Limits) (image : ImageData) (plan : PlanData) : Type 0 where
   pub covers_same : (v : Known) → CoversKnown v v
-  pub covers_through : (v w u : Known) → IsProperKnown b v → IsProperKnown b w → CoversKnown u w → CoversKnown w v → CoversKnown u v
-  pub joined_above : (v w u : Known) → IsProperKnown b v → IsProperKnown b w → joined_known b v w ≡ Some u → CoversKnown u v × CoversKnown u w
-  pub joined_proper : (v w u : Known) → IsProperKnown b v → IsProperKnown b w → joined_known b v w ≡ Some u → IsProperKnown b u
+  pub covers_through : (v w u : Known) → IsWellFormedKnown b v → IsWellFormedKnown b w → CoversKnown u w → CoversKnown w v → CoversKnown u v
+  pub joined_above : (v w u : Known) → IsWellFormedKnown b v → IsWellFormedKnown b w → joined_known b v w ≡ Some u → CoversKnown u v × CoversKnown u w
+  pub joined_well_formed : (v w u : Known) → IsWellFormedKnown b v → IsWellFormedKnown b w → joined_known b v w ≡ Some u → IsWellFormedKnown b u
   pub joined_least :
-      (v w d : Known) → IsProperKnown b v → IsProperKnown b w → IsProperKnown b d → CoversKnown d v → CoversKnown d w
+      (v w d : Known) → IsWellFormedKnown b v → IsWellFormedKnown b w → IsWellFormedKnown b d → CoversKnown d v → CoversKnown d w
       → (u : Known) × (joined_known b v w ≡ Some u) × CoversKnown d u
-  pub start_proper : IsProperState b (start_state plan)
-  pub faults_fall : (key : Key) (p : ℕ) (s t : State) → IsProperState b s → IsProperState b t → Covers t s → IsFaultless b image plan key p t → IsFaultless b image plan key p s
+  pub start_well_formed : IsWellFormedState b (start_state plan)
+  pub faults_fall : (key : Key) (p : ℕ) (s t : State) → IsWellFormedState b s → IsWellFormedState b t → Covers t s → IsFaultless b image plan key p t → IsFaultless b image plan key p s
   pub duties_grow :
-      (key : Key) (p : ℕ) (s t : State) (shape : Shape) (n : ℕ) (d : Owed) → IsProperState b s → IsProperState b t → Covers t s → IsFaultless b image plan key p t
+      (key : Key) (p : ℕ) (s t : State) (shape : Shape) (n : ℕ) (d : Owed) → IsWellFormedState b s → IsWellFormedState b t → Covers t s → IsFaultless b image plan key p t
       → IsCode image plan p shape n → Contains (duties_of b image plan key p s shape n) d
       → (e : Owed) × Contains (duties_of b image plan key p t shape n) e × IsOwedBelow d e
-  pub duties_proper :
-      (key : Key) (p : ℕ) (s : State) (shape : Shape) (n : ℕ) (d : Owed) → IsProperState b s → IsFaultless b image plan key p s
-      → IsCode image plan p shape n → Contains (duties_of b image plan key p s shape n) d → IsProperDuty b d.duty
+  pub duties_well_formed :
+      (key : Key) (p : ℕ) (s : State) (shape : Shape) (n : ℕ) (d : Owed) → IsWellFormedState b s → IsFaultless b image plan key p s
+      → IsCode image plan p shape n → Contains (duties_of b image plan key p s shape n) d → IsWellFormedDuty b d.duty
   pub after_grows :
-      (s t : State) (x y : Exit) (kind : ℕ) → IsProperState b s → IsProperState b t → IsProperExit b x → IsProperExit b y → Covers t s → ExitCovers y x
+      (s t : State) (x y : Exit) (kind : ℕ) → IsWellFormedState b s → IsWellFormedState b t → IsWellFormedExit b x → IsWellFormedExit b y → Covers t s → ExitCovers y x
       → Covers (state_after_exit t y kind) (state_after_exit s x kind)
-  pub after_proper : (s : State) (x : Exit) (kind : ℕ) → IsProperState b s → IsProperExit b x → IsProperState b (state_after_exit s x kind)
+  pub after_well_formed : (s : State) (x : Exit) (kind : ℕ) → IsWellFormedState b s → IsWellFormedExit b x → IsWellFormedState b (state_after_exit s x kind)
 
 -- law of the maker: if it refuses at a place, each certificate of the version is refused
 abbrev pub RefusalsHold : Type 0

@@ -15,7 +15,7 @@ use Rattle.frame_places.specs.Numbers.{AreFrameNumbers, frame_number_in}
 use Rattle.frame_places.specs.Spots.{spot_eq}
 use Rattle.depth_maker.specs.TableInvariant.{IsDone}
 use Rattle.depth_maker.specs.TableView.{seen}
-use Rattle.depth_maker.specs.VisitDuties.{StandsBy, duties_by}
+use Rattle.depth_maker.specs.VisitDuties.{OwesDutiesOf, duties_by}
 use Rattle.depth_maker.specs.declared.inputs_and_limits.Ground.{Ground}
 use Rattle.depth_maker.specs.declared.inputs_and_limits.Visit.{Visit}
 use Rattle.frame_places.specs.declared.places.Spot.TheVariants.{Point}
@@ -52,7 +52,7 @@ IsRowBy v frames row = IsRowAt (v.ground.now).bounds.now (v.ground.now).image.no
 -- the point's frame and those that it enters are among these
 pub record RowFramesKnownBy (v : Visit) (frames : List Key) : Type 0 where
   pub own : Contains frames v.key
-  pub entered : (found : Located) → StandsBy v found → (k : Key) → Contains (entered_in (duties_by v found)) k → Contains frames k
+  pub entered : (found : Located) → OwesDutiesOf v found → (k : Key) → Contains (entered_in (duties_by v found)) k → Contains frames k
 
 -- the rows of all points of a table
 abbrev pub RowsOn : Ground → made.Table → List NeedRow → Type 0

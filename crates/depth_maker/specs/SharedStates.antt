@@ -14,7 +14,7 @@ use Rattle.cfg_recover.specs.Duties.{duties_of, interrupts_of, jump, owed}
 use Rattle.frame_places.specs.declared.places.Spot.TheVariants.{Point}
 use Rattle.frame_places.specs.declared.refusals.Refusal.{Refusal}
 use Rattle.frame_places.specs.Marks.{value_for}
-use Rattle.depth_maker.specs.Answers.{AnsweredOn}
+use Rattle.depth_maker.specs.Answers.{RefusalIsRight}
 use Rattle.depth_maker.specs.EnteredFrames.{EntersNoFrame, IsPlainAt}
 use Rattle.depth_maker.specs.Joins.{IsLeft}
 use Rattle.depth_maker.specs.VisitDuties.{DutiesJoined}
@@ -44,4 +44,4 @@ MayShareState v t =
 abbrev pub StateSharedBy : Site → made.Table → made.Table → Result Bool Refusal → Type 0
 StateSharedBy v s t (Ok true) = VisitJoinsPointOn v.ground.now s t (Point v.key v.addr) × IsPlainAt (v.ground.now).image.now (v.ground.now).plan.now v.addr
 StateSharedBy v s t (Ok false) = IsLeft v.ground.now s t
-StateSharedBy v s t (Err e) = AnsweredOn v.ground.now e
+StateSharedBy v s t (Err e) = RefusalIsRight v.ground.now e

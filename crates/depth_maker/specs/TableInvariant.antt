@@ -28,7 +28,7 @@ use Rattle.cfg_recover.specs.Duties.{Duty, jump, enter, resume, leave, Owed, dut
 use Rattle.tc_isa.specs.declared.shapes.Shape.{Shape}
 use Rattle.cfg_recover.specs.Code.{IsCode}
 use Rattle.cfg_recover.specs.LocalFaults.{IsFaultless}
-use Rattle.depth_cert.specs.Proper.{IsProperKnown}
+use Rattle.depth_cert.specs.WellFormed.{IsWellFormedKnown}
 
 -- ---- the table
 
@@ -85,10 +85,10 @@ pub record IsDone (g : Ground) (t : made.Table) : Type 0 where
 
 -- ---- by the types of the code
 -- the table between two steps
-abbrev pub FineOn : Ground → made.Table → Type 0
-FineOn g t = IsFine g.bounds.now g.image.now g.plan.now t
+abbrev pub TableHolds : Ground → made.Table → Type 0
+TableHolds g t = IsFine g.bounds.now g.image.now g.plan.now t
 
 -- what the invariant of the maker's table gives between two steps: each known state or exit is at
 -- the limits
-abbrev pub CellsProper : {S : Type 0} → Limits → IndexMap Spot (Marked Known) S → Type 0
-CellsProper b places = (q : Spot) (v : Known) → value_for places q ≡ Some v → IsProperKnown b v
+abbrev pub CellsWellFormed : {S : Type 0} → Limits → IndexMap Spot (Marked Known) S → Type 0
+CellsWellFormed b places = (q : Spot) (v : Known) → value_for places q ≡ Some v → IsWellFormedKnown b v

@@ -55,8 +55,8 @@ JoinedBy v s t ds = DutiesJoined (v.ground.now).bounds.now (v.ground.now).image.
 
 -- the visited point owes the duties of this instruction: it is the one there, and no rule's own
 -- part fails
-abbrev pub StandsBy : Visit → Located → Type 0
-StandsBy v found = StandsFaultless (v.ground.now).bounds.now (v.ground.now).image.now (v.ground.now).plan.now v.key v.addr v.state.now found
+abbrev pub OwesDutiesOf : Visit → Located → Type 0
+OwesDutiesOf v found = StandsFaultless (v.ground.now).bounds.now (v.ground.now).image.now (v.ground.now).plan.now v.key v.addr v.state.now found
 
 -- the state that the visited point owes on one side of its branch, if that side is possible
 abbrev pub side_by : Visit → Shape → Bool → Option State

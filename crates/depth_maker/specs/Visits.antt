@@ -8,9 +8,9 @@ use Rattle.depth_cert.specs.declared.keys.Key.{Key}
 use Rattle.cfg_recover.specs.LocalFaults.{IsFaultless}
 use Rattle.cfg_recover.specs.Assignments.{point}
 use Rattle.depth_cert.specs.Known.{state}
-use Rattle.depth_cert.specs.Proper.{IsProperState}
+use Rattle.depth_cert.specs.WellFormed.{IsWellFormedState}
 use Rattle.depth_maker.specs.TableView.{seen}
-use Rattle.depth_maker.specs.TableInvariant.{FineOn, IsFine}
+use Rattle.depth_maker.specs.TableInvariant.{TableHolds, IsFine}
 use Rattle.frame_places.specs.declared.places.Spot.{Spot}
 use Rattle.frame_places.specs.declared.places.Mark.TheVariants.{Open}
 use Rattle.frame_places.specs.declared.refusals.Refusal.{Refusal}
@@ -23,7 +23,7 @@ use Rattle.depth_maker.specs.declared.inputs_and_limits.Ground.{Ground}
 use Rattle.depth_maker.specs.declared.inputs_and_limits.Visit.{Visit}
 use Rattle.depth_maker.specs.Joins.{JoinKeeps}
 use Rattle.depth_maker.specs.declared.table.Table as made
-use Rattle.depth_maker.specs.Answers.{AnsweredOn}
+use Rattle.depth_maker.specs.Answers.{RefusalIsRight}
 use Rattle.depth_maker.specs.VisitDuties.{AllSettledByVisit}
 
 -- a visit of x is under way, and no other place is being visited
@@ -52,7 +52,7 @@ pub record VisitJoinsPoint (b : Limits) (image : ImageData) (plan : PlanData) (s
 -- between two joins of a visit: the point has the state u, unless it has new work
 pub record IsVisited (b : Limits) (image : ImageData) (plan : PlanData) (t : made.Table) (k : Key) (p : ℕ) (u : State) : Type 0 where
   pub fine : IsFine b image plan t
-  pub proper : IsProperState b u
+  pub well_formed : IsWellFormedState b u
   pub at : is_queued (mark_for t.places (spot_of (point k p))) ≡ false → (seen t).cells (point k p) ≡ Some (state u)
   pub stands : PlaceHasNumber t.places t.near (spot_of (point k p))
 
@@ -63,18 +63,18 @@ VisitJoinsPointOn g s t x = VisitJoinsPoint g.bounds.now g.image.now g.plan.now 
 
 -- a visit has ended: no place is being visited, and nothing was queued unless the level rose
 abbrev pub VisitEndsOn : Ground → made.Table → made.Table → Type 0
-VisitEndsOn g s t = FineOn g t × NoVisitOpen t × LevelRises s t
+VisitEndsOn g s t = TableHolds g t × NoVisitOpen t × LevelRises s t
 
 -- a step: the level rose, or the work list is shorter by one; false if nothing was listed
 abbrev pub VisitStepsOn : Ground → made.Table → made.Table → Result Bool Refusal → Type 0
-VisitStepsOn g s t (Ok false) = FineOn g t × NoVisitOpen t × (level t ≡ level s) × (all_work t.work ≡ [])
-VisitStepsOn g s t (Ok true) = FineOn g t × NoVisitOpen t × LevelAdvances s t
-VisitStepsOn g s t (Err e) = AnsweredOn g e
+VisitStepsOn g s t (Ok false) = TableHolds g t × NoVisitOpen t × (level t ≡ level s) × (all_work t.work ≡ [])
+VisitStepsOn g s t (Ok true) = TableHolds g t × NoVisitOpen t × LevelAdvances s t
+VisitStepsOn g s t (Err e) = RefusalIsRight g e
 
 -- a turn over the work list: the level rose if some work is left
 abbrev pub VisitTurnsOn : Ground → made.Table → made.Table → Result Bool Refusal → Type 0
-VisitTurnsOn g s t (Ok more) = FineOn g t × NoVisitOpen t × (more ≡ true → level s < level t) × (more ≡ false → all_work t.work ≡ [])
-VisitTurnsOn g s t (Err e) = AnsweredOn g e
+VisitTurnsOn g s t (Ok more) = TableHolds g t × NoVisitOpen t × (more ≡ true → level s < level t) × (more ≡ false → all_work t.work ≡ [])
+VisitTurnsOn g s t (Err e) = RefusalIsRight g e
 
 -- between two joins: the point has the state that it is visited with, unless it has new work
 abbrev pub VisitedBy : Visit → made.Table → Type 0

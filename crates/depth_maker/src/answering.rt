@@ -1,6 +1,6 @@
 // The certificate of an image and a plan, or why there is none.
 ghost use Rattle.std.specs.Prelude.{◌≡◌, ◌⊎◌, IfErr, IfOk};
-ghost use Rattle.depth_maker.specs.Answers.{AreMadeOn, IsGroundOf, IsRefused, IsRefusedOn, Refuses, AnsweredOn};
+ghost use Rattle.depth_maker.specs.Answers.{AreMadeOn, IsGroundOf, IsRefused, IsRefusedOn, Refuses, RefusalIsRight};
 ghost use Rattle.depth_maker.specs.LeastCertMade.{AreMade, IsMade};
 ghost use Rattle.depth_maker.specs.SpelledCert.{AreSpelledBytes};
 ghost use Rattle.depth_maker.specs.Rows.{IsRowSource};
@@ -18,7 +18,7 @@ use crate::table::Table;
 use depth_cert::{CertErr, Key};
 use elf_image::Image;
 use frame_places::{Refusal, Spot, number_frames};
-use packed_cert::PackedCert;
+use packed_cert::Cert;
 use std::alloc::{AllocError, AllocFailed, Global};
 use tcd_plan::Plan;
 use value_domain::Bounds;
@@ -78,13 +78,13 @@ pub fn make_bytes(
 }
 
 /// Returns the least certificate of version 1 or 2 that the rules accept, or why none is accepted.
-pub fn make(alloc: Global, image: &Image, plan: &Plan, version: u8) -> Result<PackedCert, MakeErr>
+pub fn make(alloc: Global, image: &Image, plan: &Plan, version: u8) -> Result<Cert, MakeErr>
     requires { (version ≡ 1) ⊎ (version ≡ 2) }
     ensures made { IfOk result (IsMade image.now plan.now version) }
     ensures refused { IfErr result (IsRefused image.now plan.now version) }
 {
     let bytes = make_bytes(alloc, image, plan, version)?;
-    match PackedCert::read(alloc, bytes) {
+    match Cert::read(alloc, bytes) {
         Ok(cert) => Ok(cert),
         Err(CertErr::NoMemory) => Err(MakeErr::NoMemory),
         Err(CertErr::Bad(_)) => unreachable!(),
@@ -130,7 +130,7 @@ fn answer_from_table(
 
 /// Returns the refusal for a fault of a derived assignment.
 fn answer_for_refusal(ground: &Ground, refusal: Refusal) -> MakeErr
-    requires { AnsweredOn ground.now refusal }
+    requires { RefusalIsRight ground.now refusal }
     ensures { Refuses ground.now result }
 {
     match refusal {
@@ -155,7 +155,7 @@ fn answer_from_source(alloc: Global, source: &Source, version: u8) -> Result<Vec
 
 /// Returns the refusal for a fault of a derived assignment at a place.
 fn answer_for_fault(_ground: &Ground, rule: u8, place: Spot) -> MakeErr
-    requires { AnsweredOn _ground.now (Fault rule place) }
+    requires { RefusalIsRight _ground.now (Fault rule place) }
     ensures { Refuses _ground.now result }
 {
     match place {

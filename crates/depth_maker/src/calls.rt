@@ -4,7 +4,7 @@ ghost use Rattle.tc_isa.specs.InBounds.{IsTarget};
 ghost use Rattle.vd_transfer.specs.Changes.{state_after};
 ghost use Rattle.cfg_recover.specs.Entries as entries;
 ghost use Rattle.cfg_recover.specs.LocalRules.{targets_of};
-ghost use Rattle.depth_maker.specs.Answers.{AnsweredOn};
+ghost use Rattle.depth_maker.specs.Answers.{RefusalIsRight};
 ghost use Rattle.depth_maker.specs.VisitDuties.{enters_by, resumes_by, OwesAll, JoinedBy, StayJoined, calls_by};
 ghost use Rattle.depth_maker.specs.Visits.{VisitedBy};
 
@@ -38,7 +38,7 @@ pub(crate) fn join_call(
         (unwrap_or (targets_of v.now.ground.now.plan.now v.now.state.now v.now.addr to) [])) }
     ensures ok { OnOk result (JoinedBy v.now table.old table.new (calls_by v.now back
         (unwrap_or (targets_of v.now.ground.now.plan.now v.now.state.now v.now.addr to) []))) }
-    ensures err { IfErr result (AnsweredOn v.now.ground.now) }
+    ensures err { IfErr result (RefusalIsRight v.now.ground.now) }
 {
     enter_by_call(c, v.state);
     match direct_target(v.addr, to) {
@@ -78,7 +78,7 @@ fn join_listed_calls(
         (unwrap_or (targets_of v.now.ground.now.plan.now v.now.state.now v.now.addr to) [])) }
     ensures ok { OnOk result (JoinedBy v.now table.old table.new (calls_by v.now back
         (unwrap_or (targets_of v.now.ground.now.plan.now v.now.state.now v.now.addr to) []))) }
-    ensures err { IfErr result (AnsweredOn v.now.ground.now) }
+    ensures err { IfErr result (RefusalIsRight v.now.ground.now) }
 {
     let targets = targets(v.ground.plan, v.state, v.addr, to);
     join_listed_call_entries(alloc, table, v, entry, &targets)?;
@@ -98,7 +98,7 @@ fn join_listed_call_entries(
     requires owes { OwesAll v.now (enters_by v.now targets.now.items) }
     ensures ok { OnOk result
         (JoinedBy v.now table.old table.new (enters_by v.now targets.now.items)) }
-    ensures err { IfErr result (AnsweredOn v.now.ground.now) }
+    ensures err { IfErr result (RefusalIsRight v.now.ground.now) }
 {
     if has_noted_call(&*table, v, entry, targets) {
         return Ok(());
@@ -120,7 +120,7 @@ fn join_call_returns(
     requires owes { OwesAll v.now (resumes_by v.now back targets.now) }
     ensures ok { OnOk result
         (JoinedBy v.now table.old table.new (resumes_by v.now back targets.now)) }
-    ensures err { IfErr result (AnsweredOn v.now.ground.now) }
+    ensures err { IfErr result (RefusalIsRight v.now.ground.now) }
 {
     for t in targets {
         let key = entered_key(&v.key, CALL, *t);
@@ -160,7 +160,7 @@ fn note_call(
     requires entry { state_after v.now.state.now entry.now ≡ entries.call_entry v.now.state.now }
     ensures ok { OnOk result
         (StayJoined v.now table.old table.new (enters_by v.now targets.now.items)) }
-    ensures err { IfErr result (AnsweredOn v.now.ground.now) }
+    ensures err { IfErr result (RefusalIsRight v.now.ground.now) }
 {
     if targets.len() < 2 {
         return Ok(());

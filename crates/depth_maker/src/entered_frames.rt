@@ -1,10 +1,10 @@
 // The frames that an instruction enters.
 ghost use Rattle.std.specs.Prelude.{◌≡◌, ◌++◌, OnOk, IfOk, map, IsTrue, ◌∷◌, [], if◌then◌else◌, not};
 ghost use Rattle.tc_isa.specs.InBounds.{IsShape, IsShapeAccessSize};
-ghost use Rattle.depth_cert.specs.Proper.{IsProperState};
+ghost use Rattle.depth_cert.specs.WellFormed.{IsWellFormedState};
 ghost use Rattle.cfg_recover.specs.Entries as frames;
 ghost use Rattle.depth_maker.specs.EnteredFrames.{entered_in, EntersNoFrame};
-ghost use Rattle.depth_maker.specs.VisitDuties.{StandsBy, access_by, entries_by, misaligned_by};
+ghost use Rattle.depth_maker.specs.VisitDuties.{OwesDutiesOf, access_by, entries_by, misaligned_by};
 ghost use Rattle.vd_transfer.specs.EffectsOnStates.{address_of};
 ghost use Rattle.store_ranges.specs.Accesses.{are_aligned};
 ghost use Rattle.depth_cert.specs.Known.{state};
@@ -23,8 +23,8 @@ pub(crate) fn entered_frames(
     v: &Visit,
     found: &Located,
 ) -> Result<Vec<Key>, AllocError>
-    requires proper { IsProperState v.now.ground.now.bounds.now v.now.state.now }
-    requires stands { StandsBy v.now found.now }
+    requires well_formed { IsWellFormedState v.now.ground.now.bounds.now v.now.state.now }
+    requires stands { OwesDutiesOf v.now found.now }
     ensures { IfOk result (λ keys. keys.items
         ≡ entered_in (entries_by v.now found.now.shape found.now.size)
         ++ entered_in (access_by v.now found.now)) }
@@ -53,8 +53,8 @@ pub(crate) fn enters_no_frame(plan: &Plan, shape: Shape) -> bool
 /// Returns whether the instruction may enter the frame of the handler of misaligned accesses: its
 /// access may be misaligned, and the plan has such traps.
 pub(crate) fn may_enter_misaligned_handler(v: &Visit, found: &Located) -> bool
-    requires proper { IsProperState v.now.ground.now.bounds.now v.now.state.now }
-    requires stands { StandsBy v.now found.now }
+    requires well_formed { IsWellFormedState v.now.ground.now.bounds.now v.now.state.now }
+    requires stands { OwesDutiesOf v.now found.now }
     ensures { access_by v.now found.now ≡ (if result then misaligned_by v.now ∷ [] else []) }
 {
     let plan = v.ground.plan;
@@ -72,7 +72,7 @@ pub(crate) fn may_enter_misaligned_handler(v: &Visit, found: &Located) -> bool
 /// handler. It is a call of its own, since it has room for a value.
 #[inline(never)]
 pub(crate) fn accesses_misaligned(v: &Visit, shape: Shape, size: u8) -> bool
-    requires proper { IsProperState v.now.ground.now.bounds.now v.now.state.now }
+    requires well_formed { IsWellFormedState v.now.ground.now.bounds.now v.now.state.now }
     requires shape { IsShape shape }
     requires size { IsShapeAccessSize size }
     ensures { result ≡ not (are_aligned (address_of v.now.ground.now.bounds.now
@@ -105,8 +105,8 @@ fn add_entered_frames(keys: &mut Vec<Key>, v: &Visit, found: &Located) -> Result
 
 /// Appends the frame of the handler of misaligned accesses, if the instruction may enter it.
 fn add_misaligned_frame(keys: &mut Vec<Key>, v: &Visit, found: &Located) -> Result<(), AllocError>
-    requires proper { IsProperState v.now.ground.now.bounds.now v.now.state.now }
-    requires stands { StandsBy v.now found.now }
+    requires well_formed { IsWellFormedState v.now.ground.now.bounds.now v.now.state.now }
+    requires stands { OwesDutiesOf v.now found.now }
     ensures { OnOk result
         (keys.new.items ≡ keys.old.items ++ entered_in (access_by v.now found.now)) }
 {

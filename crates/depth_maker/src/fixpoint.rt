@@ -4,8 +4,8 @@ ghost use Rattle.indexmap.specs.IndexMap.{get};
 ghost use Rattle.frame_places.specs.declared.places.Spot as spots;
 ghost use Rattle.frame_places.specs.Spots.{spot_eq};
 ghost use Rattle.cfg_recover.specs.SetOperations.{HoldsCachedResults};
-ghost use Rattle.depth_maker.specs.TableInvariant.{FineOn, IsDone};
-ghost use Rattle.depth_maker.specs.Answers.{AnsweredOn};
+ghost use Rattle.depth_maker.specs.TableInvariant.{TableHolds, IsDone};
+ghost use Rattle.depth_maker.specs.Answers.{RefusalIsRight};
 ghost use Rattle.depth_maker.specs.Visits.{VisitEndsOn, HasVisitOpen, NoVisitOpen, VisitStepsOn, VisitTurnsOn};
 
 use crate::covered::CoveredEntries;
@@ -34,7 +34,7 @@ pub(crate) struct VisitScratch {
 #[inline(never)]
 pub(crate) fn least_fixpoint(alloc: Global, ground: &Ground) -> Result<Table, Refusal>
     ensures ok { IfOk result (IsDone ground.now) }
-    ensures err { IfErr result (AnsweredOn ground.now) }
+    ensures err { IfErr result (RefusalIsRight ground.now) }
 {
     let mut table = begin_fixpoint(alloc, ground)?;
     let mut scratch = VisitScratch {
@@ -48,8 +48,8 @@ pub(crate) fn least_fixpoint(alloc: Global, ground: &Ground) -> Result<Table, Re
 /// Returns the table with only the start.
 #[inline(never)]
 fn begin_fixpoint(alloc: Global, ground: &Ground) -> Result<Table, Refusal>
-    ensures ok { IfOk result (λ t. FineOn ground.now t × NoVisitOpen t) }
-    ensures err { IfErr result (AnsweredOn ground.now) }
+    ensures ok { IfOk result (λ t. TableHolds ground.now t × NoVisitOpen t) }
+    ensures err { IfErr result (RefusalIsRight ground.now) }
 {
     let key = start_key(ground.image, ground.plan);
     let place = Spot::Point(key, key.entry);
@@ -90,7 +90,7 @@ fn fixpoint_turn(
     table: &mut Table,
     scratch: &mut VisitScratch,
 ) -> Result<bool, Refusal>
-    requires fine { FineOn ground.now table.old }
+    requires fine { TableHolds ground.now table.old }
     requires none { NoVisitOpen table.old }
     ensures { VisitTurnsOn ground.now table.old table.new result }
 {
@@ -121,7 +121,7 @@ fn fixpoint_step(
     change: &mut Change,
     cache: &mut OperationCache,
 ) -> Result<bool, Refusal>
-    requires fine { FineOn ground.now table.old }
+    requires fine { TableHolds ground.now table.old }
     requires none { NoVisitOpen table.old }
     requires results { HoldsCachedResults ground.now.bounds.now cache.old }
     ensures steps { VisitStepsOn ground.now table.old table.new result }
@@ -148,11 +148,11 @@ fn fixpoint_visit(
     change: &mut Change,
     cache: &mut OperationCache,
 ) -> Result<(), Refusal>
-    requires fine { FineOn ground.now table.old }
+    requires fine { TableHolds ground.now table.old }
     requires opened { HasVisitOpen table.old }
     requires results { HoldsCachedResults ground.now.bounds.now cache.old }
     ensures ok { OnOk result (VisitEndsOn ground.now table.old table.new) }
-    ensures err { IfErr result (AnsweredOn ground.now) }
+    ensures err { IfErr result (RefusalIsRight ground.now) }
     ensures results { HoldsCachedResults ground.now.bounds.now cache.new }
 {
     let plain = visit_place(alloc, ground, table, scratch, change, cache)?;

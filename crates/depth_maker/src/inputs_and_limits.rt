@@ -1,5 +1,5 @@
 // What a certificate is made for.
-ghost use Rattle.depth_maker.specs.DutiesGrow.{IsGround};
+ghost use Rattle.depth_maker.specs.DutiesMonotone.{IsGround};
 
 use cfg_recover::Located;
 use depth_cert::Key;

@@ -4,10 +4,10 @@ ghost use Rattle.value_domain.specs.declared.states.State.{State};
 ghost use Rattle.value_domain.specs.Values.{IsBelow, IsValue, IsWell};
 ghost use Rattle.depth_maker.specs.InterruptHandlers.{IsAlike, IsContextOf, IsWithinContext, joined_context, HasNotedInterrupts};
 ghost use Rattle.vd_transfer.specs.Registers.{a10_of};
-ghost use Rattle.depth_cert.specs.Proper.{IsProperState};
+ghost use Rattle.depth_cert.specs.WellFormed.{IsWellFormedState};
 ghost use Rattle.frame_places.specs.declared.places.Spot.TheVariants.{Point};
 ghost use Rattle.frame_places.specs.Numbers.{PlaceHasNumber};
-ghost use Rattle.depth_maker.specs.TableInvariant.{FineOn};
+ghost use Rattle.depth_maker.specs.TableInvariant.{TableHolds};
 ghost use Rattle.depth_maker.specs.VisitDuties.{OwesAll, JoinedBy, StayJoined, interrupts_by};
 ghost use Rattle.depth_maker.specs.Visits.{VisitedBy};
 ghost use Rattle.cfg_recover.specs.Assignments.{point};
@@ -129,9 +129,9 @@ pub(crate) fn has_noted_interrupts(table: &Table, is: bool, ccpn: u8) -> bool
 /// its own, since it has room for a value.
 #[inline(never)]
 pub(crate) fn note_interrupts(table: &mut Table, v: &Visit)
-    requires fine { FineOn v.now.ground.now table.old }
+    requires fine { TableHolds v.now.ground.now table.old }
     requires near { PlaceHasNumber table.old.places table.old.near (Point v.now.key v.now.addr) }
-    requires proper { IsProperState v.now.ground.now.bounds.now v.now.state.now }
+    requires well_formed { IsWellFormedState v.now.ground.now.bounds.now v.now.state.now }
     requires on { IsTrue v.now.state.now.ie }
     requires owes { OwesAll v.now (interrupts_by v.now) }
     ensures { StayJoined v.now table.old table.new (interrupts_by v.now) }

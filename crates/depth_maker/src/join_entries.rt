@@ -5,8 +5,8 @@ ghost use Rattle.vd_transfer.specs.Changes.{state_after};
 ghost use Rattle.cfg_recover.specs.Entries.{irqs_of};
 ghost use Rattle.cfg_recover.specs.FlowDuties.{told_irqs};
 ghost use Rattle.frame_places.specs.declared.places.Spot.TheVariants.{Point, Exit};
-ghost use Rattle.depth_maker.specs.Answers.{AnsweredOn};
-ghost use Rattle.depth_maker.specs.VisitDuties.{OwesAll, JoinedBy, StandsBy, access_by, entries_by, interrupts_by, misaligned_by, system_by, enters_by, OwesDuty};
+ghost use Rattle.depth_maker.specs.Answers.{RefusalIsRight};
+ghost use Rattle.depth_maker.specs.VisitDuties.{OwesAll, JoinedBy, OwesDutiesOf, access_by, entries_by, interrupts_by, misaligned_by, system_by, enters_by, OwesDuty};
 ghost use Rattle.depth_maker.specs.Visits.{VisitedBy};
 ghost use Rattle.cfg_recover.specs.Entries as entries;
 ghost use Rattle.cfg_recover.specs.Duties.{owed, enter, resume, entered_and_back};
@@ -44,7 +44,7 @@ pub(crate) fn join_entries(
     requires shape { IsShape shape }
     requires owes { OwesAll v.now (entries_by v.now shape size) }
     ensures ok { OnOk result (JoinedBy v.now table.old table.new (entries_by v.now shape size)) }
-    ensures err { IfErr result (AnsweredOn v.now.ground.now) }
+    ensures err { IfErr result (RefusalIsRight v.now.ground.now) }
 {
     let back = v.addr.wrapping_add(size);
     match shape {
@@ -63,10 +63,10 @@ pub(crate) fn join_access_entry(
     found: &Located,
 ) -> Result<(), Refusal>
     requires visited { VisitedBy v.now table.old }
-    requires found { StandsBy v.now found.now }
+    requires found { OwesDutiesOf v.now found.now }
     requires owes { OwesAll v.now (access_by v.now found.now) }
     ensures ok { OnOk result (JoinedBy v.now table.old table.new (access_by v.now found.now)) }
-    ensures err { IfErr result (AnsweredOn v.now.ground.now) }
+    ensures err { IfErr result (RefusalIsRight v.now.ground.now) }
 {
     if !may_enter_misaligned_handler(v, found) {
         return Ok(());
@@ -80,7 +80,7 @@ pub(crate) fn join_interrupts(alloc: Global, table: &mut Table, v: &Visit) -> Re
     requires visited { VisitedBy v.now table.old }
     requires owes { OwesAll v.now (interrupts_by v.now) }
     ensures ok { OnOk result (JoinedBy v.now table.old table.new (interrupts_by v.now)) }
-    ensures err { IfErr result (AnsweredOn v.now.ground.now) }
+    ensures err { IfErr result (RefusalIsRight v.now.ground.now) }
 {
     if !v.state.ie {
         return Ok(());
@@ -109,7 +109,7 @@ pub(crate) fn join_each_entry(
     requires entry { state_after v.now.state.now entry.now ≡ entries.call_entry v.now.state.now }
     requires owes { OwesAll v.now (enters_by v.now targets.now) }
     ensures ok { OnOk result (JoinedBy v.now table.old table.new (enters_by v.now targets.now)) }
-    ensures err { IfErr result (AnsweredOn v.now.ground.now) }
+    ensures err { IfErr result (RefusalIsRight v.now.ground.now) }
 {
     for t in targets {
         let key = entered_key(&v.key, CALL, *t);
@@ -132,7 +132,7 @@ pub(crate) fn join_entry(
         → OnOk result
         (JoinedBy v.now table.old table.new
         (owed rule (enter key (state_after v.now.state.now c.now)) ∷ [])) }
-    ensures err { IfErr result (AnsweredOn v.now.ground.now) }
+    ensures err { IfErr result (RefusalIsRight v.now.ground.now) }
 {
     if has_queued_mark(&table.places, table.near) {
         return Ok(());
@@ -153,7 +153,7 @@ pub(crate) fn join_return_after_entry(
     requires visited { VisitedBy v.now table.old }
     requires owes { OwesDuty v.now (resume key back) }
     ensures ok { OnOk result (JoinedBy v.now table.old table.new (owed 4 (resume key back) ∷ [])) }
-    ensures err { IfErr result (AnsweredOn v.now.ground.now) }
+    ensures err { IfErr result (RefusalIsRight v.now.ground.now) }
 {
     register_reader(
         alloc,
@@ -180,7 +180,7 @@ pub(crate) fn join_entry_and_back(
         → OnOk result
         (JoinedBy v.now table.old table.new
         (entered_and_back rule key (state_after v.now.state.now c.now) back)) }
-    ensures err { IfErr result (AnsweredOn v.now.ground.now) }
+    ensures err { IfErr result (RefusalIsRight v.now.ground.now) }
 {
     join_entry(alloc, table, v, key, c)?;
     join_return_after_entry(alloc, table, v, key, back)
@@ -199,7 +199,7 @@ fn join_system_call_entry(
     requires visited { VisitedBy v.now table.old }
     requires owes { OwesAll v.now (system_by v.now tin back) }
     ensures ok { OnOk result (JoinedBy v.now table.old table.new (system_by v.now tin back)) }
-    ensures err { IfErr result (AnsweredOn v.now.ground.now) }
+    ensures err { IfErr result (RefusalIsRight v.now.ground.now) }
 {
     let g = v.ground;
     let entry = system_change(g.bounds, g.plan, &v.key, v.state, tin);
@@ -213,7 +213,7 @@ fn join_misaligned_entry(alloc: Global, table: &mut Table, v: &Visit) -> Result<
     requires visited { VisitedBy v.now table.old }
     requires owes { OwesAll v.now (misaligned_by v.now ∷ []) }
     ensures ok { OnOk result (JoinedBy v.now table.old table.new (misaligned_by v.now ∷ [])) }
-    ensures err { IfErr result (AnsweredOn v.now.ground.now) }
+    ensures err { IfErr result (RefusalIsRight v.now.ground.now) }
 {
     let g = v.ground;
     let entry = misaligned_change(g.bounds, g.plan, &v.key, v.state);
@@ -233,7 +233,7 @@ fn join_interrupt_entries(
     requires irqs { irqs.now ≡ irqs_of v.now.ground.now.plan.now v.now.state.now }
     requires owes { OwesAll v.now (interrupts_by v.now) }
     ensures ok { OnOk result (JoinedBy v.now table.old table.new (interrupts_by v.now)) }
-    ensures err { IfErr result (AnsweredOn v.now.ground.now) }
+    ensures err { IfErr result (RefusalIsRight v.now.ground.now) }
 {
     let entry = handler_change(v.ground.bounds, v.ground.plan, &v.key, v.state, 0);
     join_each_handler_entry(alloc, table, v, irqs, entry)
@@ -254,7 +254,7 @@ fn join_each_handler_entry(
     ensures ok { OnOk result
         (JoinedBy v.now table.old table.new
         (told_irqs v.now.ground.now.plan.now (state_after v.now.state.now entry) irqs.now)) }
-    ensures err { IfErr result (AnsweredOn v.now.ground.now) }
+    ensures err { IfErr result (RefusalIsRight v.now.ground.now) }
 {
     let mut entry = entry;
     for p in irqs {

@@ -9,11 +9,11 @@ ghost use Rattle.frame_places.specs.Marks.{AllListed, AreKnown, IsAmongReaders, 
 ghost use Rattle.frame_places.specs.Work.{all_work};
 ghost use Rattle.frame_places.specs.Numbers.{PlaceHasNumber};
 ghost use Rattle.frame_places.specs.Spots.{spot_eq};
-ghost use Rattle.depth_maker.specs.TableInvariant.{TableReadsExits, FineOn};
+ghost use Rattle.depth_maker.specs.TableInvariant.{TableReadsExits, TableHolds};
 ghost use Rattle.depth_maker.specs.TableView.{seen};
 ghost use Rattle.depth_maker.specs.AssignmentCounts.{AreFew};
 ghost use Rattle.depth_maker.specs.SpotsAsPlaces.{place_of_spot};
-ghost use Rattle.depth_maker.specs.Answers.{AnsweredOn};
+ghost use Rattle.depth_maker.specs.Answers.{RefusalIsRight};
 ghost use Rattle.depth_maker.specs.Joins.{AddsOn, AsksOn, JoinedOn, JoinsOn};
 ghost use Rattle.depth_maker.specs.declared.inputs_and_limits.Ground.{Ground};
 
@@ -38,7 +38,7 @@ pub(crate) fn add_joined_place(
 ) -> Result<Option<usize>, Refusal>
     requires listed { AllListed table.old.places (all_work table.old.work) }
     requires few { AreFew (map place_of_spot table.old.points.items) table.old.frames.items }
-    ensures { (g : Ground) → FineOn g table.old → AsksOn g table.old y value
+    ensures { (g : Ground) → TableHolds g table.old → AsksOn g table.old y value
         → AddsOn g table.old table.new y value result }
 {
     match add_or_find_place(&mut table.places, &mut table.work, y, value)? {
@@ -59,7 +59,7 @@ pub(crate) fn join_at_place(
     y: &Spot,
     incoming: &Incoming,
 ) -> Result<(), Refusal>
-    requires fine { FineOn v.now.ground.now table.old }
+    requires fine { TableHolds v.now.ground.now table.old }
     requires near { PlaceHasNumber table.old.places table.old.near (Point v.now.key v.now.addr) }
     requires at { (seen table.old).cells (point v.now.key v.now.addr)
         ≡ Some (state v.now.state.now) }
@@ -67,7 +67,7 @@ pub(crate) fn join_at_place(
     requires incoming { AsksOn v.now.ground.now table.old y.now (incoming_known incoming.now) }
     ensures ok { OnOk result
         (JoinedOn v.now.ground.now table.old table.new y.now (incoming_known incoming.now)) }
-    ensures err { IfErr result (AnsweredOn v.now.ground.now) }
+    ensures err { IfErr result (RefusalIsRight v.now.ground.now) }
 {
     let _byte = incoming_priority(incoming);
     let known = table.places.len();
@@ -87,7 +87,7 @@ fn join_place_alone(
     y: &Spot,
     incoming: &Incoming,
 ) -> Result<bool, Refusal>
-    requires fine { FineOn v.now.ground.now table.old }
+    requires fine { TableHolds v.now.ground.now table.old }
     requires near { PlaceHasNumber table.old.places table.old.near (Point v.now.key v.now.addr) }
     requires at { (seen table.old).cells (point v.now.key v.now.addr)
         ≡ Some (state v.now.state.now) }
@@ -135,7 +135,7 @@ fn join_known_place(
     y: &Spot,
     incoming: &Incoming,
 ) -> Result<bool, Refusal>
-    requires fine { FineOn v.now.ground.now table.old }
+    requires fine { TableHolds v.now.ground.now table.old }
     requires there { PlaceHasNumber table.old.places number y.now }
     requires near { PlaceHasNumber table.old.places table.old.near (Point v.now.key v.now.addr) }
     requires at { (seen table.old).cells (point v.now.key v.now.addr)
@@ -177,7 +177,7 @@ fn join_new_place(
     y: &Spot,
     incoming: &Incoming,
 ) -> Result<bool, Refusal>
-    requires fine { FineOn v.now.ground.now table.old }
+    requires fine { TableHolds v.now.ground.now table.old }
     requires near { PlaceHasNumber table.old.places table.old.near (Point v.now.key v.now.addr) }
     requires at { (seen table.old).cells (point v.now.key v.now.addr)
         ≡ Some (state v.now.state.now) }

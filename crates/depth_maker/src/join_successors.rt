@@ -8,8 +8,8 @@ ghost use Rattle.cfg_recover.specs.SetOperations.{HoldsCachedResults};
 ghost use Rattle.cfg_recover.specs.Duties.{jumps_to, jump_on, owed, jump, resume, leave, leavings_of};
 ghost use Rattle.depth_cert.specs.Known.{state};
 ghost use Rattle.depth_maker.specs.TableView.{seen};
-ghost use Rattle.depth_maker.specs.Answers.{AnsweredOn};
-ghost use Rattle.depth_maker.specs.VisitDuties.{OwesAll, JoinedBy, StandsBy, next_by, side_by, successors_by, OwesDuty};
+ghost use Rattle.depth_maker.specs.Answers.{RefusalIsRight};
+ghost use Rattle.depth_maker.specs.VisitDuties.{OwesAll, JoinedBy, OwesDutiesOf, next_by, side_by, successors_by, OwesDuty};
 ghost use Rattle.depth_maker.specs.Visits.{VisitedBy};
 ghost use Rattle.indexmap.specs.IndexMap.{get};
 ghost use Rattle.depth_cert.specs.Exits.{exit_of};
@@ -51,11 +51,11 @@ pub(crate) fn join_successors(
     requires visited { VisitedBy v.now table.old }
     requires at { (seen table.old).cells (point v.now.key v.now.addr)
         ≡ Some (state v.now.state.now) }
-    requires found { StandsBy v.now found.now }
+    requires found { OwesDutiesOf v.now found.now }
     requires owes { OwesAll v.now (successors_by v.now found.now) }
     requires results { HoldsCachedResults v.now.ground.now.bounds.now cache.old }
     ensures ok { OnOk result (JoinedBy v.now table.old table.new (successors_by v.now found.now)) }
-    ensures err { IfErr result (AnsweredOn v.now.ground.now) }
+    ensures err { IfErr result (RefusalIsRight v.now.ground.now) }
     ensures results { HoldsCachedResults v.now.ground.now.bounds.now cache.new }
 {
     let shape = found.shape;
@@ -93,7 +93,7 @@ pub(crate) fn join_jump(
     ensures ok { OnOk result
         (JoinedBy v.now table.old table.new
         (owed 4 (jump to (state_after v.now.state.now c.now)) ∷ [])) }
-    ensures err { IfErr result (AnsweredOn v.now.ground.now) }
+    ensures err { IfErr result (RefusalIsRight v.now.ground.now) }
 {
     if has_queued_mark(&table.places, table.near) {
         return Ok(());
@@ -117,7 +117,7 @@ pub(crate) fn join_first_jump(
     ensures ok { OnOk result
         (JoinedBy v.now table.old table.new
         (owed 4 (jump to (state_after v.now.state.now c.now)) ∷ [])) }
-    ensures err { IfErr result (AnsweredOn v.now.ground.now) }
+    ensures err { IfErr result (RefusalIsRight v.now.ground.now) }
 {
     let incoming = Incoming::Changed(v.state, c);
     join_at_place(alloc, table, v, &Spot::Point(v.key, to), &incoming)
@@ -131,7 +131,7 @@ pub(crate) fn join_exit(alloc: Global, table: &mut Table, v: &Visit) -> Result<(
     ensures ok { (rule : ℕ)
         → OnOk result
         (JoinedBy v.now table.old table.new (owed rule (leave (exit_of v.now.state.now)) ∷ [])) }
-    ensures err { IfErr result (AnsweredOn v.now.ground.now) }
+    ensures err { IfErr result (RefusalIsRight v.now.ground.now) }
 {
     if has_queued_mark(&table.places, table.near) {
         return Ok(());
@@ -154,7 +154,7 @@ pub(crate) fn join_return(
         (Point v.now.key v.now.addr) }
     requires owes { OwesDuty v.now (resume key back) }
     ensures ok { OnOk result (JoinedBy v.now table.old table.new (owed 4 (resume key back) ∷ [])) }
-    ensures err { IfErr result (AnsweredOn v.now.ground.now) }
+    ensures err { IfErr result (RefusalIsRight v.now.ground.now) }
 {
     if has_queued_mark(&table.places, table.near) {
         return Ok(());
@@ -181,7 +181,7 @@ pub(crate) fn join_leavings(
     requires owes { OwesAll v.now (leavings_of v.now.key v.now.state.now shape) }
     ensures ok { OnOk result
         (JoinedBy v.now table.old table.new (leavings_of v.now.key v.now.state.now shape)) }
-    ensures err { IfErr result (AnsweredOn v.now.ground.now) }
+    ensures err { IfErr result (RefusalIsRight v.now.ground.now) }
 {
     match shape {
         Shape::Ret => join_exit(alloc, table, v),
@@ -214,7 +214,7 @@ fn join_sides(
         (JoinedBy v.now table.old table.new
         (jump_on next.to (side_by v.now next.shape next.taken)
         ++ jump_on taken.to (side_by v.now taken.shape taken.taken))) }
-    ensures err { IfErr result (AnsweredOn v.now.ground.now) }
+    ensures err { IfErr result (RefusalIsRight v.now.ground.now) }
 {
     join_side(alloc, table, v, next, c)?;
     join_side(alloc, table, v, taken, c)
@@ -239,7 +239,7 @@ fn join_targets(
     ensures ok { OnOk result (JoinedBy v.now table.old table.new
         (jumps_to v.now.state.now
         (unwrap_or (targets_of v.now.ground.now.plan.now v.now.state.now v.now.addr to) []))) }
-    ensures err { IfErr result (AnsweredOn v.now.ground.now) }
+    ensures err { IfErr result (RefusalIsRight v.now.ground.now) }
 {
     match direct_target(v.addr, to) {
         Some(target) => {
@@ -262,11 +262,11 @@ fn join_step(
     requires visited { VisitedBy v.now table.old }
     requires at { (seen table.old).cells (point v.now.key v.now.addr)
         ≡ Some (state v.now.state.now) }
-    requires found { StandsBy v.now found.now }
+    requires found { OwesDutiesOf v.now found.now }
     requires owes { OwesAll v.now (next_by v.now found.now) }
     requires results { HoldsCachedResults v.now.ground.now.bounds.now cache.old }
     ensures ok { OnOk result (JoinedBy v.now table.old table.new (next_by v.now found.now)) }
-    ensures err { IfErr result (AnsweredOn v.now.ground.now) }
+    ensures err { IfErr result (RefusalIsRight v.now.ground.now) }
     ensures results { HoldsCachedResults v.now.ground.now.bounds.now cache.new }
 {
     write_visit_change(v, found.shape, c, cache);
@@ -287,7 +287,7 @@ fn join_side(
     ensures ok { OnOk result
         (JoinedBy v.now table.old table.new
         (jump_on side.to (side_by v.now side.shape side.taken))) }
-    ensures err { IfErr result (AnsweredOn v.now.ground.now) }
+    ensures err { IfErr result (RefusalIsRight v.now.ground.now) }
 {
     let g = v.ground;
     if !change_on(g.bounds, g.plan, side.shape, v.state, side.taken, c) {
@@ -313,7 +313,7 @@ fn join_listed_jumps(
     ensures ok { OnOk result (JoinedBy v.now table.old table.new
         (jumps_to v.now.state.now
         (unwrap_or (targets_of v.now.ground.now.plan.now v.now.state.now v.now.addr to) []))) }
-    ensures err { IfErr result (AnsweredOn v.now.ground.now) }
+    ensures err { IfErr result (RefusalIsRight v.now.ground.now) }
 {
     let targets = targets(v.ground.plan, v.state, v.addr, to);
     join_jumps(alloc, table, v, targets.as_slice(), c)
@@ -331,7 +331,7 @@ fn join_jumps(
     requires owes { OwesAll v.now (jumps_to v.now.state.now targets.now) }
     ensures ok { OnOk result
         (JoinedBy v.now table.old table.new (jumps_to v.now.state.now targets.now)) }
-    ensures err { IfErr result (AnsweredOn v.now.ground.now) }
+    ensures err { IfErr result (RefusalIsRight v.now.ground.now) }
 {
     c.keep(v.state);
     for t in targets {

@@ -1,7 +1,7 @@
 // Fast path: the last call of several functions, whose entries are covered. With it `cert` takes
 // a third of the instructions for 200 calls of 128 functions, if 15 sets of 128 words are known.
 ghost use Rattle.std.specs.Prelude.{IsTrue};
-ghost use Rattle.depth_cert.specs.Proper.{IsProperKnown};
+ghost use Rattle.depth_cert.specs.WellFormed.{IsWellFormedKnown};
 ghost use Rattle.small_states.specs.Incoming.{incoming_known};
 ghost use Rattle.depth_maker.specs.Covered.{IsCallOf, IsWithinCall};
 
@@ -47,8 +47,8 @@ impl LastCall {
         targets: &ArrayVec<u32, 128>,
         incoming: &Incoming,
     ) -> bool
-        requires own { IsProperKnown b.now self.now.entry }
-        requires incoming { IsProperKnown b.now (incoming_known incoming.now) }
+        requires own { IsWellFormedKnown b.now self.now.entry }
+        requires incoming { IsWellFormedKnown b.now (incoming_known incoming.now) }
         ensures { IsTrue result
             → IsWithinCall self.now key.now targets.now.items (incoming_known incoming.now) }
     {

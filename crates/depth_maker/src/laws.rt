@@ -1,29 +1,29 @@
 // Laws: what grows with a state, and what holds of derived assignments and accepted certificates.
-ghost use Rattle.depth_maker.specs.DutiesGrow.{AddressesGrow, AfterGrows, DutiesGrow, FaultsFall, SidesGrow, TransfersGrow};
-ghost use Rattle.depth_maker.specs.ProperAssignments.{AfterIsProper, DutiesAreProper};
+ghost use Rattle.depth_maker.specs.DutiesMonotone.{AddressesMonotone, AfterMonotone, DutiesMonotone, FaultsFall, SidesMonotone, TransfersMonotone};
+ghost use Rattle.depth_maker.specs.WellFormedAssignments.{AfterIsWellFormed, DutiesAreWellFormed};
 ghost use Rattle.depth_maker.specs.MakerLaws.{RefusalsHold, AcceptedIsClosed, DerivedIsBelow, FaultsRefute, RefusalsRefute, SolutionIsAccepted, RefusedIsNone, WrittenIsMade, MadeIsLeast};
 
 /// Laws of the maker: what a point owes grows with its state, and is at the limits. A point without
 /// a fault of its own has none with a smaller state.
 pub fn growth_laws()
     ensures faults { FaultsFall }
-    ensures duties { DutiesGrow }
-    ensures proper { DutiesAreProper }
+    ensures duties { DutiesMonotone }
+    ensures well_formed { DutiesAreWellFormed }
 {}
 
 /// Laws of the maker: the state after a return grows with the caller's state and with the exit, and
 /// it is at the limits.
 pub fn after_laws()
-    ensures grows { AfterGrows }
-    ensures proper { AfterIsProper }
+    ensures grows { AfterMonotone }
+    ensures well_formed { AfterIsWellFormed }
 {}
 
 /// Laws of the maker: duties grow with states, since effects of instructions do. A side of a branch
 /// that is possible is possible with a larger state.
 pub fn effect_growth_laws()
-    ensures transfers { TransfersGrow }
-    ensures addresses { AddressesGrow }
-    ensures sides { SidesGrow }
+    ensures transfers { TransfersMonotone }
+    ensures addresses { AddressesMonotone }
+    ensures sides { SidesMonotone }
 {}
 
 /// Every derived assignment is below every closed one without faults of its own. If there is such a

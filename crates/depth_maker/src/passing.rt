@@ -5,7 +5,7 @@ ghost use Rattle.cfg_recover.specs.Code.{LocatesCode};
 ghost use Rattle.frame_places.specs.declared.places.Spot.TheVariants.{Point};
 ghost use Rattle.frame_places.specs.Numbers.{PlaceHasNumber};
 ghost use Rattle.depth_maker.specs.SharedStates.{MayShareState, StateSharedBy, SharesState};
-ghost use Rattle.depth_maker.specs.TableInvariant.{FineOn};
+ghost use Rattle.depth_maker.specs.TableInvariant.{TableHolds};
 ghost use Rattle.tc_isa.specs.InBounds.{IsShape};
 
 use crate::inputs_and_limits::Site;
@@ -25,7 +25,7 @@ use tc_isa::Shape;
 /// This is tried only at the place that was found last. The successors of other places are mostly
 /// known already, and the look-up here would be in vain.
 pub(crate) fn pass_on(alloc: Global, table: &mut Table, site: &Site) -> Result<bool, Refusal>
-    requires fine { FineOn site.now.ground.now table.old }
+    requires fine { TableHolds site.now.ground.now table.old }
     requires near { PlaceHasNumber table.old.places table.old.near
         (Point site.now.key site.now.addr) }
     requires code { LocatesCode site.now.ground.now.image.now site.now.ground.now.plan.now
@@ -73,7 +73,7 @@ fn passed_to(site: &Site) -> Option<u32>
 /// interrupts that may be taken there are covered.
 #[inline(always)]
 fn may_pass_state_on(table: &Table, site: &Site) -> bool
-    requires fine { FineOn site.now.ground.now table.now }
+    requires fine { TableHolds site.now.ground.now table.now }
     requires near { PlaceHasNumber table.now.places table.now.near
         (Point site.now.key site.now.addr) }
     ensures { IsTrue result → MayShareState site.now table.now }

@@ -2,10 +2,10 @@
 ghost use Rattle.std.specs.Prelude.{◌≡◌, ◌+◌, ◌<◌, List, IfOk, IsTrue, OnOk};
 ghost use Rattle.indexmap.specs.IndexMap.{index_map_len};
 ghost use Rattle.depth_cert.specs.declared.keys.Key as keys;
-ghost use Rattle.depth_cert.specs.Proper.{IsProperState};
+ghost use Rattle.depth_cert.specs.WellFormed.{IsWellFormedState};
 ghost use Rattle.frame_places.specs.Numbers.{frame_number_in};
 ghost use Rattle.depth_maker.specs.InterruptHandlers.{AreNumberedHandlers};
-ghost use Rattle.depth_maker.specs.VisitDuties.{StandsBy};
+ghost use Rattle.depth_maker.specs.VisitDuties.{OwesDutiesOf};
 ghost use Rattle.depth_maker.specs.Rows.{AddsPlainRow, AddsPointRow, RowFramesKnownBy, IsDraft, IsKnownRowPoint, IsPointRow, IsRowBy, HasEqualRow, IsRowSource, RowsOn};
 
 use crate::entered_frames::entered_frames;
@@ -74,8 +74,8 @@ fn row_with(
     node: usize,
     found: &Located,
 ) -> Result<NeedRow, AllocError>
-    requires found { StandsBy v.now found.now }
-    requires proper { IsProperState v.now.ground.now.bounds.now v.now.state.now }
+    requires found { OwesDutiesOf v.now found.now }
+    requires well_formed { IsWellFormedState v.now.ground.now.bounds.now v.now.state.now }
     ensures { IfOk result (λ row. (frames : List keys.Key)
         → AreNumberedHandlers v.now.ground.now.plan.now source.now.numbers.now
         source.now.handlers.now frames

@@ -6,13 +6,13 @@ ghost use Rattle.depth_cert.specs.Known.{state};
 ghost use Rattle.frame_places.specs.declared.places.Spot.TheVariants.{Point};
 ghost use Rattle.cfg_recover.specs.SetOperations.{HoldsCachedResults};
 ghost use Rattle.depth_maker.specs.EnteredFrames.{IsPlainAt, IsPlainIn};
-ghost use Rattle.depth_maker.specs.VisitDuties.{IsPlainBy, JoinedBy, StandsBy, duties_by, step_by};
+ghost use Rattle.depth_maker.specs.VisitDuties.{IsPlainBy, JoinedBy, OwesDutiesOf, duties_by, step_by};
 ghost use Rattle.depth_maker.specs.TableView.{seen};
-ghost use Rattle.depth_maker.specs.Answers.{AnsweredOn};
+ghost use Rattle.depth_maker.specs.Answers.{RefusalIsRight};
 ghost use Rattle.depth_maker.specs.Visits.{VisitJoinsPointOn, VisitedBy};
 ghost use Rattle.frame_places.specs.declared.places.Spot as spots;
 ghost use Rattle.frame_places.specs.Numbers.{PlaceHasNumber};
-ghost use Rattle.depth_maker.specs.TableInvariant.{FineOn};
+ghost use Rattle.depth_maker.specs.TableInvariant.{TableHolds};
 ghost use Rattle.tc_isa.specs.InBounds.{IsShape};
 ghost use Rattle.value_domain.specs.State.{AreValues};
 ghost use Rattle.vd_transfer.specs.Changes.{state_after};
@@ -52,7 +52,7 @@ pub(crate) fn visit_point(
     ensures ok { OnOk result
         (VisitJoinsPointOn v.now.ground.now table.old table.new (Point v.now.key v.now.addr)) }
     ensures plain { IfOk result (λ plain. IsTrue plain → IsPlainBy v.now) }
-    ensures err { IfErr result (AnsweredOn v.now.ground.now) }
+    ensures err { IfErr result (RefusalIsRight v.now.ground.now) }
     ensures results { HoldsCachedResults v.now.ground.now.bounds.now cache.new }
 {
     let g = v.ground;
@@ -76,14 +76,14 @@ pub(crate) fn visit_place(
     change: &mut Change,
     cache: &mut OperationCache,
 ) -> Result<bool, Refusal>
-    requires fine { FineOn ground.now table.old }
+    requires fine { TableHolds ground.now table.old }
     requires results { HoldsCachedResults ground.now.bounds.now cache.old }
     ensures ok { (x : spots.Spot) → PlaceHasNumber table.old.places table.old.near x
         → OnOk result (VisitJoinsPointOn ground.now table.old table.new x) }
     ensures plain { (x : spots.Spot) → PlaceHasNumber table.old.places table.old.near x
         → IfOk result (λ plain. IsTrue plain
         → IsPlainIn ground.now.image.now ground.now.plan.now x) }
-    ensures err { IfErr result (AnsweredOn ground.now) }
+    ensures err { IfErr result (RefusalIsRight ground.now) }
     ensures results { HoldsCachedResults ground.now.bounds.now cache.new }
 {
     let Some((at, _)) = table.places.get_index(table.near) else {
@@ -140,10 +140,10 @@ fn join_visit_duties(
     requires visited { VisitedBy v.now table.old }
     requires at { (seen table.old).cells (point v.now.key v.now.addr)
         ≡ Some (state v.now.state.now) }
-    requires found { StandsBy v.now found.now }
+    requires found { OwesDutiesOf v.now found.now }
     requires results { HoldsCachedResults v.now.ground.now.bounds.now cache.old }
     ensures ok { OnOk result (JoinedBy v.now table.old table.new (duties_by v.now found.now)) }
-    ensures err { IfErr result (AnsweredOn v.now.ground.now) }
+    ensures err { IfErr result (RefusalIsRight v.now.ground.now) }
     ensures results { HoldsCachedResults v.now.ground.now.bounds.now cache.new }
 {
     join_successors(alloc, table, v, found, c, cache)?;
@@ -163,7 +163,7 @@ fn read_and_visit(
     change: &mut Change,
     cache: &mut OperationCache,
 ) -> Result<bool, Refusal>
-    requires fine { FineOn site.now.ground.now table.old }
+    requires fine { TableHolds site.now.ground.now table.old }
     requires near { PlaceHasNumber table.old.places table.old.near
         (Point site.now.key site.now.addr) }
     requires code { LocatesCode site.now.ground.now.image.now site.now.ground.now.plan.now
@@ -174,7 +174,7 @@ fn read_and_visit(
         (Point site.now.key site.now.addr)) }
     ensures plain { IfOk result (λ plain. IsTrue plain
         → IsPlainAt site.now.ground.now.image.now site.now.ground.now.plan.now site.now.addr) }
-    ensures err { IfErr result (AnsweredOn site.now.ground.now) }
+    ensures err { IfErr result (RefusalIsRight site.now.ground.now) }
     ensures results { HoldsCachedResults site.now.ground.now.bounds.now cache.new }
 {
     let Some((_, place)) = table.places.get_index(table.near) else {

@@ -12,11 +12,11 @@ use Rattle.std.proofs.lemmas.List.{length-map, get_or-map, get_or_default}
 use Rattle.depth_cert.specs.declared.points.Point.{Point}
 use Rattle.depth_cert.specs.Points.{find_point}
 use Rattle.depth_cert.proofs.FindLaws.{non_decreasing, found, missing, missing_end}
-use Rattle.packed_cert.specs.declared.places.PackedPoint.{PackedPoint}
+use Rattle.packed_cert.specs.declared.places.PointPlace.{PointPlace}
 use Rattle.packed_cert.specs.PointsInBytes.{point_in, points_in, state_in}
 
 -- finding in the points is finding in what is kept of them
-pub find_in : (version : ℕ) (bytes : List ℕ) (addr : ℕ) (ps : List PackedPoint) → find_point addr (points_in version bytes ps) ≡ option_map (point_in version bytes) (find (λ p. eqb p.addr addr) ps)
+pub find_in : (version : ℕ) (bytes : List ℕ) (addr : ℕ) (ps : List PointPlace) → find_point addr (points_in version bytes ps) ≡ option_map (point_in version bytes) (find (λ p. eqb p.addr addr) ps)
 find_in version bytes addr [] = refl
 find_in version bytes addr (p ∷ ps) = elim (cases_Bool (eqb p.addr addr)) [ inl t ↦ rw t refl | inr f ↦ rw f (find_in version bytes addr ps) ]
 
@@ -38,22 +38,22 @@ parts_at f xs x i d rising h e = (
 )
 
 -- the point at an address, by the place that parts the points
-pub point_found : (version : ℕ) (bytes : List ℕ) (addr i : ℕ) (d : PackedPoint) (ps : List PackedPoint) → i < length ps → IsPartitionPoint (λ p. ltb p.addr addr ≡ true) (λ p. ltb p.addr addr ≡ false) ps i
+pub point_found : (version : ℕ) (bytes : List ℕ) (addr i : ℕ) (d : PointPlace) (ps : List PointPlace) → i < length ps → IsPartitionPoint (λ p. ltb p.addr addr ≡ true) (λ p. ltb p.addr addr ≡ false) ps i
     → (get_or ps i d).addr ≡ addr → find_point addr (points_in version bytes ps) ≡ Some (point_in version bytes (get_or ps i d))
 point_found version bytes addr i d ps h place e =
-    let number : PackedPoint → ℕ = λ p. p.addr in
+    let number : PointPlace → ℕ = λ p. p.addr in
     find_in version bytes addr ps ∙ ap (option_map (point_in version bytes)) (found number ps addr i d h place (eq-eqb _ _ e))
 
-pub point_missing : (version : ℕ) (bytes : List ℕ) (addr i : ℕ) (d : PackedPoint) (ps : List PackedPoint) → IsStrictlyIncreasing (map (λ p. p.addr) ps)
+pub point_missing : (version : ℕ) (bytes : List ℕ) (addr i : ℕ) (d : PointPlace) (ps : List PointPlace) → IsStrictlyIncreasing (map (λ p. p.addr) ps)
     → IsPartitionPoint (λ p. ltb p.addr addr ≡ true) (λ p. ltb p.addr addr ≡ false) ps i → ((get_or ps i d).addr ≡ addr → ⊥) → find_point addr (points_in version bytes ps) ≡ None
 point_missing version bytes addr i d ps rising place other =
-    let number : PackedPoint → ℕ = λ p. p.addr in
+    let number : PointPlace → ℕ = λ p. p.addr in
     find_in version bytes addr ps ∙ ap (option_map (point_in version bytes)) (missing number ps addr i d rising place (ne_eqb _ _ other))
 
-pub point_past : (version : ℕ) (bytes : List ℕ) (addr i : ℕ) (ps : List PackedPoint) → IsPartitionPoint (λ p. ltb p.addr addr ≡ true) (λ p. ltb p.addr addr ≡ false) ps i → length ps ≤ i
+pub point_past : (version : ℕ) (bytes : List ℕ) (addr i : ℕ) (ps : List PointPlace) → IsPartitionPoint (λ p. ltb p.addr addr ≡ true) (λ p. ltb p.addr addr ≡ false) ps i → length ps ≤ i
     → find_point addr (points_in version bytes ps) ≡ None
 point_past version bytes addr i ps place end =
-    let number : PackedPoint → ℕ = λ p. p.addr in
+    let number : PointPlace → ℕ = λ p. p.addr in
     find_in version bytes addr ps ∙ ap (option_map (point_in version bytes)) (missing_end number ps addr i place end)
 
 -- the state at an address
@@ -69,7 +69,7 @@ pub covers_same : (s : State) → Covers s s
 covers_same s = record { regs = λ r h x m. m; context = ((λ t. t), omega arith, (λ t. t)); locals = implied_same s.locals.items }
 
 -- whether the point at an address covers a state, if it was found and if there is none
-pub covered_found : (version : ℕ) (bytes : List ℕ) (addr i : ℕ) (d : PackedPoint) (ps : List PackedPoint) (s : State) (b : Bool) → i < length ps
+pub covered_found : (version : ℕ) (bytes : List ℕ) (addr i : ℕ) (d : PointPlace) (ps : List PointPlace) (s : State) (b : Bool) → i < length ps
     → IsPartitionPoint (λ p. ltb p.addr addr ≡ true) (λ p. ltb p.addr addr ≡ false) ps i → (get_or ps i d).addr ≡ addr → (IsTrue b ↔ Covers (state_in version bytes (get_or ps i d).place) s)
     → IsTrue b ↔ IsSomeAnd (find_point addr (points_in version bytes ps)) (λ p. Covers p.state s)
 covered_found version bytes addr i d ps s b h place e is =

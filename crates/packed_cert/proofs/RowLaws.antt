@@ -7,7 +7,7 @@ use Rattle.std.proofs.Math.Seq.{get_or-append_seam}
 use Rattle.value_domain.specs.declared.values.Val.{Val}
 use Rattle.value_domain.specs.declared.states.State.{State}
 use Rattle.value_domain.specs.Values.{any_val}
-use Rattle.packed_cert.specs.declared.places.PackedPoint.{PackedPoint}
+use Rattle.packed_cert.specs.declared.places.PointPlace.{PointPlace}
 use Rattle.packed_cert.specs.ValuesInBytes.{ValuesStandBetween, place_after_value, place_in_bytes, place_after_values, value_in, values_in, HaveValuesInBytes, read_from_bytes_or}
 use Rattle.packed_cert.specs.ChangedRows.{RowBeginsAtPlace, IsWholeRow, ChangesRow}
 use Rattle.packed_cert.specs.PointsInBytes.{state_in, HasState}
@@ -62,7 +62,7 @@ state_length version bytes x small h =
     ap (λ (s : State). length s.regs) (ap (read_from_bytes_or no_state) h.1) ∙ ap (λ (l : List Val). length l) v.regs ∙ length-values_in version bytes (x + 4 + get_or bytes (x + 3) 0) 27
 
 -- what is read behind a state keeps what it says of it
-pub moved_by : (version : ℕ) (bytes : List ℕ) (before after : State) (p : PackedPoint) (x e : ℕ) → Small bytes → state_in version bytes p.place ≡ after → length after.regs ≡ 27 → length before.regs ≡ 27
+pub moved_by : (version : ℕ) (bytes : List ℕ) (before after : State) (p : PointPlace) (x e : ℕ) → Small bytes → state_in version bytes p.place ≡ after → length after.regs ≡ 27 → length before.regs ≡ 27
     → x ≤ length bytes → ValuesStandBetween version bytes x after.regs e → ChangesRow before.regs after.regs p.row → RowBeginsAtPlace bytes x p.row → (IsTrue p.same → after ≡ before) → IsMoved version bytes before p
 moved_by version bytes before after p x e small is count len h s row from same =
     let few : (p.row).behind ≤ 27 = omega (arith, row.within) in
@@ -80,31 +80,31 @@ moved_by version bytes before after p x e small is count len h s row from same =
     }
 
 -- points that keep what they say, and one more
-pub moves_push : (version : ℕ) (bytes : List ℕ) (ps : List PackedPoint) (p : PackedPoint) → AreMoves version bytes ps → ((t : State) → StandsBefore version bytes ps (length ps) t → IsMoved version bytes t p) → AreMoves version bytes (ps ++ p ∷ [])
+pub moves_push : (version : ℕ) (bytes : List ℕ) (ps : List PointPlace) (p : PointPlace) → AreMoves version bytes ps → ((t : State) → StandsBefore version bytes ps (length ps) t → IsMoved version bytes t p) → AreMoves version bytes (ps ++ p ∷ [])
 moves_push version bytes ps p moves one k d s lt before =
     elim (cases_lt k (length ps)) [
       | inl low ↦
           let here : get_or (ps ++ p ∷ []) k d ≡ get_or ps k d = get_or_append_left ps (p ∷ []) d k low in
           let front : StandsBefore version bytes ps k s = record {
             count = before.count;
-            last = λ j e next. before.last j e next ∙ ap (λ (q : PackedPoint). state_in version bytes q.place) (get_or_append_left ps (p ∷ []) e j (omega arith));
+            last = λ j e next. before.last j e next ∙ ap (λ (q : PointPlace). state_in version bytes q.place) (get_or_append_left ps (p ∷ []) e j (omega arith));
           } in
-          subst (λ (q : PackedPoint). IsMoved version bytes s q) (sym here) (moves k d s low front)
+          subst (λ (q : PointPlace). IsMoved version bytes s q) (sym here) (moves k d s low front)
       | inr from ↦
           let there : k ≡ length ps = omega (arith, length-append ps (p ∷ [])) in
           let here : get_or (ps ++ p ∷ []) k d ≡ p = ap (λ (n : ℕ). get_or (ps ++ p ∷ []) n d) there ∙ get_or-append_seam ps p [] d in
           let front : StandsBefore version bytes ps (length ps) s = record {
             count = before.count;
-            last = λ j e next. before.last j e (next ∙ sym there) ∙ ap (λ (q : PackedPoint). state_in version bytes q.place) (get_or_append_left ps (p ∷ []) e j (omega arith));
+            last = λ j e next. before.last j e (next ∙ sym there) ∙ ap (λ (q : PointPlace). state_in version bytes q.place) (get_or_append_left ps (p ∷ []) e j (omega arith));
           } in
-          subst (λ (q : PackedPoint). IsMoved version bytes s q) (sym here) (one s front)
+          subst (λ (q : PointPlace). IsMoved version bytes s q) (sym here) (one s front)
     ]
 
 -- what is read behind the points keeps what it says of any state that stands before it; a first
 -- point says of all values that they were read
-pub moved_next : (version : ℕ) (bytes : List ℕ) (ps : List PackedPoint) (t before after : State) (p : PackedPoint) (x e i : ℕ) → Small bytes → state_in version bytes p.place ≡ after → HasState version bytes p.place
+pub moved_next : (version : ℕ) (bytes : List ℕ) (ps : List PointPlace) (t before after : State) (p : PointPlace) (x e i : ℕ) → Small bytes → state_in version bytes p.place ≡ after → HasState version bytes p.place
     → x ≤ length bytes → ValuesStandBetween version bytes x after.regs e → RowBeginsAtPlace bytes x p.row → (i ≡ 0 → IsWholeRow 27 p.row × (p.same ≡ false)) → (1 ≤ i → ChangesRow before.regs after.regs p.row) → (1 ≤ i → IsTrue p.same → after ≡ before)
-    → length ps ≡ i → ((j : ℕ) (d : PackedPoint) → j + 1 ≡ i → before ≡ state_in version bytes (get_or ps j d).place) → StandsBefore version bytes ps (length ps) t → IsMoved version bytes t p
+    → length ps ≡ i → ((j : ℕ) (d : PointPlace) → j + 1 ≡ i → before ≡ state_in version bytes (get_or ps j d).place) → StandsBefore version bytes ps (length ps) t → IsMoved version bytes t p
 moved_next version bytes ps t before after p x e zero small is there h s from whole row same size last b =
     let w = whole refl in
     let count : length after.regs ≡ 27 = ap (λ (u : State). length u.regs) (sym is) ∙ state_length version bytes p.place small there in

@@ -13,7 +13,7 @@ use Rattle.depth_cert.specs.Grammar.{exit_at, certificate_of}
 use Rattle.depth_cert.specs.Spelling.{bytes_of_cert}
 use Rattle.packed_cert.specs.declared.places.ExitPlaces.{ExitPlaces}
 use Rattle.packed_cert.specs.declared.places.NodePlaces.{NodePlaces}
-use Rattle.packed_cert.specs.declared.places.PackedPoint.{PackedPoint}
+use Rattle.packed_cert.specs.declared.places.PointPlace.{PointPlace}
 use Rattle.packed_cert.specs.ValuesInBytes.{place_in_bytes, read_from_bytes_or}
 use Rattle.packed_cert.specs.PointsInBytes.{points_in, HasState}
 use Rattle.packed_cert.specs.Moves.{AreMoves}
@@ -43,12 +43,12 @@ pub record IsExitAt (version : ℕ) (bytes : List ℕ) (place : ℕ) : Type 0 wh
   pub exit : HasExit version bytes place
 
 -- a node as plain data
-abbrev pub node_in : ℕ → List ℕ → Key → ℕ → Option ℕ → List PackedPoint → NodeData
+abbrev pub node_in : ℕ → List ℕ → Key → ℕ → Option ℕ → List PointPlace → NodeData
 node_in version bytes key need exit points = record { key = key; need = need; exit = option_map (exit_in version bytes) exit; points = points_in version bytes points }
 
 -- what always holds of a node in the bytes: its points ascend, and states and an exit are at their
 -- places
-pub record IsPackedNode (version : ℕ) (bytes : List ℕ) (exit_place : Option ℕ) (points : List PackedPoint) : Type 0 where
+pub record IsNodeAt (version : ℕ) (bytes : List ℕ) (exit_place : Option ℕ) (points : List PointPlace) : Type 0 where
   pub short : length bytes ≤ 2 ^ 30
   pub rising : IsStrictlyIncreasing (map (λ p. p.addr) points)
   pub states : All (λ p. HasState version bytes p.place) points
@@ -66,7 +66,7 @@ nodes_of version bytes ns = map (node_of version bytes) ns
 -- the number is that of the key, and states and an exit are at the places of a node
 pub record HasPlaces (version : ℕ) (bytes : List ℕ) (n : NodePlaces) : Type 0 where
   pub number : n.number ≡ number_of_key n.key
-  pub node : IsPackedNode version bytes n.exit n.points.items
+  pub node : IsNodeAt version bytes n.exit n.points.items
 
 -- a certificate as plain data
 abbrev pub cert_of : ℕ → List ℕ → List NodePlaces → CertData
@@ -74,7 +74,7 @@ cert_of version bytes ns = record { version = version; nodes = nodes_of version 
 
 -- what always holds of a certificate on its bytes: they spell it, it keeps the limits, and its
 -- nodes are at their places
-pub record IsPackedCert (version : ℕ) (bytes : List ℕ) (ns : List NodePlaces) : Type 0 where
+pub record IsCertAt (version : ℕ) (bytes : List ℕ) (ns : List NodePlaces) : Type 0 where
   pub short : length bytes ≤ 2 ^ 30
   pub spells : certificate_of bytes ≡ Ok (cert_of version bytes ns)
   pub one : bytes_of_cert (cert_of version bytes ns) ≡ bytes

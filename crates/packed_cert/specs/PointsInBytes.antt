@@ -4,7 +4,7 @@ use Rattle.tcd_base.specs.Place.{Place}
 use Rattle.value_domain.specs.declared.states.State.{State}
 use Rattle.depth_cert.specs.declared.points.Point.{Point}
 use Rattle.depth_cert.specs.Grammar.{state_at}
-use Rattle.packed_cert.specs.declared.places.PackedPoint.{PackedPoint}
+use Rattle.packed_cert.specs.declared.places.PointPlace.{PointPlace}
 use Rattle.packed_cert.specs.declared.places.StatePlaces.{StatePlaces}
 use Rattle.packed_cert.specs.ValuesInBytes.{ValuesStandFrom, place_in_bytes, read_from_bytes_or}
 use Rattle.value_domain.specs.State.{no_state}
@@ -18,11 +18,11 @@ abbrev pub HasState : ℕ → List ℕ → ℕ → Type 0
 HasState version bytes place = (x : State × Place) × (state_at version (place_in_bytes bytes place) ≡ Ok x)
 
 -- a point, with the state at its place
-abbrev pub point_in : ℕ → List ℕ → PackedPoint → Point
+abbrev pub point_in : ℕ → List ℕ → PointPlace → Point
 point_in version bytes p = record { addr = p.addr; state = state_in version bytes p.place }
 
 -- the points of a list, each with the state at its place
-abbrev pub points_in : ℕ → List ℕ → List PackedPoint → List Point
+abbrev pub points_in : ℕ → List ℕ → List PointPlace → List Point
 points_in version bytes ps = map (point_in version bytes) ps
 
 -- there is a state at these places

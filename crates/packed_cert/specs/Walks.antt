@@ -8,7 +8,7 @@ use Rattle.value_domain.specs.Values.{any_val}
 use Rattle.value_domain.specs.State.{Covers}
 use Rattle.depth_cert.specs.declared.points.Point.{Point}
 use Rattle.depth_cert.specs.Points.{find_point}
-use Rattle.packed_cert.specs.declared.places.PackedPoint.{PackedPoint}
+use Rattle.packed_cert.specs.declared.places.PointPlace.{PointPlace}
 use Rattle.packed_cert.specs.declared.places.ValueRow.{ValueRow}
 use Rattle.packed_cert.specs.PointsInBytes.{HasState}
 use Rattle.packed_cert.specs.Moves.{StandsBefore, AreMoves}
@@ -47,7 +47,7 @@ CoversAt w addr = IsSomeAnd (find_point addr w.points) (λ p. Covers p.state w.c
 
 -- what always holds of a walk: states are at their places, each point shares what it says with the
 -- state before it, and the state at hand is the one before the next point
-pub record IsWalk (version : ℕ) (bytes : List ℕ) (points : List PackedPoint) (next : ℕ) (read : ValueRow) (state : State) : Type 0 where
+pub record IsWalk (version : ℕ) (bytes : List ℕ) (points : List PointPlace) (next : ℕ) (read : ValueRow) (state : State) : Type 0 where
   pub short : length bytes ≤ 2 ^ 30
   pub states : All (λ p. HasState version bytes p.place) points
   pub rising : IsStrictlyIncreasing (map (λ p. p.addr) points)

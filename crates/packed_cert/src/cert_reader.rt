@@ -16,10 +16,7 @@ use tcd_base::{Cursor, TRAILING, form_err_at};
 /// Reads the version and the places of the nodes of the certificate that the bytes spell, or
 /// returns their first fault.
 #[tactic(auto, unfolding(depth_cert::specs::Grammar::certificate_of, depth_cert::specs::Grammar::cert_at))]
-pub(crate) fn read_packed_cert_parts(
-    alloc: Global,
-    bytes: &[u8],
-) -> Result<(u8, Vec<NodePlaces>), CertErr>
+pub(crate) fn read_cert_parts(alloc: Global, bytes: &[u8]) -> Result<(u8, Vec<NodePlaces>), CertErr>
     requires { length bytes.now ≤ 2 ^ 30 }
     ensures ok { IfOk result
         (λ r. certificate_of bytes.now ≡ Ok (cert_of r.0 bytes.now r.1.items)) }
@@ -30,7 +27,7 @@ pub(crate) fn read_packed_cert_parts(
     let _magic = read_magic(&mut c)?;
     let version = read_version(&mut c)?;
     let count = read_node_count(&mut c)?;
-    let nodes = read_packed_cert_nodes(alloc, &mut c, bytes, version, count)?;
+    let nodes = read_nodes(alloc, &mut c, bytes, version, count)?;
     let end = c.place();
     if end != bytes.len() {
         return Err(CertErr::Bad(form_err_at(TRAILING, end)));
@@ -39,7 +36,7 @@ pub(crate) fn read_packed_cert_parts(
 }
 
 /// Reads the places of all nodes of a packed certificate, as many as its head says.
-fn read_packed_cert_nodes(
+fn read_nodes(
     alloc: Global,
     c: &mut Cursor<'_>,
     bytes: &[u8],

@@ -1,11 +1,11 @@
-// The type `PackedCert`: a certificate that stays on the bytes of its file.
+// The type `Cert`: a certificate that stays on the bytes of its file.
 ghost use Rattle.std.specs.Prelude.{◌≡◌, ◌≤◌, ◌<◌, ◌^◌, ℕ, nat_lt, true, false, map, sum_by, length, slice_index, Ok, IfOk, IfErr};
 ghost use Rattle.std.specs.List.{All, slice_get};
 ghost use Rattle.std.specs.List.Sorted.{IsStrictlyIncreasing, IsPartitionPoint};
 ghost use Rattle.depth_cert.specs.Answers.{IsFaultOf};
 
-use crate::cert_reader::read_packed_cert_parts;
-use crate::nodes::PackedNode;
+use crate::cert_reader::read_cert_parts;
+use crate::nodes::Node;
 use crate::places::NodePlaces;
 use depth_cert::{CertErr, Key, number_of};
 use std::alloc::Global;
@@ -13,33 +13,33 @@ use std::marker::Model;
 
 /// A certificate that stays on the bytes of its file.
 #[derive(Drop)]
-pub struct PackedCert {
+pub struct Cert {
     bytes: Vec<u8>,
     version: u8,
     nodes: Vec<NodePlaces>,
 }
 
-impl Model for PackedCert {
+impl Model for Cert {
     ghost use Rattle.depth_cert.specs.Certs.{CertData};
 
     ghost Value = { CertData };
 
-    ghost use Rattle.packed_cert.specs.NodesInBytes.{cert_of, IsPackedCert};
+    ghost use Rattle.packed_cert.specs.NodesInBytes.{cert_of, IsCertAt};
 
     ghost view = { λ c. cert_of c.version c.bytes.items c.nodes.items };
 
-    ghost invariant = { λ c. IsPackedCert c.version c.bytes.items c.nodes.items };
+    ghost invariant = { λ c. IsCertAt c.version c.bytes.items c.nodes.items };
 }
 
-impl PackedCert {
+impl Cert {
     ghost use Rattle.depth_cert.specs.Certs.{IsCert};
     ghost use Rattle.depth_cert.specs.Nodes.{find_node, count_points};
     ghost use Rattle.depth_cert.specs.Grammar.{certificate_of};
     ghost use Rattle.depth_cert.specs.Spelling.{bytes_of_cert};
 
-    /// Makes a `PackedCert`, which keeps the bytes that spell a certificate and the places of its
+    /// Makes a `Cert`, which keeps the bytes that spell a certificate and the places of its
     /// nodes, or returns the first fault of the bytes.
-    pub fn read(alloc: Global, bytes: Vec<u8>) -> Result<PackedCert, CertErr>
+    pub fn read(alloc: Global, bytes: Vec<u8>) -> Result<Cert, CertErr>
         requires { length bytes.items ≤ 2 ^ 30 }
         ensures ok { IfOk result (λ c. certificate_of bytes.items ≡ Ok c) }
         ensures err { IfErr result (IsFaultOf (certificate_of bytes.items)) }
@@ -47,9 +47,9 @@ impl PackedCert {
         // No other bytes spell it.
         ensures one { IfOk result (λ c. bytes_of_cert c ≡ bytes.items) }
     {
-        let (version, nodes) = read_packed_cert_parts(alloc, &bytes)?;
-        packed_bytes_below_256(&bytes);
-        Ok(PackedCert {
+        let (version, nodes) = read_cert_parts(alloc, &bytes)?;
+        cert_bytes_below_256(&bytes);
+        Ok(Cert {
             bytes,
             version,
             nodes,
@@ -82,40 +82,40 @@ impl PackedCert {
     pub fn count_points(&self) -> usize
         ensures { result ≡ count_points self.now.nodes }
     {
-        count_packed_points(&self.nodes)
+        count_points_at(&self.nodes)
     }
 
     /// Returns the node at an index, or `None` if the index is past the last.
-    pub fn get(&self, index: usize) -> Option<PackedNode<'_>>
+    pub fn get(&self, index: usize) -> Option<Node<'_>>
         ensures { result ≡ slice_get self.now.nodes index }
     {
         if index < self.nodes.len() {
-            return Some(PackedNode::at(self.bytes.as_slice(), self.version, &self.nodes[index]));
+            return Some(Node::at(self.bytes.as_slice(), self.version, &self.nodes[index]));
         }
         None
     }
 
     /// Returns the node of a key, or `None` if there is none.
-    pub fn node(&self, key: &Key) -> Option<PackedNode<'_>>
+    pub fn node(&self, key: &Key) -> Option<Node<'_>>
         ensures { result ≡ find_node key.now self.now.nodes }
     {
         let nodes = self.nodes.as_slice();
         let number = number_of(key);
         let at = cert_node_place(nodes, number);
         if at < nodes.len() && nodes[at].number == number {
-            return Some(PackedNode::at(self.bytes.as_slice(), self.version, &nodes[at]));
+            return Some(Node::at(self.bytes.as_slice(), self.version, &nodes[at]));
         }
         None
     }
 }
 
 /// A fact for proofs: the bytes of a packed certificate are below 256, as their type says.
-pub(crate) fn packed_bytes_below_256(bytes: &[u8])
+pub(crate) fn cert_bytes_below_256(bytes: &[u8])
     ensures { (k : ℕ) → slice_index bytes.now k < 2 ^ 8 }
 {}
 
-/// Returns the number of points that the nodes of a `PackedCert` have together.
-fn count_packed_points(nodes: &[NodePlaces]) -> usize
+/// Returns the number of points that the nodes of a `Cert` have together.
+fn count_points_at(nodes: &[NodePlaces]) -> usize
     requires { sum_by (λ n. length n.points.items) nodes.now ≤ 2 ^ 16 }
     ensures { result ≡ sum_by (λ n. length n.points.items) nodes.now }
 {

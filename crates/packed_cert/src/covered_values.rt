@@ -8,7 +8,7 @@ ghost use Rattle.tcd_base.specs.Bytes.{word_in_bytes};
 ghost use Rattle.value_domain.specs.declared.values.Val.{Val};
 ghost use Rattle.value_domain.specs.Sets.{Rising, Within};
 
-use crate::certs::packed_bytes_below_256;
+use crate::certs::cert_bytes_below_256;
 use crate::restored_values::ValuesAt;
 use crate::value_reader::value_length_by_tag;
 use crate::values_at_places::{is_below_value_at, read_value_word, value_at_place};
@@ -68,7 +68,7 @@ pub(crate) fn is_read_value_covered(low: ValuesAt<'_>, high: ValuesAt<'_>) -> bo
         ↔ IsBelow (value_in low.entry.version low.entry.bytes.now low.entry.place)
         (value_in high.entry.version high.entry.bytes.now high.entry.place) }
 {
-    packed_bytes_below_256(low.bytes);
+    cert_bytes_below_256(low.bytes);
     let v = value_at_place(low.bytes, low.version, low.place);
     is_below_value_at(&v, high.bytes, high.version, high.place)
 }

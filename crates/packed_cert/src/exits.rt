@@ -5,7 +5,7 @@ ghost use Rattle.std.specs.Option.{option_map};
 ghost use Rattle.tcd_base.specs.FieldReaders.{ReadsField};
 ghost use Rattle.depth_cert.specs.Grammar.{optional_exit_at, exit_at};
 
-use crate::certs::packed_bytes_below_256;
+use crate::certs::cert_bytes_below_256;
 use crate::covered_values::{ToCover, are_covered_at};
 use crate::places::{ExitPlaces, LOWER_VALUES};
 use crate::point_reader::ExitRoom;
@@ -75,7 +75,7 @@ impl<'a> ExitAt<'a> {
         ensures values { self.now.lower
             ≡ values_in result.version result.bytes.now result.place 14 }
     {
-        packed_bytes_below_256(self.bytes);
+        cert_bytes_below_256(self.bytes);
         ValuesAt {
             bytes: self.bytes,
             version: self.version,

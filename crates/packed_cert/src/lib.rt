@@ -17,9 +17,9 @@ mod value_reader;
 mod values_at_places;
 mod walks;
 
-pub use certs::PackedCert;
+pub use certs::Cert;
 pub use exits::ExitAt;
-pub use nodes::PackedNode;
-pub use places::PackedPoint;
+pub use nodes::Node;
+pub use places::PointPlace;
 pub use states::StateAt;
 pub use walks::PointWalk;

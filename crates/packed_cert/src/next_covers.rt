@@ -12,7 +12,7 @@ ghost use Rattle.packed_cert.specs.Moves.{IsMoved};
 ghost use Rattle.packed_cert.specs.ToCover.{IsCoveredByOwn};
 ghost use Rattle.packed_cert.specs.ChangedRows.{IsOutside};
 
-use crate::places::{PackedPoint, VALUES, ValueRow};
+use crate::places::{PointPlace, VALUES, ValueRow};
 use crate::states::StateAt;
 use crate::value_reader::value_length_by_tag;
 use crate::values_at_places::is_below_value_at;
@@ -44,7 +44,7 @@ pub(crate) fn is_row_below(
     c: &Change,
     bytes: &[u8],
     version: u8,
-    point: PackedPoint,
+    point: PointPlace,
 ) -> bool
     requires short { length bytes.now ≤ 2 ^ 30 }
     requires well { AreWell (state_after s.now c.now).regs }
@@ -74,7 +74,7 @@ pub(crate) fn does_next_point_cover(
     c: &Change,
     bytes: &[u8],
     version: u8,
-    point: PackedPoint,
+    point: PointPlace,
 ) -> bool
     requires short { length bytes.now ≤ 2 ^ 30 }
     requires base { c.now.base ≡ Same }

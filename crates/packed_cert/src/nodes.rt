@@ -1,11 +1,11 @@
-// The type `PackedNode`: a node whose exit and states stay in the bytes of its certificate.
+// The type `Node`: a node whose exit and states stay in the bytes of its certificate.
 ghost use Rattle.std.specs.Prelude.{◌≡◌, ◌<◌, nat_lt, ◌==◌, true, false, map, find, length};
 ghost use Rattle.std.specs.Option.{option_map};
 ghost use Rattle.std.specs.List.Sorted.{IsStrictlyIncreasing, IsPartitionPoint};
 ghost use Rattle.packed_cert.specs.NodesInBytes.{node_of, HasPlaces};
 
 use crate::exits::ExitAt;
-use crate::places::{NodePlaces, PackedPoint};
+use crate::places::{NodePlaces, PointPlace};
 use crate::states::StateAt;
 use crate::walks::PointWalk;
 use depth_cert::Key;
@@ -13,37 +13,37 @@ use std::marker::Model;
 
 /// A node whose exit and states stay in the bytes of its certificate.
 #[derive(Drop)]
-pub struct PackedNode<'a> {
+pub struct Node<'a> {
     bytes: &'a [u8],
     version: u8,
     pub key: Key,
     pub need: u16,
     exit: Option<u32>,
-    points: &'a [PackedPoint],
+    points: &'a [PointPlace],
     /// The number of the point that a look-up tries first.
     near: usize,
 }
 
-impl<'a> Model for PackedNode<'a> {
+impl<'a> Model for Node<'a> {
     ghost use Rattle.depth_cert.specs.Nodes.{NodeData};
-    ghost use Rattle.packed_cert.specs.NodesInBytes.{node_in, IsPackedNode};
+    ghost use Rattle.packed_cert.specs.NodesInBytes.{node_in, IsNodeAt};
 
     ghost Value = { NodeData };
 
     ghost view = { λ n. node_in n.version n.bytes.now n.key n.need n.exit n.points.now };
 
-    ghost invariant = { λ n. IsPackedNode n.version n.bytes.now n.exit n.points.now };
+    ghost invariant = { λ n. IsNodeAt n.version n.bytes.now n.exit n.points.now };
 }
 
-impl<'a> PackedNode<'a> {
+impl<'a> Node<'a> {
     ghost use Rattle.depth_cert.specs.Points.{ArePoints, find_point};
 
     /// Returns the node of these places.
-    pub(crate) fn at(bytes: &'a [u8], version: u8, places: &'a NodePlaces) -> PackedNode<'a>
+    pub(crate) fn at(bytes: &'a [u8], version: u8, places: &'a NodePlaces) -> Node<'a>
         requires { HasPlaces version bytes.now places.now }
         ensures { result ≡ node_of version bytes.now places.now }
     {
-        PackedNode {
+        Node {
             bytes,
             version,
             key: places.key,
@@ -55,10 +55,10 @@ impl<'a> PackedNode<'a> {
     }
 
     /// Returns this node. A look-up of a point tries point number `near` first.
-    pub fn near(&self, near: usize) -> PackedNode<'a>
+    pub fn near(&self, near: usize) -> Node<'a>
         ensures { result ≡ self.now }
     {
-        PackedNode {
+        Node {
             bytes: self.bytes,
             version: self.version,
             key: self.key,
@@ -86,7 +86,7 @@ impl<'a> PackedNode<'a> {
         self.points.len()
     }
 
-    /// Puts a walk before the first of this `PackedNode`'s points, which are by ascending address.
+    /// Puts a walk before the first of this `Node`'s points, which are by ascending address.
     pub fn walk(&self, walk: &mut PointWalk<'a>)
         ensures all { walk.new.left ≡ self.now.points }
         ensures points { walk.new.points ≡ self.now.points }
@@ -96,7 +96,7 @@ impl<'a> PackedNode<'a> {
     }
 
     /// Returns the state at the address of a point, or `None` if there is none.
-    pub fn state(&self, addr: u32) -> Option<StateAt<'a>>
+    pub fn point(&self, addr: u32) -> Option<StateAt<'a>>
         ensures { result ≡ option_map (λ p. p.state) (find_point addr self.now.points) }
     {
         let points = self.points;
@@ -112,7 +112,7 @@ impl<'a> PackedNode<'a> {
 /// Returns the number of points whose addresses are below `addr`. The points number `near` and
 /// `near + 1` are tried first, since most instructions go on to the next one, and then a guess for
 /// jumps over instructions of four bytes.
-pub(crate) fn node_point_place(points: &[PackedPoint], addr: u32, near: usize) -> usize
+pub(crate) fn node_point_place(points: &[PointPlace], addr: u32, near: usize) -> usize
     requires { IsStrictlyIncreasing (map (λ p. p.addr) points.now) }
     ensures { IsPartitionPoint (λ p. nat_lt p.addr addr ≡ true) (λ p. nat_lt p.addr addr ≡ false)
         points.now result }
@@ -133,7 +133,7 @@ pub(crate) fn node_point_place(points: &[PackedPoint], addr: u32, near: usize) -
 
 /// Returns the number that the point at `addr` has if all instructions between it and point number
 /// `near` have four bytes. A guess that saves the search.
-fn node_point_guess(points: &[PackedPoint], addr: u32, near: usize) -> usize {
+fn node_point_guess(points: &[PointPlace], addr: u32, near: usize) -> usize {
     if near >= points.len() {
         return near;
     }
@@ -146,7 +146,7 @@ fn node_point_guess(points: &[PackedPoint], addr: u32, near: usize) -> usize {
 }
 
 /// Returns true if the address of a packed node's point is below `addr`.
-fn is_node_point_below(point: &PackedPoint, addr: u32) -> bool
+fn is_node_point_below(point: &PointPlace, addr: u32) -> bool
     ensures { result ≡ nat_lt point.now.addr addr }
 {
     point.addr < addr

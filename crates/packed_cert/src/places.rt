@@ -17,12 +17,12 @@ pub struct NodePlaces {
     pub(crate) number: u64,
     pub(crate) need: u16,
     pub(crate) exit: Option<u32>,
-    pub(crate) points: Vec<PackedPoint>,
+    pub(crate) points: Vec<PointPlace>,
 }
 
 /// A point whose state stays in the bytes: 20 bytes a point.
 #[derive(Clone, Copy)]
-pub struct PackedPoint {
+pub struct PointPlace {
     pub addr: u32,
     /// The place of the state before its instruction. If points one after another have the same
     /// state, all have the place of the first one, so states at equal places are equal.

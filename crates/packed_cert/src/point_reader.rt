@@ -15,7 +15,7 @@ ghost use Rattle.packed_cert.specs.RepeatedBytes.{StateComesAgain};
 ghost use Rattle.packed_cert.specs.Moves.{AreMoves};
 
 use crate::places::{
-    ExitPlaces, PackedPoint, ReadState, RepeatedState, StatePlaces, VALUES, ValueRow, no_row,
+    ExitPlaces, PointPlace, ReadState, RepeatedState, StatePlaces, VALUES, ValueRow, no_row,
 };
 use crate::repeated_bytes::count_repeated_before;
 use crate::value_reader::{pass_unread_values_to, read_values_like};
@@ -64,7 +64,7 @@ pub(crate) fn read_points(
     bytes: &[u8],
     version: u8,
     room: &mut ReadingRoom,
-) -> Result<Vec<PackedPoint>, CertErr>
+) -> Result<Vec<PointPlace>, CertErr>
     requires short { length c.old.bytes ≤ 2 ^ 30 }
     requires same { c.old.bytes ≡ bytes.now }
     requires used { room.old.used ≤ 2 ^ 16 }
@@ -91,7 +91,7 @@ pub(crate) fn read_points(
         let read = read_state_like(c, bytes, version, room.last, &mut room.state)?;
         room.last = Some(read.at);
         let kept = for_point(read, i == 0);
-        points.push(PackedPoint {
+        points.push(PointPlace {
             addr,
             place: read.at.start as u32,
             row: kept.row,

@@ -7,7 +7,7 @@ ghost use Rattle.value_domain.specs.State as states;
 ghost use Rattle.depth_cert.specs.Exits.{with_lower_from};
 ghost use Rattle.packed_cert.specs.ValuesInBytes.{place_after_value, value_in, HasValueInBytes, values_in, HaveValuesInBytes};
 
-use crate::certs::packed_bytes_below_256;
+use crate::certs::cert_bytes_below_256;
 use crate::covered_values::is_read_value_covered;
 use crate::places::VALUES;
 use crate::value_reader::value_length_by_tag;
@@ -37,7 +37,7 @@ pub(crate) fn are_restored_below(regs: &[Val; 27], lower: ValuesAt<'_>, high: Va
         (values_in lower.entry.version lower.entry.bytes.now lower.entry.place 14) regs.now)
         (values_in high.entry.version high.entry.bytes.now high.entry.place 27) }
 {
-    packed_bytes_below_256(high.bytes);
+    cert_bytes_below_256(high.bytes);
     let mut from = lower.place;
     let mut at = high.place;
     for i in 0..VALUES {
@@ -77,8 +77,8 @@ fn is_restored_below(regs: &[Val; 27], i: usize, low: ValuesAt<'_>, high: Values
         else slice_index_or regs.now i any_val)
         (value_in high.entry.version high.entry.bytes.now high.entry.place) }
 {
-    packed_bytes_below_256(low.bytes);
-    packed_bytes_below_256(high.bytes);
+    cert_bytes_below_256(low.bytes);
+    cert_bytes_below_256(high.bytes);
     // All words: each value is below it.
     if high.bytes[high.place] == 0 {
         return true;
@@ -99,7 +99,7 @@ fn next_lower(i: usize, low: ValuesAt<'_>) -> usize
         ≡ (if states.is_lower_slot i then place_after_value low.entry.bytes.now low.entry.place
         else low.entry.place) }
 {
-    packed_bytes_below_256(low.bytes);
+    cert_bytes_below_256(low.bytes);
     if is_lower_slot(i) {
         return low.place + value_length_by_tag(low.bytes[low.place]);
     }

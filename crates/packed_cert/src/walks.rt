@@ -8,7 +8,7 @@ ghost use Rattle.packed_cert.specs.Moves.{IsMoved};
 
 use crate::next_covers::does_next_point_cover;
 use crate::nodes::node_point_place;
-use crate::places::{PackedPoint, ValueRow, no_row};
+use crate::places::{PointPlace, ValueRow, no_row};
 use crate::point_reader::blank_state_for_reading;
 use crate::states::StateAt;
 use crate::value_reader::value_length_by_tag;
@@ -23,7 +23,7 @@ use vd_transfer::{Base, Change};
 pub struct PointWalk<'a> {
     bytes: &'a [u8],
     version: u8,
-    points: &'a [PackedPoint],
+    points: &'a [PointPlace],
     next: usize,
     row: ValueRow,
     state: State,
@@ -70,7 +70,7 @@ impl<'a> PointWalk<'a> {
     }
 
     /// Goes before the first of these points. The state at hand is room for theirs.
-    pub(crate) fn go_before(&mut self, bytes: &'a [u8], version: u8, points: &'a [PackedPoint])
+    pub(crate) fn go_before(&mut self, bytes: &'a [u8], version: u8, points: &'a [PointPlace])
         requires short { length bytes.now ≤ 2 ^ 30 }
         requires states { All (λ p. HasState version bytes.now p.place) points.now }
         requires rising { IsStrictlyIncreasing (map (λ p. p.addr) points.now) }
@@ -167,7 +167,7 @@ impl<'a> PointWalk<'a> {
 
 /// Makes the state before a point that of the point: only the values of its row are read. Returns
 /// the row.
-fn walk_to_point(bytes: &[u8], version: u8, point: PackedPoint, room: &mut State) -> ValueRow
+fn walk_to_point(bytes: &[u8], version: u8, point: PointPlace, room: &mut State) -> ValueRow
     requires short { length bytes.now ≤ 2 ^ 30 }
     requires state { HasState version bytes.now point.place }
     requires moved { IsMoved version bytes.now room.old point }
@@ -188,7 +188,7 @@ fn walk_to_point(bytes: &[u8], version: u8, point: PackedPoint, room: &mut State
 }
 
 /// Reads the row of the walk's next point into its room, over the values of the state before.
-fn read_row(bytes: &[u8], version: u8, point: PackedPoint, out: &mut [Val; 27])
+fn read_row(bytes: &[u8], version: u8, point: PointPlace, out: &mut [Val; 27])
     requires short { length bytes.now ≤ 2 ^ 30 }
     requires row { ChangesRow out.old (state_in version bytes.now point.place).regs point.row }
     requires few { point.row.behind ≤ 27 }

@@ -14,7 +14,7 @@ use Rattle.value_domain.proofs.RegLaws.{implied_length}
 use Rattle.depth_cert.specs.declared.points.Exit.{Exit}
 use Rattle.depth_cert.specs.Exits.{ExitCovers, joined_exit}
 use Rattle.depth_cert.specs.Known.{CoversKnown, Known, joined_known, leaving, state}
-use Rattle.depth_cert.specs.Proper.{IsProperState, IsProperExit, IsProperKnown}
+use Rattle.depth_cert.specs.WellFormed.{IsWellFormedState, IsWellFormedExit, IsWellFormedKnown}
 use Rattle.small_states.proofs.IncomingLemmas.{values_well}
 
 -- ---- values
@@ -53,7 +53,7 @@ locals_above (x ∷ xs) [] h = refl
 locals_above (x ∷ xs) (y ∷ ys) h = ap (λ (z : Bool). z ∷ joined_locals xs ys) (and_above x y h.0) ∙ ap (λ (l : List Bool). y ∷ l) (locals_above xs ys h.1)
 
 -- ---- states, exits
-state_above : (b : Limits) (s t : State) → IsProperState b s → IsProperState b t → Covers t s → joined_states b s t ≡ Some t
+state_above : (b : Limits) (s t : State) → IsWellFormedState b s → IsWellFormedState b t → Covers t s → joined_states b s t ≡ Some t
 state_above b s t ps pt covers =
     let least : min s.ccpn t.ccpn ≡ t.ccpn = (let h = covers.context.1 in omega (arith, h)) in
     rw (
@@ -66,13 +66,13 @@ state_above b s t ps pt covers =
     )
     refl
 
-exit_above : (b : Limits) (x y : Exit) → IsProperExit b x → IsProperExit b y → ExitCovers y x → joined_exit b x y ≡ y
+exit_above : (b : Limits) (x y : Exit) → IsWellFormedExit b x → IsWellFormedExit b y → ExitCovers y x → joined_exit b x y ≡ y
 exit_above b x y px py covers =
     let least : min x.ccpn y.ccpn ≡ y.ccpn = (let h = covers.priority in omega (arith, h)) in
     rw (regs_above b x.lower y.lower (px.regs ∙ sym py.regs) (values_well b x.lower px.values) py.values covers.lower, or_above x.ie y.ie covers.enabled, least) refl
 
 -- if one covers the other, it is the least that covers both
-pub known_above : (b : Limits) (v w : Known) → IsProperKnown b v → IsProperKnown b w → CoversKnown w v → joined_known b v w ≡ Some w
+pub known_above : (b : Limits) (v w : Known) → IsWellFormedKnown b v → IsWellFormedKnown b w → CoversKnown w v → joined_known b v w ≡ Some w
 known_above b (state s) (state t) pv pw covers = ap (option_map state) (state_above b s t pv pw covers)
 known_above b (leaving x) (leaving y) pv pw covers = ap (λ (z : Exit). Some (leaving z)) (exit_above b x y pv pw covers)
 known_above b (state s) (leaving y) pv pw covers = absurd covers

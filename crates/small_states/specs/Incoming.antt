@@ -12,7 +12,7 @@ use Rattle.small_states.specs.declared.incoming.Context.{Context}
 use Rattle.small_states.specs.declared.incoming.Incoming.TheVariants.{Changed, After, Leaving}
 use Rattle.depth_cert.specs.declared.points.Exit.{Exit}
 use Rattle.small_states.specs.declared.incoming.Given.{Given}
-use Rattle.small_states.specs.declared.incoming.Given.TheVariants.{Whole, Packed}
+use Rattle.small_states.specs.declared.incoming.Given.TheVariants.{Whole, Compact}
 
 -- what flows in
 abbrev pub incoming_known : Incoming → Known
@@ -59,4 +59,4 @@ AddsKnownState (leaving x) old new = Unit {0}
 -- the value that an incoming value stands for, whether it is given whole or in compact form
 abbrev pub given_of : Given → Val
 given_of (Whole v) = v.now
-given_of (Packed v) = v.now
+given_of (Compact v) = v.now

@@ -35,7 +35,7 @@ pub enum Incoming<'a> {
 #[derive(Drop)]
 pub(crate) enum Given<'a> {
     Whole(&'a Val),
-    Packed(&'a Small),
+    Compact(&'a Small),
 }
 
 /// The incoming facts beside the values.

@@ -24,7 +24,7 @@ use vd_transfer::{Base, Change, Put, is_lower_slot};
 /// Returns the incoming values, place by place. It is a call of its own, since it has room for a
 /// whole value.
 #[inline(never)]
-pub(crate) fn pack_values(alloc: Global, incoming: &Incoming) -> Result<Values, AllocError>
+pub(crate) fn compact_values(alloc: Global, incoming: &Incoming) -> Result<Values, AllocError>
     ensures { IfOk result (λ values. all_values values ≡ incoming_values incoming.now) }
 {
     let any = Small { form: Form::Any };
@@ -41,7 +41,7 @@ pub(crate) fn pack_values(alloc: Global, incoming: &Incoming) -> Result<Values, 
 }
 
 /// Returns the incoming values, from a point whose compact values are at hand.
-pub(crate) fn pack_for(
+pub(crate) fn compact_for(
     alloc: Global,
     own: &Rc<Values>,
     incoming: &Incoming,
@@ -50,9 +50,9 @@ pub(crate) fn pack_for(
     ensures { IfOk result (λ values. all_values values.value ≡ incoming_values incoming.now) }
 {
     match incoming {
-        Incoming::Changed(s, c) => pack_change(alloc, own, s, c),
+        Incoming::Changed(s, c) => compact_change(alloc, own, s, c),
         _ => {
-            let values = pack_own(alloc, own.as_ref(), incoming)?;
+            let values = compact_own(alloc, own.as_ref(), incoming)?;
             Ok(Rc::new(alloc, values)?)
         }
     }
@@ -145,7 +145,7 @@ pub(crate) fn incoming_value<'a>(incoming: &'a Incoming, any: &'a Small, i: usiz
 
 /// Returns the incoming values of a changed state in compact form, from the state's compact values.
 #[inline(always)]
-fn pack_change(
+fn compact_change(
     alloc: Global,
     own: &Rc<Values>,
     s: &State,
@@ -160,7 +160,7 @@ fn pack_change(
 
 /// Returns the incoming values, from a point whose compact values are at hand.
 #[inline(never)]
-fn pack_own(alloc: Global, own: &Values, incoming: &Incoming) -> Result<Values, AllocError>
+fn compact_own(alloc: Global, own: &Values, incoming: &Incoming) -> Result<Values, AllocError>
     requires { all_values own.now ≡ (sender_state incoming.now).regs }
     ensures { IfOk result (λ values. all_values values ≡ incoming_values incoming.now) }
 {
@@ -169,7 +169,7 @@ fn pack_own(alloc: Global, own: &Values, incoming: &Incoming) -> Result<Values, 
         rest: 0,
     };
     match incoming {
-        Incoming::Changed(_, _) => pack_values(alloc, incoming),
+        Incoming::Changed(_, _) => compact_values(alloc, incoming),
         Incoming::After(s, exit, _) => {
             let _regs = &s.regs[..];
             let lower = exit.lower.as_ref();
@@ -304,12 +304,12 @@ fn base_given<'a>(s: &'a State, base: Base, any: &'a Small, i: usize) -> Given<'
         Base::Same => Given::Whole(&s.regs[i]),
         Base::Forgotten => {
             if is_lower_slot(i) {
-                Given::Packed(any)
+                Given::Compact(any)
             } else {
                 Given::Whole(&s.regs[i])
             }
         }
-        Base::Any => Given::Packed(any),
+        Base::Any => Given::Compact(any),
     }
 }
 

@@ -3,13 +3,13 @@ ghost use Rattle.std.specs.Prelude.{◌≡◌, ◌↔◌, IsTrue, IfNone, IfOk, 
 ghost use Rattle.small_states.specs.CompactForms.{exit_in, known_of, IsOutline};
 ghost use Rattle.small_states.specs.Incoming.{AddsKnownState, incoming_known, sender_state};
 ghost use Rattle.depth_cert.specs.Known.{CoversKnown, joined_known, state, leaving, IsNoExit, IsKnownState};
-ghost use Rattle.depth_cert.specs.Proper.{IsProperKnown};
+ghost use Rattle.depth_cert.specs.WellFormed.{IsWellFormedKnown};
 
 use crate::incoming::{
     Given, Incoming, incoming_context, incoming_form, is_incoming_exit_covered,
     is_incoming_state_covered, is_leaving, join_incoming_exit, join_incoming_state,
 };
-use crate::incoming_values::{pack_for, pack_values};
+use crate::incoming_values::{compact_for, compact_values};
 use crate::small_value::{Form, Small};
 use crate::values::are_all_below;
 use crate::{ScratchState, SmallExit, SmallState};
@@ -78,17 +78,17 @@ fn has_known_grown(known: &SmallState, put: &Put) -> bool {
     let any = Small { form: Form::Any };
     match known.regs.as_ref().given_at(&any, at) {
         Given::Whole(_) => false,
-        Given::Packed(low) => low.is_same(&put.value) || low.has_fewer(&put.value),
+        Given::Compact(low) => low.is_same(&put.value) || low.has_fewer(&put.value),
     }
 }
 
 impl SmallKnown {
     /// Returns what flows in.
     pub fn new(alloc: Global, _b: &Bounds, incoming: &Incoming) -> Result<SmallKnown, AllocError>
-        requires { IsProperKnown _b.now (incoming_known incoming.now) }
+        requires { IsWellFormedKnown _b.now (incoming_known incoming.now) }
         ensures { IfOk result (λ c. c ≡ incoming_known incoming.now) }
     {
-        let values = Rc::new(alloc, pack_values(alloc, incoming)?)?;
+        let values = Rc::new(alloc, compact_values(alloc, incoming)?)?;
         let form = incoming_form(values, incoming);
         Ok(SmallKnown { form })
     }
@@ -100,8 +100,8 @@ impl SmallKnown {
         ensures { IfOk result (λ c. c ≡ incoming_known incoming.now) }
     {
         let values = match &self.form {
-            KnownForm::Point(own) => pack_for(alloc, &own.regs, incoming)?,
-            KnownForm::Leaves(_) => Rc::new(alloc, pack_values(alloc, incoming)?)?,
+            KnownForm::Point(own) => compact_for(alloc, &own.regs, incoming)?,
+            KnownForm::Leaves(_) => Rc::new(alloc, compact_values(alloc, incoming)?)?,
         };
         let form = incoming_form(values, incoming);
         Ok(SmallKnown { form })
@@ -126,8 +126,8 @@ impl SmallKnown {
 
     /// Returns whether it covers what flows in.
     pub fn covers(&self, _b: &Bounds, incoming: &Incoming) -> bool
-        requires known { IsProperKnown _b.now self.now }
-        requires incoming { IsProperKnown _b.now (incoming_known incoming.now) }
+        requires known { IsWellFormedKnown _b.now self.now }
+        requires incoming { IsWellFormedKnown _b.now (incoming_known incoming.now) }
         ensures { IsTrue result ↔ CoversKnown self.now (incoming_known incoming.now) }
     {
         let k = incoming_context(incoming);
@@ -154,8 +154,8 @@ impl SmallKnown {
         b: &Bounds,
         incoming: &Incoming,
     ) -> Result<Option<SmallKnown>, AllocError>
-        requires known { IsProperKnown b.now self.now }
-        requires incoming { IsProperKnown b.now (incoming_known incoming.now) }
+        requires known { IsWellFormedKnown b.now self.now }
+        requires incoming { IsWellFormedKnown b.now (incoming_known incoming.now) }
         ensures { IfOk result (λ r. r ≡ joined_known b.now self.now (incoming_known incoming.now)) }
     {
         let k = incoming_context(incoming);
@@ -185,8 +185,8 @@ impl SmallKnown {
         own: &SmallKnown,
         incoming: &Incoming,
     ) -> Result<Option<SmallKnown>, AllocError>
-        requires known { IsProperKnown b.now self.now }
-        requires incoming { IsProperKnown b.now (incoming_known incoming.now) }
+        requires known { IsWellFormedKnown b.now self.now }
+        requires incoming { IsWellFormedKnown b.now (incoming_known incoming.now) }
         requires own { own.now ≡ state (sender_state incoming.now) }
         ensures { IfOk result (λ r. r ≡ joined_known b.now self.now (incoming_known incoming.now)) }
     {
@@ -215,7 +215,7 @@ impl SmallKnown {
 
     /// Writes the state over another.
     pub fn read_state(&self, _b: &Bounds, into: &mut ScratchState)
-        requires { IsProperKnown _b.now self.now }
+        requires { IsWellFormedKnown _b.now self.now }
         ensures { IsKnownState self.now into.new }
     {
         if let KnownForm::Point(s) = &self.form {
@@ -226,7 +226,7 @@ impl SmallKnown {
     /// Appends the bytes of what is known at a place, if it is a state. For an exit, it appends
     /// nothing.
     pub fn spell_state(&self, _b: &Bounds, out: &mut Vec<u8>) -> Result<(), NoMemory>
-        requires { IsProperKnown _b.now self.now }
+        requires { IsWellFormedKnown _b.now self.now }
         ensures { OnOk result (AddsKnownState self.now out.old.items out.new.items) }
     {
         match &self.form {
@@ -251,8 +251,8 @@ impl SmallKnown {
 
     /// Returns true only if both are states and this one covers the other.
     fn is_above(&self, low: &SmallKnown, _b: &Bounds) -> bool
-        requires own { IsProperKnown _b.now self.now }
-        requires low { IsProperKnown _b.now low.now }
+        requires own { IsWellFormedKnown _b.now self.now }
+        requires low { IsWellFormedKnown _b.now low.now }
         ensures { IsTrue result → CoversKnown self.now low.now }
     {
         let KnownForm::Point(upper) = &self.form else {

@@ -291,7 +291,7 @@ impl Small {
     {
         match v {
             Given::Whole(v) => Small::of(alloc, v),
-            Given::Packed(v) => v.copy(),
+            Given::Compact(v) => v.copy(),
         }
     }
 
@@ -372,7 +372,7 @@ impl Small {
         if self.is_equal(v) {
             return true;
         }
-        self.covers_packed(v)
+        self.covers_compact(v)
     }
 
     /// Returns whether the small value has all members of an incoming one.
@@ -384,7 +384,7 @@ impl Small {
     {
         match v {
             Given::Whole(v) => self.covers(v),
-            Given::Packed(v) => self.covers_small(v),
+            Given::Compact(v) => self.covers_small(v),
         }
     }
 
@@ -423,11 +423,11 @@ impl Small {
     {
         match v {
             Given::Whole(v) => self.join(alloc, b, v),
-            Given::Packed(v) => {
+            Given::Compact(v) => {
                 if self.is_equal(v) {
                     return v.copy();
                 }
-                self.join_packed(alloc, b, v)
+                self.join_compact(alloc, b, v)
             }
         }
     }
@@ -491,7 +491,7 @@ impl Small {
     /// Returns whether it has all members of a compact value. The caller has asked for an equal one
     /// before.
     #[inline(never)]
-    fn covers_packed(&self, v: &Small) -> bool
+    fn covers_compact(&self, v: &Small) -> bool
         requires own { IsWell self.now }
         requires value { IsWell v.now }
         ensures { IsTrue result ↔ IsBelow v.now self.now }
@@ -503,9 +503,9 @@ impl Small {
                 if self.has_range(*lo, *last, *step) {
                     return true;
                 }
-                self.covers_unpacked(v)
+                self.covers_as_whole(v)
             }
-            Form::Any => self.covers_unpacked(v),
+            Form::Any => self.covers_as_whole(v),
         }
     }
 
@@ -526,7 +526,7 @@ impl Small {
 
     /// Returns whether it has all members of a compact value. It makes the whole value.
     #[inline(never)]
-    fn covers_unpacked(&self, v: &Small) -> bool
+    fn covers_as_whole(&self, v: &Small) -> bool
         requires own { IsWell self.now }
         requires value { IsWell v.now }
         ensures { IsTrue result ↔ IsBelow v.now self.now }
@@ -680,7 +680,7 @@ impl Small {
     /// Returns the least value with the members of both. The caller has asked for an equal one
     /// before.
     #[inline(never)]
-    fn join_packed(&self, alloc: Global, b: &Bounds, v: &Small) -> Result<Small, AllocError>
+    fn join_compact(&self, alloc: Global, b: &Bounds, v: &Small) -> Result<Small, AllocError>
         requires own { IsValue b.now self.now }
         requires value { IsValue b.now v.now }
         ensures { IfOk result (λ s. s ≡ join_of b.now self.now v.now) }
@@ -693,13 +693,13 @@ impl Small {
                 self.with_words(alloc, b, &[*x])
             }
             Form::Many(words) => self.join(alloc, b, words.as_ref()),
-            _ => self.join_unpacked(alloc, b, v),
+            _ => self.join_as_whole(alloc, b, v),
         }
     }
 
     /// Returns the least value with the members of both. It makes the other whole value.
     #[inline(never)]
-    fn join_unpacked(&self, alloc: Global, b: &Bounds, v: &Small) -> Result<Small, AllocError>
+    fn join_as_whole(&self, alloc: Global, b: &Bounds, v: &Small) -> Result<Small, AllocError>
         requires own { IsValue b.now self.now }
         requires value { IsValue b.now v.now }
         ensures { IfOk result (λ s. s ≡ join_of b.now self.now v.now) }

@@ -86,10 +86,10 @@ impl Values {
         if n < self.known.len() {
             let here = &self.known[n];
             if here.anys as usize == anys {
-                return Given::Packed(&here.value);
+                return Given::Compact(&here.value);
             }
         }
-        Given::Packed(any)
+        Given::Compact(any)
     }
 
     /// Puts a value at a place, if there is one.

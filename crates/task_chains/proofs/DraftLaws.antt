@@ -118,7 +118,6 @@ pub takes_nothing : (d : TasksDraft) (n : ℕ) (line : List ℕ) → length line
 takes_nothing d n line none before made at = draft_nothing before line d none made
 
 module _ (old : TasksDraft) (n : ℕ) (line : List ℕ) (some : 0 < length line) where
-
   takes_by : (o : Option Places) (t : Task) (list more : List Task) (eighth next : Option ℕ) → IsSome o → task_of line ≡ Some t → (length list < 7 → (more ≡ list ++ t ∷ []) × (next ≡ eighth)) → (7 ≤ length list → (more ≡ list) × (next ≡ option_or eighth (Some n)))
       → (before : List (List ℕ)) → IsDraftBy before o list eighth → n ≡ length before + 1 → IsDraftBy (before ++ line ∷ []) o more next
   takes_by None t list more eighth next there is room full before made at = absurd (let f : false ≡ true = there in cc)

@@ -17,7 +17,6 @@ use Rattle.task_chains.specs.TaskListText.{AreSaid, IsBlockInRam, HaveViewsRoom,
 
 -- ---- what a draft says
 module _ (plan : PlanData) (lines : List (List ℕ)) where
-
   pub too_many : (p : Places) (list : List Task) (n : ℕ) → IsKept lines p list (Some n) → Reads plan lines (Err (TooMany n))
   too_many p list n k = (tasks_with p k.all, k.said, k.more)
 

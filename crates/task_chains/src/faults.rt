@@ -9,7 +9,7 @@ use crate::rule_17::{TasksRule, holds_apart};
 use cfg_recover::KnownCodes;
 use depth_cert::Key;
 use elf_image::Image;
-use packed_cert::{PackedCert, PackedNode, PointWalk};
+use packed_cert::{Cert, Node, PointWalk};
 use tcd_plan::Plan;
 use value_domain::Bounds;
 
@@ -17,7 +17,7 @@ use value_domain::Bounds;
 /// routine, a load that can reach a save area or the routine, an instruction that reads a link, or
 /// a BISR outside of all interrupts. The rules accept the certificate for a task's view.
 #[inline(never)]
-pub fn task_fault(view: &Image, plan: &Plan, tasks: &Tasks, cert: &PackedCert) -> Option<(Key, u32)>
+pub fn task_fault(view: &Image, plan: &Plan, tasks: &Tasks, cert: &Cert) -> Option<(Key, u32)>
     requires { Accepts view.now plan.now cert.now }
     ensures none { IfNone result (KeepsApart view.now plan.now tasks.now cert.now) }
     ensures some { IfSome result (λ f. IsTaskFault view.now plan.now tasks.now cert.now f.0 f.1) }
@@ -46,7 +46,7 @@ pub fn task_fault(view: &Image, plan: &Plan, tasks: &Tasks, cert: &PackedCert) -
 fn node_task_fault<'a>(
     rule: &TasksRule,
     codes: &mut KnownCodes,
-    node: &PackedNode<'a>,
+    node: &Node<'a>,
     walk: &mut PointWalk<'a>,
 ) -> Option<u32>
     requires { All (λ p. AreValues rule.now.bounds.now p.state.regs) node.now.points }

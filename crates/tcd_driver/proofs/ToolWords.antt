@@ -11,7 +11,7 @@ use Rattle.tc_script.specs.Numbers.{script_number}
 use Rattle.tcd_base.specs.Files.{FileMap, FilesSeen}
 use Rattle.tcd_base.specs.Sink.{SinkSeen, HasRoomFor, sink_with_appended}
 use Rattle.tcd_reading.specs.Reports.{Report, IsReportStatus, with_report_files}
-use Rattle.tcd_reading.specs.Inputs.{Reading, ReadingSays, HoldsAsked, AreSureOf}
+use Rattle.tcd_reading.specs.Inputs.{Reading, ReadingSays, HoldsAsked, HasAllInputs}
 use Rattle.tcd_reading.proofs.Decided.{said_done}
 use Rattle.tcd_reading.specs.Endings.{PrintsWithStatus, whole, cut, IsReported, HasEnded, Ends}
 use Rattle.tcd_reading.specs.Endings as ending
@@ -244,7 +244,7 @@ module _ (call : ToolCall) where
         may_print r said (inr (inl e)) = let l = (here.answers).refused m r said e in when_refused l.after l.holds
         may_print r said (inr (inr e)) = let l = bad_reports here.c asks (here.answers).bad m r said e in when_bad l.after l.holds
 
-        asks_are : AreSureOf (reading_of here.c) call.files
+        asks_are : HasAllInputs (reading_of here.c) call.files
         asks_are = record { steady = sure.steady; hold = subst (λ (o : Option FileMap). HoldsAsked (reading_of here.c) o) (sym sure.held) ((here.answers).asked m sure.there) }
 
         by_prints_whole : (r : Report) → ReadingSays (reading_of here.c) (call.files).held r → PrintsWithStatus r.status r.text call.sink call.sink_after call.status → IsReportStatus call.status

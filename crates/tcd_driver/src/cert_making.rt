@@ -6,7 +6,7 @@ use depth_cert::{CertErr, Key};
 use depth_check::{Verdict, check};
 use depth_maker::{MakeErr, make_bytes};
 use elf_image::Image;
-use packed_cert::PackedCert;
+use packed_cert::Cert;
 use std::alloc::Global;
 use tcd_plan::Plan;
 
@@ -37,7 +37,7 @@ fn check_best_cert(alloc: Global, image: &Image, plan: &Plan, bytes: Vec<u8>) ->
     requires { SpellBestCert image.now plan.now bytes.items }
     ensures { MakesBestCert image.now plan.now result }
 {
-    let cert = match PackedCert::read(alloc, bytes) {
+    let cert = match Cert::read(alloc, bytes) {
         Ok(cert) => cert,
         Err(CertErr::NoMemory) => return Making::NoMemory,
         Err(CertErr::Bad(_)) => unreachable!(),

@@ -7,7 +7,7 @@ use crate::error_lines::{
 use bumpalo::Bump;
 use depth_cert::CertErr;
 use elf_image::Image;
-use packed_cert::PackedCert;
+use packed_cert::Cert;
 use std::alloc::Global;
 use std::marker::Model;
 use tc_asm::{AsmErr, assemble};
@@ -89,7 +89,7 @@ pub struct CertFile;
 impl Form for CertFile {
     ghost use Rattle.tcd_forms.specs.Forms.{cert_form};
 
-    type Out = PackedCert;
+    type Out = Cert;
 
     ghost form = { λ _. cert_form };
 
@@ -103,8 +103,8 @@ impl Form for CertFile {
         copy_printed_line(alloc, long_cert_line())
     }
 
-    fn value(&self, alloc: Global, bytes: Vec<u8>) -> Result<PackedCert, Outcome> {
-        match PackedCert::read(alloc, bytes) {
+    fn value(&self, alloc: Global, bytes: Vec<u8>) -> Result<Cert, Outcome> {
+        match Cert::read(alloc, bytes) {
             Ok(cert) => Ok(cert),
             Err(CertErr::Bad(e)) => Err(bad_input_outcome(alloc, bad_cert_line(alloc, e))),
             Err(CertErr::NoMemory) => Err(Outcome::NoMemory),

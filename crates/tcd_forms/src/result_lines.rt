@@ -7,7 +7,7 @@ ghost use Rattle.tcd_text.specs.HexNumbers.{hex_word};
 
 use crate::error_lines::{append_to_printed_line, copy_printed_line};
 use depth_cert::{Key, key_kind_text};
-use packed_cert::PackedCert;
+use packed_cert::Cert;
 use std::alloc::Global;
 use tc_machine::{Cause, End, Machine};
 use tcd_base::NoMemory;
@@ -66,7 +66,7 @@ pub fn certified_tasks_line(
 pub fn generated_line(
     alloc: Global,
     functions: u32,
-    cert: &PackedCert,
+    cert: &Cert,
     need: u32,
     areas: u32,
 ) -> Result<Vec<u8>, NoMemory>

@@ -7,7 +7,7 @@ use Rattle.tcd_base.specs.Sink.{SinkSeen, sink_with_appended, HasRoomFor, IsPrin
 use Rattle.tcd_reading.specs.Reports.{Report, ReportFile, with_report_files}
 use Rattle.tcd_laws.specs.Sequences.{all_report_texts, EndInSequence, IsSureInSequence, AreSureInSequence, all_sequence_files, IsSequenceDone, RanOutInSequence, SequenceEndsSurely, SureSequencesEnd}
 use Rattle.tcd_reading.specs.Endings.{ReportWritingStopped, PrintsWithStatus, whole, cut, IsReported, HasRoomForReports, HasEnded, Ends}
-use Rattle.tcd_reading.specs.Inputs.{Reading, ReadingSays, AreSureOf}
+use Rattle.tcd_reading.specs.Inputs.{Reading, ReadingSays, HasAllInputs}
 use Rattle.tcd_reading.specs.Endings as ending
 use Rattle.tcd_reading.specs.declared.status.Status.{Status}
 use Rattle.tcd_reading.specs.declared.status.Status.TheVariants.{Done, Fault, NoMemory}
@@ -78,7 +78,7 @@ said_status q result e (inr h) = inr h
 sure_ends : (reading : Reading) (q : Report) (files files' : FilesSeen) (sink sink' : SinkSeen) (result : Status) → IsTrue files.steady → IsSureInSequence reading files.held q → HasRoomFor sink q.text → Ends reading files files' sink sink' result →
     EndsOne q files files' sink sink' result
 sure_ends reading q files files' sink sink' result steady s room ends =
-    let sure : AreSureOf reading files = record { steady = steady; hold = s.asked } in
+    let sure : HasAllInputs reading files = record { steady = steady; hold = s.asked } in
     let fits : HasRoomForReports reading files.held sink = λ r says. subst (λ (x : Report). HasRoomFor sink x.text) (sym (s.only r says)) room in
     record {
       status = said_status q result s.done (ends.complete sure fits q s.said);

@@ -12,7 +12,7 @@ use Rattle.tcd_base.specs.Files.{FileMap, FilesSeen, OthersStay}
 use Rattle.tcd_base.specs.Sink.{SinkSeen, HasRoomFor}
 use Rattle.tcd_reading.specs.Reports.{ReportFile, Report, IsReportStatus, with_report_files, RefusesInput}
 use Rattle.tcd_reading.specs.Endings.{ReportWritingStopped, whole, cut, IsReported, printed, unwritten, no_memory, HasEnded, Ends}
-use Rattle.tcd_reading.specs.Inputs.{FormSeen, HoldsInput, IsInputRefusal, Reading, answer, input, ReadingSays, HoldsAsked, AreSureOf, IsHeldAs, IsHeldBad}
+use Rattle.tcd_reading.specs.Inputs.{FormSeen, HoldsInput, IsInputRefusal, Reading, answer, input, ReadingSays, HoldsAsked, HasAllInputs, IsHeldAs, IsHeldBad}
 use Rattle.tcd_reading.specs.Inputs as inputs
 use Rattle.tcd_reading.proofs.Decided.{never_fault}
 use Rattle.tcd_reading.specs.Endings as ending
@@ -172,7 +172,7 @@ module _ (reading : Reading) (files files' : FilesSeen) (sink sink' : SinkSeen) 
   ends_so h =
       let e = ended_so h.ended in
       let here : (report : Report) → ReadingSays reading (Some m) report → ReadingSays reading files.held report = λ report s. subst (λ (o : Option FileMap). ReadingSays reading o report) (sym holds) s in
-      let sure : files.steady ≡ true → HoldsAsked reading (Some m) → AreSureOf reading files =
+      let sure : files.steady ≡ true → HoldsAsked reading (Some m) → HasAllInputs reading files =
       λ steady asked. record { steady = steady; hold = subst (λ (o : Option FileMap). HoldsAsked reading o) (sym holds) asked }
       in
       record {

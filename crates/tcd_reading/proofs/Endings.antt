@@ -5,7 +5,7 @@ use Rattle.tcd_base.specs.Files.{FileMap, FilesSeen, LeavesFaults}
 use Rattle.tcd_base.specs.Sink.{SinkSeen}
 use Rattle.tcd_reading.specs.Reports.{ReportFile, Report, with_report_files}
 use Rattle.tcd_reading.specs.Endings.{ReportWritingStopped, FilesAndSinkStay, whole, cut, IsReported, printed, unwritten, no_memory, FinishesOutcome, HasRoomForReports, Ends}
-use Rattle.tcd_reading.specs.Inputs.{Reading, ReadingSays, AreSureOf, HasNotRead}
+use Rattle.tcd_reading.specs.Inputs.{Reading, ReadingSays, HasAllInputs, HasNotRead}
 use Rattle.tcd_reading.specs.Outcomes.{IsCommandOutcome}
 use Rattle.tcd_reading.specs.Endings as ending
 use Rattle.tcd_reading.specs.declared.status.Status.{Status}
@@ -46,7 +46,7 @@ module _ (reading : Reading) (decided : IsDecided reading) (r : Report) (old new
   sink_here (unwritten e quiet stopped counted unsteady) room = ap (λ (s : SinkSeen). s.faults) quiet
   sink_here (no_memory e quiet stopped) room = ap (λ (s : SinkSeen). s.faults) quiet
 
-  complete_here : IsReported r old new sink sink' result → AreSureOf reading old → HasRoomForReports reading old.held sink → (q : Report) → ReadingSays reading old.held q → (result ≡ q.status) ⊎ (result ≡ NoMemory)
+  complete_here : IsReported r old new sink sink' result → HasAllInputs reading old → HasRoomForReports reading old.held sink → (q : Report) → ReadingSays reading old.held q → (result ≡ q.status) ⊎ (result ≡ NoMemory)
   complete_here (printed is (whole e p)) sure room q other = inl (e ∙ said_one reading old.held r q decided sure.hold said other)
   complete_here (printed is (cut e front counted full)) sure room q other = absurd (full (room r said))
   complete_here (unwritten e quiet stopped counted unsteady) sure room q other = absurd (unsteady sure.steady)

@@ -4,7 +4,7 @@ use Rattle.std.specs.Prelude.{IfErr, IsTrue}
 use Rattle.tcd_base.specs.Files.{FileMap, FilesSeen, LeavesFiles, IsFileTooLong, ReadsFile}
 use Rattle.tcd_base.specs.FailingCalls.{FaultCounted}
 use Rattle.tcd_reading.specs.Reports.{Report, RefusesInput}
-use Rattle.tcd_reading.specs.Inputs.{FormSeen, HoldsInput, IsInputRefusal, long, bad, Reading, answer, input, ReadingSays, HoldsAsked, AreSureOf, HasNotRead}
+use Rattle.tcd_reading.specs.Inputs.{FormSeen, HoldsInput, IsInputRefusal, long, bad, Reading, answer, input, ReadingSays, HoldsAsked, HasAllInputs, HasNotRead}
 use Rattle.tcd_reading.specs.Outcomes.{IsToldOutcome, IsBadInputOutcome, HasFailedToRead, IsCommandOutcome}
 use Rattle.tcd_reading.specs.declared.outcome.Outcome.{Outcome}
 use Rattle.tcd_reading.specs.declared.outcome.Outcome.TheVariants as outcome
@@ -62,7 +62,7 @@ comes_stopped A form name next old new o leaves later stops = record {
 }
 
 -- an input that is read, and then the rest
-sure_next : (A : Type 0) (form : FormSeen A) (name : List ℕ) (next : A → Reading) (x : A) (old mid : FilesSeen) → LeavesFiles name old mid → HoldsInput form old.held name x → AreSureOf (input A form name next) old → AreSureOf (next x) mid
+sure_next : (A : Type 0) (form : FormSeen A) (name : List ℕ) (next : A → Reading) (x : A) (old mid : FilesSeen) → LeavesFiles name old mid → HoldsInput form old.held name x → HasAllInputs (input A form name next) old → HasAllInputs (next x) mid
 sure_next A form name next x old mid leaves holds s =
     record { steady = subst IsTrue (sym leaves.steady) s.steady; hold = subst (λ (h : Option FileMap). HoldsAsked (next x) h) (sym leaves.held) (s.hold.1 x holds) }
 

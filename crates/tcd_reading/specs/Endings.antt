@@ -4,7 +4,7 @@ use Rattle.tcd_base.specs.Files.{FileMap, FilesSeen, LeavesFaults, OthersStay}
 use Rattle.tcd_base.specs.FailingCalls.{FaultCounted}
 use Rattle.tcd_base.specs.Sink.{SinkSeen, HasRoomFor, AppendsFront, IsPrinted}
 use Rattle.tcd_reading.specs.Reports.{Report, IsReportStatus, with_report_files, ReportFile}
-use Rattle.tcd_reading.specs.Inputs.{Reading, ReadingSays, AreSureOf}
+use Rattle.tcd_reading.specs.Inputs.{Reading, ReadingSays, HasAllInputs}
 use Rattle.tcd_reading.specs.declared.status.Status.{Status}
 use Rattle.tcd_reading.specs.declared.status.Status.TheVariants.{Done, Refused, BadInput, Fault, NoMemory, BadWords}
 use Rattle.tcd_reading.specs.declared.outcome.Outcome.{Outcome}
@@ -60,7 +60,7 @@ FinishesOutcome outcome.NoMemory files files' sink sink' result = FilesAndSinkSt
 pub data HasEnded (reading : Reading) (files files' : FilesSeen) (sink sink' : SinkSeen) (result : Status) : Type 0 where
   reported : (report : Report) → ReadingSays reading files.held report → IsReported report files files' sink sink' result → HasEnded reading files files' sink sink' result
   unread :
-      result ≡ Fault → files'.held ≡ files.held → sink' ≡ sink → FaultCounted files.faults files'.faults → (AreSureOf reading files → ⊥)
+      result ≡ Fault → files'.held ≡ files.held → sink' ≡ sink → FaultCounted files.faults files'.faults → (HasAllInputs reading files → ⊥)
       → HasEnded reading files files' sink sink' result
   no_memory : result ≡ NoMemory → files'.held ≡ files.held → sink' ≡ sink → HasEnded reading files files' sink sink' result
 
@@ -78,8 +78,8 @@ pub record Ends (reading : Reading) (files files' : FilesSeen) (sink sink' : Sin
   pub steady : files'.steady ≡ files.steady
   pub files_later : files.faults ≤ files'.faults
   pub sink_later : sink.faults ≤ sink'.faults
-  pub files_sure : AreSureOf reading files → files'.faults ≡ files.faults
+  pub files_sure : HasAllInputs reading files → files'.faults ≡ files.faults
   pub sink_sure : HasRoomForReports reading files.held sink → sink'.faults ≡ sink.faults
   pub complete :
-      AreSureOf reading files → HasRoomForReports reading files.held sink → (report : Report) → ReadingSays reading files.held report
+      HasAllInputs reading files → HasRoomForReports reading files.held sink → (report : Report) → ReadingSays reading files.held report
       → (result ≡ report.status) ⊎ (result ≡ NoMemory)

@@ -64,7 +64,7 @@ HoldsAsked (input A form name next) held = HasFileOfName held name × ((x : A) �
 
 -- the files are steady and hold each input that the command needs, so reading its inputs never
 -- fails
-pub record AreSureOf (reading : Reading) (files : FilesSeen) : Type 0 where
+pub record HasAllInputs (reading : Reading) (files : FilesSeen) : Type 0 where
   pub steady : IsTrue files.steady
   pub hold : HoldsAsked reading files.held
 
@@ -72,4 +72,4 @@ pub record AreSureOf (reading : Reading) (files : FilesSeen) : Type 0 where
 -- lacked an input that it needs
 pub record HasNotRead (reading : Reading) (old new : FilesSeen) : Type 0 where
   pub counted : FaultCounted old.faults new.faults
-  pub unsure : AreSureOf reading old → ⊥
+  pub unsure : HasAllInputs reading old → ⊥

@@ -3,7 +3,7 @@ use Rattle.std.specs.Prelude.{◌≡◌, ◌≤◌, ℕ, List}
 use Rattle.tcd_base.specs.Files.{FilesSeen, AreSure}
 use Rattle.tcd_base.specs.FailingCalls.{FaultCounted}
 use Rattle.tcd_reading.specs.Reports.{Report, RefusesInput}
-use Rattle.tcd_reading.specs.Inputs.{Reading, ReadingSays, AreSureOf, HasNotRead}
+use Rattle.tcd_reading.specs.Inputs.{Reading, ReadingSays, HasAllInputs, HasNotRead}
 use Rattle.tcd_reading.specs.declared.outcome.Outcome.{Outcome}
 use Rattle.tcd_reading.specs.declared.outcome.Outcome.TheVariants as outcome
 
@@ -28,5 +28,5 @@ pub record IsCommandOutcome (reading : Reading) (old new : FilesSeen) (o : Outco
   pub held : new.held ≡ old.held
   pub steady : new.steady ≡ old.steady
   pub later : old.faults ≤ new.faults
-  pub sure : AreSureOf reading old → new.faults ≡ old.faults
+  pub sure : HasAllInputs reading old → new.faults ≡ old.faults
   pub told : IsToldOutcome (ReadingSays reading old.held) (HasNotRead reading old new) o

@@ -7,7 +7,7 @@ use crate::graphs::graph_text::{append_node, empty_graph_text};
 use crate::judged::Judged;
 use cfg_recover::KnownCodes;
 use elf_image::Image;
-use packed_cert::{PackedCert, PointWalk};
+use packed_cert::{Cert, PointWalk};
 use std::alloc::Global;
 use tcd_base::NoMemory;
 use tcd_plan::Plan;
@@ -25,12 +25,7 @@ pub(crate) mod successors;
 /// keys and addresses. The lines of a point are in this order: jumps and calls by ascending
 /// address, returns of callees, system call, misaligned access, interrupts by ascending priority,
 /// its own return. No line is there twice, and each ends with a line feed.
-pub fn graph(
-    alloc: Global,
-    image: &Image,
-    plan: &Plan,
-    cert: &PackedCert,
-) -> Result<String, NoMemory>
+pub fn graph(alloc: Global, image: &Image, plan: &Plan, cert: &Cert) -> Result<String, NoMemory>
     requires { Accepts image.now plan.now cert.now }
     ensures { IfOk result (λ text. IsGraph image.now plan.now cert.now (string_bytes text)) }
 {

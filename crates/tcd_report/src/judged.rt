@@ -1,6 +1,6 @@
 // The certificate that is drawn or reported.
 use elf_image::Image;
-use packed_cert::PackedCert;
+use packed_cert::Cert;
 use tcd_plan::Plan;
 use value_domain::Bounds;
 
@@ -10,5 +10,5 @@ pub(crate) struct Judged<'a> {
     pub(crate) bounds: &'a Bounds,
     pub(crate) image: &'a Image,
     pub(crate) plan: &'a Plan,
-    pub(crate) cert: &'a PackedCert,
+    pub(crate) cert: &'a Cert,
 }

@@ -9,7 +9,7 @@ use crate::reports::longest_by_priority::{longest_by_priority, priority_count, r
 use crate::reports::report_text::{need_of_start, nodes_value, rows_value, whole_value};
 use crate::texts::extend_text;
 use elf_image::Image;
-use packed_cert::PackedCert;
+use packed_cert::Cert;
 use std::alloc::Global;
 use tcd_base::NoMemory;
 use tcd_plan::Plan;
@@ -23,12 +23,7 @@ pub(crate) mod report_text;
 /// The report of an accepted certificate: one compact JSON object with its keys in byte order, and
 /// a line feed. It has the CSAs, the longest call chain of each priority, the certified need, the
 /// nodes with their needs and numbers of points, and the CSAs that are kept in reserve.
-pub fn report(
-    alloc: Global,
-    image: &Image,
-    plan: &Plan,
-    cert: &PackedCert,
-) -> Result<String, NoMemory>
+pub fn report(alloc: Global, image: &Image, plan: &Plan, cert: &Cert) -> Result<String, NoMemory>
     requires { Accepts image.now plan.now cert.now }
     ensures { IfOk result (λ text. IsReport image.now plan.now cert.now (string_bytes text)) }
 {

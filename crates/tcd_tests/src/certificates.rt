@@ -1,7 +1,7 @@
 //! A certificate of two nodes, its look-ups, and bytes that spell none.
 use crate::asserts::{is_so, same};
 use depth_cert::{CertErr, Key};
-use packed_cert::{PackedCert, PointWalk};
+use packed_cert::{Cert, PointWalk};
 use std::alloc::AllocGlobal;
 use std::process::Abort;
 use std::test::Fail;
@@ -38,10 +38,10 @@ fn refused<R: Abort + AllocGlobal>(rt: &R, bytes: &[u8]) -> Option<CertErr> {
 }
 
 /// Reads a certificate.
-fn read<R: Abort + AllocGlobal>(rt: &R, bytes: &[u8]) -> Result<PackedCert, CertErr> {
+fn read<R: Abort + AllocGlobal>(rt: &R, bytes: &[u8]) -> Result<Cert, CertErr> {
     assert!(rt; bytes.len() <= 1 << 30);
     match Vec::from_slice(rt.alloc(), bytes) {
-        Ok(own) => PackedCert::read(rt.alloc(), own),
+        Ok(own) => Cert::read(rt.alloc(), own),
         Err(_) => Err(CertErr::NoMemory),
     }
 }
@@ -66,9 +66,9 @@ fn finds_nodes_and_points(rt: HostRuntime) -> Result<(), Fail> {
     let start = cert.node(&START).ok_or("no start")?;
     same(&rt, &start.need, &1);
     is_so(&rt, start.exit().is_none());
-    is_so(&rt, start.state(0x8000_0004).is_some());
-    is_so(&rt, start.state(0x8000_0002).is_none());
-    is_so(&rt, start.state(0x8000_0008).is_none());
+    is_so(&rt, start.point(0x8000_0004).is_some());
+    is_so(&rt, start.point(0x8000_0002).is_none());
+    is_so(&rt, start.point(0x8000_0008).is_none());
     let mut call = START;
     call.kind = 1;
     is_so(&rt, cert.node(&call).is_none());

@@ -5,7 +5,7 @@ use crate::certificates::CALLER_CERT;
 use crate::programs::{CALLER, image};
 use depth_cert::Key;
 use depth_check::{Verdict, check};
-use packed_cert::PackedCert;
+use packed_cert::Cert;
 use std::alloc::AllocGlobal;
 use std::process::Abort;
 use std::test::Fail;
@@ -23,7 +23,7 @@ fn answer<R: Abort + AllocGlobal>(rt: &R, cert: &[u8]) -> Result<Verdict, Fail> 
     let plan = board(rt, &[])?;
     let mut bytes = Vec::new(rt.alloc());
     bytes.extend_from_slice(cert)?;
-    let cert = PackedCert::read(rt.alloc(), bytes)?;
+    let cert = Cert::read(rt.alloc(), bytes)?;
     Ok(check(&image, &plan, &cert))
 }
 

@@ -12,7 +12,7 @@ use crate::rule_16::{CellsRule, keeps_rule_16};
 use cfg_recover::KnownCodes;
 use depth_cert::Key;
 use elf_image::Image;
-use packed_cert::{PackedCert, PackedNode, PointWalk};
+use packed_cert::{Cert, Node, PointWalk};
 use tcd_plan::Plan;
 use value_domain::Bounds;
 
@@ -20,12 +20,7 @@ use value_domain::Bounds;
 /// and isn't a store of the cell's whole word, or can store a word outside its bounds. The rules
 /// accept the certificate under the plan in which the cells are devices.
 #[inline(never)]
-pub fn cells_fault(
-    image: &Image,
-    plan: &Plan,
-    cells: &Cells,
-    cert: &PackedCert,
-) -> Option<(Key, u32)>
+pub fn cells_fault(image: &Image, plan: &Plan, cells: &Cells, cert: &Cert) -> Option<(Key, u32)>
     requires cells { AreCells plan.now cells.now }
     requires accepted { Accepts image.now (spec.with_cells plan.now cells.now) cert.now }
     ensures none { IfNone result
@@ -59,7 +54,7 @@ pub fn cells_fault(
 fn node_cells_fault<'a>(
     rule: &CellsRule,
     codes: &mut KnownCodes,
-    node: &PackedNode<'a>,
+    node: &Node<'a>,
     walk: &mut PointWalk<'a>,
 ) -> Option<u32>
     requires values { All (λ p. AreValues rule.now.bounds.now p.state.regs) node.now.points }

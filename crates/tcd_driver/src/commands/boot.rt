@@ -5,7 +5,7 @@ ghost use Rattle.tcd_reading.specs.Outcomes.{IsCommandOutcome, IsToldOutcome};
 use crate::lines::refused_boot_line;
 use depth_check::{Verdict, check};
 use elf_image::Image;
-use packed_cert::PackedCert;
+use packed_cert::Cert;
 use std::alloc::Global;
 use tc_boot::boot_ok;
 use tcd_base::Files;
@@ -44,7 +44,7 @@ pub(crate) fn boot_files<F: Files>(
 }
 
 // Checks the certificate and the boot sequence at an address, and reports the verdict.
-fn boot_verdict(alloc: Global, image: &Image, plan: &Plan, cert: &PackedCert, at: u32) -> Outcome
+fn boot_verdict(alloc: Global, image: &Image, plan: &Plan, cert: &Cert, at: u32) -> Outcome
     ensures { IsToldOutcome (IsBootVerdict image.now plan.now cert.now at) ⊥ result }
 {
     // Reading a field gives the facts that hold for every image.

@@ -10,7 +10,7 @@ use depth_cert::CertErr;
 use depth_check::{Verdict, check};
 use depth_maker::{MakeErr, make_bytes};
 use elf_image::Image;
-use packed_cert::PackedCert;
+use packed_cert::Cert;
 use std::alloc::Global;
 use tcd_base::Files;
 use tcd_forms::{ElfFile, PlanFile, certified_cells_line, refused_line};
@@ -82,7 +82,7 @@ fn report_cells_cert(
     ensures { IsToldOutcome (IsCertifyingCells name.now image.now plan.now cells.now) ⊥ result }
 {
     let areas = plan.areas - plan.reserve;
-    let cert = match PackedCert::read(alloc, bytes) {
+    let cert = match Cert::read(alloc, bytes) {
         Ok(cert) => cert,
         Err(CertErr::NoMemory) => return Outcome::NoMemory,
         Err(CertErr::Bad(_)) => unreachable!(),

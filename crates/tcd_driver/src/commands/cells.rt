@@ -6,7 +6,7 @@ ghost use Rattle.tcd_reading.specs.Outcomes.{IsCommandOutcome, IsToldOutcome};
 use crate::cell_and_task_files::CellsFile;
 use depth_check::{Verdict, check};
 use elf_image::Image;
-use packed_cert::PackedCert;
+use packed_cert::Cert;
 use std::alloc::Global;
 use tcd_base::Files;
 use tcd_forms::{CertFile, ElfFile, PlanFile, certified_cells_line, refused_line};
@@ -55,13 +55,7 @@ pub(crate) fn check_cells<F: Files>(
 
 // Checks a certificate under the plan in which the cells are devices, and whether it keeps the
 // cells. Reports the verdict.
-fn cells_verdict(
-    alloc: Global,
-    image: &Image,
-    plan: &Plan,
-    cells: &Cells,
-    cert: &PackedCert,
-) -> Outcome
+fn cells_verdict(alloc: Global, image: &Image, plan: &Plan, cells: &Cells, cert: &Cert) -> Outcome
     requires { AreCells plan.now cells.now }
     ensures { IsToldOutcome (IsCellsVerdict image.now plan.now cells.now cert.now) ⊥ result }
 {

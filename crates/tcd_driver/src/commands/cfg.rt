@@ -7,7 +7,7 @@ ghost use Rattle.tcd_reading.specs.Outcomes.{IsCommandOutcome, IsToldOutcome};
 use crate::cert_making::{Making, make_best_cert};
 use depth_cert::CertErr;
 use elf_image::Image;
-use packed_cert::PackedCert;
+use packed_cert::Cert;
 use std::alloc::Global;
 use tcd_base::{Files, NoMemory};
 use tcd_forms::{ElfFile, PlanFile, refused_line};
@@ -62,7 +62,7 @@ fn cfg_command_text(
     // Reading a field gives the facts that hold for every image and for every plan.
     let _entry = image.entry;
     let _areas = plan.areas;
-    match PackedCert::read(alloc, bytes) {
+    match Cert::read(alloc, bytes) {
         Ok(cert) => Ok(graph(alloc, image, plan, &cert)?.into_bytes()),
         Err(CertErr::NoMemory) => Err(NoMemory),
         Err(CertErr::Bad(_)) => unreachable!(),

@@ -4,7 +4,7 @@ ghost use Rattle.tcd_reading.specs.Outcomes.{IsCommandOutcome, IsToldOutcome};
 
 use depth_check::{Verdict, check};
 use elf_image::Image;
-use packed_cert::PackedCert;
+use packed_cert::Cert;
 use std::alloc::Global;
 use tcd_base::Files;
 use tcd_forms::{CertFile, ElfFile, PlanFile, certified_line, refused_line};
@@ -40,7 +40,7 @@ pub(crate) fn check_files<F: Files>(
 }
 
 // Checks the certificate, and reports the verdict.
-fn check_verdict(alloc: Global, image: &Image, plan: &Plan, cert: &PackedCert) -> Outcome
+fn check_verdict(alloc: Global, image: &Image, plan: &Plan, cert: &Cert) -> Outcome
     ensures { IsToldOutcome (IsCheckVerdict image.now plan.now cert.now) ⊥ result }
 {
     match check(image, plan, cert) {

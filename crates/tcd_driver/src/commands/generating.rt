@@ -11,7 +11,7 @@ use depth_cert::CertErr;
 use depth_check::{Verdict, check};
 use depth_maker::{MakeErr, make_bytes};
 use elf_image::Image;
-use packed_cert::PackedCert;
+use packed_cert::Cert;
 use std::alloc::Global;
 use tcd_forms::{generated_line, refused_line};
 use tcd_plan::Plan;
@@ -69,7 +69,7 @@ fn count_generated_cert(
     requires { AreMade image.now plan.now 1 bytes.items }
     ensures { IsToldOutcome (IsGenReport functions image.now plan.now) ⊥ result }
 {
-    let cert = match PackedCert::read(alloc, bytes) {
+    let cert = match Cert::read(alloc, bytes) {
         Ok(cert) => cert,
         Err(CertErr::NoMemory) => return Outcome::NoMemory,
         Err(CertErr::Bad(_)) => unreachable!(),

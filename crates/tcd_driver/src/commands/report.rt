@@ -7,7 +7,7 @@ ghost use Rattle.tcd_reading.specs.Outcomes.{IsCommandOutcome, IsToldOutcome};
 
 use depth_check::{Verdict, check};
 use elf_image::Image;
-use packed_cert::PackedCert;
+use packed_cert::Cert;
 use std::alloc::Global;
 use tcd_base::{Files, NoMemory};
 use tcd_forms::{CertFile, ElfFile, PlanFile, refused_line};
@@ -44,7 +44,7 @@ pub(crate) fn report_files<F: Files>(
 }
 
 // Checks the certificate, and makes its report.
-fn check_and_report(alloc: Global, image: &Image, plan: &Plan, cert: &PackedCert) -> Outcome
+fn check_and_report(alloc: Global, image: &Image, plan: &Plan, cert: &Cert) -> Outcome
     ensures { IsToldOutcome (IsReporting image.now plan.now cert.now) ⊥ result }
 {
     match check(image, plan, cert) {
@@ -65,7 +65,7 @@ fn report_command_text(
     alloc: Global,
     image: &Image,
     plan: &Plan,
-    cert: &PackedCert,
+    cert: &Cert,
 ) -> Result<Vec<u8>, NoMemory>
     requires { Accepts image.now plan.now cert.now }
     ensures { IfOk result (λ text. IsReport image.now plan.now cert.now text.items) }

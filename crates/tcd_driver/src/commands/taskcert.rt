@@ -15,7 +15,7 @@ use depth_cert::{CertErr, Key};
 use depth_check::{Verdict, check};
 use depth_maker::{MakeErr, make_bytes};
 use elf_image::Image;
-use packed_cert::PackedCert;
+use packed_cert::Cert;
 use std::alloc::Global;
 use task_chains::{TASKS_RULE, Tasks, TasksErr, routine_fault, task_fault, view_image, view_plan};
 use tcd_base::{Files, NoMemory};
@@ -232,7 +232,7 @@ fn check_task_view_cert(
 {
     // What holds of every plan is known after it is read.
     let _areas = plan.areas;
-    let cert = match PackedCert::read(alloc, bytes) {
+    let cert = match Cert::read(alloc, bytes) {
         Ok(cert) => cert,
         Err(CertErr::NoMemory) => return Making::NoMemory,
         Err(CertErr::Bad(_)) => unreachable!(),

@@ -13,7 +13,7 @@ use crate::lines::bad_tasks_line;
 use depth_cert::Key;
 use depth_check::{Verdict, check};
 use elf_image::Image;
-use packed_cert::PackedCert;
+use packed_cert::Cert;
 use std::alloc::Global;
 use task_chains::{TASKS_RULE, Tasks, TasksErr, routine_fault, task_fault, view_image, view_plan};
 use tcd_base::{Files, NoMemory};
@@ -142,7 +142,7 @@ fn tasks_verdict(
     image: &Image,
     plan: &Plan,
     tasks: &Tasks,
-    certs: &[PackedCert],
+    certs: &[Cert],
 ) -> Outcome
     requires fit { FitPlan plan.now tasks.now }
     requires many { length certs.now ≡ count tasks.now }
@@ -183,7 +183,7 @@ fn judge_tasks(
     image: &Image,
     plan: &Plan,
     tasks: &Tasks,
-    certs: &[PackedCert],
+    certs: &[Cert],
 ) -> Result<Tally, NoMemory>
     requires fit { FitPlan plan.now tasks.now }
     requires many { length certs.now ≡ count tasks.now }
@@ -216,7 +216,7 @@ fn judge_task(
     plan: &Plan,
     tasks: &Tasks,
     u: usize,
-    cert: &PackedCert,
+    cert: &Cert,
 ) -> Result<Verdict, NoMemory>
     requires task { u < count tasks.now }
     requires fit { FitPlan plan.now tasks.now }

@@ -18,7 +18,7 @@ use crate::graphs::lines::{
 use crate::judged::Judged;
 use cfg_recover::KnownCodes;
 use depth_cert::Key;
-use packed_cert::{PackedNode, PointWalk};
+use packed_cert::{Node, PointWalk};
 use std::alloc::Global;
 use tcd_base::NoMemory;
 use value_domain::State;
@@ -52,7 +52,7 @@ pub(crate) fn append_node<'a>(
     graph: &mut Drawing,
     judged: &Judged,
     codes: &mut KnownCodes,
-    node: &PackedNode<'a>,
+    node: &Node<'a>,
     walk: &mut PointWalk<'a>,
 ) -> Result<(), NoMemory>
     requires judged { IsJudged judged.now }

@@ -16,7 +16,7 @@ ghost use Rattle.cfg_recover.specs.Entries as entries;
 use crate::judged::Judged;
 use cfg_recover::{Located, entered_key, sys_key, targets};
 use depth_cert::{CALL, Key};
-use packed_cert::PackedCert;
+use packed_cert::Cert;
 use tc_isa::{Shape, Target};
 use tcd_base::NoMemory;
 use tcd_plan::Plan;
@@ -150,7 +150,7 @@ fn is_successor_possible(judged: &Judged, shape: Shape, s: &State, taken: bool) 
 /// functions whose node has an exit.
 fn push_returns(
     all: &mut Vec<u32>,
-    cert: &PackedCert,
+    cert: &Cert,
     key: &Key,
     targets: &[u32],
     back: u32,
@@ -166,7 +166,7 @@ fn push_returns(
 }
 
 // Appends an address, if the node of this key has an exit.
-fn push_return(all: &mut Vec<u32>, cert: &PackedCert, key: &Key, back: u32) -> Result<(), NoMemory>
+fn push_return(all: &mut Vec<u32>, cert: &Cert, key: &Key, back: u32) -> Result<(), NoMemory>
     ensures { OnOk result
         (all.new.items ≡ all.old.items ++ back_by cert.now (resume key.now back)) }
 {
@@ -178,7 +178,7 @@ fn push_return(all: &mut Vec<u32>, cert: &PackedCert, key: &Key, back: u32) -> R
 
 /// Returns true if the node of this key has an exit, so that the address after the call or system
 /// call that enters it is a successor in the graph.
-fn can_node_return(cert: &PackedCert, key: &Key) -> bool
+fn can_node_return(cert: &Cert, key: &Key) -> bool
     ensures { result
         ≡ option_map_or (λ n. is_some n.exit) (find_node key.now cert.now.nodes) false }
 {

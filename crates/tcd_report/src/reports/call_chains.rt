@@ -7,7 +7,7 @@ use crate::judged::Judged;
 use crate::reports::heights::height_at_point;
 use cfg_recover::KnownCodes;
 use depth_cert::Key;
-use packed_cert::{PackedNode, PointWalk};
+use packed_cert::{Node, PointWalk};
 use std::collections::HashMap;
 
 /// The length of the longest call chain that begins in a node.
@@ -15,7 +15,7 @@ pub(crate) fn longest_chain_from<'a>(
     judged: &Judged,
     heights: &HashMap<Key, u32>,
     codes: &mut KnownCodes,
-    node: &PackedNode<'a>,
+    node: &Node<'a>,
     walk: &mut PointWalk<'a>,
 ) -> u32
     requires judged { IsJudged judged.now }

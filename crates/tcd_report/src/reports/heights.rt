@@ -15,7 +15,7 @@ use crate::judged::Judged;
 use crate::reports::call_chains::longest_chain_from;
 use cfg_recover::{KnownCodes, entered_key, targets};
 use depth_cert::{CALL, Key};
-use packed_cert::{PackedCert, PointWalk};
+use packed_cert::{Cert, PointWalk};
 use std::alloc::Global;
 use std::collections::HashMap;
 use tc_isa::{Shape, Target};
@@ -78,7 +78,7 @@ pub(crate) fn height_at_point(
 }
 
 // The needs and keys of the nodes.
-fn height_ranks(alloc: Global, cert: &PackedCert) -> Result<Vec<(u16, Key)>, NoMemory>
+fn height_ranks(alloc: Global, cert: &Cert) -> Result<Vec<(u16, Key)>, NoMemory>
     ensures { IfOk result (λ v. v.items ≡ map rank_of cert.now.nodes) }
 {
     let mut ranks = Vec::new(alloc);

@@ -10,7 +10,7 @@ ghost use Rattle.serde_json.specs.View.{view};
 ghost use Rattle.tcd_report.specs.Reports.{row_data};
 
 use depth_cert::Key;
-use packed_cert::PackedCert;
+use packed_cert::Cert;
 use serde_json::{Value, json};
 use std::alloc::Global;
 use std::collections::HashMap;
@@ -26,7 +26,7 @@ pub(crate) struct LongestCalls {
 /// The length of the longest call chain of each priority that has nodes.
 pub(crate) fn longest_by_priority(
     alloc: Global,
-    cert: &PackedCert,
+    cert: &Cert,
     heights: &HashMap<Key, u32>,
 ) -> Result<HashMap<u16, u32>, NoMemory>
     requires { (n : NodeData) → Contains cert.now.nodes n

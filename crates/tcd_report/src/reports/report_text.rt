@@ -9,7 +9,7 @@ use crate::reports::longest_by_priority::{LongestCalls, row_value};
 use crate::texts::append_key;
 use cfg_recover::start_key;
 use elf_image::Image;
-use packed_cert::{PackedCert, PackedNode};
+use packed_cert::{Cert, Node};
 use serde_json::{Map, Value, json, put};
 use std::alloc::Global;
 use tcd_base::NoMemory;
@@ -17,7 +17,7 @@ use tcd_plan::Plan;
 
 /// Returns the certified need for the text of the report: the need of the start node, or 0 if there
 /// is none.
-pub(crate) fn need_of_start(image: &Image, plan: &Plan, cert: &PackedCert) -> u32
+pub(crate) fn need_of_start(image: &Image, plan: &Plan, cert: &Cert) -> u32
     ensures { result ≡ certified_need image.now plan.now cert.now }
 {
     match cert.node(&start_key(image, plan)) {
@@ -47,7 +47,7 @@ pub(crate) fn whole_value(
 }
 
 /// Returns the array of the nodes in the report's JSON, in the order of their keys.
-pub(crate) fn nodes_value(alloc: Global, cert: &PackedCert) -> Result<Value, NoMemory>
+pub(crate) fn nodes_value(alloc: Global, cert: &Cert) -> Result<Value, NoMemory>
     ensures { IfOk result (λ v. view v ≡ nodes_data cert.now.nodes) }
 {
     let mut values = Vec::new(alloc);
@@ -102,7 +102,7 @@ fn put_report_value(
 
 /// Returns a node as the text of the report has it: an object with its key, its need, and the
 /// number of its points.
-fn node_value(alloc: Global, node: &PackedNode<'_>) -> Result<Value, NoMemory>
+fn node_value(alloc: Global, node: &Node<'_>) -> Result<Value, NoMemory>
     ensures { IfOk result (λ v. view v ≡ reported_node node.now) }
 {
     let mut key = String::new(alloc);

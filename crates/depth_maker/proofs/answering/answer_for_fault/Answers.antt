@@ -1,5 +1,5 @@
 use Rattle.std.proofs.Common.{subst}
-use Rattle.depth_maker.specs.Answers.{AnsweredOn}
+use Rattle.depth_maker.specs.Answers.{RefusalIsRight}
 use Rattle.frame_places.specs.declared.places.Spot.{Spot}
 use Rattle.frame_places.specs.declared.refusals.Refusal.TheVariants.{Fault}
 use Rattle.depth_maker.proofs.MakeLemmas.{fault_refuses, no_exit_refuses}
@@ -7,7 +7,7 @@ use Rattle.depth_maker.proofs.answering.answer_for_fault.Goals as goal
 
 pub returns-in-Point : goal.returns-in-Point
 returns-in-Point c =
-    fault_refuses c.args._ground.now c.args.rule c.in-Point.key c.in-Point.addr (subst (λ (q : Spot). AnsweredOn c.args._ground.now (Fault c.args.rule q)) c.in-Point.is c.requires)
+    fault_refuses c.args._ground.now c.args.rule c.in-Point.key c.in-Point.addr (subst (λ (q : Spot). RefusalIsRight c.args._ground.now (Fault c.args.rule q)) c.in-Point.is c.requires)
 
 pub returns-in-Exit : goal.returns-in-Exit
-returns-in-Exit c = absurd (no_exit_refuses c.args._ground.now c.args.rule c.in-Exit.key (subst (λ (q : Spot). AnsweredOn c.args._ground.now (Fault c.args.rule q)) c.in-Exit.is c.requires))
+returns-in-Exit c = absurd (no_exit_refuses c.args._ground.now c.args.rule c.in-Exit.key (subst (λ (q : Spot). RefusalIsRight c.args._ground.now (Fault c.args.rule q)) c.in-Exit.is c.requires))

@@ -34,4 +34,4 @@ pub returns-clause-ok : goal.returns-clause-ok
 returns-clause-ok c before paid =
     let v = c.args.v.now in
     call_noted _ _ _ v.key v.addr v.state.now before c.args.table.now c.of.result c.args.targets.now.items (subst (λ (w : Known). IsCallOf c.of.result v.key c.args.targets.now.items w) (c.in_ok-entry.ensures ∙ ap state c.requires.entry) c.of.ensures)
-    c.requires.visited.proper (sym (c.has_queued_mark.ensures _ c.requires.visited.stands) ∙ c.if-has_queued_mark.false) paid
+    c.requires.visited.well_formed (sym (c.has_queued_mark.ensures _ c.requires.visited.stands) ∙ c.if-has_queued_mark.false) paid

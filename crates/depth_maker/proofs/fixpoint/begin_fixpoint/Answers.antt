@@ -3,7 +3,7 @@ use Rattle.std.specs.Prelude.{if◌then◌else◌}
 use Rattle.std.specs.Option.{option_map}
 use Rattle.value_domain.specs.declared.states.State.{State}
 use Rattle.depth_cert.specs.Known.{Known, state}
-use Rattle.depth_cert.specs.Proper.{IsProperState}
+use Rattle.depth_cert.specs.WellFormed.{IsWellFormedState}
 use Rattle.depth_cert.specs.declared.keys.Key.{Key}
 use Rattle.frame_places.specs.declared.places.Spot.{Spot}
 use Rattle.frame_places.specs.declared.places.Spot.TheVariants.{Point}
@@ -19,7 +19,7 @@ use Rattle.depth_maker.proofs.fixpoint.begin_fixpoint.Goals as goal
 pub new-requires : goal.new-requires
 new-requires c =
     let g = c.args.ground.now in
-    subst (λ (s : State). IsProperState g.bounds.now s) (sym (c.identity_change-same.ensures.same ∙ c.start_state-start.ensures)) (lawful g.bounds.now g.image.now g.plan.now g.sound).start_proper
+    subst (λ (s : State). IsWellFormedState g.bounds.now s) (sym (c.identity_change-same.ensures.same ∙ c.start_state-start.ensures)) (lawful g.bounds.now g.image.now g.plan.now g.sound).start_well_formed
 
 pub add_queued_place-requires-clause-listed : goal.add_queued_place-requires-clause-listed
 add_queued_place-requires-clause-listed c = none_listed c.in_ok-places.places (all_work c.new-work.result) c.in_ok-places.ensures.empty c.new-work.ensures

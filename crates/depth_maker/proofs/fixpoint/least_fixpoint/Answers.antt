@@ -2,7 +2,7 @@ use Rattle.frame_places.specs.Work.{all_work}
 use Rattle.depth_maker.specs.TableLevels.{level}
 use Rattle.depth_maker.proofs.Lawful.{lawful}
 use Rattle.depth_maker.proofs.LevelSteps.{level_falls, level_most, none_queued}
-use Rattle.depth_maker.proofs.JoinLemmas.{cells_proper}
+use Rattle.depth_maker.proofs.JoinLemmas.{cells_well_formed}
 use Rattle.depth_maker.proofs.VisitLemmas.{closed_table}
 use Rattle.depth_maker.proofs.fixpoint.least_fixpoint.Goals as goal
 
@@ -11,7 +11,7 @@ loop-scratch-smaller c =
     let h = c.in_ok-fixpoint_turn.ensures in
     let sound = c.args.ground.now.sound in
     level_falls (level c.loop-scratch.table) (level c.fixpoint_turn.new.table) (h.2 c.if-branch.true)
-    (level_most _ c.fixpoint_turn.new.table sound.limits (cells_proper _ _ _ (lawful _ _ _ sound) c.fixpoint_turn.new.table h.0) h.0.counted)
+    (level_most _ c.fixpoint_turn.new.table sound.limits (cells_well_formed _ _ _ (lawful _ _ _ sound) c.fixpoint_turn.new.table h.0) h.0.counted)
 
 pub returns-clause-ok : goal.returns-clause-ok
 returns-clause-ok c =

@@ -10,7 +10,7 @@ covers-requires-clause-own c =
     (subst (IsContextEntered g.bounds.now g.plan.now (seen c.args.table.now).cells) c.in-Some.is c.requires.fine.covered.0.0).stack.well
 
 pub covers-requires-clause-other : goal.covers-requires-clause-other
-covers-requires-clause-other c = (c.requires.proper.values 22 (omega (arith, c.requires.proper.regs))).well
+covers-requires-clause-other c = (c.requires.well_formed.values 22 (omega (arith, c.requires.well_formed.regs))).well
 
 pub covers-requires-in-Some-before-clause-own : goal.covers-requires-in-Some-before-clause-own
 covers-requires-in-Some-before-clause-own c =
@@ -18,7 +18,7 @@ covers-requires-in-Some-before-clause-own c =
     (subst (IsContextEntered g.bounds.now g.plan.now (seen c.args.table.now).cells) c.in-Some-before.is c.requires.fine.covered.0.1).stack.well
 
 pub covers-requires-in-Some-before-clause-other : goal.covers-requires-in-Some-before-clause-other
-covers-requires-in-Some-before-clause-other c = (c.requires.proper.values 22 (omega (arith, c.requires.proper.regs))).well
+covers-requires-in-Some-before-clause-other c = (c.requires.well_formed.values 22 (omega (arith, c.requires.well_formed.regs))).well
 
 pub returns-then-covers : goal.returns-then-covers
 returns-then-covers c told =

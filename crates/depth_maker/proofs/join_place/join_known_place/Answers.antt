@@ -13,36 +13,36 @@ use Rattle.frame_places.proofs.NearbyLemmas.{had_at, nowhere}
 use Rattle.small_states.specs.Incoming.{incoming_known}
 use Rattle.depth_maker.specs.SpotsAsPlaces.{place_of_spot}
 use Rattle.depth_maker.specs.TableView.{seen}
-use Rattle.depth_maker.proofs.Below.{asks_proper}
+use Rattle.depth_maker.proofs.Below.{asks_well_formed}
 use Rattle.depth_maker.proofs.Lawful.{lawful}
 use Rattle.depth_maker.proofs.SpotLemmas.{forth}
-use Rattle.depth_maker.proofs.TableLaws.{derived_proper}
-use Rattle.depth_maker.proofs.JoinLemmas.{cells_proper, stays_joined, the_answer}
+use Rattle.depth_maker.proofs.TableLaws.{derived_well_formed}
+use Rattle.depth_maker.proofs.JoinLemmas.{cells_well_formed, stays_joined, the_answer}
 use Rattle.depth_maker.proofs.join_place.join_known_place.Goals as goal
 
 pub covers-requires-clause-known : goal.covers-requires-clause-known
 covers-requires-clause-known c =
     let s = c.args.table.now in
-    cells_proper _ _ _ (lawful _ _ _ c.args.v.now.ground.now.sound) s c.requires.fine c.args.y.now c.in-Some.place.now.value
+    cells_well_formed _ _ _ (lawful _ _ _ c.args.v.now.ground.now.sound) s c.requires.fine c.args.y.now c.in-Some.place.now.value
     (ap (option_map (λ (m : Marked Known). m.value)) (had_at s.places c.args.number c.args.y.now _ c.in-Some.place.now (sym c.in-Some.ensures.entry) c.in-Some.ensures.value c.requires.there))
 
 pub covers-requires-clause-incoming : goal.covers-requires-clause-incoming
 covers-requires-clause-incoming c =
     let laws = lawful _ _ _ c.args.v.now.ground.now.sound in
-    asks_proper _ _ _ laws (seen c.args.table.now).cells (place_of_spot c.args.y.now) (incoming_known c.args.incoming.now)
-    (derived_proper _ _ _ laws (seen c.args.table.now).cells (c.requires.fine.table).derived) c.requires.incoming
+    asks_well_formed _ _ _ laws (seen c.args.table.now).cells (place_of_spot c.args.y.now) (incoming_known c.args.incoming.now)
+    (derived_well_formed _ _ _ laws (seen c.args.table.now).cells (c.requires.fine.table).derived) c.requires.incoming
 
 pub join_from-requires-clause-known : goal.join_from-requires-clause-known
 join_from-requires-clause-known c =
     let s = c.args.table.now in
-    cells_proper _ _ _ (lawful _ _ _ c.args.v.now.ground.now.sound) s c.requires.fine c.args.y.now c.in-Some.place.now.value
+    cells_well_formed _ _ _ (lawful _ _ _ c.args.v.now.ground.now.sound) s c.requires.fine c.args.y.now c.in-Some.place.now.value
     (ap (option_map (λ (m : Marked Known). m.value)) (had_at s.places c.args.number c.args.y.now _ c.in-Some.place.now (sym c.in-Some.ensures.entry) c.in-Some.ensures.value c.requires.there))
 
 pub join_from-requires-clause-incoming : goal.join_from-requires-clause-incoming
 join_from-requires-clause-incoming c =
     let laws = lawful _ _ _ c.args.v.now.ground.now.sound in
-    asks_proper _ _ _ laws (seen c.args.table.now).cells (place_of_spot c.args.y.now) (incoming_known c.args.incoming.now)
-    (derived_proper _ _ _ laws (seen c.args.table.now).cells (c.requires.fine.table).derived) c.requires.incoming
+    asks_well_formed _ _ _ laws (seen c.args.table.now).cells (place_of_spot c.args.y.now) (incoming_known c.args.incoming.now)
+    (derived_well_formed _ _ _ laws (seen c.args.table.now).cells (c.requires.fine.table).derived) c.requires.incoming
 
 pub join_from-requires-clause-own : goal.join_from-requires-clause-own
 unfolding seen

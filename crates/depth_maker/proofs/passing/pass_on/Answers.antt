@@ -46,7 +46,7 @@ returns-in-None c =
     let quiet = c.may_pass_state_on.ensures c.if-not-may_pass_state_on.false e.0 e.2 in
     let passes = c.in-Some.ensures in
     let laws = lawful _ _ _ v.ground.now.sound in (
-      passed_on _ _ _ v.key v.addr e.0 s c.in-Some.to e.2 passes laws _ c.requires.fine (visited_at _ _ _ laws s v.key v.addr e.0 c.requires.fine c.requires.near e.2).proper quiet.0 quiet.1
+      passed_on _ _ _ v.key v.addr e.0 s c.in-Some.to e.2 passes laws _ c.requires.fine (visited_at _ _ _ laws s v.key v.addr e.0 c.requires.fine c.requires.near e.2).well_formed quiet.0 quiet.1
           (subst (JoinedAloneOn v.ground.now s c.add_joined_place.new.table (Point v.key c.in-Some.to)) (c.in_ok-value.ensures ∙ e.1) (rw c.in-None.is at c.in_ok-add_joined_place.ensures v.ground.now c.requires.fine asks)),
       record { shape = passes.shape; size = passes.size; code = passes.code; shaped = passes.shaped; enters = passes.enters },
     )

@@ -2,14 +2,14 @@ use Rattle.std.proofs.Common.{subst, sym}
 use Rattle.depth_cert.specs.Known.{state, IsKnownState}
 use Rattle.frame_places.specs.declared.places.Spot.TheVariants.{Point}
 use Rattle.depth_maker.specs.TableView.{seen}
-use Rattle.depth_maker.proofs.RowSteps.{all_known, done_proper, known_there, read_there}
+use Rattle.depth_maker.proofs.RowSteps.{all_known, done_well_formed, known_there, read_there}
 use Rattle.depth_maker.proofs.rows.point_row.Goals as goal
 
 pub read_state-requires : goal.read_state-requires
 read_state-requires c =
     let s = c.args.source.now in
     let at = c.args.at.now in
-    done_proper s.ground.now s.table.now (c.requires.source).done (Point at.key at.addr) _ (known_there s at c.requires.at)
+    done_well_formed s.ground.now s.table.now (c.requires.source).done (Point at.key at.addr) _ (known_there s at c.requires.at)
 
 pub local_check-requires : goal.local_check-requires
 local_check-requires c =
@@ -17,15 +17,15 @@ local_check-requires c =
     let at = c.args.at.now in
     let done = (c.requires.source).done in
     let there = read_there s.ground.now s.table.now done at.key at.addr _ c.state.result.now (known_there s at c.requires.at) (subst (IsKnownState at.known.now.value) (sym c.state.ensures) c.read_state.ensures) in
-    (done_proper s.ground.now s.table.now done (Point at.key at.addr) (state c.state.result.now) there).values
+    (done_well_formed s.ground.now s.table.now done (Point at.key at.addr) (state c.state.result.now) there).values
 
-pub row_with-requires-clause-proper : goal.row_with-requires-clause-proper
-row_with-requires-clause-proper c =
+pub row_with-requires-clause-well_formed : goal.row_with-requires-clause-well_formed
+row_with-requires-clause-well_formed c =
     let s = c.args.source.now in
     let at = c.args.at.now in
     let done = (c.requires.source).done in
     let there = read_there s.ground.now s.table.now done at.key at.addr _ c.state.result.now (known_there s at c.requires.at) (subst (IsKnownState at.known.now.value) (sym c.state.ensures) c.read_state.ensures) in
-    done_proper s.ground.now s.table.now done (Point at.key at.addr) (state c.state.result.now) there
+    done_well_formed s.ground.now s.table.now done (Point at.key at.addr) (state c.state.result.now) there
 
 pub returns : goal.returns
 unfolding seen

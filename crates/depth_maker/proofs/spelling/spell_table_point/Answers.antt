@@ -11,13 +11,13 @@ use Rattle.frame_places.specs.declared.places.Spot.TheVariants.{Point}
 use Rattle.depth_maker.specs.TableView.{seen}
 use Rattle.depth_maker.proofs.OutLemmas.{writes_point}
 use Rattle.depth_maker.proofs.PointEntries.{entry_place}
-use Rattle.depth_maker.proofs.RowSteps.{done_proper, done_state, read_there}
+use Rattle.depth_maker.proofs.RowSteps.{done_well_formed, done_state, read_there}
 use Rattle.depth_maker.proofs.spelling.spell_table_point.Goals as goal
 
 pub spell_state-requires : goal.spell_state-requires
 spell_state-requires c =
     let s = c.args.source.now in
-    done_proper s.ground.now s.table.now (c.requires.source).done c.in-Some.place.now _ (ap (option_map (λ m. m.value)) c.in-Some.ensures.value)
+    done_well_formed s.ground.now s.table.now (c.requires.source).done c.in-Some.place.now _ (ap (option_map (λ m. m.value)) c.in-Some.ensures.value)
 
 pub returns : goal.returns
 unfolding seen

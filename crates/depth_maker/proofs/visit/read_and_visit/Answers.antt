@@ -5,7 +5,7 @@ use Rattle.frame_places.specs.declared.places.Marked.{Marked}
 use Rattle.frame_places.specs.declared.places.Spot.TheVariants.{Point}
 use Rattle.frame_places.proofs.NearbyLemmas.{had_at, nowhere}
 use Rattle.depth_maker.specs.TableView.{seen}
-use Rattle.depth_maker.proofs.JoinLemmas.{cells_proper}
+use Rattle.depth_maker.proofs.JoinLemmas.{cells_well_formed}
 use Rattle.depth_maker.proofs.Lawful.{lawful}
 use Rattle.depth_maker.proofs.VisitLemmas.{state_there, visited_at}
 use Rattle.depth_maker.proofs.visit.read_and_visit.Goals as goal
@@ -18,7 +18,7 @@ pub read_state-requires : goal.read_state-requires
 read_state-requires c =
     let s = c.args.table.now in
     let x = Point c.args.site.now.key c.args.site.now.addr in
-    cells_proper _ _ _ (lawful _ _ _ c.args.site.now.ground.now.sound) s c.requires.fine x c.in-Some.place.now.value
+    cells_well_formed _ _ _ (lawful _ _ _ c.args.site.now.ground.now.sound) s c.requires.fine x c.in-Some.place.now.value
     (ap (option_map (λ (m : Marked Known). m.value)) (had_at s.places s.near x _ c.in-Some.place.now (sym c.in-Some.ensures.entry) c.in-Some.ensures.value c.requires.near))
 
 pub visit_point-requires-clause-visited : goal.visit_point-requires-clause-visited

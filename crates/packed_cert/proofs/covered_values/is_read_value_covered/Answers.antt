@@ -8,7 +8,7 @@ use Rattle.packed_cert.proofs.covered_values.is_read_value_covered.Goals as goal
 
 pub is_below_value_at-requires-clause-well : goal.is_below_value_at-requires-clause-well
 is_below_value_at-requires-clause-well c =
-    let low = stands_at c.args.low.version c.args.low.bytes.now c.args.low.place c.packed_bytes_below_256.ensures c.requires.low in
+    let low = stands_at c.args.low.version c.args.low.bytes.now c.args.low.place c.cert_bytes_below_256.ensures c.requires.low in
     rw c.value_at_place-v.ensures (well_of c.args.low.version (value_in c.args.low.version c.args.low.bytes.now c.args.low.place) low.well)
 
 pub returns : goal.returns

@@ -7,7 +7,7 @@ use Rattle.depth_cert.specs.Grammar.{points_at, point_after, last_number_read, a
 use Rattle.tcd_base.proofs.ManyLaws.{many_more, many_fail, many_end}
 use Rattle.depth_cert.proofs.ManyLaws.{rising_map_push, last_of-push}
 use Rattle.depth_cert.proofs.PointReads.{address_fails, state_fails}
-use Rattle.packed_cert.specs.declared.places.PackedPoint.{PackedPoint}
+use Rattle.packed_cert.specs.declared.places.PointPlace.{PointPlace}
 use Rattle.value_domain.specs.declared.states.State.{State}
 use Rattle.std.specs.Prelude.{IsTrue}
 use Rattle.packed_cert.specs.declared.places.ReadState.{ReadState}
@@ -49,7 +49,7 @@ loop-i-preserved c =
     let next = rw c.loop-i.invariant.last at c.in_ok-addr.ensures.next in
     let same = c.read_address.ensures.bytes ∙ c.loop-i.invariant.bytes ∙ c.read_point_count.ensures.bytes ∙ c.requires.same in
     let q = c.read_address.new.c in
-    let item : PackedPoint = record { addr = c.in_ok-addr.addr; place = c.in_ok-read.read.at.start; row = c.for_point-kept.result.row; same = c.for_point-kept.result.same } in
+    let item : PointPlace = record { addr = c.in_ok-addr.addr; place = c.in_ok-read.read.at.start; row = c.for_point-kept.result.row; same = c.for_point-kept.result.same } in
     let stands = c.in_ok-read.ensures.held in
     let is : state_in version bytes item.place ≡ c.read_state_like.new.out = ap (read_from_bytes_or no_state) stands.read in
     let there : HasState version bytes item.place = (_, stands.read) in
@@ -70,15 +70,15 @@ loop-i-preserved c =
           (many_more (point_after version) c.in_ok-count.count c.loop-i.i (points_in version bytes ps) c.read_point_count.new.c c.loop-i.c _ _ c.loop-i-test.true c.loop-i.invariant.read more);
       bytes = c.read_state_like.ensures.bytes ∙ c.read_address.ensures.bytes ∙ c.loop-i.invariant.bytes;
       count = omega (arith, c.in_ok-push.ensures.len, c.loop-i.invariant.count);
-      states = rw pushed (All-push (λ (p : PackedPoint). HasState version bytes p.place) ps item c.loop-i.invariant.states there);
-      rising = rw pushed (rising_map_push (λ (p : PackedPoint). p.addr) ps item c.loop-i.invariant.rising next);
-      last = rw pushed (sym (last_of-push (λ (p : PackedPoint). p.addr) ps item));
+      states = rw pushed (All-push (λ (p : PointPlace). HasState version bytes p.place) ps item c.loop-i.invariant.states there);
+      rising = rw pushed (rising_map_push (λ (p : PointPlace). p.addr) ps item c.loop-i.invariant.rising next);
+      last = rw pushed (sym (last_of-push (λ (p : PointPlace). p.addr) ps item));
       used = c.loop-i.invariant.used;
       exit = c.loop-i.invariant.exit;
       state = stands;
       before = λ j d next.
           let here : get_or (ps ++ item ∷ []) j d ≡ item = ap (λ (n : ℕ). get_or (ps ++ item ∷ []) n d) (omega (arith, c.loop-i.invariant.count)) ∙ get_or-append_seam ps item [] d in
-          rw pushed (sym is ∙ ap (λ (p : PackedPoint). state_in version bytes p.place) (sym here));
+          rw pushed (sym is ∙ ap (λ (p : PointPlace). state_in version bytes p.place) (sym here));
       moves = rw pushed (moves_push version bytes ps item c.loop-i.invariant.moves one);
     }
 

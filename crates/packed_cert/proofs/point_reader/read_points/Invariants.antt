@@ -4,7 +4,7 @@ use Rattle.std.specs.List.{All}
 use Rattle.std.specs.List.Sorted.{IsStrictlyIncreasing}
 use Rattle.tcd_base.specs.FieldReaders.{many_fields_at}
 use Rattle.depth_cert.specs.Grammar.{last_number_read, point_after}
-use Rattle.packed_cert.specs.declared.places.PackedPoint.{PackedPoint}
+use Rattle.packed_cert.specs.declared.places.PointPlace.{PointPlace}
 use Rattle.packed_cert.specs.PointsInBytes.{state_in, points_in, HasState, StateStandsAtPlaces}
 use Rattle.packed_cert.specs.Moves.{AreMoves}
 use Rattle.packed_cert.proofs.point_reader.read_points.Given as goal
@@ -20,6 +20,6 @@ invariant-loop-i l = record {
   used : l.room.used ≡ l.initial.room.used;
   exit : l.room.exit ≡ l.initial.room.exit;
   state : IfSome l.room.last (StateStandsAtPlaces l.version l.bytes l.room.state);
-  before : (j : ℕ) (d : PackedPoint) → j + 1 ≡ l.i → l.room.state ≡ state_in l.version l.bytes (get_or l.points.items j d).place;
+  before : (j : ℕ) (d : PointPlace) → j + 1 ≡ l.i → l.room.state ≡ state_in l.version l.bytes (get_or l.points.items j d).place;
   moves : AreMoves l.version l.bytes l.points.items;
 }

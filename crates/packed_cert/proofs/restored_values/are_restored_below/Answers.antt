@@ -29,13 +29,13 @@ next_lower-from-requires-clause-low c = (lower_step c.args.lower.version c.args.
 pub bounds-high-at : goal.bounds-high-at
 bounds-high-at c =
     let l = left_first c.args.high.version c.args.high.bytes.now c.loop-i.at 27 c.loop-i.i (values_in c.args.high.version c.args.high.bytes.now c.args.high.place 27) (omega arith) (length-values_in c.args.high.version c.args.high.bytes.now c.args.high.place 27) c.loop-i.invariant.have c.loop-i.invariant.left in
-    (stands_at c.args.high.version c.args.high.bytes.now c.loop-i.at c.packed_bytes_below_256.ensures l.0).inside
+    (stands_at c.args.high.version c.args.high.bytes.now c.loop-i.at c.cert_bytes_below_256.ensures l.0).inside
 
 pub overflow_add-at : goal.overflow_add-at
 overflow_add-at c =
     let l = left_first c.args.high.version c.args.high.bytes.now c.loop-i.at 27 c.loop-i.i (values_in c.args.high.version c.args.high.bytes.now c.args.high.place 27) (omega arith) (length-values_in c.args.high.version c.args.high.bytes.now c.args.high.place 27) c.loop-i.invariant.have c.loop-i.invariant.left in
     let next : c.loop-i.at + c.value_length_by_tag-at.result ≡ place_after_value c.args.high.bytes.now c.loop-i.at = ap (λ (k : ℕ). c.loop-i.at + k) c.value_length_by_tag-at.ensures in
-    let within : c.loop-i.at + c.value_length_by_tag-at.result ≤ length c.args.high.bytes.now = rw next (stands_at c.args.high.version c.args.high.bytes.now c.loop-i.at c.packed_bytes_below_256.ensures l.0).within in
+    let within : c.loop-i.at + c.value_length_by_tag-at.result ≤ length c.args.high.bytes.now = rw next (stands_at c.args.high.version c.args.high.bytes.now c.loop-i.at c.cert_bytes_below_256.ensures l.0).within in
     omega (arith, within, c.requires.high_short)
 
 pub returns-then-not-is_restored_below : goal.returns-then-not-is_restored_below

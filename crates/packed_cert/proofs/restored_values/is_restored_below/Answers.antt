@@ -9,12 +9,12 @@ use Rattle.packed_cert.proofs.LowerLaws.{any_above}
 use Rattle.packed_cert.proofs.restored_values.is_restored_below.Goals as goal
 
 pub bounds-high-high : goal.bounds-high-high
-bounds-high-high c = (stands_at c.args.high.version c.args.high.bytes.now c.args.high.place c.packed_bytes_below_256-2.ensures c.requires.high).inside
+bounds-high-high c = (stands_at c.args.high.version c.args.high.bytes.now c.args.high.place c.cert_bytes_below_256-2.ensures c.requires.high).inside
 
 pub returns-then-high-eq0 : goal.returns-then-high-eq0
 returns-then-high-eq0 c =
-    let high = stands_at c.args.high.version c.args.high.bytes.now c.args.high.place c.packed_bytes_below_256-2.ensures c.requires.high in
-    any_above c.args.i c.args.regs.now c.args.low.version c.args.low.bytes.now c.args.low.place (value_in c.args.high.version c.args.high.bytes.now c.args.high.place) c.packed_bytes_below_256.ensures (omega arith) (omega arith) c.requires.well c.requires.low
+    let high = stands_at c.args.high.version c.args.high.bytes.now c.args.high.place c.cert_bytes_below_256-2.ensures c.requires.high in
+    any_above c.args.i c.args.regs.now c.args.low.version c.args.low.bytes.now c.args.low.place (value_in c.args.high.version c.args.high.bytes.now c.args.high.place) c.cert_bytes_below_256.ensures (omega arith) (omega arith) c.requires.well c.requires.low
     (high.shape.any (omega arith))
 
 pub is_read_value_covered-requires-clause-low : goal.is_read_value_covered-requires-clause-low

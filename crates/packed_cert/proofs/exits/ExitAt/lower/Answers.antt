@@ -11,11 +11,11 @@ overflow_add-result c =
     omega (arith, (exit_context c.self.inside.version c.self.inside.bytes.now c.self.inside.place h.0.0 h.0.1 h.1).inside, c.self.invariant.short)
 
 pub returns-clause-have : goal.returns-clause-have
-returns-clause-have c = let h = c.self.invariant.exit in (exit_values c.self.inside.version c.self.inside.bytes.now c.self.inside.place h.0.0 h.0.1 c.packed_bytes_below_256.ensures h.1).have
+returns-clause-have c = let h = c.self.invariant.exit in (exit_values c.self.inside.version c.self.inside.bytes.now c.self.inside.place h.0.0 h.0.1 c.cert_bytes_below_256.ensures h.1).have
 
 pub returns-clause-values : goal.returns-clause-values
 returns-clause-values c =
     let h = c.self.invariant.exit in
     sym (ap (λ (e : Exit). e.lower) c.self.view_is)
     ∙ ap (λ (e : Exit). e.lower) (ap (read_from_bytes_or no_exit) h.1)
-    ∙ (exit_values c.self.inside.version c.self.inside.bytes.now c.self.inside.place h.0.0 h.0.1 c.packed_bytes_below_256.ensures h.1).lower
+    ∙ (exit_values c.self.inside.version c.self.inside.bytes.now c.self.inside.place h.0.0 h.0.1 c.cert_bytes_below_256.ensures h.1).lower

@@ -1,7 +1,7 @@
 use Rattle.std.proofs.Common.{false, sym, subst}
 use Rattle.value_domain.specs.State.{AreWell}
 use Rattle.vd_transfer.specs.Changes.{state_after}
-use Rattle.packed_cert.specs.declared.places.PackedPoint.{PackedPoint}
+use Rattle.packed_cert.specs.declared.places.PointPlace.{PointPlace}
 use Rattle.packed_cert.specs.Walks.{WalkData, CoversNext}
 use Rattle.packed_cert.proofs.WalkSteps.{covers_at}
 use Rattle.packed_cert.proofs.walks.PointWalk.covers_next.Goals as goal
@@ -18,6 +18,6 @@ does_next_point_cover-requires-clause-moved c = c.self.invariant.moves c.self.in
 pub returns-in-Same : goal.returns-in-Same
 returns-in-Same c = λ t.
     let own = c.self.inside in
-    let none : PackedPoint = record { addr = 0; place = 0; row = record { first = 0; behind = 0; from = 0 }; same = false } in
+    let none : PointPlace = record { addr = 0; place = 0; row = record { first = 0; behind = 0; from = 0 }; same = false } in
     subst (λ (w : WalkData). CoversNext w c.args.addr (state_after w.current c.args.c.now)) c.self.view_is
     (covers_at own.version own.bytes.now own.points.now own.next none c.args.addr (state_after own.state c.args.c.now) c.if-self.false c.if-point-addr.false (c.does_next_point_cover.ensures t))

@@ -6,5 +6,5 @@ use Rattle.small_states.proofs.small_value.Small.join_given.Goals as goal
 pub returns-then-is_equal : goal.returns-then-is_equal
 returns-then-is_equal c =
     let own = c.requires.own in
-    rw c.in-Packed.is
-    (IfOk-weaker c.copy.result _ _ (λ s e. e ∙ join_same c.args.b.now c.args.self.now c.in-Packed.v.now (c.is_equal.ensures c.if-is_equal.true) own) c.copy.ensures)
+    rw c.in-Compact.is
+    (IfOk-weaker c.copy.result _ _ (λ s e. e ∙ join_same c.args.b.now c.args.self.now c.in-Compact.v.now (c.is_equal.ensures c.if-is_equal.true) own) c.copy.ensures)

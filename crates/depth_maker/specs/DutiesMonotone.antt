@@ -1,0 +1,95 @@
+-- The duties of a point grow with its state, and its faults get fewer with a smaller one.
+use Rattle.std.specs.Prelude.{◌≡◌, ℕ, Bool, Contains, Some}
+use Rattle.elf_image.specs.Images.{ImageData, IsImage}
+use Rattle.tcd_plan.specs.PlanData.{PlanData, IsPlan}
+use Rattle.tc_isa.specs.declared.shapes.Arg.{Arg}
+use Rattle.tc_isa.specs.declared.shapes.Cond.{Cond}
+use Rattle.tc_isa.specs.declared.shapes.Shape.{Shape}
+use Rattle.tc_isa.specs.declared.shapes.Shape.TheVariants.{Branch}
+use Rattle.tc_isa.specs.InBounds.{IsShape}
+use Rattle.value_domain.specs.declared.values.Val.{Val}
+use Rattle.value_domain.specs.Values.{IsBelow}
+use Rattle.vd_transfer.specs.EffectsOnStates.{transfer_of, address_of}
+use Rattle.vd_transfer.specs.Branches.{refine_of}
+use Rattle.vd_transfer.specs.Soundness.{IsSoundSetting}
+use Rattle.value_domain.specs.declared.states.State.{State}
+use Rattle.value_domain.specs.Limits.{Limits, AreLimits}
+use Rattle.value_domain.specs.State.{Covers}
+use Rattle.depth_cert.specs.declared.keys.Key.{Key}
+use Rattle.depth_cert.specs.declared.points.Exit.{Exit}
+use Rattle.cfg_recover.specs.Code.{IsCode}
+use Rattle.depth_cert.specs.Exits.{state_after_exit, ExitCovers}
+use Rattle.cfg_recover.specs.LocalFaults.{IsFaultless}
+use Rattle.cfg_recover.specs.Duties.{Duty, jump, enter, resume, leave, Owed, duties_of}
+use Rattle.depth_cert.specs.WellFormed.{IsWellFormedState, IsWellFormedExit}
+
+-- a duty asks for no more than another, at the same place
+abbrev pub IsDutyBelow : Duty → Duty → Type 0
+IsDutyBelow (jump q t) (jump r u) = (q ≡ r) × Covers u t
+IsDutyBelow (jump q t) (enter j u) = ⊥
+IsDutyBelow (jump q t) (resume j r) = ⊥
+IsDutyBelow (jump q t) (leave y) = ⊥
+IsDutyBelow (enter k t) (jump r u) = ⊥
+IsDutyBelow (enter k t) (enter j u) = (k ≡ j) × Covers u t
+IsDutyBelow (enter k t) (resume j r) = ⊥
+IsDutyBelow (enter k t) (leave y) = ⊥
+IsDutyBelow (resume k q) (jump r u) = ⊥
+IsDutyBelow (resume k q) (enter j u) = ⊥
+IsDutyBelow (resume k q) (resume j r) = (k ≡ j) × (q ≡ r)
+IsDutyBelow (resume k q) (leave y) = ⊥
+IsDutyBelow (leave x) (jump r u) = ⊥
+IsDutyBelow (leave x) (enter j u) = ⊥
+IsDutyBelow (leave x) (resume j r) = ⊥
+IsDutyBelow (leave x) (leave y) = ExitCovers y x
+
+-- a duty asks for no more than another, for the same rule
+pub record IsOwedBelow (d e : Owed) : Type 0 where
+  pub rule : d.rule ≡ e.rule
+  pub duty : IsDutyBelow d.duty e.duty
+
+-- what the growth of duties is stated for: well-formed limits, a plan and an image
+pub record IsGround (b : Limits) (image : ImageData) (plan : PlanData) : Type 0 where
+  pub limits : AreLimits b
+  pub is_plan : IsPlan plan
+  pub is_image : IsImage image
+
+-- a point without a fault of its own has none with a smaller state
+abbrev pub FaultsFall : Type 0
+FaultsFall =
+    (b : Limits) (image : ImageData) (plan : PlanData) (key : Key) (p : ℕ) (s t : State) → IsGround b image plan → IsWellFormedState b s → IsWellFormedState b t → Covers t s
+    → IsFaultless b image plan key p t → IsFaultless b image plan key p s
+
+-- each duty with a smaller state asks for no more than one with the larger
+abbrev pub DutiesMonotone : Type 0
+DutiesMonotone =
+    (b : Limits) (image : ImageData) (plan : PlanData) (key : Key) (p : ℕ) (s t : State) (shape : Shape) (n : ℕ) (d : Owed) → IsGround b image plan
+    → IsWellFormedState b s → IsWellFormedState b t → Covers t s → IsFaultless b image plan key p t → IsCode image plan p shape n
+    → Contains (duties_of b image plan key p s shape n) d → (e : Owed) × Contains (duties_of b image plan key p t shape n) e × IsOwedBelow d e
+
+-- the state after a return grows with the caller's and the exit
+abbrev pub AfterMonotone : Type 0
+AfterMonotone =
+    (b : Limits) (s t : State) (x y : Exit) (kind : ℕ) → IsWellFormedState b s → IsWellFormedState b t → IsWellFormedExit b x → IsWellFormedExit b y → Covers t s → ExitCovers y x
+    → Covers (state_after_exit t y kind) (state_after_exit s x kind)
+
+-- ---- effects
+-- why a point's duties grow with its state: the state after the instruction grows with the one
+-- before it and with the loaded value
+abbrev pub TransfersMonotone : Type 0
+TransfersMonotone =
+    (b : Limits) (plan : PlanData) (s t : State) (shape : Shape) (v w : Val) → IsSoundSetting b plan s → IsSoundSetting b plan t → Covers t s → IsShape shape → IsBelow v w
+    → Covers (transfer_of b plan shape t w) (transfer_of b plan shape s v)
+
+-- for the growth of duties: the addresses of an instruction's access grow with the state before it
+abbrev pub AddressesMonotone : Type 0
+AddressesMonotone =
+    (b : Limits) (plan : PlanData) (s t : State) (shape : Shape) → IsSoundSetting b plan s → IsSoundSetting b plan t → Covers t s → IsShape shape
+    → IsBelow (address_of b plan shape s) (address_of b plan shape t)
+
+-- for the growth of duties: a side of a branch that is possible is possible with a larger state,
+-- and leads to a larger state
+abbrev pub SidesMonotone : Type 0
+SidesMonotone =
+    (b : Limits) (plan : PlanData) (s t u : State) (test : Cond) (x : ℕ) (y : Arg) (by : ℕ) (lowers side : Bool) → IsSoundSetting b plan s → IsSoundSetting b plan t → Covers t s
+    → IsShape (Branch test x y by lowers) → refine_of b plan (Branch test x y by lowers) s side ≡ Some u
+    → (w : State) × (refine_of b plan (Branch test x y by lowers) t side ≡ Some w) × Covers w u

@@ -1,6 +1,0 @@
-use Rattle.std.proofs.Common.{subst}
-use Rattle.depth_cert.specs.Certs.{IsCert}
-use Rattle.packed_cert.proofs.certs.PackedCert.version.Goals as goal
-
-pub returns-clause-limits : goal.returns-clause-limits
-returns-clause-limits c = subst IsCert c.self.view_is c.self.invariant.limits

@@ -1,4 +1,0 @@
-use Rattle.packed_cert.proofs.certs.packed_bytes_below_256.Goals as goal
-
-pub returns : goal.returns
-returns c = λ k. (c.type_inv.bytes k).fits

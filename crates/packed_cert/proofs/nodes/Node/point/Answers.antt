@@ -1,0 +1,31 @@
+use Rattle.std.proofs.Common.{◌∙◌, Some, sym, ap}
+use Rattle.std.specs.Option.{option_map}
+use Rattle.value_domain.specs.declared.states.State.{State}
+use Rattle.depth_cert.specs.declared.points.Point.{Point}
+use Rattle.depth_cert.specs.Nodes.{NodeData}
+use Rattle.packed_cert.proofs.NodeFinds.{state_of, point_found, point_missing, point_past}
+use Rattle.packed_cert.proofs.nodes.Node.state.Goals as goal
+use Rattle.packed_cert.proofs.nodes.Node.state.Goals.{else-at-points-via-then-at-points+else-points-at, else-at-points-via-else-at-points}
+
+pub at-requires : goal.at-requires
+at-requires c = record {
+  short = c.self.invariant.short;
+  state = c.self.invariant.states c.node_point_place-at.result _ c.if-at-points.true;
+}
+
+pub returns-then-points-at : goal.returns-then-points-at
+returns-then-points-at c =
+    ap (λ (s : State). Some s) c.at.ensures
+    ∙ sym (ap (λ (n : NodeData). state_of c.args.addr n.points) (sym c.self.view_is)
+    ∙ ap (option_map (λ (p : Point). p.state)) (point_found c.self.inside.version c.self.inside.bytes.now c.args.addr c.node_point_place-at.result _ c.self.inside.points.now c.if-at-points.true c.node_point_place-at.ensures c.if-points-at.true))
+
+pub returns : goal.returns
+returns c =
+    let rising = c.self.invariant.rising in
+    sym (ap (λ (n : NodeData). state_of c.args.addr n.points) (sym c.self.view_is)
+    ∙ ap (option_map (λ (p : Point). p.state)) (elim c.else-at-points.branch [
+      | else-at-points-via-then-at-points+else-points-at w ↦
+          point_missing c.self.inside.version c.self.inside.bytes.now c.args.addr c.node_point_place-at.result _ c.self.inside.points.now rising c.node_point_place-at.ensures w.if-points-at.false
+      | else-at-points-via-else-at-points w ↦
+          point_past c.self.inside.version c.self.inside.bytes.now c.args.addr c.node_point_place-at.result c.self.inside.points.now c.node_point_place-at.ensures w.if-at-points.false
+    ]))

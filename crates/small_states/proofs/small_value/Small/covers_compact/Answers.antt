@@ -1,0 +1,22 @@
+use Rattle.std.proofs.Common.{◌≡◌, ◌∙◌, ◌↔◌, ◌∷◌, [], ℕ, IsTrue, inl, inr, refl, ap, subst, sym}
+use Rattle.value_domain.specs.declared.values.Val.{Val}
+use Rattle.value_domain.specs.declared.values.Val.TheVariants.{Set}
+use Rattle.value_domain.specs.Values.{IsBelow, IsMember}
+use Rattle.small_states.specs.SmallValues.{small_value_of}
+use Rattle.small_states.proofs.small_value.Small.covers_compact.Goals as goal
+
+pub returns-in-One : goal.returns-in-One
+returns-in-One c =
+    let whole : c.args.v.now ≡ Set (c.in-One.x ∷ []) = sym c.v.view_is ∙ ap small_value_of c.in-One.is in
+    subst (λ (u : Val). IsTrue c.has.result ↔ IsBelow u c.args.self.now) (sym whole) (
+      (λ t z m. elim m [ inl e ↦ subst (λ (y : ℕ). IsMember y c.args.self.now) (sym e) (c.has.ensures.0 t) | inr none ↦ absurd none ]),
+      (λ below. c.has.ensures.1 (below c.in-One.x (inl refl))),
+    )
+
+pub returns-in-Many : goal.returns-in-Many
+returns-in-Many c = rw (← c.v.view_is, c.in-Many.is) (rw c.as_ref.ensures at c.covers.ensures)
+
+pub returns-then-has_range : goal.returns-then-has_range
+returns-then-has_range c =
+    let range = sym c.v.view_is ∙ ap small_value_of c.in-Range.is in
+    ((λ t. subst (λ (u : Val). IsBelow u c.args.self.now) (sym range) (c.has_range.ensures c.if-has_range.true)), (λ below. refl))
