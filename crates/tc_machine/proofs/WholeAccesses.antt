@@ -6,9 +6,11 @@ use Rattle.std.proofs.lemmas.Bool.{and_parts, leb-true}
 use Rattle.std.proofs.lemmas.Option.{cond_some}
 use Rattle.std.specs.FinMap as map
 use Rattle.csa_chain.specs.MemoryBytes.{Memory, is_mapped, byte_at, are_mapped, word_at, with_word, load_number, with_bytes, HasBytes}
+use Rattle.csa_chain.specs.Chain.{link_address, is_area, area_word}
 use Rattle.csa_chain.proofs.ChainLaws.{are_mapped_each}
 use Rattle.tcd_base.specs.Bytes.{bytes_of_word}
 use Rattle.tc_mem.specs.Blocks.{are_in_block, mapped_block_word, memory_half_at, mapped_block_half, with_block_word, with_block_half, with_half}
+use Rattle.tc_mem.specs.Areas.{area_first_word}
 use Rattle.tc_machine.specs.Fetching.{mapped_bytes}
 
 -- ---- the bytes of a block
@@ -134,3 +136,9 @@ put_whole m n x w t is written here = written ∙ ap (λ (t : Bool). cond t (wit
 
 pub put_none : (m n : Memory) (x w : ℕ) (t : Bool) → t ≡ are_in_block m x 4 → n ≡ with_block_word m x w → t ≡ false → n ≡ m
 put_none m n x w t is written gone = written ∙ ap (λ (t : Bool). cond t (with_word m x w) m) (sym is ∙ gone)
+
+-- ---- word 0 of an area
+pub first_of_area : (m : Memory) (link : ℕ) → area_first_word m (link_address link) ≡ cond (is_area m link) (Some (area_word m link 0)) None
+first_of_area m link =
+    let start : link_address link ≡ link_address link + 4 * 0 = omega arith in
+    ap (λ (y : ℕ). cond {A = Option ℕ} (is_area m link) (Some (word_at m y)) None) start
