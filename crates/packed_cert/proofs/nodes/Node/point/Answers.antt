@@ -4,8 +4,8 @@ use Rattle.value_domain.specs.declared.states.State.{State}
 use Rattle.depth_cert.specs.declared.points.Point.{Point}
 use Rattle.depth_cert.specs.Nodes.{NodeData}
 use Rattle.packed_cert.proofs.NodeFinds.{state_of, point_found, point_missing, point_past}
-use Rattle.packed_cert.proofs.nodes.Node.state.Goals as goal
-use Rattle.packed_cert.proofs.nodes.Node.state.Goals.{else-at-points-via-then-at-points+else-points-at, else-at-points-via-else-at-points}
+use Rattle.packed_cert.proofs.nodes.Node.point.Goals as goal
+use Rattle.packed_cert.proofs.nodes.Node.point.Goals.{else-at-points-via-then-at-points+else-points-at, else-at-points-via-else-at-points}
 
 pub at-requires : goal.at-requires
 at-requires c = record {
