@@ -22,7 +22,7 @@ use Rattle.vd_transfer.specs.Changes.{state_after, no_put, reg_put}
 use Rattle.depth_cert.specs.declared.keys.Key.{Key}
 use Rattle.depth_cert.specs.declared.points.Point.{Point}
 use Rattle.depth_cert.specs.Points.{find_point}
-use Rattle.depth_cert.specs.Nodes.{NodeData, find_node, IsWellNode}
+use Rattle.depth_cert.specs.Nodes.{NodeData, find_node}
 use Rattle.depth_cert.specs.Certs.{CertData}
 use Rattle.cfg_recover.specs.Code.{HasCode}
 use Rattle.cfg_recover.specs.Entries.{irq_key, irq_entry, entry_state_with, entry_stack_of, irqs_of, entry_stack_with}
@@ -197,10 +197,10 @@ at_well vs i w =
     ]
 
 -- A10 of the next point of a walk
-pub stack_well : (node : NodeData) (done left after : List Point) (p : Point) → IsWellNode node → node.points ≡ done ++ left → left ≡ p ∷ after → IsWell (slice_index_or (p.state).regs 22 any_val)
+pub stack_well : (node : NodeData) (done left after : List Point) (p : Point) → All (λ (q : Point). AreWell (q.state).regs) node.points → node.points ≡ done ++ left → left ≡ p ∷ after → IsWell (slice_index_or (p.state).regs 22 any_val)
 stack_well node done left after p well split next =
     let all : All (λ (q : Point). AreWell (q.state).regs) (done ++ p ∷ after) =
-    subst (λ (l : List Point). All (λ (q : Point). AreWell (q.state).regs) l) (split ∙ ap (λ (l : List Point). done ++ l) next) well.points in
+    subst (λ (l : List Point). All (λ (q : Point). AreWell (q.state).regs) l) (split ∙ ap (λ (l : List Point). done ++ l) next) well in
     at_well (p.state).regs 22 (All-head (λ (q : Point). AreWell (q.state).regs) p after (All-right (λ (q : Point). AreWell (q.state).regs) done (p ∷ after) all))
 
 -- A10 of a context is well-formed, and a value of the limits

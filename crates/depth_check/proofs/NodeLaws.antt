@@ -1,6 +1,6 @@
 -- The first fault of a node, from the faults of its points one after another.
 use Rattle.std.proofs.Common.{◌≡◌, ℕ, ◌≤◌, ◌<◌, ◌+◌, ◌*◌, ◌^◌, ◌⊎◌, Bool, true, false, List, length, get_or, take, map, min, Option, Some, None, arith, inl, inr, refl, subst, sym, ap, ◌∙◌}
-use Rattle.std.specs.Prelude.{IsTrue, ◌↔◌, All, Contains, unwrap_or}
+use Rattle.std.specs.Prelude.{IsTrue, ◌↔◌, All, Contains, MatchOption, unwrap_or}
 use Rattle.std.specs.Option.{option_map}
 use Rattle.std.proofs.lemmas.Option.{same_Some, none-some}
 use Rattle.std.specs.List.Sorted.{IsStrictlyIncreasing}
@@ -14,7 +14,7 @@ use Rattle.depth_cert.specs.Points.{ArePoints}
 use Rattle.depth_cert.specs.Nodes.{NodeData}
 use Rattle.depth_cert.specs.Certs.{CertData}
 use Rattle.depth_cert.proofs.FindLaws.{non_decreasing}
-use Rattle.cfg_recover.specs.RulesHoldOrFail.{limits_in, RuleHolds, HoldsAtEntry, RuleFails, at_entry, at_point}
+use Rattle.cfg_recover.specs.RulesHoldOrFail.{limits_in, RuleHolds, HoldsAtEntry, HoldsAtNode, RuleFails, at_entry, at_point}
 use Rattle.depth_check.specs.declared.nodes.Fault.{Fault}
 use Rattle.depth_check.specs.LeastBroken.{FindsLeastBroken}
 use Rattle.depth_check.specs.NodeFaults.{IsNodeFault, earlier_node_fault}
@@ -144,6 +144,12 @@ module _ (image : ImageData) (plan : PlanData) (cert : CertData) (node : NodeDat
               | inr to ↦ absurd (none-some _ (sym (rw (le-ltb _ _ from, le-ltb _ _ to) at is)))
             ]
       ]
+
+  -- a rule that a point breaks is the node's fault, unless that of the entry comes before
+  pub broken_at : (i : ℕ) (point : Point) (good : Bool) (r : ℕ) (o : Option Fault) → i < length points → point ≡ get_or points i point → All AllHold (take i points) → FindsLeastBroken (RuleHolds image plan cert node point) (Some r)
+      → point.addr < 2 ^ 32 → (node.key).entry < 2 ^ 32 → (IsTrue good ↔ HoldsAtEntry (limits_in plan cert) node) → earlier_node_fault good (node.key).entry point.addr (Some r) ≡ o → MatchOption o (HoldsAtNode image plan cert node) (λ x. IsNodeFault image plan cert node x.rule x.addr)
+  broken_at i point good r None lt at before f addr entry d is = absurd (f.broken (none_at point good (Some r) is f r))
+  broken_at i point good r (Some fault) lt at before f addr entry d is = fault_at i point good (Some r) fault lt at before f addr entry d is
 
   -- at the end
   pub entry_alone : All AllHold node.points → (HoldsAtEntry (limits_in plan cert) node → ⊥) → (node.key).entry < 2 ^ 32 → IsNodeFault image plan cert node 2 (node.key).entry

@@ -22,7 +22,7 @@ use Rattle.packed_cert.specs.Walks.{WalkData, RepeatsAt, KeepsOthers}
 use Rattle.packed_cert.proofs.NodeFinds.{covers_same}
 use Rattle.packed_cert.proofs.WalkedPoints.{split_more}
 use Rattle.depth_check.specs.DutiesHold.{HasPointWithState}
-use Rattle.depth_check.specs.PointChecks.{LooksAhead}
+use Rattle.depth_check.specs.PointChecks.{LooksAhead, HasPathFacts}
 use Rattle.depth_check.proofs.WalkLaws.{stands_behind}
 
 -- ---- an element of a list that rises by a number is found by its number
@@ -79,14 +79,9 @@ repeats_stand node done before w p (Some a) s rising split step same h =
     subst (λ (t : State). HasPointWithState node a t) (sym same) (next_stands node done w.left (drop 1 w.left) p q rising (split ∙ ap (λ (l : List Point). done ++ l) step) h)
 
 -- ---- what is known at a point of a walk
-pub record WalkFacts (plan : PlanData) (cert : CertData) (node : NodeData) (here : CurrentPoint) : Type 0 where
-  pub again : IsTrue here.again → InterruptsHold plan cert node here.state.now
-  pub next : IfSome here.next (λ a. HasPointWithState node a here.state.now)
-  pub walk : LooksAhead node here.state.now here.walk.now
-
 pub walk_facts : (plan : PlanData) (cert : CertData) (node : NodeData) (done before : List Point) (w : WalkData) (p : Point) (here : CurrentPoint)
     → ArePoints node.points → w.points ≡ node.points → node.points ≡ done ++ before → before ≡ p ∷ w.left → here.state.now ≡ w.current
-    → (IsTrue here.again → InterruptsHold plan cert node w.current) → IfSome here.next (RepeatsAt w) → here.walk.now ≡ w → WalkFacts plan cert node here
+    → (IsTrue here.again → InterruptsHold plan cert node w.current) → IfSome here.next (RepeatsAt w) → here.walk.now ≡ w → HasPathFacts plan cert node here
 walk_facts plan cert node done before w p here rising all split step same again next walk = record {
   again = λ t. subst (InterruptsHold plan cert node) (sym same) (again t);
   next = repeats_stand node done before w p here.next here.state.now rising split step same next;

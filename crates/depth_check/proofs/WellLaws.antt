@@ -1,6 +1,7 @@
 -- The values of a certificate and of the start state are well-formed.
-use Rattle.std.proofs.Common.{ℕ, false, List, get_or, Option, Some, None, arith, inl, inr, ◌==◌}
-use Rattle.std.specs.Prelude.{IfSome, All}
+use Rattle.std.proofs.Common.{ℕ, List, get_or, false, arith, inl, inr, ◌==◌}
+use Rattle.std.specs.Prelude.{All, Contains}
+use Rattle.std.proofs.lemmas.List.Elements.{All-contains}
 use Rattle.std.proofs.lemmas.Bool.{cases_Bool}
 use Rattle.tcd_plan.specs.PlanData.{PlanData, IsPlan}
 use Rattle.value_domain.specs.declared.values.Val.{Val}
@@ -9,10 +10,8 @@ use Rattle.value_domain.specs.Limits.{AreLimits}
 use Rattle.value_domain.specs.VersionLimits.{limits_for}
 use Rattle.value_domain.specs.State.{AreWell}
 use Rattle.value_domain.proofs.RangeLaws.{one_value}
-use Rattle.depth_cert.specs.declared.points.Exit.{Exit}
 use Rattle.depth_cert.specs.Points.{IsWellCertValue}
-use Rattle.depth_cert.specs.Exits.{IsExit}
-use Rattle.depth_cert.specs.Nodes.{NodeData, IsNode, IsWellNode}
+use Rattle.depth_cert.specs.Nodes.{NodeData, IsNode}
 use Rattle.depth_cert.specs.Certs.{CertData, IsCert}
 use Rattle.packed_cert.proofs.ValueShapes.{well_of}
 use Rattle.cfg_recover.specs.Entries.{start_state}
@@ -36,16 +35,6 @@ well_start plan is =
 well_values : (version : ℕ) (vs : List Val) → All (IsWellCertValue version) vs → AreWell vs
 well_values version vs all r lt = well_of version (get_or vs r any_val) (all r any_val lt)
 
-well_exit : (version : ℕ) (P : Exit → Type 0) → ((e : Exit) → P e → IsExit version e) → (o : Option Exit) → IfSome o P → IfSome o (λ x. AreWell x.lower)
-well_exit version P from None h = tt
-well_exit version P from (Some e) h = well_values version e.lower (from e h).values
-
-well_node : (version : ℕ) (n : NodeData) → IsNode version n → IsWellNode n
-well_node version n h = record {
-  points = λ k d lt. well_values version (get_or n.points k d).state.regs ((h.points k d lt).state).values;
-  exit = well_exit version _ (λ e x. x.1) n.exit h.exit;
-}
-
--- the values of a certificate are well-formed
-pub well_nodes : (c : CertData) → IsCert c → All IsWellNode c.nodes
-well_nodes c h k d lt = well_node c.version (get_or c.nodes k d) (h.nodes k d lt)
+-- the values of a certificate's points are well-formed
+pub well_points : (c : CertData) (n : NodeData) → IsCert c → Contains c.nodes n → All (λ p. AreWell (p.state).regs) n.points
+well_points c n h member k d lt = well_values c.version (get_or n.points k d).state.regs (((All-contains (IsNode c.version) c.nodes n h.nodes member).points k d lt).state).values

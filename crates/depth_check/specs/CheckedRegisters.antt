@@ -11,7 +11,7 @@ use Rattle.cfg_recover.specs.Entries.{call_key, call_entry}
 use Rattle.cfg_recover.specs.LocalRules.{targets_named_by}
 use Rattle.cfg_recover.specs.Duties.{Owed, entered_and_back}
 use Rattle.depth_check.specs.declared.fast_paths.CheckedRegisters.{CheckedRegisters}
-use Rattle.depth_check.specs.declared.points.PointCheck.{PointCheck}
+use Rattle.depth_check.specs.PointCheckData.{PointCheckData}
 use Rattle.depth_check.specs.DutiesHold.{HasPointWithState, HasPoints, DutiesHold}
 
 -- the calls to all functions that a checked register names in a state: duties to enter them and,
@@ -33,13 +33,13 @@ pub record RegistersHold (plan : PlanData) (cert : CertData) (node : NodeData) (
   pub jumped : IfSome registers.jumped (RegisterJumpsHold plan node s)
 
 -- at a point, they hold in its state
-abbrev pub RegistersHoldAt : PointCheck → CheckedRegisters → Type 0
-RegistersHoldAt at registers = RegistersHold at.plan.now at.cert.now at.node.now at.point.state.now registers
+abbrev pub RegistersHoldAt : PointCheckData → CheckedRegisters → Type 0
+RegistersHoldAt at registers = RegistersHold at.plan at.cert at.node at.point.state registers
 
 -- calls by this register, if there is one, hold in the state of the point that is checked
-abbrev pub RegisterCallsHoldAt : PointCheck → Option ℕ → Type 0
-RegisterCallsHoldAt at called = IfSome called (RegisterCallsHold at.plan.now at.cert.now at.node.now at.point.state.now)
+abbrev pub RegisterCallsHoldAt : PointCheckData → Option ℕ → Type 0
+RegisterCallsHoldAt at called = IfSome called (RegisterCallsHold at.plan at.cert at.node at.point.state)
 
 -- jumps by this register, if there is one, hold in the state of the point that is checked
-abbrev pub RegisterJumpsHoldAt : PointCheck → Option ℕ → Type 0
-RegisterJumpsHoldAt at jumped = IfSome jumped (RegisterJumpsHold at.plan.now at.node.now at.point.state.now)
+abbrev pub RegisterJumpsHoldAt : PointCheckData → Option ℕ → Type 0
+RegisterJumpsHoldAt at jumped = IfSome jumped (RegisterJumpsHold at.plan at.node at.point.state)

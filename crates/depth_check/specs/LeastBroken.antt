@@ -1,7 +1,7 @@
 -- The least rule that fails.
 use Rattle.std.specs.Prelude.{◌<◌, ◌≤◌, ℕ, Bool, if◌then◌else◌, min, Option, Some, None, List}
 use Rattle.cfg_recover.specs.Duties.{Owed}
-use Rattle.depth_check.specs.declared.points.PointCheck.{PointCheck}
+use Rattle.depth_check.specs.PointCheckData.{PointCheckData}
 use Rattle.depth_check.specs.DutiesHold.{DutiesHold}
 
 -- r is the least rule that fails
@@ -26,5 +26,5 @@ abbrev pub broken_rule_unless : Bool → ℕ → Option ℕ
 broken_rule_unless holds rule = if holds then None else Some rule
 
 -- the least rule that these duties of the point break
-abbrev pub LeastBrokenByDuties : PointCheck → List Owed → Option ℕ → Type 0
-LeastBrokenByDuties at duties found = FindsLeastBroken (DutiesHold at.cert.now at.node.now at.point.state.now duties) found
+abbrev pub LeastBrokenByDuties : PointCheckData → List Owed → Option ℕ → Type 0
+LeastBrokenByDuties at duties found = FindsLeastBroken (DutiesHold at.cert at.node at.point.state duties) found

@@ -6,5 +6,6 @@ pub mod Interrupts
 pub mod CheckAnswers
 pub mod NodeFaults
 pub mod PassingInstructions
+pub mod PointCheckData
 pub mod PointChecks
 pub mod DutiesHold

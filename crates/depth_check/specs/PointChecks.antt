@@ -3,9 +3,12 @@ use Rattle.std.specs.Prelude.{◌≡◌, ℕ, IsTrue, IfSome}
 use Rattle.value_domain.specs.State.{AreValues}
 use Rattle.value_domain.specs.declared.states.State.{State}
 use Rattle.depth_cert.specs.Nodes.{NodeData}
+use Rattle.depth_cert.specs.Certs.{CertData}
+use Rattle.tcd_plan.specs.PlanData.{PlanData}
 use Rattle.packed_cert.specs.Walks.{WalkData, CoversNext}
 use Rattle.cfg_recover.specs.RulesHoldOrFail.{limits_in, HasPoint}
-use Rattle.depth_check.specs.declared.points.PointCheck.{PointCheck}
+use Rattle.depth_check.specs.declared.points.PointCheck.TheInside.{Inside}
+use Rattle.depth_check.specs.PointCheckData.{PointCheckData}
 use Rattle.depth_check.specs.DutiesHold.{HasPointWithState}
 use Rattle.depth_check.specs.Interrupts.{InterruptsHold}
 use Rattle.depth_cert.specs.declared.points.Point.{Point}
@@ -18,16 +21,24 @@ pub record LooksAhead (node : NodeData) (s : State) (w : WalkData) : Type 0 wher
   pub current : w.current ≡ s
   pub ahead : (addr : ℕ) (t : State) → CoversNext w addr t → HasPoint node addr t
 
+-- what is known of a point for the fast paths: the entries of its interrupts hold if this is known,
+-- the node has its state at the next address, and the walk is at the point
+pub record HasPathFacts (plan : PlanData) (cert : CertData) (node : NodeData) (here : CurrentPoint) : Type 0 where
+  pub again : IsTrue here.again → InterruptsHold plan cert node here.state.now
+  pub next : IfSome here.next (λ a. HasPointWithState node a here.state.now)
+  pub walk : LooksAhead node here.state.now here.walk.now
+
 -- the limits are the certificate's, the values of the point are values of the plan, and the facts
--- for the fast paths hold: the entries of its interrupts hold if this is known, the node has its
--- state at the next address, and the walk is at the point
-pub record IsPointCheck (at : PointCheck) : Type 0 where
+-- for the fast paths hold
+pub record IsPointCheck (at : Inside) : Type 0 where
   pub limits : at.bounds.now ≡ limits_in at.plan.now at.cert.now
   pub values : AreValues at.bounds.now (at.point.state.now).regs
-  pub again : IsTrue at.point.again → InterruptsHold at.plan.now at.cert.now at.node.now at.point.state.now
-  pub next : IfSome at.point.next (λ a. HasPointWithState at.node.now a at.point.state.now)
-  pub walk : LooksAhead at.node.now at.point.state.now at.point.walk.now
+  pub facts : HasPathFacts at.plan.now at.cert.now at.node.now at.point
 
 -- the point that is checked now, as a certificate has it: its address and its state
 abbrev pub point_here : CurrentPoint → Point
 point_here here = record { addr = here.addr; state = here.state.now }
+
+-- a point that is checked, as plain data
+abbrev pub point_check_data : Inside → PointCheckData
+point_check_data at = record { bounds = at.bounds.now; image = at.image.now; plan = at.plan.now; cert = at.cert.now; node = at.node.now; point = point_here at.point }

@@ -5,7 +5,6 @@ ghost use Rattle.depth_check.specs.LeastBroken.{FindsLeastBroken, LeastBrokenByD
 ghost use Rattle.depth_check.specs.DutiesHold.{GoesOn, LeavingHolds};
 ghost use Rattle.value_domain.specs.State.{AreWell};
 ghost use Rattle.vd_transfer.specs.Changes.{state_after};
-ghost use Rattle.depth_check.specs.PointChecks.{IsPointCheck};
 ghost use Rattle.tc_isa.specs.InBounds.{IsShape, IsShapeAccessSize, IsTarget};
 ghost use Rattle.vd_transfer.specs.EffectsOnStates.{address_of};
 ghost use Rattle.cfg_recover.specs.LocalFaults.{StandsFaultless};
@@ -42,15 +41,14 @@ pub(crate) fn broken_by_duties(
     found: &Located,
     scratch: &mut PointScratch,
 ) -> Option<u8>
-    requires point { IsPointCheck at.now }
-    requires found { StandsFaultless at.now.bounds.now at.now.image.now at.now.plan.now
-        at.now.node.now.key at.now.point.addr at.now.point.state.now found.now }
-    requires results { HoldsCachedResults at.now.bounds.now scratch.old.cache }
+    requires found { StandsFaultless at.now.bounds at.now.image at.now.plan
+        at.now.node.key at.now.point.addr at.now.point.state found.now }
+    requires results { HoldsCachedResults at.now.bounds scratch.old.cache }
     requires registers { RegistersHoldAt at.now scratch.old.registers }
     ensures found { LeastBrokenByDuties at.now
-        (duties_of at.now.bounds.now at.now.image.now at.now.plan.now at.now.node.now.key
-        at.now.point.addr at.now.point.state.now found.now.shape found.now.size) result }
-    ensures results { HoldsCachedResults at.now.bounds.now scratch.new.cache }
+        (duties_of at.now.bounds at.now.image at.now.plan at.now.node.key
+        at.now.point.addr at.now.point.state found.now.shape found.now.size) result }
+    ensures results { HoldsCachedResults at.now.bounds scratch.new.cache }
     ensures registers { RegistersHoldAt at.now scratch.new.registers }
 {
     let jumps = broken_by_successors(at, found, scratch);
@@ -70,9 +68,8 @@ pub(crate) fn broken_by_duties(
 /// Returns the least rule that a point's duties to enter interrupt handlers break. They are passed
 /// over if they are known to hold.
 pub(crate) fn broken_by_interrupts(at: &PointCheck<'_, '_>) -> Option<u8>
-    requires { IsPointCheck at.now }
     ensures { LeastBrokenByDuties at.now
-        (interrupts_of at.now.plan.now at.now.node.now.key at.now.point.state.now) result }
+        (interrupts_of at.now.plan at.now.node.key at.now.point.state) result }
 {
     let again = at.point.again;
     if again {
@@ -92,10 +89,9 @@ pub(crate) fn broken_by_interrupts(at: &PointCheck<'_, '_>) -> Option<u8>
 /// The least rule that the entries of these interrupts break. `entry` is their change, except for
 /// its CCPN.
 pub(crate) fn broken_by_irqs(at: &PointCheck<'_, '_>, irqs: &[u8], entry: Change) -> Option<u8>
-    requires point { IsPointCheck at.now }
-    requires entry { AreWell (state_after at.now.point.state.now entry).regs }
+    requires { AreWell (state_after at.now.point.state entry).regs }
     ensures { LeastBrokenByDuties at.now
-        (told_irqs at.now.plan.now (state_after at.now.point.state.now entry) irqs.now) result }
+        (told_irqs at.now.plan (state_after at.now.point.state entry) irqs.now) result }
 {
     let mut entry = entry;
     let mut found = None;
@@ -114,11 +110,10 @@ fn broken_by_entries(
     size: u32,
     called: &mut Option<u8>,
 ) -> Option<u8>
-    requires point { IsPointCheck at.now }
     requires shape { IsShape shape }
     requires called { RegisterCallsHoldAt at.now called.old }
     ensures found { LeastBrokenByDuties at.now
-        (entries_of at.now.plan.now at.now.node.now.key at.now.point.addr at.now.point.state.now
+        (entries_of at.now.plan at.now.node.key at.now.point.addr at.now.point.state
         shape size) result }
     ensures called { RegisterCallsHoldAt at.now called.new }
 {
@@ -133,11 +128,10 @@ fn broken_by_entries(
 /// The least rule that the trap of a misaligned access breaks. Without that trap in the plan no
 /// entry is owed, since rule 10 holds.
 fn broken_by_access(at: &PointCheck<'_, '_>, found: &Located) -> Option<u8>
-    requires point { IsPointCheck at.now }
-    requires found { StandsFaultless at.now.bounds.now at.now.image.now at.now.plan.now
-        at.now.node.now.key at.now.point.addr at.now.point.state.now found.now }
+    requires { StandsFaultless at.now.bounds at.now.image at.now.plan
+        at.now.node.key at.now.point.addr at.now.point.state found.now }
     ensures { LeastBrokenByDuties at.now
-        (misaligned_of at.now.bounds.now at.now.plan.now at.now.node.now.key at.now.point.state.now
+        (misaligned_of at.now.bounds at.now.plan at.now.node.key at.now.point.state
         found.now.shape) result }
 {
     let plan = at.plan;
@@ -179,13 +173,12 @@ fn broken_by_call_kept(
     back: u32,
     called: &mut Option<u8>,
 ) -> Option<u8>
-    requires point { IsPointCheck at.now }
     requires target { IsTarget to }
     requires called { RegisterCallsHoldAt at.now called.old }
     ensures found { LeastBrokenByDuties at.now
-        (flat_map (λ t. entered_and_back 5 (call_key at.now.node.now.key t)
-        (entries.call_entry at.now.point.state.now) back)
-        (unwrap_or (targets_of at.now.plan.now at.now.point.state.now at.now.point.addr to) []))
+        (flat_map (λ t. entered_and_back 5 (call_key at.now.node.key t)
+        (entries.call_entry at.now.point.state) back)
+        (unwrap_or (targets_of at.now.plan at.now.point.state at.now.point.addr to) []))
         result }
     ensures called { RegisterCallsHoldAt at.now called.new }
 {
@@ -210,11 +203,9 @@ fn broken_by_call_kept(
 /// point to which it returns.
 #[inline(never)]
 fn broken_by_system(at: &PointCheck<'_, '_>, tin: u8, back: u32) -> Option<u8>
-    requires { IsPointCheck at.now }
     ensures { LeastBrokenByDuties at.now
-        (entered_and_back 12 (entries.sys_key at.now.plan.now at.now.node.now.key)
-        (entries.sys_entry at.now.plan.now at.now.node.now.key at.now.point.state.now tin) back)
-        result }
+        (entered_and_back 12 (entries.sys_key at.now.plan at.now.node.key)
+        (entries.sys_entry at.now.plan at.now.node.key at.now.point.state tin) back) result }
 {
     let node = at.node;
     let entry = system_change(at.bounds, at.plan, &node.key, at.point.state, tin);
@@ -226,12 +217,11 @@ fn broken_by_system(at: &PointCheck<'_, '_>, tin: u8, back: u32) -> Option<u8>
 /// they return.
 #[inline(never)]
 fn broken_by_call(at: &PointCheck<'_, '_>, to: Target, back: u32) -> Option<u8>
-    requires point { IsPointCheck at.now }
-    requires target { IsTarget to }
+    requires { IsTarget to }
     ensures { LeastBrokenByDuties at.now
-        (flat_map (λ t. entered_and_back 5 (call_key at.now.node.now.key t)
-        (entries.call_entry at.now.point.state.now) back)
-        (unwrap_or (targets_of at.now.plan.now at.now.point.state.now at.now.point.addr to) []))
+        (flat_map (λ t. entered_and_back 5 (call_key at.now.node.key t)
+        (entries.call_entry at.now.point.state) back)
+        (unwrap_or (targets_of at.now.plan at.now.point.state at.now.point.addr to) []))
         result }
 {
     let entry = call_change(at.bounds, at.point.state);
@@ -248,11 +238,10 @@ fn broken_by_calls(
     targets: &[u32],
     back: u32,
 ) -> Option<u8>
-    requires point { IsPointCheck at.now }
-    requires entry { AreWell (state_after at.now.point.state.now entry.now).regs }
+    requires { AreWell (state_after at.now.point.state entry.now).regs }
     ensures { LeastBrokenByDuties at.now
-        (flat_map (λ t. entered_and_back 5 (call_key at.now.node.now.key t)
-        (state_after at.now.point.state.now entry.now) back) targets.now) result }
+        (flat_map (λ t. entered_and_back 5 (call_key at.now.node.key t)
+        (state_after at.now.point.state entry.now) back) targets.now) result }
 {
     let node = at.node;
     let mut found = None;
@@ -272,13 +261,12 @@ fn broken_by_listed_calls(
     to: Target,
     back: u32,
 ) -> Option<u8>
-    requires point { IsPointCheck at.now }
     requires target { IsTarget to }
-    requires entry { AreWell (state_after at.now.point.state.now entry.now).regs }
+    requires entry { AreWell (state_after at.now.point.state entry.now).regs }
     ensures { LeastBrokenByDuties at.now
-        (flat_map (λ t. entered_and_back 5 (call_key at.now.node.now.key t)
-        (state_after at.now.point.state.now entry.now) back)
-        (unwrap_or (targets_of at.now.plan.now at.now.point.state.now at.now.point.addr to) []))
+        (flat_map (λ t. entered_and_back 5 (call_key at.now.node.key t)
+        (state_after at.now.point.state entry.now) back)
+        (unwrap_or (targets_of at.now.plan at.now.point.state at.now.point.addr to) []))
         result }
 {
     let targets = targets(at.plan, at.point.state, at.point.addr, to);
@@ -295,10 +283,9 @@ fn broken_by_entry(
     back: Option<u32>,
 ) -> Option<u8>
     requires rule { rule ≤ 14 }
-    requires point { IsPointCheck at.now }
-    requires entry { AreWell (state_after at.now.point.state.now entry.now).regs }
+    requires entry { AreWell (state_after at.now.point.state entry.now).regs }
     ensures { LeastBrokenByDuties at.now
-        (owed rule (enter key.now (state_after at.now.point.state.now entry.now))
+        (owed rule (enter key.now (state_after at.now.point.state entry.now))
         ∷ told_flow_return key.now back) result }
 {
     let cert = at.cert;
@@ -346,12 +333,11 @@ fn has_point_after_entry(
 /// taken. The address is computed here, so that other instructions need no room for a value.
 #[inline(never)]
 fn broken_by_misaligned(at: &PointCheck<'_, '_>, shape: Shape, size: u8) -> Option<u8>
-    requires point { IsPointCheck at.now }
     requires shape { IsShape shape }
     requires size { IsShapeAccessSize size }
     ensures { LeastBrokenByDuties at.now
-        (misaligned_at at.now.plan.now at.now.node.now.key at.now.point.state.now
-        (address_of at.now.bounds.now at.now.plan.now shape at.now.point.state.now) size) result }
+        (misaligned_at at.now.plan at.now.node.key at.now.point.state
+        (address_of at.now.bounds at.now.plan shape at.now.point.state) size) result }
 {
     let accessed = address_by(at.bounds, at.plan, shape, at.point.state);
     if is_flow_access_aligned(at.bounds, &accessed, size) {
@@ -363,10 +349,9 @@ fn broken_by_misaligned(at: &PointCheck<'_, '_>, shape: Shape, size: u8) -> Opti
 /// The least rule that the entry of the handler of misaligned accesses breaks.
 #[inline(never)]
 fn broken_by_trap(at: &PointCheck<'_, '_>) -> Option<u8>
-    requires { IsPointCheck at.now }
     ensures { LeastBrokenByDuties at.now
-        (owed 10 (enter (entries.aln_key at.now.plan.now at.now.node.now.key)
-        (entries.aln_entry at.now.plan.now at.now.node.now.key at.now.point.state.now)) ∷ [])
+        (owed 10 (enter (entries.aln_key at.now.plan at.now.node.key)
+        (entries.aln_entry at.now.plan at.now.node.key at.now.point.state)) ∷ [])
         result }
 {
     let node = at.node;
@@ -378,10 +363,9 @@ fn broken_by_trap(at: &PointCheck<'_, '_>) -> Option<u8>
 /// The least rule that the entries of these interrupts break, which are all that may be taken.
 #[inline(never)]
 fn broken_by_taken(at: &PointCheck<'_, '_>, irqs: &[u8]) -> Option<u8>
-    requires point { IsPointCheck at.now }
-    requires irqs { irqs.now ≡ irqs_of at.now.plan.now at.now.point.state.now }
+    requires { irqs.now ≡ irqs_of at.now.plan at.now.point.state }
     ensures { LeastBrokenByDuties at.now
-        (interrupts_of at.now.plan.now at.now.node.now.key at.now.point.state.now) result }
+        (interrupts_of at.now.plan at.now.node.key at.now.point.state) result }
 {
     let node = at.node;
     let entry = handler_change(at.bounds, at.plan, &node.key, at.point.state, 0);

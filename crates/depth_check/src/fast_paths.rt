@@ -2,10 +2,8 @@
 // saves.
 ghost use Rattle.std.specs.Prelude.{◌≡◌, IfSome, Some, IsTrue, Bool, [], ◌∷◌, ◌<◌};
 ghost use Rattle.std.specs.Option.{option_and};
-ghost use Rattle.cfg_recover.specs.RulesHoldOrFail.{RuleHolds};
-ghost use Rattle.depth_check.specs.LeastBroken.{FindsLeastBroken, LeastBrokenByDuties};
+ghost use Rattle.depth_check.specs.LeastBroken.{LeastBrokenByDuties};
 ghost use Rattle.value_domain.specs.State.{AreValues, Covers};
-ghost use Rattle.depth_check.specs.PointChecks.{IsPointCheck, point_here};
 ghost use Rattle.vd_transfer.specs.EffectsOnStates.{transfer_of};
 ghost use Rattle.tcd_plan.specs.PlanData.{PlanData};
 ghost use Rattle.elf_image.specs.Images.{image_byte};
@@ -18,10 +16,9 @@ ghost use Rattle.value_domain.specs.Limits.{Limits};
 ghost use Rattle.vd_transfer.specs.Branches.{refine_of};
 ghost use Rattle.cfg_recover.specs.Duties.{owed, jump};
 
-use crate::duty_rules::broken_by_interrupts;
 use crate::node_covers::has_next;
 use crate::points::PointCheck;
-use crate::rules::{NO_POINT, SMALL_NEED, has_own_need, lesser_broken_rule};
+use crate::rules::NO_POINT;
 use cfg_recover::{KnownCodes, direct_target, rule_unless};
 use elf_image::Image;
 use tc_isa::Shape;
@@ -32,8 +29,7 @@ use tcd_plan::Plan;
 /// state. Such an instruction breaks no rule by itself and changes nothing. Without decoding nop16
 /// this spares 75 instructions if its word was decoded lately, else 330.
 pub(crate) fn fast_path_next(at: &PointCheck<'_, '_>, codes: &mut KnownCodes) -> Option<u32>
-    ensures { IfSome result (HasPassingInstruction at.now.image.now at.now.plan.now
-        at.now.point.addr) }
+    ensures { IfSome result (HasPassingInstruction at.now.image at.now.plan at.now.point.addr) }
 {
     if at.point.next.is_none() {
         return None;
@@ -60,21 +56,6 @@ pub(crate) fn fast_path_next(at: &PointCheck<'_, '_>, codes: &mut KnownCodes) ->
         Shape::Jump { to } => direct_target(addr, to),
         _ => None,
     }
-}
-
-/// The least rule that fails at a point whose instruction only passes the state on to `next`.
-pub(crate) fn broken_on_fast_path(at: &PointCheck<'_, '_>, next: u32) -> Option<u8>
-    requires point { IsPointCheck at.now }
-    requires passes { HasPassingInstruction at.now.image.now at.now.plan.now at.now.point.addr
-        next }
-    ensures { FindsLeastBroken
-        (RuleHolds at.now.image.now at.now.plan.now at.now.cert.now at.now.node.now
-        (point_here at.now.point)) result }
-{
-    let jump = broken_by_pass(at, next);
-    let irqs = broken_by_interrupts(at);
-    let need = rule_unless(has_own_need(at), SMALL_NEED);
-    lesser_broken_rule(lesser_broken_rule(jump, irqs), need)
 }
 
 /// Whether an instruction of this shape leaves each state as it is: one that changes nothing, or a
@@ -154,8 +135,7 @@ pub(crate) const NO_REGISTERS: CheckedRegisters = CheckedRegisters {
 
 /// The least rule that a step breaks which changes nothing.
 pub(crate) fn broken_by_pass(at: &PointCheck<'_, '_>, next: u32) -> Option<u8>
-    requires { IsPointCheck at.now }
-    ensures { LeastBrokenByDuties at.now (owed 4 (jump next at.now.point.state.now) ∷ []) result }
+    ensures { LeastBrokenByDuties at.now (owed 4 (jump next at.now.point.state) ∷ []) result }
 {
     rule_unless(has_next(at, next), NO_POINT)
 }

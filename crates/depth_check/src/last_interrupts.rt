@@ -7,7 +7,6 @@ ghost use Rattle.value_domain.specs.Values.{IsWell, IsValue};
 ghost use Rattle.vd_transfer.specs.Registers.{a10_of};
 ghost use Rattle.tcd_plan.specs.PlanData.{PlanData};
 ghost use Rattle.depth_check.specs.Interrupts.{IsContext, FitsContext, IsBelowContext, InterruptsHold, AreWellStacks, LastInterruptsHold, InterruptsHoldWith};
-ghost use Rattle.depth_check.specs.PointChecks.{IsPointCheck};
 
 use crate::duty_rules::broken_by_irqs;
 use crate::points::PointCheck;
@@ -76,16 +75,13 @@ impl LastInterrupts {
     /// Keeps the context of a point whose entries hold. This is a function of its own, so that the
     /// loop over points needs no stack for a value.
     #[inline(never)]
-    pub(crate) fn keep_context(&mut self, node: &Node<'_>, at: &PointCheck<'_, '_>)
-        requires node { at.now.node.now ≡ node.now }
-        requires point { IsPointCheck at.now }
-        requires holds { InterruptsHold at.now.plan.now at.now.cert.now node.now
-            at.now.point.state.now }
-        requires interrupts { LastInterruptsHold at.now.plan.now at.now.cert.now self.old }
-        ensures { LastInterruptsHold at.now.plan.now at.now.cert.now self.new }
+    pub(crate) fn keep_context(&mut self, at: &PointCheck<'_, '_>)
+        requires holds { InterruptsHold at.now.plan at.now.cert at.now.node at.now.point.state }
+        requires interrupts { LastInterruptsHold at.now.plan at.now.cert self.old }
+        ensures { LastInterruptsHold at.now.plan at.now.cert self.new }
     {
         let sp = common_stack(at, &*self);
-        self.add(node, at.point.state, sp);
+        self.add(at.node, at.point.state, sp);
     }
 
     /// Keeps the context of a state with an A10 with which the entries hold. The older of the two
@@ -159,13 +155,11 @@ fn context_covers(context: &Option<InterruptContext>, node: &Node<'_>, s: &State
 /// With the join kept, an A10 that changes from point to point soon needs nothing more: after some
 /// 64 points the join has all of its values.
 fn common_stack(at: &PointCheck<'_, '_>, kept: &LastInterrupts) -> Val
-    requires point { IsPointCheck at.now }
-    requires holds { InterruptsHold at.now.plan.now at.now.cert.now at.now.node.now
-        at.now.point.state.now }
-    requires interrupts { LastInterruptsHold at.now.plan.now at.now.cert.now kept.now }
-    ensures value { IsValue at.now.bounds.now result }
-    ensures holds { InterruptsHoldWith at.now.plan.now at.now.cert.now at.now.node.now
-        at.now.point.state.now result }
+    requires holds { InterruptsHold at.now.plan at.now.cert at.now.node at.now.point.state }
+    requires interrupts { LastInterruptsHold at.now.plan at.now.cert kept.now }
+    ensures value { IsValue at.now.bounds result }
+    ensures holds { InterruptsHoldWith at.now.plan at.now.cert at.now.node
+        at.now.point.state result }
 {
     let s = at.point.state;
     let own = s.regs[A10_SLOT].copy();

@@ -5,7 +5,6 @@ ghost use Rattle.depth_check.specs.DutiesHold.{HasPoints, HasExit};
 ghost use Rattle.value_domain.specs.State.{AreWell};
 ghost use Rattle.vd_transfer.specs.Changes.{state_after};
 ghost use Rattle.depth_cert.specs.Exits.{state_after_exit};
-ghost use Rattle.depth_check.specs.PointChecks.{IsPointCheck};
 
 use crate::points::PointCheck;
 use packed_cert::Node;
@@ -27,8 +26,7 @@ pub(crate) fn has_point(node: &Node<'_>, addr: u32, s: &State) -> bool
 /// Returns true if the node has points at all these addresses that cover the checked point's own
 /// state.
 pub(crate) fn has_points(at: &PointCheck<'_, '_>, targets: &[u32]) -> bool
-    requires { IsPointCheck at.now }
-    ensures { IsTrue result ↔ HasPoints at.now.node.now at.now.point.state.now targets.now }
+    ensures { IsTrue result ↔ HasPoints at.now.node at.now.point.state targets.now }
 {
     for t in targets {
         if !has_next(at, *t) {
@@ -41,8 +39,7 @@ pub(crate) fn has_points(at: &PointCheck<'_, '_>, targets: &[u32]) -> bool
 /// Returns true if the node has a point at this address that covers the checked point's own state.
 /// If both have the same state in the file, a walk compares no values.
 pub(crate) fn has_next(at: &PointCheck<'_, '_>, addr: u32) -> bool
-    requires { IsPointCheck at.now }
-    ensures { IsTrue result ↔ HasPoint at.now.node.now addr at.now.point.state.now }
+    ensures { IsTrue result ↔ HasPoint at.now.node addr at.now.point.state }
 {
     if at.point.next == Some(addr) {
         return true;
@@ -53,8 +50,7 @@ pub(crate) fn has_next(at: &PointCheck<'_, '_>, addr: u32) -> bool
 /// Returns true if the node has a point at this address that covers the checked point's state, kept
 /// as it is. `c` may be overwritten with the change that keeps it.
 pub(crate) fn has_kept_next(at: &PointCheck<'_, '_>, addr: u32, c: &mut Change) -> bool
-    requires { IsPointCheck at.now }
-    ensures { IsTrue result ↔ HasPoint at.now.node.now addr at.now.point.state.now }
+    ensures { IsTrue result ↔ HasPoint at.now.node addr at.now.point.state }
 {
     if at.point.next == Some(addr) {
         return true;
@@ -77,10 +73,8 @@ pub(crate) fn has_changed_point(node: &Node<'_>, addr: u32, s: &State, c: &Chang
 /// Returns true if the node has a point at this address that covers the changed state. The next
 /// point of the walk is tried first.
 pub(crate) fn has_changed_next(at: &PointCheck<'_, '_>, addr: u32, c: &Change) -> bool
-    requires point { IsPointCheck at.now }
-    requires changed { AreWell (state_after at.now.point.state.now c.now).regs }
-    ensures { IsTrue result
-        ↔ HasPoint at.now.node.now addr (state_after at.now.point.state.now c.now) }
+    requires { AreWell (state_after at.now.point.state c.now).regs }
+    ensures { IsTrue result ↔ HasPoint at.now.node addr (state_after at.now.point.state c.now) }
 {
     at.point.walk.covers_next(addr, c) || has_changed_point(at.node, addr, at.point.state, c)
 }

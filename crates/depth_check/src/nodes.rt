@@ -1,7 +1,7 @@
 // The rules of a node, and its first fault.
 ghost use Rattle.std.specs.Prelude.{◌≡◌, All, ◌<◌, ◌^◌, Contains, MatchOption, ◌↔◌, IsTrue};
 ghost use Rattle.cfg_recover.specs.RulesHoldOrFail.{limits_in, HoldsAtNode, HoldsAtEntry};
-ghost use Rattle.depth_cert.specs.Nodes.{IsWellNode};
+ghost use Rattle.value_domain.specs.State.{AreWell};
 ghost use Rattle.cfg_recover.specs.SetOperations.{HoldsCachedResults};
 ghost use Rattle.depth_check.specs.Interrupts.{LastInterruptsHold};
 ghost use Rattle.depth_check.specs.NodeFaults.{IsNodeFault};
@@ -9,7 +9,7 @@ ghost use Rattle.depth_check.specs.NodeFaults as nodes;
 
 use crate::fast_paths::NO_REGISTERS;
 use crate::last_interrupts::LastInterrupts;
-use crate::points::{PointCheck, PointScratch, broken_by_point, walked_point};
+use crate::points::{PointCheck, PointScratch, are_point_values, broken_by_point, walked_point};
 use crate::rules::BAD_VALUES;
 use elf_image::Image;
 use packed_cert::{Cert, Node, PointWalk};
@@ -44,7 +44,7 @@ pub(crate) fn node_fault<'a>(
     scratch: &mut NodeScratch<'a>,
 ) -> Option<Fault>
     requires limits { b.now ≡ limits_in plan.now cert.now }
-    requires nodes { All IsWellNode cert.now.nodes }
+    requires points { All (λ p. AreWell p.state.regs) node.now.points }
     requires member { Contains cert.now.nodes node.now }
     requires interrupts { LastInterruptsHold plan.now cert.now scratch.old.interrupts }
     requires results { HoldsCachedResults b.now scratch.old.point.cache }
@@ -62,8 +62,18 @@ pub(crate) fn node_fault<'a>(
         node_address_limit(addr);
         let here = walked_point(b, node, addr, next > 0, &scratch.interrupts, &scratch.walk);
         next = next.wrapping_add(1);
+        if !are_point_values(b, here) {
+            return earlier_node_fault(good, entry, addr, Some(BAD_VALUES));
+        }
         let hinted = node.near(next);
-        let at = PointCheck::new(&*b, &*image, &*plan, &*cert, &hinted, here);
+        let at = PointCheck {
+            bounds: b,
+            image,
+            plan,
+            cert,
+            node: &hinted,
+            point: here,
+        };
         let found = broken_by_point(&at, &mut scratch.point);
         if let Some(fault) = earlier_node_fault(good, entry, addr, found) {
             return Some(fault);
@@ -72,7 +82,7 @@ pub(crate) fn node_fault<'a>(
         // Entries were checked here, so their context is kept.
         let is_checked = here.state.ie && !here.again && !plan.irqs.is_empty();
         if is_checked {
-            scratch.interrupts.keep_context(node, &at);
+            scratch.interrupts.keep_context(&at);
         }
     }
     if good {

@@ -1,11 +1,9 @@
 // The rules at a point of a node.
 ghost use Rattle.std.specs.Prelude.{◌≡◌, IfSome, ◌↔◌, IsTrue};
-ghost use Rattle.cfg_recover.specs.RulesHoldOrFail.{limits_in, RuleHolds};
+ghost use Rattle.cfg_recover.specs.RulesHoldOrFail.{RuleHolds};
 ghost use Rattle.depth_check.specs.LeastBroken.{FindsLeastBroken};
-ghost use Rattle.depth_check.specs.DutiesHold.{HasPointWithState};
 ghost use Rattle.value_domain.specs.State.{AreValues};
 ghost use Rattle.vd_transfer.specs.Registers.{a10_of};
-ghost use Rattle.depth_check.specs.PointChecks.{IsPointCheck, LooksAhead, point_here};
 ghost use Rattle.cfg_recover.specs.SetOperations.{HoldsCachedResults};
 ghost use Rattle.depth_check.specs.CheckedRegisters.{RegistersHoldAt};
 ghost use Rattle.depth_check.specs.Interrupts.{InterruptsHold, AreWellStacks, LastInterruptsHold};
@@ -18,10 +16,10 @@ ghost use Rattle.value_domain.specs.Values.{IsWell};
 ghost use Rattle.depth_cert.specs.Certs.{CertData};
 ghost use Rattle.packed_cert.specs.Walks.{RepeatsAt};
 
-use crate::duty_rules::broken_by_duties;
-use crate::fast_paths::{CheckedRegisters, broken_on_fast_path, fast_path_next};
+use crate::duty_rules::{broken_by_duties, broken_by_interrupts};
+use crate::fast_paths::{CheckedRegisters, broken_by_pass, fast_path_next};
 use crate::last_interrupts::LastInterrupts;
-use crate::rules::{BAD_VALUES, SMALL_NEED, has_own_need, lesser_broken_rule};
+use crate::rules::{SMALL_NEED, has_own_need, lesser_broken_rule};
 use arrayvec::ArrayVec;
 use cfg_recover::{
     KnownCodes, Located, OperationCache, check_located, rule_unless, successor_change,
@@ -59,35 +57,16 @@ pub(crate) struct CurrentPoint<'b> {
     pub(crate) walk: &'b PointWalk<'b>,
 }
 
-impl<'a, 'b> PointCheck<'a, 'b> {
-    /// A point of a node, and what it is checked against.
-    #[inline(always)]
-    pub(crate) fn new(
-        bounds: &'a Bounds,
-        image: &'a Image,
-        plan: &'a Plan,
-        cert: &'a Cert,
-        node: &'a Node<'a>,
-        point: CurrentPoint<'b>,
-    ) -> PointCheck<'a, 'b>
-        ensures { result ≡ record {
-          bounds = bounds.entry;
-          image = image.entry;
-          plan = plan.entry;
-          cert = cert.entry;
-          node = node.entry;
-          point = point.entry;
-        } }
-    {
-        PointCheck {
-            bounds,
-            image,
-            plan,
-            cert,
-            node,
-            point,
-        }
-    }
+impl<'a, 'b> Model for PointCheck<'a, 'b> {
+    ghost use Rattle.depth_check.specs.PointCheckData.{PointCheckData};
+
+    ghost Value = { PointCheckData };
+
+    ghost use Rattle.depth_check.specs.PointChecks.{point_check_data, IsPointCheck};
+
+    ghost view = { point_check_data };
+
+    ghost invariant = { IsPointCheck };
 }
 
 /// What the check of a point uses again: room for a change, results of operations on two sets,
@@ -124,48 +103,40 @@ pub(crate) fn point_scratch_change() -> Change {
     }
 }
 
-/// Returns the least rule that fails at a point: of its values first, then on a fast path or by its
-/// instruction, duties and need. `scratch.change` is overwritten.
+/// Returns the least rule that fails at a point whose values are values of the plan: on a fast
+/// path, or by its instruction, duties and need. `scratch.change` is overwritten.
 pub(crate) fn broken_by_point(at: &PointCheck<'_, '_>, scratch: &mut PointScratch) -> Option<u8>
-    requires limits { at.now.bounds.now ≡ limits_in at.now.plan.now at.now.cert.now }
-    requires again { IsTrue at.now.point.again
-        → InterruptsHold at.now.plan.now at.now.cert.now at.now.node.now at.now.point.state.now }
-    requires known { IsTrue at.now.point.known
-        → AreValues at.now.bounds.now at.now.point.state.now.regs }
-    requires next { IfSome at.now.point.next
-        (λ a. HasPointWithState at.now.node.now a at.now.point.state.now) }
-    requires walk { LooksAhead at.now.node.now at.now.point.state.now at.now.point.walk.now }
-    requires results { HoldsCachedResults at.now.bounds.now scratch.old.cache }
+    requires results { HoldsCachedResults at.now.bounds scratch.old.cache }
     requires registers { RegistersHoldAt at.now scratch.old.registers }
-    ensures found { FindsLeastBroken (RuleHolds at.now.image.now at.now.plan.now at.now.cert.now
-        at.now.node.now (point_here at.now.point)) result }
-    ensures results { HoldsCachedResults at.now.bounds.now scratch.new.cache }
+    ensures found { FindsLeastBroken
+        (RuleHolds at.now.image at.now.plan at.now.cert at.now.node at.now.point) result }
+    ensures results { HoldsCachedResults at.now.bounds scratch.new.cache }
     ensures registers { RegistersHoldAt at.now scratch.new.registers }
 {
-    if !are_point_values(at.bounds, at.point) {
-        return Some(BAD_VALUES);
-    }
-    match fast_path_next(at, &mut scratch.codes) {
-        Some(next) => broken_on_fast_path(at, next),
-        None => broken_by_decoded_point(at, scratch),
-    }
+    let _bounds = at.bounds;
+    let Some(next) = fast_path_next(at, &mut scratch.codes) else {
+        return broken_by_decoded_point(at, scratch);
+    };
+    let jump = broken_by_pass(at, next);
+    let irqs = broken_by_interrupts(at);
+    let need = rule_unless(has_own_need(at), SMALL_NEED);
+    lesser_broken_rule(lesser_broken_rule(jump, irqs), need)
 }
 
 /// Writes what the instruction changes into the change of `scratch`. The result of an operation on
 /// two sets may be in its cache.
 #[inline(always)]
 pub(crate) fn change_at(at: &PointCheck<'_, '_>, found: &Located, scratch: &mut PointScratch)
-    requires point { IsPointCheck at.now }
-    requires found { StandsFaultless at.now.bounds.now at.now.image.now at.now.plan.now
-        at.now.node.now.key at.now.point.addr at.now.point.state.now found.now }
-    requires results { HoldsCachedResults at.now.bounds.now scratch.old.cache }
-    ensures change { state_after at.now.point.state.now scratch.new.change
-        ≡ transfer_of at.now.bounds.now at.now.plan.now found.now.shape at.now.point.state.now
-        (loaded_for_duties at.now.bounds.now at.now.image.now at.now.plan.now at.now.point.state.now
+    requires found { StandsFaultless at.now.bounds at.now.image at.now.plan
+        at.now.node.key at.now.point.addr at.now.point.state found.now }
+    requires results { HoldsCachedResults at.now.bounds scratch.old.cache }
+    ensures change { state_after at.now.point.state scratch.new.change
+        ≡ transfer_of at.now.bounds at.now.plan found.now.shape at.now.point.state
+        (loaded_for_duties at.now.bounds at.now.image at.now.plan at.now.point.state
         found.now.shape) }
-    ensures values { AreValues at.now.bounds.now
-        (state_after at.now.point.state.now scratch.new.change).regs }
-    ensures results { HoldsCachedResults at.now.bounds.now scratch.new.cache }
+    ensures values { AreValues at.now.bounds
+        (state_after at.now.point.state scratch.new.change).regs }
+    ensures results { HoldsCachedResults at.now.bounds scratch.new.cache }
     ensures registers { scratch.new.registers ≡ scratch.old.registers }
 {
     let s = at.point.state;
@@ -232,7 +203,7 @@ pub(crate) fn are_plan_values(b: &Bounds, vs: &[Val]) -> bool
 }
 
 /// Whether the values of a point are values of the plan.
-fn are_point_values(b: &Bounds, point: CurrentPoint<'_>) -> bool
+pub(crate) fn are_point_values(b: &Bounds, point: CurrentPoint<'_>) -> bool
     requires { IsTrue point.known → AreValues b.now point.state.now.regs }
     ensures { IsTrue result ↔ AreValues b.now point.entry.state.now.regs }
 {
@@ -246,12 +217,11 @@ fn are_point_values(b: &Bounds, point: CurrentPoint<'_>) -> bool
 /// instruction is decoded and checked by itself, and then its duties and its need are checked.
 #[inline(never)]
 fn broken_by_decoded_point(at: &PointCheck<'_, '_>, scratch: &mut PointScratch) -> Option<u8>
-    requires point { IsPointCheck at.now }
-    requires results { HoldsCachedResults at.now.bounds.now scratch.old.cache }
+    requires results { HoldsCachedResults at.now.bounds scratch.old.cache }
     requires registers { RegistersHoldAt at.now scratch.old.registers }
-    ensures found { FindsLeastBroken (RuleHolds at.now.image.now at.now.plan.now at.now.cert.now
-        at.now.node.now (point_here at.now.point)) result }
-    ensures results { HoldsCachedResults at.now.bounds.now scratch.new.cache }
+    ensures found { FindsLeastBroken (RuleHolds at.now.image at.now.plan at.now.cert
+        at.now.node at.now.point) result }
+    ensures results { HoldsCachedResults at.now.bounds scratch.new.cache }
     ensures registers { RegistersHoldAt at.now scratch.new.registers }
 {
     let node = at.node;

@@ -2,7 +2,6 @@
 ghost use Rattle.std.specs.Prelude.{◌≡◌, ◌↔◌, IsTrue};
 ghost use Rattle.depth_check.specs.LeastBroken as finding;
 ghost use Rattle.depth_check.specs.DutiesHold.{HasOwnNeed};
-ghost use Rattle.depth_check.specs.PointChecks.{point_here};
 
 use crate::points::PointCheck;
 use cfg_recover::start_key;
@@ -51,8 +50,7 @@ pub(crate) fn lesser_broken_rule(a: Option<u8>, b: Option<u8>) -> Option<u8>
 /// Whether the node's need has room for the point's locals and, at the start's entry, leaves the
 /// reserve free.
 pub(crate) fn has_own_need(at: &PointCheck<'_, '_>) -> bool
-    ensures { IsTrue result
-        ↔ HasOwnNeed at.now.image.now at.now.plan.now at.now.node.now (point_here at.now.point) }
+    ensures { IsTrue result ↔ HasOwnNeed at.now.image at.now.plan at.now.node at.now.point }
 {
     let image = at.image;
     let plan = at.plan;

@@ -1,6 +1,5 @@
 // Rule 4 for the successors of a point in its frame.
 ghost use Rattle.std.specs.Prelude.{◌≡◌, ◌+◌, [], unwrap_or, ◌<◌, ◌++◌, false, true};
-ghost use Rattle.depth_check.specs.PointChecks.{IsPointCheck};
 ghost use Rattle.depth_check.specs.LeastBroken.{LeastBrokenByDuties};
 ghost use Rattle.tc_isa.specs.InBounds.{IsShape, IsTarget};
 ghost use Rattle.cfg_recover.specs.LocalFaults.{StandsFaultless};
@@ -26,15 +25,14 @@ pub(crate) fn broken_by_successors(
     found: &Located,
     scratch: &mut PointScratch,
 ) -> Option<u8>
-    requires point { IsPointCheck at.now }
-    requires found { StandsFaultless at.now.bounds.now at.now.image.now at.now.plan.now
-        at.now.node.now.key at.now.point.addr at.now.point.state.now found.now }
-    requires results { HoldsCachedResults at.now.bounds.now scratch.old.cache }
+    requires found { StandsFaultless at.now.bounds at.now.image at.now.plan
+        at.now.node.key at.now.point.addr at.now.point.state found.now }
+    requires results { HoldsCachedResults at.now.bounds scratch.old.cache }
     requires registers { RegistersHoldAt at.now scratch.old.registers }
     ensures found { LeastBrokenByDuties at.now
-        (successors_of at.now.bounds.now at.now.image.now at.now.plan.now at.now.point.addr
-        at.now.point.state.now found.now.shape found.now.size) result }
-    ensures results { HoldsCachedResults at.now.bounds.now scratch.new.cache }
+        (successors_of at.now.bounds at.now.image at.now.plan at.now.point.addr
+        at.now.point.state found.now.shape found.now.size) result }
+    ensures results { HoldsCachedResults at.now.bounds scratch.new.cache }
     ensures registers { RegistersHoldAt at.now scratch.new.registers }
 {
     let addr = at.point.addr;
@@ -63,13 +61,10 @@ fn broken_by_sides(
     to: u32,
     c: &mut Change,
 ) -> Option<u8>
-    requires point { IsPointCheck at.now }
-    requires shape { IsShape shape }
+    requires { IsShape shape }
     ensures { LeastBrokenByDuties at.now
-        (jump_on next
-        (refine_of at.now.bounds.now at.now.plan.now shape at.now.point.state.now false)
-        ++ jump_on to
-        (refine_of at.now.bounds.now at.now.plan.now shape at.now.point.state.now true)) result }
+        (jump_on next (refine_of at.now.bounds at.now.plan shape at.now.point.state false)
+        ++ jump_on to (refine_of at.now.bounds at.now.plan shape at.now.point.state true)) result }
 {
     let straight = broken_by_side(at, shape, false, next, c);
     let taken = broken_by_side(at, shape, true, to, c);
@@ -79,13 +74,11 @@ fn broken_by_sides(
 /// Returns the least rule that a point breaks by its successors, if its instruction is a jump. A
 /// list of targets is made only for a jump by a register.
 fn broken_by_jump(at: &PointCheck<'_, '_>, to: Target, jumped: &mut Option<u8>) -> Option<u8>
-    requires point { IsPointCheck at.now }
     requires target { IsTarget to }
     requires jumped { RegisterJumpsHoldAt at.now jumped.old }
     ensures found { LeastBrokenByDuties at.now
-        (jumps_to at.now.point.state.now
-        (unwrap_or (targets_of at.now.plan.now at.now.point.state.now at.now.point.addr to) []))
-        result }
+        (jumps_to at.now.point.state
+        (unwrap_or (targets_of at.now.plan at.now.point.state at.now.point.addr to) [])) result }
     ensures jumped { RegisterJumpsHoldAt at.now jumped.new }
 {
     match to {
@@ -101,14 +94,13 @@ fn broken_by_next(
     found: &Located,
     scratch: &mut PointScratch,
 ) -> Option<u8>
-    requires point { IsPointCheck at.now }
-    requires found { StandsFaultless at.now.bounds.now at.now.image.now at.now.plan.now
-        at.now.node.now.key at.now.point.addr at.now.point.state.now found.now }
-    requires results { HoldsCachedResults at.now.bounds.now scratch.old.cache }
+    requires found { StandsFaultless at.now.bounds at.now.image at.now.plan
+        at.now.node.key at.now.point.addr at.now.point.state found.now }
+    requires results { HoldsCachedResults at.now.bounds scratch.old.cache }
     ensures found { LeastBrokenByDuties at.now
-        (next_of at.now.bounds.now at.now.image.now at.now.plan.now at.now.point.addr
-        at.now.point.state.now found.now.shape found.now.size) result }
-    ensures results { HoldsCachedResults at.now.bounds.now scratch.new.cache }
+        (next_of at.now.bounds at.now.image at.now.plan at.now.point.addr
+        at.now.point.state found.now.shape found.now.size) result }
+    ensures results { HoldsCachedResults at.now.bounds scratch.new.cache }
     ensures registers { scratch.new.registers ≡ scratch.old.registers }
 {
     if may_skip_change(found.shape) {
@@ -126,12 +118,11 @@ fn broken_by_side(
     to: u32,
     c: &mut Change,
 ) -> Option<u8>
-    requires point { IsPointCheck at.now }
-    requires shape { IsShape shape }
+    requires { IsShape shape }
     ensures { LeastBrokenByDuties at.now
-        (jump_on to
-        (refine_of at.now.bounds.now at.now.plan.now shape at.now.point.state.now taken)) result }
+        (jump_on to (refine_of at.now.bounds at.now.plan shape at.now.point.state taken)) result }
 {
+    let _bounds = at.bounds;
     if may_skip_refinement(shape) {
         if has_kept_next(at, to, c) {
             return None;
@@ -150,11 +141,9 @@ fn broken_by_change(
     to: u32,
     c: &mut Change,
 ) -> Option<u8>
-    requires point { IsPointCheck at.now }
-    requires shape { IsShape shape }
+    requires { IsShape shape }
     ensures { LeastBrokenByDuties at.now
-        (jump_on to
-        (refine_of at.now.bounds.now at.now.plan.now shape at.now.point.state.now taken)) result }
+        (jump_on to (refine_of at.now.bounds at.now.plan shape at.now.point.state taken)) result }
 {
     if !change_on(at.bounds, at.plan, shape, at.point.state, taken, c) {
         return None;
@@ -166,13 +155,11 @@ fn broken_by_change(
 /// are passed over; if jumps by another register hold, that one is kept.
 #[inline(never)]
 fn broken_by_listed_jumps(at: &PointCheck<'_, '_>, r: u8, jumped: &mut Option<u8>) -> Option<u8>
-    requires point { IsPointCheck at.now }
     requires register { r < 32 }
     requires jumped { RegisterJumpsHoldAt at.now jumped.old }
     ensures found { LeastBrokenByDuties at.now
-        (jumps_to at.now.point.state.now
-        (unwrap_or (targets_named_by (reg_of at.now.plan.now at.now.point.state.now r)) []))
-        result }
+        (jumps_to at.now.point.state
+        (unwrap_or (targets_named_by (reg_of at.now.plan at.now.point.state r)) [])) result }
     ensures jumped { RegisterJumpsHoldAt at.now jumped.new }
 {
     if *jumped == Some(r) {
@@ -195,14 +182,13 @@ fn broken_by_step(
     found: &Located,
     scratch: &mut PointScratch,
 ) -> Option<u8>
-    requires point { IsPointCheck at.now }
-    requires found { StandsFaultless at.now.bounds.now at.now.image.now at.now.plan.now
-        at.now.node.now.key at.now.point.addr at.now.point.state.now found.now }
-    requires results { HoldsCachedResults at.now.bounds.now scratch.old.cache }
+    requires found { StandsFaultless at.now.bounds at.now.image at.now.plan
+        at.now.node.key at.now.point.addr at.now.point.state found.now }
+    requires results { HoldsCachedResults at.now.bounds scratch.old.cache }
     ensures found { LeastBrokenByDuties at.now
-        (next_of at.now.bounds.now at.now.image.now at.now.plan.now at.now.point.addr
-        at.now.point.state.now found.now.shape found.now.size) result }
-    ensures results { HoldsCachedResults at.now.bounds.now scratch.new.cache }
+        (next_of at.now.bounds at.now.image at.now.plan at.now.point.addr
+        at.now.point.state found.now.shape found.now.size) result }
+    ensures results { HoldsCachedResults at.now.bounds scratch.new.cache }
     ensures registers { scratch.new.registers ≡ scratch.old.registers }
 {
     change_at(at, found, scratch);

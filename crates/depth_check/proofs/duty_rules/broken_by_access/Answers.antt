@@ -9,9 +9,9 @@ pub returns-then-not-plan : goal.returns-then-not-plan
 returns-then-not-plan c =
     let t = c.args.at.now in
     subst (λ (l : List Owed). LeastBrokenByDuties t l None)
-    (untrapped_none t.bounds.now t.image.now t.plan.now (t.node.now).key t.point.addr t.point.state.now c.args.found.now c.requires.found
-    (ap (λ (p : PlanData). p.aln) (sym c.plan.view_is) ∙ c.if-not-plan.true))
-    (nothing_found t.cert.now t.node.now t.point.state.now)
+    (untrapped_none t.bounds t.image t.plan (t.node).key t.point.addr t.point.state c.args.found.now c.requires
+    (rw (← c.at.view_is) (ap (λ (p : PlanData). p.aln) (sym c.plan.view_is) ∙ c.if-not-plan.true)))
+    (nothing_found t.cert t.node t.point.state)
 
 pub returns-in-Load : goal.returns-in-Load
 returns-in-Load c = rw c.in-Load.is (rw c.in-Load.is at c.broken_by_misaligned.ensures)

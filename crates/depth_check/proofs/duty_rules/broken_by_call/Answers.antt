@@ -7,27 +7,30 @@ use Rattle.cfg_recover.specs.LocalRules.{targets_of}
 use Rattle.cfg_recover.specs.Duties.{entered_and_back}
 use Rattle.depth_check.specs.LeastBroken.{FindsLeastBroken}
 use Rattle.depth_check.specs.DutiesHold.{DutiesHold}
+use Rattle.depth_check.specs.PointChecks.{point_check_data}
 use Rattle.depth_check.proofs.RuleLaws.{values_well}
 use Rattle.depth_check.proofs.duty_rules.broken_by_call.Goals as goal
 
-pub broken_by_calls-requires-clause-entry : goal.broken_by_calls-requires-clause-entry
-broken_by_calls-requires-clause-entry c = values_well c.args.at.now.bounds.now _ c.call_change-entry.ensures.values
+pub broken_by_calls-requires : goal.broken_by_calls-requires
+broken_by_calls-requires c = rw (← c.at.view_is) (values_well c.at.inside.bounds.now _ c.call_change-entry.ensures.values)
 
 pub broken_by_listed_calls-requires-clause-entry : goal.broken_by_listed_calls-requires-clause-entry
-broken_by_listed_calls-requires-clause-entry c = values_well c.args.at.now.bounds.now _ c.call_change-entry.ensures.values
+broken_by_listed_calls-requires-clause-entry c = rw (← c.at.view_is) (values_well c.at.inside.bounds.now _ c.call_change-entry.ensures.values)
 
 pub returns-in-Some : goal.returns-in-Some
 returns-in-Some c =
-    let t = c.args.at.now in
-    let s = t.point.state.now in
-    let one = (rw c.in-Some.is at c.direct_target.ensures.one) t.plan.now s in
-    subst (λ (o : Option (List ℕ)). FindsLeastBroken (DutiesHold t.cert.now t.node.now s (flat_map (λ t2. entered_and_back 5 (call_key (t.node.now).key t2) (call_entry s) c.args.back) (unwrap_or o []))) c.broken_by_calls.result) (sym one)
-    (subst (λ (u : State). FindsLeastBroken (DutiesHold t.cert.now t.node.now s (flat_map (λ t2. entered_and_back 5 (call_key (t.node.now).key t2) u c.args.back) (c.in-Some.target ∷ []))) c.broken_by_calls.result)
-    c.call_change-entry.ensures.entry c.broken_by_calls.ensures)
+    let t = point_check_data c.at.inside in
+    let s = t.point.state in
+    let one = (rw c.in-Some.is at c.direct_target.ensures.one) t.plan s in
+    rw (← c.at.view_is)
+    (subst (λ (o : Option (List ℕ)). FindsLeastBroken (DutiesHold t.cert t.node s (flat_map (λ t2. entered_and_back 5 (call_key (t.node).key t2) (call_entry s) c.args.back) (unwrap_or o []))) c.broken_by_calls.result) (sym one)
+    (subst (λ (u : State). FindsLeastBroken (DutiesHold t.cert t.node s (flat_map (λ t2. entered_and_back 5 (call_key (t.node).key t2) u c.args.back) (c.in-Some.target ∷ []))) c.broken_by_calls.result)
+    c.call_change-entry.ensures.entry (rw (← c.at.view_is) at c.broken_by_calls.ensures)))
 
 pub returns-in-None : goal.returns-in-None
 returns-in-None c =
-    let t = c.args.at.now in
-    let s = t.point.state.now in
-    subst (λ (u : State). FindsLeastBroken (DutiesHold t.cert.now t.node.now s (flat_map (λ t2. entered_and_back 5 (call_key (t.node.now).key t2) u c.args.back) (unwrap_or (targets_of t.plan.now s t.point.addr c.args.to) []))) c.broken_by_listed_calls.result)
-    c.call_change-entry.ensures.entry c.broken_by_listed_calls.ensures
+    let t = point_check_data c.at.inside in
+    let s = t.point.state in
+    rw (← c.at.view_is)
+    (subst (λ (u : State). FindsLeastBroken (DutiesHold t.cert t.node s (flat_map (λ t2. entered_and_back 5 (call_key (t.node).key t2) u c.args.back) (unwrap_or (targets_of t.plan s t.point.addr c.args.to) []))) c.broken_by_listed_calls.result)
+    c.call_change-entry.ensures.entry (rw (← c.at.view_is) at c.broken_by_listed_calls.ensures))

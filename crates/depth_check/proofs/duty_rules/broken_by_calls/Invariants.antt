@@ -6,4 +6,4 @@ use Rattle.depth_check.proofs.DutyLaws.{told_to, called}
 use Rattle.depth_check.proofs.duty_rules.broken_by_calls.Given as goal
 
 abbrev pub invariant-loop-t : goal.invariant-loop-t
-invariant-loop-t l = FindsLeastBroken (DutiesHold l.at.cert.now l.at.node.now l.at.point.state.now (told_to 5 (l.at.node.now).key (called (state_after l.at.point.state.now l.entry) l.targets l.back) (take l.t-index l.targets))) l.found
+invariant-loop-t l = FindsLeastBroken (DutiesHold l.at.cert l.at.node l.at.point.state (told_to 5 (l.at.node).key (called (state_after l.at.point.state l.entry) l.targets l.back) (take l.t-index l.targets))) l.found

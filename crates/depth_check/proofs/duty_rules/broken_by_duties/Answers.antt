@@ -3,12 +3,12 @@ use Rattle.depth_check.proofs.RuleLaws.{values_well}
 use Rattle.depth_check.proofs.duty_rules.broken_by_duties.Goals as goal
 
 pub broken_by_leaving-leave-requires : goal.broken_by_leaving-leave-requires
-broken_by_leaving-leave-requires c = values_well c.args.at.now.bounds.now _ c.requires.point.values
+broken_by_leaving-leave-requires c = values_well c.at.inside.bounds.now _ c.at.invariant.values
 
 pub returns-clause-found : goal.returns-clause-found
 returns-clause-found c =
     rw (c.lesser_broken_rule-4.ensures, c.lesser_broken_rule-3.ensures, c.lesser_broken_rule-2.ensures, c.lesser_broken_rule.ensures)
-    (parts_found c.args.at.now.bounds.now c.args.at.now.image.now c.args.at.now.plan.now c.args.at.now.cert.now c.args.at.now.node.now c.args.at.now.point.addr c.args.at.now.point.state.now c.args.found.now.shape c.args.found.now.size
+    (parts_found c.args.at.now.bounds c.args.at.now.image c.args.at.now.plan c.args.at.now.cert c.args.at.now.node c.args.at.now.point.addr c.args.at.now.point.state c.args.found.now.shape c.args.found.now.size
     c.broken_by_successors-jumps.result c.broken_by_entries-entered.result c.broken_by_access-misaligned.result c.broken_by_interrupts-irqs.result c.broken_by_leaving-leave.result
     c.broken_by_successors-jumps.ensures.found c.broken_by_entries-entered.ensures.found c.broken_by_access-misaligned.ensures c.broken_by_interrupts-irqs.ensures
-    (shape_found c.args.at.now.cert.now c.args.at.now.node.now c.args.at.now.point.state.now c.args.found.now.shape c.broken_by_leaving-leave.result c.broken_by_leaving-leave.ensures))
+    (shape_found c.args.at.now.cert c.args.at.now.node c.args.at.now.point.state c.args.found.now.shape c.broken_by_leaving-leave.result (rw (← c.at.view_is) c.broken_by_leaving-leave.ensures)))

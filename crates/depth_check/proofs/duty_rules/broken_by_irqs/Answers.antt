@@ -7,16 +7,16 @@ use Rattle.depth_check.proofs.duty_rules.broken_by_irqs.Goals as goal
 
 pub broken_by_entry-one-requires-clause-entry : goal.broken_by_entry-one-requires-clause-entry
 broken_by_entry-one-requires-clause-entry c =
-    subst (λ (e : Change). AreWell (state_after c.args.at.now.point.state.now e).regs) (sym c.loop-p.invariant.same) c.requires.entry
+    subst (λ (e : Change). AreWell (state_after c.args.at.now.point.state e).regs) (sym c.loop-p.invariant.same) c.requires
 
 pub loop-p-preserved : goal.loop-p-preserved
 loop-p-preserved c = record {
   found =
-      interrupts_more c.args.at.now.cert.now c.args.at.now.node.now c.args.at.now.point.state.now c.args.at.now.plan.now (state_after c.args.at.now.point.state.now c.args.entry) (state_after c.args.at.now.point.state.now c.loop-p.entry) c.irq_key.result c.args.irqs.now c.loop-p.p-index c.loop-p.found
+      interrupts_more c.args.at.now.cert c.args.at.now.node c.args.at.now.point.state c.args.at.now.plan (state_after c.args.at.now.point.state c.args.entry) (state_after c.args.at.now.point.state c.loop-p.entry) c.irq_key.result c.args.irqs.now c.loop-p.p-index c.loop-p.found
       c.broken_by_entry-one.result c.lesser_broken_rule-found.result
-      c.loop-p-test.true c.irq_key.ensures (ap (λ (e : Change). state_after c.args.at.now.point.state.now e) c.loop-p.invariant.same) c.lesser_broken_rule-found.ensures c.loop-p.invariant.found c.broken_by_entry-one.ensures;
+      c.loop-p-test.true (rw (← c.at.view_is) c.irq_key.ensures) (ap (λ (e : Change). state_after c.args.at.now.point.state e) c.loop-p.invariant.same) c.lesser_broken_rule-found.ensures c.loop-p.invariant.found c.broken_by_entry-one.ensures;
   same = c.loop-p.invariant.same;
 }
 
 pub returns : goal.returns
-returns c = interrupts_done c.args.at.now.cert.now c.args.at.now.node.now c.args.at.now.point.state.now c.args.at.now.plan.now (state_after c.args.at.now.point.state.now c.args.entry) c.args.irqs.now c.loop-p.p-index c.loop-p.found c.loop-p-test.false c.loop-p.invariant.found
+returns c = interrupts_done c.args.at.now.cert c.args.at.now.node c.args.at.now.point.state c.args.at.now.plan (state_after c.args.at.now.point.state c.args.entry) c.args.irqs.now c.loop-p.p-index c.loop-p.found c.loop-p-test.false c.loop-p.invariant.found

@@ -7,6 +7,6 @@ use Rattle.depth_check.proofs.duty_rules.broken_by_irqs.Given as goal
 
 abbrev pub invariant-loop-p : goal.invariant-loop-p
 invariant-loop-p l = record {
-  found : FindsLeastBroken (DutiesHold l.at.cert.now l.at.node.now l.at.point.state.now (told_irqs l.at.plan.now (state_after l.at.point.state.now l.fn.entry) (take l.p-index l.irqs))) l.found;
+  found : FindsLeastBroken (DutiesHold l.at.cert l.at.node l.at.point.state (told_irqs l.at.plan (state_after l.at.point.state l.fn.entry) (take l.p-index l.irqs))) l.found;
   same : record l.entry { ccpn = 0 } ≡ record l.fn.entry { ccpn = 0 };
 }

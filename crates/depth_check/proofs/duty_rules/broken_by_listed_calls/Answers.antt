@@ -5,11 +5,13 @@ use Rattle.cfg_recover.specs.Entries.{call_key}
 use Rattle.cfg_recover.specs.Duties.{entered_and_back}
 use Rattle.depth_check.specs.LeastBroken.{FindsLeastBroken}
 use Rattle.depth_check.specs.DutiesHold.{DutiesHold}
+use Rattle.depth_check.specs.PointChecks.{point_check_data}
 use Rattle.depth_check.proofs.duty_rules.broken_by_listed_calls.Goals as goal
 
 pub returns : goal.returns
 returns c =
-    let t = c.args.at.now in
-    let s = t.point.state.now in
-    subst (λ (l : List ℕ). FindsLeastBroken (DutiesHold t.cert.now t.node.now s (flat_map (λ t2. entered_and_back 5 (call_key (t.node.now).key t2) (state_after s c.args.entry.now) c.args.back) l)) c.broken_by_calls.result)
-    (c.as_slice.ensures.value ∙ c.targets-targets.ensures) c.broken_by_calls.ensures
+    let t = point_check_data c.at.inside in
+    let s = t.point.state in
+    rw (← c.at.view_is)
+    (subst (λ (l : List ℕ). FindsLeastBroken (DutiesHold t.cert t.node s (flat_map (λ t2. entered_and_back 5 (call_key (t.node).key t2) (state_after s c.args.entry.now) c.args.back) l)) c.broken_by_calls.result)
+    (c.as_slice.ensures.value ∙ c.targets-targets.ensures) (rw (← c.at.view_is) at c.broken_by_calls.ensures))

@@ -10,29 +10,30 @@ use Rattle.depth_check.proofs.last_interrupts.common_stack.Goals as goal
 
 pub returns-in_default-clause-holds : goal.returns-in_default-clause-holds
 returns-in_default-clause-holds c =
-    own_holds c.args.at.now.plan.now c.args.at.now.cert.now c.args.at.now.node.now c.args.at.now.point.state.now c.args.at.now.point.state.now c.index-s-22.result c.copy-own.result refl (omega arith) c.index-s-22.is (c.copy-own.ensures ∙ sym c.index-s-22.is) c.requires.holds
+    rw (← c.at.view_is) (own_holds c.at.inside.plan.now c.at.inside.cert.now c.at.inside.node.now c.at.inside.point.state.now c.at.inside.point.state.now c.index-s-22.result c.copy-own.result refl (omega arith) c.index-s-22.is (c.copy-own.ensures ∙ sym c.index-s-22.is) (rw (← c.at.view_is) at c.requires.holds))
 
-pub broken_by_irqs-requires-clause-entry : goal.broken_by_irqs-requires-clause-entry
-broken_by_irqs-requires-clause-entry c =
+pub broken_by_irqs-requires : goal.broken_by_irqs-requires
+broken_by_irqs-requires c =
     rw (c.identity_change-entry.ensures.kept, c.put_register-entry.ensures, c.copy.ensures)
-    (values_well c.args.at.now.bounds.now _ (handler_values c.args.at.now.bounds.now c.args.at.now.point.state.now c.in-Some.sp c.args.at.now.point.state.now.ccpn c.most_words-most_words.ensures.limits c.in-Some.ensures.value))
+    (values_well c.at.inside.bounds.now _ (handler_values c.at.inside.bounds.now c.at.inside.point.state.now c.in-Some.sp c.at.inside.point.state.now.ccpn c.most_words-most_words.ensures.limits c.in-Some.ensures.value))
 
 pub returns-in-Some-broken_by_irqs-clause-value : goal.returns-in-Some-broken_by_irqs-clause-value
 returns-in-Some-broken_by_irqs-clause-value c =
-    own_value c.args.at.now.bounds.now c.args.at.now.point.state.now c.args.at.now.point.state.now c.index-s-22.result c.copy-own.result refl (omega arith) c.index-s-22.is (c.copy-own.ensures ∙ sym c.index-s-22.is) c.requires.point.values
+    rw (← c.at.view_is) (own_value c.at.inside.bounds.now c.at.inside.point.state.now c.at.inside.point.state.now c.index-s-22.result c.copy-own.result refl (omega arith) c.index-s-22.is (c.copy-own.ensures ∙ sym c.index-s-22.is) c.at.invariant.values)
 
 pub returns-in-Some-broken_by_irqs-clause-holds : goal.returns-in-Some-broken_by_irqs-clause-holds
 returns-in-Some-broken_by_irqs-clause-holds c =
-    own_holds c.args.at.now.plan.now c.args.at.now.cert.now c.args.at.now.node.now c.args.at.now.point.state.now c.args.at.now.point.state.now c.index-s-22.result c.copy-own.result refl (omega arith) c.index-s-22.is (c.copy-own.ensures ∙ sym c.index-s-22.is) c.requires.holds
+    rw (← c.at.view_is) (own_holds c.at.inside.plan.now c.at.inside.cert.now c.at.inside.node.now c.at.inside.point.state.now c.at.inside.point.state.now c.index-s-22.result c.copy-own.result refl (omega arith) c.index-s-22.is (c.copy-own.ensures ∙ sym c.index-s-22.is) (rw (← c.at.view_is) at c.requires.holds))
 
 pub returns-in-None-clause-holds : goal.returns-in-None-clause-holds
 returns-in-None-clause-holds c =
-    let s = c.args.at.now.point.state.now in
+    let s = c.at.inside.point.state.now in
     let sp = c.in-Some.sp in
     let k = c.identity_change-entry.result in
     let first : c.put_register-entry.result ≡ reg_put 26 sp = c.put_register-entry.ensures ∙ ap (λ (v : Val). reg_put 26 v) c.copy.ensures in
     let second : k.second ≡ no_put = ap (λ (x : Change). x.second) c.identity_change-entry.ensures.kept in
     let third : k.third ≡ no_put = ap (λ (x : Change). x.third) c.identity_change-entry.ensures.kept in
     let none : c.clear.new.self ≡ record { items = [] } = ap (λ (l : List Bool). let a : ArrayVec Bool = record { items = l } in a) c.clear.ensures in
-    other_stack c.args.at.now.plan.now c.args.at.now.cert.now c.args.at.now.node.now s _ sp k.ccpn _ (entered_state s sp k.ccpn c.put_register-entry.result k.second k.third c.clear.new.self first second third none) (c.as_slice.ensures.value ∙ c.interrupts.ensures) c.in-Some.ensures.stack
-    (rw c.in-None.is at c.broken_by_irqs.ensures)
+    rw (← c.at.view_is)
+    (other_stack c.at.inside.plan.now c.at.inside.cert.now c.at.inside.node.now s _ sp k.ccpn _ (entered_state s sp k.ccpn c.put_register-entry.result k.second k.third c.clear.new.self first second third none) (c.as_slice.ensures.value ∙ c.interrupts.ensures) c.in-Some.ensures.stack
+    (rw (c.in-None.is, ← c.at.view_is) at c.broken_by_irqs.ensures))

@@ -3,25 +3,26 @@ use Rattle.value_domain.specs.declared.states.State.{State}
 use Rattle.value_domain.specs.State.{AreWell}
 use Rattle.vd_transfer.specs.Changes.{state_after}
 use Rattle.cfg_recover.specs.RulesHoldOrFail.{HasPoint}
+use Rattle.depth_check.specs.PointChecks.{point_check_data}
 use Rattle.depth_check.proofs.Deciding.{yes}
 use Rattle.depth_check.proofs.RuleLaws.{values_well}
 use Rattle.depth_check.proofs.node_covers.has_changed_next.Goals as goal
 
 pub covers_next-requires-clause-hand : goal.covers_next-requires-clause-hand
 covers_next-requires-clause-hand c =
-    let ahead = c.requires.point.walk in
-    subst (λ (s : State). AreWell s.regs) (sym ahead.current) (values_well c.args.at.now.bounds.now _ c.requires.point.values)
+    let ahead = c.at.invariant.facts.walk in
+    subst (λ (s : State). AreWell s.regs) (sym ahead.current) (values_well c.at.inside.bounds.now _ c.at.invariant.values)
 
 pub covers_next-requires-clause-changed : goal.covers_next-requires-clause-changed
 covers_next-requires-clause-changed c =
-    let ahead = c.requires.point.walk in
-    subst (λ (s : State). AreWell (state_after s c.args.c.now).regs) (sym ahead.current) c.requires.changed
+    let ahead = c.at.invariant.facts.walk in
+    subst (λ (s : State). AreWell (state_after s c.args.c.now).regs) (sym ahead.current) (rw (← c.at.view_is) at c.requires)
 
 pub returns-then-covers_next : goal.returns-then-covers_next
 returns-then-covers_next c =
-    let t = c.args.at.now in
-    let ahead = c.requires.point.walk in
-    rw c.if-covers_next.true
+    let t = point_check_data c.at.inside in
+    let ahead = c.at.invariant.facts.walk in
+    rw (c.if-covers_next.true, ← c.at.view_is)
     (yes _
-    (subst (λ (s : State). HasPoint t.node.now c.args.addr (state_after s c.args.c.now)) ahead.current
+    (subst (λ (s : State). HasPoint t.node c.args.addr (state_after s c.args.c.now)) ahead.current
     (ahead.ahead c.args.addr _ (c.covers_next.ensures c.if-covers_next.true))))

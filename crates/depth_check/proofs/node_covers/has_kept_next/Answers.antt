@@ -4,6 +4,7 @@ use Rattle.value_domain.specs.State.{AreWell}
 use Rattle.vd_transfer.specs.Changes.{state_after}
 use Rattle.cfg_recover.specs.RulesHoldOrFail.{HasPoint}
 use Rattle.cfg_recover.proofs.OperationLaws.{same_word}
+use Rattle.depth_check.specs.PointChecks.{point_check_data}
 use Rattle.depth_check.proofs.Deciding.{yes}
 use Rattle.depth_check.proofs.RepeatLaws.{known_covers}
 use Rattle.depth_check.proofs.RuleLaws.{values_well}
@@ -11,23 +12,23 @@ use Rattle.depth_check.proofs.node_covers.has_kept_next.Goals as goal
 
 pub returns-then-eq : goal.returns-then-eq
 returns-then-eq c =
-    let t = c.args.at.now in
-    yes _ (known_covers t.node.now t.point.next c.args.addr t.point.state.now (same_word t.point.next c.args.addr c.eq.result c.eq.ensures c.if-eq.true) c.requires.next)
+    let t = point_check_data c.at.inside in
+    rw (← c.at.view_is) (yes _ (known_covers t.node c.at.inside.point.next c.args.addr t.point.state (same_word c.at.inside.point.next c.args.addr c.eq.result c.eq.ensures c.if-eq.true) c.at.invariant.facts.next))
 
 pub covers_next-requires-clause-hand : goal.covers_next-requires-clause-hand
 covers_next-requires-clause-hand c =
-    let ahead = c.requires.walk in
-    subst (λ (s : State). AreWell s.regs) (sym ahead.current) (values_well c.args.at.now.bounds.now _ c.requires.values)
+    let ahead = c.at.invariant.facts.walk in
+    subst (λ (s : State). AreWell s.regs) (sym ahead.current) (values_well c.at.inside.bounds.now _ c.at.invariant.values)
 
 pub covers_next-requires-clause-changed : goal.covers_next-requires-clause-changed
 covers_next-requires-clause-changed c =
-    let ahead = c.requires.walk in
+    let ahead = c.at.invariant.facts.walk in
     let kept = ap (λ (s : State). state_after s c.keep.new.self) ahead.current ∙ c.keep.ensures.same in
-    subst (λ (s : State). AreWell s.regs) (sym kept) (values_well c.args.at.now.bounds.now _ c.requires.values)
+    subst (λ (s : State). AreWell s.regs) (sym kept) (values_well c.at.inside.bounds.now _ c.at.invariant.values)
 
 pub returns-then-covers_next : goal.returns-then-covers_next
 returns-then-covers_next c =
-    let t = c.args.at.now in
-    let ahead = c.requires.walk in
+    let t = point_check_data c.at.inside in
+    let ahead = c.at.invariant.facts.walk in
     let kept = ap (λ (s : State). state_after s c.keep.new.self) ahead.current ∙ c.keep.ensures.same in
-    rw c.if-covers_next.true (yes _ (subst (λ (s : State). HasPoint t.node.now c.args.addr s) kept (ahead.ahead c.args.addr _ (c.covers_next.ensures c.if-covers_next.true))))
+    rw (c.if-covers_next.true, ← c.at.view_is) (yes _ (subst (λ (s : State). HasPoint t.node c.args.addr s) kept (ahead.ahead c.args.addr _ (c.covers_next.ensures c.if-covers_next.true))))

@@ -5,6 +5,7 @@ use Rattle.value_domain.specs.State.{AreWell, Covers}
 use Rattle.depth_cert.specs.declared.points.Point.{Point}
 use Rattle.depth_cert.specs.Points.{find_point}
 use Rattle.cfg_recover.proofs.OperationLaws.{same_word}
+use Rattle.depth_check.specs.PointChecks.{point_check_data}
 use Rattle.depth_check.proofs.Deciding.{yes}
 use Rattle.depth_check.proofs.RepeatLaws.{known_covers}
 use Rattle.depth_check.proofs.RuleLaws.{values_well}
@@ -12,16 +13,17 @@ use Rattle.depth_check.proofs.node_covers.has_next.Goals as goal
 
 pub returns-then-eq : goal.returns-then-eq
 returns-then-eq c =
-    let t = c.args.at.now in
-    yes _ (known_covers t.node.now t.point.next c.args.addr t.point.state.now (same_word t.point.next c.args.addr c.eq.result c.eq.ensures c.if-eq.true) c.requires.next)
+    let t = point_check_data c.at.inside in
+    rw (← c.at.view_is) (yes _ (known_covers t.node c.at.inside.point.next c.args.addr t.point.state (same_word c.at.inside.point.next c.args.addr c.eq.result c.eq.ensures c.if-eq.true) c.at.invariant.facts.next))
 
 pub covers_at-requires : goal.covers_at-requires
 covers_at-requires c =
-    let ahead = c.requires.walk in
-    subst (λ (s : State). AreWell s.regs) (sym ahead.current) (values_well c.args.at.now.bounds.now _ c.requires.values)
+    let ahead = c.at.invariant.facts.walk in
+    subst (λ (s : State). AreWell s.regs) (sym ahead.current) (values_well c.at.inside.bounds.now _ c.at.invariant.values)
 
 pub returns : goal.returns
 returns c =
-    let ahead = c.requires.walk in
-    subst (λ (s : State). IsTrue c.covers_at.result ↔ IsSomeAnd (find_point c.args.addr c.args.at.now.node.now.points) (λ p. Covers p.state s)) ahead.current
-    (subst (λ (ps : List Point). IsTrue c.covers_at.result ↔ IsSomeAnd (find_point c.args.addr ps) (λ p. Covers p.state c.args.at.now.point.walk.now.current)) ahead.points c.covers_at.ensures)
+    let ahead = c.at.invariant.facts.walk in
+    rw (← c.at.view_is)
+    (subst (λ (s : State). IsTrue c.covers_at.result ↔ IsSomeAnd (find_point c.args.addr c.at.inside.node.now.points) (λ p. Covers p.state s)) ahead.current
+    (subst (λ (ps : List Point). IsTrue c.covers_at.result ↔ IsSomeAnd (find_point c.args.addr ps) (λ p. Covers p.state c.at.inside.point.walk.now.current)) ahead.points c.covers_at.ensures))

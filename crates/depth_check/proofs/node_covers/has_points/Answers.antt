@@ -6,4 +6,4 @@ pub returns-then-not-has_next : goal.returns-then-not-has_next
 returns-then-not-has_next c = no _ (λ all. refuted _ _ c.if-not-has_next.true c.has_next.ensures (all c.loop-t.t-index 0 c.loop-t-test.true))
 
 pub returns : goal.returns
-returns c = yes _ (all_done (λ t. HasPoint c.args.at.now.node.now t c.args.at.now.point.state.now) c.args.targets.now c.loop-t.t-index c.loop-t-test.false c.loop-t.invariant)
+returns c = yes _ (all_done (λ t. HasPoint c.args.at.now.node t c.args.at.now.point.state) c.args.targets.now c.loop-t.t-index c.loop-t-test.false c.loop-t.invariant)

@@ -3,4 +3,4 @@ use Rattle.depth_check.specs.DutiesHold.{HasPoints}
 use Rattle.depth_check.proofs.node_covers.has_points.Given as goal
 
 abbrev pub invariant-loop-t : goal.invariant-loop-t
-invariant-loop-t l = HasPoints l.at.node.now l.at.point.state.now (take l.t-index l.targets)
+invariant-loop-t l = HasPoints l.at.node l.at.point.state (take l.t-index l.targets)

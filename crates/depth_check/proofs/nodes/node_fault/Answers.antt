@@ -1,11 +1,11 @@
-use Rattle.std.proofs.Common.{◌^◌, ◌<◌, ◌≡◌, ◌++◌, ◌∷◌, [], ◌∙◌, length, sym, ap, subst, refl, arith, List, ℕ}
+use Rattle.std.proofs.Common.{Some, ◌^◌, ◌<◌, ◌≡◌, ◌++◌, ◌∷◌, [], ◌∙◌, length, sym, ap, subst, refl, arith, List, ℕ}
 use Rattle.std.specs.Prelude.{IsTrue, ◌↔◌, All}
-use Rattle.std.proofs.lemmas.List.Elements.{All-nil, All-push, All-contains}
+use Rattle.std.proofs.lemmas.List.Elements.{All-nil, All-push}
 use Rattle.std.proofs.lemmas.Bool.{ltb-true}
 use Rattle.std.proofs.lemmas.List.{append-nil}
 use Rattle.value_domain.specs.Limits.{Limits}
 use Rattle.depth_cert.specs.declared.points.Point.{Point}
-use Rattle.depth_cert.specs.Nodes.{NodeData, IsWellNode}
+use Rattle.depth_cert.specs.Nodes.{NodeData}
 use Rattle.cfg_recover.specs.RulesHoldOrFail.{limits_in, HoldsAtEntry, RuleHolds}
 use Rattle.value_domain.specs.State.{AreValues}
 use Rattle.depth_check.specs.declared.nodes.Fault.{Fault}
@@ -14,10 +14,34 @@ use Rattle.depth_check.proofs.InterruptLaws.{interrupts_at, stack_well, stacks_w
 use Rattle.depth_check.proofs.CallLaws.{HoldsNext, next_holds, holds_next}
 use Rattle.depth_check.proofs.Deciding.{refuted}
 use Rattle.depth_check.proofs.RepeatLaws.{walk_facts, known_values}
-use Rattle.depth_check.proofs.NodeLaws.{fault_at, none_at, entry_alone}
+use Rattle.depth_check.proofs.RuleLaws.{values_broken}
+use Rattle.depth_check.proofs.NodeLaws.{fault_at, none_at, broken_at, entry_alone}
 use Rattle.packed_cert.proofs.WalkedPoints.{split_more}
 use Rattle.depth_check.proofs.WalkLaws.{stands_behind}
 use Rattle.depth_check.proofs.nodes.node_fault.Goals as goal
+
+pub are_point_values-requires : goal.are_point_values-requires
+are_point_values-requires c =
+    rw (c.walked_point-here.ensures.state, c.requires.limits)
+    (λ known.
+    let k = c.walked_point-here.ensures.known known in
+    known_values (limits_in c.args.plan.now c.args.cert.now) (c.loop-addr.scratch.walk).current c.step.new.self c.in-Some.ensures.1 (c.loop-addr.invariant.known (ltb-true 0 c.loop-addr.next k.0))
+    (subst (λ (l : Limits). AreValues l c.step.new.self.anew) c.requires.limits k.1))
+
+pub returns-then-not-are_point_values-clause-fault : goal.returns-then-not-are_point_values-clause-fault
+returns-then-not-are_point_values-clause-fault c =
+    let inv = c.loop-addr.invariant in
+    let points = c.args.node.now.points in
+    let p : Point = record { addr = c.in-Some.addr; state = c.step.new.self.current } in
+    let split : points ≡ inv.done ++ (p ∷ c.step.new.self.left) = inv.split ∙ ap (λ (l : List Point). inv.done ++ l) c.in-Some.ensures.0 in
+    let b = stands_behind points inv.done c.step.new.self.left p split in
+    broken_at c.args.image.now c.args.plan.now c.args.cert.now c.args.node.now c.requires.member points refl c.walk.ensures.rising (length inv.done) p c.holds_at_entry-good.result 2 c.earlier_node_fault.result b.within b.here
+    (subst (λ (l : List Point). All (λ (q : Point). (r : ℕ) → RuleHolds c.args.image.now c.args.plan.now c.args.cert.now c.args.node.now q r) l) (sym b.before) inv.all)
+    (values_broken c.args.image.now c.args.plan.now c.args.cert.now c.args.node.now p c.args.b.now c.requires.limits (refuted c.are_point_values.result _ c.if-not-are_point_values.true (rw c.walked_point-here.ensures.state at c.are_point_values.ensures)))
+    c.node_address_limit.ensures
+    (subst (λ (n : NodeData). (n.key).entry < 2 ^ 32) c.node.view_is (omega arith))
+    (subst (λ (l : Limits). IsTrue c.holds_at_entry-good.result ↔ HoldsAtEntry l c.args.node.now) c.requires.limits c.holds_at_entry-good.ensures)
+    (ap (λ (n : NodeData). earlier_node_fault c.holds_at_entry-good.result (n.key).entry c.in-Some.addr (Some 2)) (sym c.node.view_is) ∙ sym c.earlier_node_fault.ensures)
 
 pub returns-in-Some-earlier_node_fault-clause-fault : goal.returns-in-Some-earlier_node_fault-clause-fault
 returns-in-Some-earlier_node_fault-clause-fault c =
@@ -26,15 +50,13 @@ returns-in-Some-earlier_node_fault-clause-fault c =
     let p : Point = record { addr = c.in-Some.addr; state = c.step.new.self.current } in
     let split : points ≡ inv.done ++ (p ∷ c.step.new.self.left) = inv.split ∙ ap (λ (l : List Point). inv.done ++ l) c.in-Some.ensures.0 in
     let b = stands_behind points inv.done c.step.new.self.left p split in
-    let finds =
-    rw (c.new-at.ensures, c.near-hinted.ensures, c.walked_point-here.ensures.addr, c.walked_point-here.ensures.state) at c.broken_by_point-found.ensures.found
-    in
+    let finds = rw (c.near-hinted.ensures, c.walked_point-here.ensures.addr, c.walked_point-here.ensures.state) at c.broken_by_point-found.ensures.found in
     fault_at c.args.image.now c.args.plan.now c.args.cert.now c.args.node.now c.requires.member points refl c.walk.ensures.rising (length inv.done) p c.holds_at_entry-good.result c.broken_by_point-found.result c.in-Some-earlier_node_fault.fault b.within b.here
     (subst (λ (l : List Point). All (λ (q : Point). (r : ℕ) → RuleHolds c.args.image.now c.args.plan.now c.args.cert.now c.args.node.now q r) l) (sym b.before) inv.all)
     finds c.node_address_limit.ensures
     (subst (λ (n : NodeData). (n.key).entry < 2 ^ 32) c.node.view_is (omega arith))
     (subst (λ (l : Limits). IsTrue c.holds_at_entry-good.result ↔ HoldsAtEntry l c.args.node.now) c.requires.limits c.holds_at_entry-good.ensures)
-    (ap (λ (n : NodeData). earlier_node_fault c.holds_at_entry-good.result (n.key).entry c.in-Some.addr c.broken_by_point-found.result) (sym c.node.view_is) ∙ sym c.earlier_node_fault.ensures ∙ c.in-Some-earlier_node_fault.is)
+    (ap (λ (n : NodeData). earlier_node_fault c.holds_at_entry-good.result (n.key).entry c.in-Some.addr c.broken_by_point-found.result) (sym c.node.view_is) ∙ sym c.earlier_node_fault-in-Some.ensures ∙ c.in-Some-earlier_node_fault.is)
 
 pub walked_point-here-requires-clause-stacks : goal.walked_point-here-requires-clause-stacks
 walked_point-here-requires-clause-stacks c = stacks_well c.args.plan.now c.args.cert.now c.loop-addr.scratch.interrupts c.loop-addr.invariant.interrupts
@@ -42,57 +64,25 @@ walked_point-here-requires-clause-stacks c = stacks_well c.args.plan.now c.args.
 pub walked_point-here-requires-clause-stack : goal.walked_point-here-requires-clause-stack
 walked_point-here-requires-clause-stack c =
     let p : Point = record { addr = c.in-Some.addr; state = c.step.new.self.current } in
-    let well : IsWellNode c.args.node.now = All-contains IsWellNode (c.args.cert.now).nodes c.args.node.now c.requires.nodes c.requires.member in
-    stack_well c.args.node.now c.loop-addr.invariant.done c.loop-addr.scratch.walk.left c.step.new.self.left p well c.loop-addr.invariant.split c.in-Some.ensures.0
+    stack_well c.args.node.now c.loop-addr.invariant.done c.loop-addr.scratch.walk.left c.step.new.self.left p c.requires.points c.loop-addr.invariant.split c.in-Some.ensures.0
 
-pub broken_by_point-found-requires-clause-limits : goal.broken_by_point-found-requires-clause-limits
-broken_by_point-found-requires-clause-limits c = rw c.new-at.ensures c.requires.limits
-
-pub broken_by_point-found-requires-clause-again : goal.broken_by_point-found-requires-clause-again
-broken_by_point-found-requires-clause-again c =
+pub invariant_of-at : goal.invariant_of-at
+invariant_of-at c =
     let inv = c.loop-addr.invariant in
     let p : Point = record { addr = c.in-Some.addr; state = c.step.new.self.current } in
-    let facts =
-    walk_facts c.args.plan.now c.args.cert.now c.args.node.now inv.done c.loop-addr.scratch.walk.left c.step.new.self p c.walked_point-here.result c.walk.ensures.rising (c.in-Some.ensures.2 ∙ inv.points) inv.split c.in-Some.ensures.0
-    c.walked_point-here.ensures.state (λ again. c.walked_point-here.ensures.again again c.args.plan.now c.args.cert.now inv.interrupts) c.walked_point-here.ensures.next c.walked_point-here.ensures.walk
-    in
-    rw (c.new-at.ensures, c.near-hinted.ensures) facts.again
-
-pub broken_by_point-found-requires-clause-known : goal.broken_by_point-found-requires-clause-known
-broken_by_point-found-requires-clause-known c =
-    rw (c.new-at.ensures, c.walked_point-here.ensures.state, c.requires.limits)
-    (λ known.
-    let k = c.walked_point-here.ensures.known known in
-    known_values (limits_in c.args.plan.now c.args.cert.now) (c.loop-addr.scratch.walk).current c.step.new.self c.in-Some.ensures.1 (c.loop-addr.invariant.known (ltb-true 0 c.loop-addr.next k.0))
-    (subst (λ (l : Limits). AreValues l c.step.new.self.anew) c.requires.limits k.1))
-
-pub broken_by_point-found-requires-clause-next : goal.broken_by_point-found-requires-clause-next
-broken_by_point-found-requires-clause-next c =
-    let inv = c.loop-addr.invariant in
-    let p : Point = record { addr = c.in-Some.addr; state = c.step.new.self.current } in
-    let facts =
-    walk_facts c.args.plan.now c.args.cert.now c.args.node.now inv.done c.loop-addr.scratch.walk.left c.step.new.self p c.walked_point-here.result c.walk.ensures.rising (c.in-Some.ensures.2 ∙ inv.points) inv.split c.in-Some.ensures.0
-    c.walked_point-here.ensures.state (λ again. c.walked_point-here.ensures.again again c.args.plan.now c.args.cert.now inv.interrupts) c.walked_point-here.ensures.next c.walked_point-here.ensures.walk
-    in
-    rw (c.new-at.ensures, c.near-hinted.ensures) facts.next
-
-pub broken_by_point-found-requires-clause-walk : goal.broken_by_point-found-requires-clause-walk
-broken_by_point-found-requires-clause-walk c =
-    let inv = c.loop-addr.invariant in
-    let p : Point = record { addr = c.in-Some.addr; state = c.step.new.self.current } in
-    let facts =
-    walk_facts c.args.plan.now c.args.cert.now c.args.node.now inv.done c.loop-addr.scratch.walk.left c.step.new.self p c.walked_point-here.result c.walk.ensures.rising (c.in-Some.ensures.2 ∙ inv.points) inv.split c.in-Some.ensures.0
-    c.walked_point-here.ensures.state (λ again. c.walked_point-here.ensures.again again c.args.plan.now c.args.cert.now inv.interrupts) c.walked_point-here.ensures.next c.walked_point-here.ensures.walk
-    in
-    rw (c.new-at.ensures, c.near-hinted.ensures) facts.walk
-
-pub broken_by_point-found-requires-clause-results : goal.broken_by_point-found-requires-clause-results
-broken_by_point-found-requires-clause-results c = rw c.new-at.ensures c.loop-addr.invariant.results
+    rw c.near-hinted.ensures
+    (record {
+      limits = c.requires.limits;
+      values = c.are_point_values.ensures.0 c.if-not-are_point_values.false;
+      facts =
+          walk_facts c.args.plan.now c.args.cert.now c.args.node.now inv.done c.loop-addr.scratch.walk.left c.step.new.self p c.walked_point-here.result c.walk.ensures.rising (c.in-Some.ensures.2 ∙ inv.points) inv.split c.in-Some.ensures.0
+          c.walked_point-here.ensures.state (λ again. c.walked_point-here.ensures.again again c.args.plan.now c.args.cert.now inv.interrupts) c.walked_point-here.ensures.next c.walked_point-here.ensures.walk;
+    })
 
 pub broken_by_point-found-requires-clause-registers : goal.broken_by_point-found-requires-clause-registers
 broken_by_point-found-requires-clause-registers c =
     let p : Point = record { addr = c.in-Some.addr; state = c.step.new.self.current } in
-    rw (c.new-at.ensures, c.near-hinted.ensures, c.walked_point-here.ensures.state)
+    rw (c.near-hinted.ensures, c.walked_point-here.ensures.state)
     (next_holds c.args.plan.now c.args.cert.now c.args.node.now c.loop-addr.scratch.walk.left c.step.new.self.left p c.step.new.self.current c.loop-addr.scratch.point.registers c.loop-addr.invariant.registers c.in-Some.ensures.0 refl)
 
 pub loop-addr-init : goal.loop-addr-init
@@ -112,15 +102,13 @@ loop-addr-preserved c =
     let inv = c.loop-addr.invariant in
     let points = c.args.node.now.points in
     let p : Point = record { addr = c.in-Some.addr; state = c.step.new.self.current } in
-    let finds =
-    rw (c.new-at.ensures, c.near-hinted.ensures, c.walked_point-here.ensures.addr, c.walked_point-here.ensures.state) at c.broken_by_point-found.ensures.found
-    in
-    let told = ap (λ (n : NodeData). earlier_node_fault c.holds_at_entry-good.result (n.key).entry c.in-Some.addr c.broken_by_point-found.result) (sym c.node.view_is) ∙ sym c.earlier_node_fault.ensures ∙ c.in_default-earlier_node_fault.is in
+    let finds = rw (c.near-hinted.ensures, c.walked_point-here.ensures.addr, c.walked_point-here.ensures.state) at c.broken_by_point-found.ensures.found in
+    let told = ap (λ (n : NodeData). earlier_node_fault c.holds_at_entry-good.result (n.key).entry c.in-Some.addr c.broken_by_point-found.result) (sym c.node.view_is) ∙ sym c.earlier_node_fault-in-Some.ensures ∙ c.in_default-earlier_node_fault.is in
     let holds = none_at c.args.image.now c.args.plan.now c.args.cert.now c.args.node.now c.requires.member points refl c.walk.ensures.rising p c.holds_at_entry-good.result c.broken_by_point-found.result told finds in
     let registers : HoldsNext c.args.plan.now c.args.cert.now c.args.node.now c.step.new.self.left c.if_repeated-scratch.result =
     rw c.if_repeated-scratch.ensures
     (holds_next c.args.plan.now c.args.cert.now c.args.node.now c.step.new.self c.step.new.self.current c.walked_point-here.result.next c.broken_by_point-found.new.scratch.registers refl c.walked_point-here.ensures.next
-    (rw (c.new-at.ensures, c.near-hinted.ensures, c.walked_point-here.ensures.state) at c.broken_by_point-found.ensures.registers)) in
+    (rw (c.near-hinted.ensures, c.walked_point-here.ensures.state) at c.broken_by_point-found.ensures.registers)) in
     record {
       done = inv.done ++ p ∷ [];
       split = split_more points inv.done c.loop-addr.scratch.walk.left c.step.new.self.left p inv.split c.in-Some.ensures.0;
@@ -128,73 +116,40 @@ loop-addr-preserved c =
       all = All-push (λ (q : Point). (r : ℕ) → RuleHolds c.args.image.now c.args.plan.now c.args.cert.now c.args.node.now q r) inv.done p inv.all holds;
       known = λ t. (holds 2).values refl;
       interrupts = inv.interrupts;
-      results = rw c.new-at.ensures at c.broken_by_point-found.ensures.results;
+      results = c.broken_by_point-found.ensures.results;
       registers = registers;
     }
-
-pub keep_context-requires-clause-node : goal.keep_context-requires-clause-node
-keep_context-requires-clause-node c = rw c.new-at.ensures c.near-hinted.ensures
-
-pub keep_context-requires-clause-point : goal.keep_context-requires-clause-point
-keep_context-requires-clause-point c =
-    let inv = c.loop-addr.invariant in
-    let points = c.args.node.now.points in
-    let p : Point = record { addr = c.in-Some.addr; state = c.step.new.self.current } in
-    let finds =
-    rw (c.new-at.ensures, c.near-hinted.ensures, c.walked_point-here.ensures.addr, c.walked_point-here.ensures.state) at c.broken_by_point-found.ensures.found
-    in
-    let told = ap (λ (n : NodeData). earlier_node_fault c.holds_at_entry-good.result (n.key).entry c.in-Some.addr c.broken_by_point-found.result) (sym c.node.view_is) ∙ sym c.earlier_node_fault.ensures ∙ c.in_default-earlier_node_fault.is in
-    let holds = none_at c.args.image.now c.args.plan.now c.args.cert.now c.args.node.now c.requires.member points refl c.walk.ensures.rising p c.holds_at_entry-good.result c.broken_by_point-found.result told finds in
-    let facts =
-    walk_facts c.args.plan.now c.args.cert.now c.args.node.now inv.done c.loop-addr.scratch.walk.left c.step.new.self p c.walked_point-here.result c.walk.ensures.rising (c.in-Some.ensures.2 ∙ inv.points) inv.split c.in-Some.ensures.0
-    c.walked_point-here.ensures.state (λ again. c.walked_point-here.ensures.again again c.args.plan.now c.args.cert.now inv.interrupts) c.walked_point-here.ensures.next c.walked_point-here.ensures.walk
-    in
-    rw (c.new-at.ensures, c.near-hinted.ensures)
-    (record {
-      limits = c.requires.limits;
-      values = rw (c.walked_point-here.ensures.state, c.requires.limits) ((holds 2).values refl);
-      again = facts.again;
-      next = facts.next;
-      walk = facts.walk;
-    })
 
 pub keep_context-requires-clause-holds : goal.keep_context-requires-clause-holds
 keep_context-requires-clause-holds c =
     let inv = c.loop-addr.invariant in
     let points = c.args.node.now.points in
     let p : Point = record { addr = c.in-Some.addr; state = c.step.new.self.current } in
-    let finds =
-    rw (c.new-at.ensures, c.near-hinted.ensures, c.walked_point-here.ensures.addr, c.walked_point-here.ensures.state) at c.broken_by_point-found.ensures.found
-    in
-    let told = ap (λ (n : NodeData). earlier_node_fault c.holds_at_entry-good.result (n.key).entry c.in-Some.addr c.broken_by_point-found.result) (sym c.node.view_is) ∙ sym c.earlier_node_fault.ensures ∙ c.in_default-earlier_node_fault.is in
+    let finds = rw (c.near-hinted.ensures, c.walked_point-here.ensures.addr, c.walked_point-here.ensures.state) at c.broken_by_point-found.ensures.found in
+    let told = ap (λ (n : NodeData). earlier_node_fault c.holds_at_entry-good.result (n.key).entry c.in-Some.addr c.broken_by_point-found.result) (sym c.node.view_is) ∙ sym c.earlier_node_fault-in-Some.ensures ∙ c.in_default-earlier_node_fault.is in
     let holds = none_at c.args.image.now c.args.plan.now c.args.cert.now c.args.node.now c.requires.member points refl c.walk.ensures.rising p c.holds_at_entry-good.result c.broken_by_point-found.result told finds in
-    rw (c.new-at.ensures, c.walked_point-here.ensures.state) (interrupts_at c.args.image.now c.args.plan.now c.args.cert.now c.args.node.now p holds)
-
-pub keep_context-requires-clause-interrupts : goal.keep_context-requires-clause-interrupts
-keep_context-requires-clause-interrupts c = rw c.new-at.ensures c.loop-addr.invariant.interrupts
+    rw (c.near-hinted.ensures, c.walked_point-here.ensures.state) (interrupts_at c.args.image.now c.args.plan.now c.args.cert.now c.args.node.now p holds)
 
 pub loop-addr-preserved-then-is_checked : goal.loop-addr-preserved-then-is_checked
 loop-addr-preserved-then-is_checked c =
     let inv = c.loop-addr.invariant in
     let points = c.args.node.now.points in
     let p : Point = record { addr = c.in-Some.addr; state = c.step.new.self.current } in
-    let finds =
-    rw (c.new-at.ensures, c.near-hinted.ensures, c.walked_point-here.ensures.addr, c.walked_point-here.ensures.state) at c.broken_by_point-found.ensures.found
-    in
-    let told = ap (λ (n : NodeData). earlier_node_fault c.holds_at_entry-good.result (n.key).entry c.in-Some.addr c.broken_by_point-found.result) (sym c.node.view_is) ∙ sym c.earlier_node_fault.ensures ∙ c.in_default-earlier_node_fault.is in
+    let finds = rw (c.near-hinted.ensures, c.walked_point-here.ensures.addr, c.walked_point-here.ensures.state) at c.broken_by_point-found.ensures.found in
+    let told = ap (λ (n : NodeData). earlier_node_fault c.holds_at_entry-good.result (n.key).entry c.in-Some.addr c.broken_by_point-found.result) (sym c.node.view_is) ∙ sym c.earlier_node_fault-in-Some.ensures ∙ c.in_default-earlier_node_fault.is in
     let holds = none_at c.args.image.now c.args.plan.now c.args.cert.now c.args.node.now c.requires.member points refl c.walk.ensures.rising p c.holds_at_entry-good.result c.broken_by_point-found.result told finds in
     let registers : HoldsNext c.args.plan.now c.args.cert.now c.args.node.now c.step.new.self.left c.if_repeated-scratch.result =
     rw c.if_repeated-scratch.ensures
     (holds_next c.args.plan.now c.args.cert.now c.args.node.now c.step.new.self c.step.new.self.current c.walked_point-here.result.next c.broken_by_point-found.new.scratch.registers refl c.walked_point-here.ensures.next
-    (rw (c.new-at.ensures, c.near-hinted.ensures, c.walked_point-here.ensures.state) at c.broken_by_point-found.ensures.registers)) in
+    (rw (c.near-hinted.ensures, c.walked_point-here.ensures.state) at c.broken_by_point-found.ensures.registers)) in
     record {
       done = inv.done ++ p ∷ [];
       split = split_more points inv.done c.loop-addr.scratch.walk.left c.step.new.self.left p inv.split c.in-Some.ensures.0;
       points = c.in-Some.ensures.2 ∙ inv.points;
       all = All-push (λ (q : Point). (r : ℕ) → RuleHolds c.args.image.now c.args.plan.now c.args.cert.now c.args.node.now q r) inv.done p inv.all holds;
       known = λ t. (holds 2).values refl;
-      interrupts = rw c.new-at.ensures at c.keep_context.ensures;
-      results = rw c.new-at.ensures at c.broken_by_point-found.ensures.results;
+      interrupts = c.keep_context.ensures;
+      results = c.broken_by_point-found.ensures.results;
       registers = registers;
     }
 

@@ -1,27 +1,24 @@
-use Rattle.depth_check.specs.PointChecks.{point_here}
-use Rattle.depth_check.proofs.Deciding.{refuted}
-use Rattle.depth_check.proofs.RuleLaws.{values_broken}
+use Rattle.std.proofs.Common.{subst}
+use Rattle.value_domain.specs.Limits.{Limits}
+use Rattle.value_domain.specs.State.{AreValues}
+use Rattle.cfg_recover.specs.RulesHoldOrFail.{limits_in}
+use Rattle.depth_check.specs.LeastBroken.{lesser_broken_rule}
+use Rattle.depth_check.proofs.IdleLaws.{idle_faultless, idle_found}
+use Rattle.depth_check.proofs.RuleLaws.{duties_found}
 use Rattle.depth_check.proofs.points.broken_by_point.Goals as goal
 
-pub returns-then-not-are_point_values-clause-found : goal.returns-then-not-are_point_values-clause-found
-returns-then-not-are_point_values-clause-found c =
+pub returns-clause-found : goal.returns-clause-found
+returns-clause-found c =
     let t = c.args.at.now in
-    values_broken t.image.now t.plan.now t.cert.now t.node.now (point_here t.point) t.bounds.now c.requires.limits (refuted c.are_point_values.result _ c.if-not-are_point_values.true c.are_point_values.ensures)
-
-pub broken_on_fast_path-requires-clause-point : goal.broken_on_fast_path-requires-clause-point
-broken_on_fast_path-requires-clause-point c = record {
-  limits = c.requires.limits;
-  values = c.are_point_values.ensures.0 c.if-not-are_point_values.false;
-  again = c.requires.again;
-  next = c.requires.next;
-  walk = c.requires.walk;
-}
-
-pub broken_by_decoded_point-requires-clause-point : goal.broken_by_decoded_point-requires-clause-point
-broken_by_decoded_point-requires-clause-point c = record {
-  limits = c.requires.limits;
-  values = c.are_point_values.ensures.0 c.if-not-are_point_values.false;
-  again = c.requires.again;
-  next = c.requires.next;
-  walk = c.requires.walk;
-}
+    let s = t.point.state in
+    let node = t.node in
+    let p = t.point.addr in
+    let b = limits_in t.plan t.cert in
+    let on = c.in-Some.ensures in
+    rw (c.lesser_broken_rule-2.ensures, c.lesser_broken_rule.ensures, c.rule_unless-need.ensures)
+    (duties_found t.image t.plan t.cert node t.point on.shape on.size
+    (rw (← c.at.view_is) (subst (λ (l : Limits). AreValues l (c.at.inside.point.state.now).regs) c.at.invariant.limits c.at.invariant.values))
+    (idle_faultless b t.image t.plan node.key p s c.in-Some.next on) on.code
+    (lesser_broken_rule c.broken_by_pass-jump.result c.broken_by_interrupts-irqs.result) c.has_own_need.result
+    (idle_found b t.image t.plan t.cert node p s c.in-Some.next on c.broken_by_pass-jump.result c.broken_by_interrupts-irqs.result c.broken_by_pass-jump.ensures c.broken_by_interrupts-irqs.ensures)
+    c.has_own_need.ensures)

@@ -4,25 +4,26 @@ use Rattle.vd_transfer.specs.Changes.{state_after}
 use Rattle.vd_transfer.specs.Branches.{possible_side}
 use Rattle.cfg_recover.specs.Duties.{jump_on}
 use Rattle.depth_check.specs.LeastBroken.{broken_rule_unless, LeastBrokenByDuties}
+use Rattle.depth_check.specs.PointChecks.{point_check_data}
 use Rattle.depth_check.proofs.DutyLaws.{nothing_found, point_found}
 use Rattle.depth_check.proofs.RuleLaws.{values_well}
 use Rattle.depth_check.proofs.successor_rules.broken_by_change.Goals as goal
 
-pub has_changed_next-requires-clause-changed : goal.has_changed_next-requires-clause-changed
-has_changed_next-requires-clause-changed c = values_well c.args.at.now.bounds.now _ c.change_on.ensures.values
+pub has_changed_next-requires : goal.has_changed_next-requires
+has_changed_next-requires c = rw (← c.at.view_is) (values_well c.at.inside.bounds.now _ c.change_on.ensures.values)
 
 pub returns-then-not-change_on : goal.returns-then-not-change_on
 returns-then-not-change_on c =
-    let t = c.args.at.now in
-    let s = t.point.state.now in
+    let t = point_check_data c.at.inside in
+    let s = t.point.state in
     let told = ap (λ (b : Bool). possible_side b (state_after s c.change_on.new.c)) (sym c.if-not-change_on.true) ∙ c.change_on.ensures.refine in
-    subst (λ (o : Option State). LeastBrokenByDuties t (jump_on c.args.to o) None) told (nothing_found t.cert.now t.node.now s)
+    rw (← c.at.view_is) (subst (λ (o : Option State). LeastBrokenByDuties t (jump_on c.args.to o) None) told (nothing_found t.cert t.node s))
 
 pub returns : goal.returns
 returns c =
-    let t = c.args.at.now in
-    let s = t.point.state.now in
+    let t = point_check_data c.at.inside in
+    let s = t.point.state in
     let told = ap (λ (b : Bool). possible_side b (state_after s c.change_on.new.c)) (sym c.if-not-change_on.false) ∙ c.change_on.ensures.refine in
-    rw c.rule_unless.ensures
+    rw (c.rule_unless.ensures, ← c.at.view_is)
     (subst (λ (o : Option State). LeastBrokenByDuties t (jump_on c.args.to o) (broken_rule_unless c.has_changed_next.result 4)) told
-    (point_found t.cert.now t.node.now s (state_after s c.change_on.new.c) c.args.to c.has_changed_next.result c.has_changed_next.ensures))
+    (point_found t.cert t.node s (state_after s c.change_on.new.c) c.args.to c.has_changed_next.result (rw (← c.at.view_is) at c.has_changed_next.ensures)))

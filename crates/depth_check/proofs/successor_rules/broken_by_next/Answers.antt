@@ -3,12 +3,14 @@ use Rattle.tc_machine.specs.Instructions.{machine_address_ahead}
 use Rattle.value_domain.specs.declared.states.State.{State}
 use Rattle.cfg_recover.specs.Duties.{owed, jump, loaded_for_duties}
 use Rattle.depth_check.specs.LeastBroken.{LeastBrokenByDuties}
+use Rattle.depth_check.specs.PointChecks.{point_check_data}
 use Rattle.depth_check.proofs.successor_rules.broken_by_next.Goals as goal
 
 pub returns-then-may_skip_change-clause-found : goal.returns-then-may_skip_change-clause-found
 returns-then-may_skip_change-clause-found c =
-    let t = c.args.at.now in
-    let s = t.point.state.now in
+    let t = point_check_data c.at.inside in
+    let s = t.point.state in
     let shape = c.args.found.now.shape in
-    let same = c.may_skip_change.ensures c.if-may_skip_change.true t.bounds.now t.plan.now s (loaded_for_duties t.bounds.now t.image.now t.plan.now s shape) in
-    subst (λ (u : State). LeastBrokenByDuties t (owed 4 (jump (machine_address_ahead t.point.addr c.args.found.now.size) u) ∷ []) c.broken_by_pass.result) (sym same) c.broken_by_pass.ensures
+    let same = c.may_skip_change.ensures c.if-may_skip_change.true t.bounds t.plan s (loaded_for_duties t.bounds t.image t.plan s shape) in
+    rw (← c.at.view_is)
+    (subst (λ (u : State). LeastBrokenByDuties t (owed 4 (jump (machine_address_ahead t.point.addr c.args.found.now.size) u) ∷ []) c.broken_by_pass.result) (sym same) (rw (← c.at.view_is) at c.broken_by_pass.ensures))

@@ -7,7 +7,7 @@ use Rattle.depth_cert.specs.Nodes.{NodeData, need_of, find_node}
 use Rattle.cfg_recover.specs.Entries.{start_key}
 use Rattle.cfg_recover.specs.RulesHoldOrFail.{HoldsAtNode, IsFirstFault, Accepts}
 use Rattle.depth_check.proofs.Deciding.{all_more, all_done}
-use Rattle.depth_check.proofs.WellLaws.{well_nodes}
+use Rattle.depth_check.proofs.WellLaws.{well_points}
 use Rattle.depth_check.proofs.FirstLaws.{start_first, node_first, need_small}
 use Rattle.depth_check.proofs.verdicts.judge.Goals as goal
 use Rattle.depth_check.proofs.verdicts.judge.Goals.{in-Some-get+in_default-node_fault, in_default-get}
@@ -63,12 +63,12 @@ returns c =
     let entry : (c.args.image.now).entry < 2 ^ 32 = subst (λ (i : ImageData). i.entry < 2 ^ 32) c.image.view_is c.image.invariant.entry in
     (accepts, need ∙ ap need_of (sym found), rw need (need_small c.args.image.now c.args.plan.now c.args.cert.now c.in-Some.start entry c.version.ensures.limits accepts found))
 
-pub node_fault-requires-clause-nodes : goal.node_fault-requires-clause-nodes
-node_fault-requires-clause-nodes c = well_nodes c.args.cert.now c.version.ensures.limits
-
 pub node_fault-requires-clause-member : goal.node_fault-requires-clause-member
 node_fault-requires-clause-member c =
     let nodes = (c.args.cert.now).nodes in
     let node = c.in-Some-get.node in
     let found = sym c.in-Some-get.ensures in
     (c.loop-i.i, slice_get_within nodes c.loop-i.i node found, get_or_from_slice_get nodes c.loop-i.i node node found)
+
+pub node_fault-requires-clause-points : goal.node_fault-requires-clause-points
+node_fault-requires-clause-points c = well_points c.args.cert.now c.in-Some-get.node c.version.ensures.limits (node_fault-requires-clause-member c)
