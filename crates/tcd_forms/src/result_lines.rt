@@ -94,7 +94,7 @@ pub fn certified_line(alloc: Global, need: u32, areas: u32) -> Result<Vec<u8>, N
 pub fn run_line(alloc: Global, events: u32, peak: u32, m: &Machine) -> Result<Vec<u8>, NoMemory>
     ensures { IfOk result (λ line. line.items ≡ run_line events peak m.now) }
 {
-    let mut line = run_line_front(alloc, events, peak)?;
+    let mut line = format!(in alloc; "events {events} peak {peak} ")?.into_bytes();
     append_run_end(&mut line, m.end, m.pc)?;
     Ok(line)
 }
@@ -154,7 +154,7 @@ pub fn refused_task_line(
 {
     let mut line = refused_line(alloc, rule, key, addr)?;
     let _end = line.pop();
-    let text = task_line_end(alloc, u)?;
+    let text = format!(in alloc; " of task {u}\n")?.into_bytes();
     append_to_printed_line(&mut line, &text)?;
     Ok(line)
 }
@@ -167,37 +167,6 @@ pub fn refused_sum_line(alloc: Global, sum: u64, areas: u32) -> Result<Vec<u8>, 
     Ok(format!(in alloc; "refused sum {sum} of {areas} areas\n")?.into_bytes())
 }
 
-/// Returns the digit for the interrupt stack (1: in use) of a key in the line of a result, and the
-/// line feed.
-pub(crate) fn key_stack_digit(is: bool) -> &'static [u8]
-    ensures { result.now ≡ (if is then 49 else 48) ∷ 10 ∷ [] }
-{
-    if is { b"1\n" } else { b"0\n" }
-}
-
-/// Returns the interrupt priority of a key as the line of a result prints it.
-pub(crate) fn key_priority_text(alloc: Global, prio: u8) -> Result<Vec<u8>, NoMemory>
-    ensures { IfOk result (λ text. text.items ≡ codes " prio " ++ (decimal prio ++ codes " is ")) }
-{
-    Ok(format!(in alloc; " prio {prio} is ")?.into_bytes())
-}
-
-/// Returns the end of a result's line on a refused task: its number, and the line feed.
-pub(crate) fn task_line_end(alloc: Global, u: usize) -> Result<Vec<u8>, NoMemory>
-    ensures { IfOk result
-        (λ line. line.items ≡ codes " of task " ++ (decimal u ++ 10 ∷ [])) }
-{
-    Ok(format!(in alloc; " of task {u}\n")?.into_bytes())
-}
-
-// The start of a line on a run.
-fn run_line_front(alloc: Global, events: u32, peak: u32) -> Result<Vec<u8>, NoMemory>
-    ensures { IfOk result (λ line. line.items ≡ codes "events "
-        ++ (decimal events ++ (codes " peak " ++ (decimal peak ++ codes " ")))) }
-{
-    Ok(format!(in alloc; "events {events} peak {peak} ")?.into_bytes())
-}
-
 // Appends whether the machine runs, or the cause and the address of its death, and the line feed.
 #[tactic(auto, unfolding(crate::specs::Lines::run_end_text))]
 fn append_run_end(line: &mut Vec<u8>, end: End, pc: u32) -> Result<(), NoMemory>
@@ -205,20 +174,14 @@ fn append_run_end(line: &mut Vec<u8>, end: End, pc: u32) -> Result<(), NoMemory>
 {
     match end {
         End::Running => append_to_printed_line(line, b"running\n"),
-        End::Dead(cause) => append_run_death(line, cause, pc),
+        End::Dead(cause) => {
+            append_to_printed_line(line, b"dead ")?;
+            append_to_printed_line(line, printed_death_cause(cause))?;
+            append_to_printed_line(line, b" at ")?;
+            append_to_printed_line(line, &hex_word(pc))?;
+            append_to_printed_line(line, b"\n")
+        }
     }
-}
-
-/// Appends that the machine of a run is dead, with the cause and the address, and the line feed.
-fn append_run_death(line: &mut Vec<u8>, cause: Cause, pc: u32) -> Result<(), NoMemory>
-    ensures { OnOk result (line.new.items ≡ line.old.items ++ (codes "dead "
-        ++ (printed_death_cause cause ++ (codes " at " ++ (hex_word pc ++ 10 ∷ []))))) }
-{
-    append_to_printed_line(line, b"dead ")?;
-    append_to_printed_line(line, printed_death_cause(cause))?;
-    append_to_printed_line(line, b" at ")?;
-    append_to_printed_line(line, &hex_word(pc))?;
-    append_to_printed_line(line, b"\n")
 }
 
 /// Returns the word for a cause of death in the printed line on the result of a run.
@@ -252,7 +215,8 @@ fn append_key_to_line(alloc: Global, line: &mut Vec<u8>, key: Key) -> Result<(),
 {
     append_to_printed_line(line, key_kind_text(key.kind).as_bytes())?;
     append_to_printed_line(line, &hex_word(key.entry))?;
-    let prio = key_priority_text(alloc, key.prio)?;
-    append_to_printed_line(line, &prio)?;
-    append_to_printed_line(line, key_stack_digit(key.is))
+    let prio = key.prio;
+    let text = format!(in alloc; " prio {prio} is ")?.into_bytes();
+    append_to_printed_line(line, &text)?;
+    append_to_printed_line(line, if key.is { b"1\n" } else { b"0\n" })
 }
