@@ -1,6 +1,6 @@
 -- Entries of handlers that are covered in two contexts which differ at most in A10 are covered if
 -- both values of A10 are joined.
-use Rattle.std.proofs.Common.{◌≡◌, ℕ, ◌<◌, inl, inr, Bool, true, false, List, length, Some, ap, sym, ◌∙◌, subst, arith, get_or, set, replicate}
+use Rattle.std.proofs.Common.{◌≡◌, ℕ, ◌<◌, inl, inr, Bool, true, false, List, length, Some, sym, ◌∙◌, subst, arith, get_or, set, replicate}
 use Rattle.std.specs.Prelude.{if◌then◌else◌}
 use Rattle.std.proofs.lemmas.Bool.{cases_eq}
 use Rattle.std.proofs.lemmas.List.{get_or-set_same, get_or-set_other, length-replicate}

@@ -1,6 +1,6 @@
 -- From rows to the needs of a table.
-use Rattle.std.proofs.Common.{◌≡◌, ℕ, ◌-◌, ◌<◌, ◌≤◌, List, length, Option, Some, None, subst}
-use Rattle.std.specs.Prelude.{map, slice_index, Result, Ok}
+use Rattle.std.proofs.Common.{◌≡◌, ℕ, ◌-◌, ◌<◌, ◌≤◌, List, length, Option, Some, None, subst, sym}
+use Rattle.std.specs.Prelude.{map, slice_index, Ok}
 use Rattle.std.specs.declared.vec.Vec.{Vec}
 use Rattle.std.specs.declared.alloc.Global.{Global}
 use Rattle.depth_cert.specs.declared.keys.Key.{Key}
@@ -20,20 +20,20 @@ use Rattle.depth_maker.proofs.TableLaws.{derived_well_formed}
 use Rattle.depth_maker.proofs.RowLaws.{above_by, least_by, rows_within}
 use Rattle.frame_places.specs.declared.needs.row.NeedRow.{NeedRow}
 use Rattle.depth_maker.specs.declared.rows.Source.{Source}
-use Rattle.std.specs.declared.alloc.AllocError.{AllocError}
 
 all_well_formed : (s : Source) → IsRowSource s → AllWellFormed (s.ground.now).bounds.now (seen s.table.now).cells
 all_well_formed s source = derived_well_formed _ _ _ (lawful _ _ _ (s.ground.now).sound) (seen s.table.now).cells (source.done).derived
 
-pub source_within : (s : Source) (rows : List NeedRow) → IsRowSource s → RowsOn s.ground.now s.table.now rows → AreRowsWithin rows (length (s.table.now).frames.items)
+pub source_within : (s : Source) (frames : List Key) (rows : List NeedRow) → IsRowSource s → frames ≡ (s.table.now).frames.items → RowsOn s.ground.now s.table.now rows → AreRowsWithin rows (length frames)
 unfolding seen
-source_within s rows source are =
-    rows_within _ _ _ (seen s.table.now).cells (source.done).closed (map place_of_spot (s.table.now).points.items) (s.table.now).frames.items ((source.done).counted).each rows are (all_well_formed s source) ((s.ground.now).sound).limits
+source_within s frames rows source same are =
+    subst (λ (l : List Key). AreRowsWithin rows (length l)) (sym same)
+    (rows_within _ _ _ (seen s.table.now).cells (source.done).closed (map place_of_spot (s.table.now).points.items) (s.table.now).frames.items ((source.done).counted).each rows are (all_well_formed s source) ((s.ground.now).sound).limits)
 
-pub source_needs : (s : Source) (rows : List NeedRow) (cap : ℕ) → IsRowSource s → RowsOn s.ground.now s.table.now rows → cap ≡ ((s.ground.now).plan.now).areas - ((s.ground.now).plan.now).reserve
-    → (r : Result (Option (Vec ℕ Global)) AllocError) (o : Option (Vec ℕ Global)) → r ≡ Ok o → LeastNeeds (length (s.table.now).frames.items) rows cap r → NeedsOn s o
+pub source_needs : (s : Source) (frames : List Key) (rows : List NeedRow) (cap : ℕ) → IsRowSource s → frames ≡ (s.table.now).frames.items → RowsOn s.ground.now s.table.now rows
+    → cap ≡ ((s.ground.now).plan.now).areas - ((s.ground.now).plan.now).reserve → (o : Option (Vec ℕ Global)) → LeastNeeds (length frames) rows cap (Ok o) → NeedsOn s o
 unfolding seen
-source_needs s rows cap source are is r o e h = at o (subst (LeastNeeds (length (s.table.now).frames.items) rows cap) e h) where
+source_needs s frames rows cap source same are is o h = at o (subst (λ (l : List Key). LeastNeeds (length l) rows cap (Ok o)) same h) where
   at : (p : Option (Vec ℕ Global)) → LeastNeeds (length (s.table.now).frames.items) rows cap (Ok p) → NeedsOn s p
   at None none =
       subst (λ (n : ℕ). (need : Key → ℕ) → MeetsNeeds (s.ground.now).bounds.now (s.ground.now).image.now (s.ground.now).plan.now (seen s.table.now).cells need → n < need (start_key (s.ground.now).image.now (s.ground.now).plan.now)) is

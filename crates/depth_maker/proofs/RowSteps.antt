@@ -185,9 +185,11 @@ rows_done s d i le so = record {
       (r.0, r.1, row_of_state s r.0 k p u r.2 at);
 }
 
--- rows in another order
-pub rows_again : (s : Source) (rows new : List NeedRow) → IsPermutation rows new → RowsOn s.ground.now s.table.now rows → RowsOn s.ground.now s.table.now new
-rows_again s rows new same are = record {
-  sound = λ row c. are.sound row (Contains-permutation new rows row (IsPermutation-sym rows new same) c);
-  complete = λ k p u at. let r = are.complete k p u at in (r.0, Contains-permutation rows new r.0 same r.1, r.2);
-}
+-- rows in another order, in a slice
+pub rows_again : (s : Source) (rows new slice : List NeedRow) → slice ≡ new → IsPermutation rows new → RowsOn s.ground.now s.table.now rows → RowsOn s.ground.now s.table.now slice
+rows_again s rows new slice is same are =
+    let there = subst (IsPermutation rows) (sym is) same in
+    record {
+      sound = λ row c. are.sound row (Contains-permutation slice rows row (IsPermutation-sym rows slice there) c);
+      complete = λ k p u at. let r = are.complete k p u at in (r.0, Contains-permutation rows slice r.0 there r.1, r.2);
+    }

@@ -17,7 +17,7 @@ use Rattle.cfg_recover.specs.Entries.{start_key}
 use Rattle.cfg_recover.specs.RulesHoldOrFail.{Accepts}
 use Rattle.depth_cert.specs.Keys.{same_key}
 use Rattle.cfg_recover.specs.Assignments.{Derived, Closed, IsBelowAt, known_in, point, exit, AllFaultless, Assignment}
-use Rattle.cfg_recover.specs.CertRefusals.{IsLeastAssignment, MeetsNeeds, need}
+use Rattle.cfg_recover.specs.CertRefusals.{IsLeastAssignment, MeetsNeeds}
 use Rattle.depth_cert.specs.Spelling.{bytes_of_cert}
 use Rattle.value_domain.specs.Limits.{Limits}
 

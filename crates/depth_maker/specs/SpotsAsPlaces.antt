@@ -7,7 +7,6 @@ use Rattle.frame_places.specs.PointEntries.{places_at}
 use Rattle.frame_places.specs.declared.ordering.PointEntry.{PointEntry}
 use Rattle.depth_maker.specs.declared.rows.Source.{Source}
 use Rattle.depth_maker.specs.declared.spelling.Ordered.{Ordered}
-use Rattle.depth_cert.specs.declared.points.Point as points
 
 -- a place as the code's type
 abbrev pub spot_of : Place → Spot

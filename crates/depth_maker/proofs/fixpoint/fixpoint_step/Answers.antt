@@ -1,6 +1,8 @@
-use Rattle.std.proofs.Common.{refl, sym, ◌∙◌, ◌≡◌, inr, false}
+use Rattle.std.proofs.Common.{refl, sym, subst, ◌∙◌, ◌≡◌, [], inr, false}
+use Rattle.std.specs.Prelude.{IfSome, IfNone}
 use Rattle.frame_places.specs.declared.places.Mark.TheVariants.{Open}
 use Rattle.frame_places.specs.Marks.{is_queued, mark_for}
+use Rattle.frame_places.specs.Work.{Takes, all_work}
 use Rattle.frame_places.proofs.WorkLemmas.{takes_there}
 use Rattle.depth_maker.specs.declared.table.Table as made
 use Rattle.depth_maker.proofs.Lawful.{lawful}
@@ -9,18 +11,20 @@ use Rattle.depth_maker.proofs.VisitLemmas.{opened, passed_over, same_fine}
 use Rattle.depth_maker.proofs.fixpoint.fixpoint_step.Goals as goal
 
 pub returns-in_default-clause-steps : goal.returns-in_default-clause-steps
-returns-in_default-clause-steps c = (
-  same_fine _ _ _ c.args.table.now _ refl (c.in_default.ensures.empty ∙ sym c.in_default.ensures.none) c.requires.fine,
-  c.requires.none,
-  same_level c.args.table.now _ (λ q. refl) refl refl,
-  c.in_default.ensures.empty,
-)
+returns-in_default-clause-steps c =
+    let none = subst (λ o. IfNone o (all_work c.args.table.now.work ≡ [])) c.in_default.is c.in_ok-number.ensures.none in
+    let empty = subst (λ o. IfNone o (all_work c.pop.new.self ≡ [])) c.in_default.is c.in_ok-number.ensures.empty in (
+      same_fine _ _ _ c.args.table.now _ refl (empty ∙ sym none) c.requires.fine,
+      c.requires.none,
+      same_level c.args.table.now _ (λ q. refl) refl refl,
+      empty,
+    )
 
 pub returns-then-not-has_queued_mark-clause-steps : goal.returns-then-not-has_queued_mark-clause-steps
 returns-then-not-has_queued_mark-clause-steps c =
     let s = c.args.table.now in
     let number = c.in-Some.number in
-    let takes = c.in-Some.ensures.some in
+    let takes = subst (λ o. IfSome o (Takes s.work c.pop.new.self)) c.in-Some.is c.in_ok-number.ensures.some in
     let x = c.requires.fine.listed.known number (takes_there s.work c.pop.new.self number takes) in
     let idle : is_queued (mark_for s.places x.0) ≡ false = sym (c.has_queued_mark.ensures x.0 x.1) ∙ c.if-not-has_queued_mark.true in (
       passed_over _ _ _ s _ x.0 number refl takes x.1 idle c.requires.fine,
@@ -32,7 +36,7 @@ pub fixpoint_visit-requires-clause-fine : goal.fixpoint_visit-requires-clause-fi
 fixpoint_visit-requires-clause-fine c =
     let s = c.args.table.now in
     let number = c.in-Some.number in
-    let takes = c.in-Some.ensures.some in
+    let takes = subst (λ o. IfSome o (Takes s.work c.pop.new.self)) c.in-Some.is c.in_ok-number.ensures.some in
     let x = c.requires.fine.listed.known number (takes_there s.work c.pop.new.self number takes) in
     (opened _ _ _ (lawful _ _ _ c.args.ground.now.sound) s _ x.0 Open (c.begin_visit.ensures x.0 x.1) refl refl refl refl refl c.requires.fine c.requires.none takes x.1).0
 
@@ -40,7 +44,7 @@ pub fixpoint_visit-requires-clause-opened : goal.fixpoint_visit-requires-clause-
 fixpoint_visit-requires-clause-opened c =
     let s = c.args.table.now in
     let number = c.in-Some.number in
-    let takes = c.in-Some.ensures.some in
+    let takes = subst (λ o. IfSome o (Takes s.work c.pop.new.self)) c.in-Some.is c.in_ok-number.ensures.some in
     let x = c.requires.fine.listed.known number (takes_there s.work c.pop.new.self number takes) in
     (x.0, (opened _ _ _ (lawful _ _ _ c.args.ground.now.sound) s _ x.0 Open (c.begin_visit.ensures x.0 x.1) refl refl refl refl refl c.requires.fine c.requires.none takes x.1).1)
 
@@ -48,7 +52,7 @@ pub returns-clause-steps : goal.returns-clause-steps
 returns-clause-steps c =
     let s = c.args.table.now in
     let number = c.in-Some.number in
-    let takes = c.in-Some.ensures.some in
+    let takes = subst (λ o. IfSome o (Takes s.work c.pop.new.self)) c.in-Some.is c.in_ok-number.ensures.some in
     let x = c.requires.fine.listed.known number (takes_there s.work c.pop.new.self number takes) in
     let m = c.begin_visit.ensures x.0 x.1 in
     let o : made.Table = record s { places = c.begin_visit.new.places; work = c.pop.new.self; near = number } in

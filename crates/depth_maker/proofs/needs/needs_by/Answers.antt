@@ -1,11 +1,9 @@
-use Rattle.std.proofs.Common.{subst, sym, refl, ap, ℕ, List, length, Ok, Option, Some, arith}
-use Rattle.std.specs.Prelude.{IfSome}
+use Rattle.std.proofs.Common.{subst, ap, ℕ, List, length, Option, arith}
 use Rattle.std.specs.declared.alloc.Global.{Global}
 use Rattle.std.specs.declared.vec.Vec.{Vec}
 use Rattle.depth_maker.specs.Needs.{NeedsOn}
 use Rattle.depth_maker.specs.Recursing.{IsRecursion}
 use Rattle.depth_cert.specs.declared.keys.Key.{Key}
-use Rattle.frame_places.specs.RowNeeds.{AreRowsWithin, LeastNeeds}
 use Rattle.depth_maker.proofs.CountedLemmas.{few_spots}
 use Rattle.depth_maker.proofs.NeedSteps.{recursion_above, source_within, source_needs}
 use Rattle.depth_maker.proofs.needs.needs_by.Goals as goal
@@ -17,23 +15,16 @@ least_needs-requires-clause-nodes c =
     omega (arith, h, e)
 
 pub least_needs-requires-clause-within : goal.least_needs-requires-clause-within
-least_needs-requires-clause-within c =
-    subst (λ (l : List Key). AreRowsWithin c.args.rows.now (length l)) (sym c.requires.frames) (source_within c.args.source.now c.args.rows.now c.requires.source c.requires.rows)
+least_needs-requires-clause-within c = source_within c.args.source.now c.args.frames.now c.args.rows.now c.requires.source c.requires.frames c.requires.rows
 
 pub returns-in-Some-needs : goal.returns-in-Some-needs
 returns-in-Some-needs c =
-    let h =
-    source_needs c.args.source.now c.args.rows.now c.need_limit-cap.result c.requires.source c.requires.rows c.need_limit-cap.ensures.areas (Ok c.in_ok-needs.needs) c.in_ok-needs.needs refl
-    (subst (λ (l : List Key). LeastNeeds (length l) c.args.rows.now c.need_limit-cap.result (Ok c.in_ok-needs.needs)) c.requires.frames c.in_ok-needs.ensures)
-    in
-    subst (λ (o : Option (Vec ℕ Global)). NeedsOn c.args.source.now o) c.in-Some-needs.is h
+    subst (λ (o : Option (Vec ℕ Global)). NeedsOn c.args.source.now o) c.in-Some-needs.is
+    (source_needs c.args.source.now c.args.frames.now c.args.rows.now c.need_limit-cap.result c.requires.source c.requires.frames c.requires.rows c.need_limit-cap.ensures.areas c.in_ok-needs.needs c.in_ok-needs.ensures)
 
 pub returns-in-None : goal.returns-in-None
 returns-in-None c =
-    let h =
-    source_needs c.args.source.now c.args.rows.now c.need_limit-cap.result c.requires.source c.requires.rows c.need_limit-cap.ensures.areas (Ok c.in_ok-needs.needs) c.in_ok-needs.needs refl
-    (subst (λ (l : List Key). LeastNeeds (length l) c.args.rows.now c.need_limit-cap.result (Ok c.in_ok-needs.needs)) c.requires.frames c.in_ok-needs.ensures)
-    in
+    let h = source_needs c.args.source.now c.args.frames.now c.args.rows.now c.need_limit-cap.result c.requires.source c.requires.frames c.requires.rows c.need_limit-cap.ensures.areas c.in_ok-needs.needs c.in_ok-needs.ensures in
     (subst (λ (o : Option (Vec ℕ Global)). NeedsOn c.args.source.now o) c.in-None.is h, c.requires.recurs)
 
 pub returns-in-Some : goal.returns-in-Some

@@ -1,4 +1,4 @@
-use Rattle.std.proofs.Common.{ap, sym, ◌∙◌, ◌≡◌, Some, arith, subst, ℕ}
+use Rattle.std.proofs.Common.{ap, sym, ◌∙◌, ◌≡◌, arith, subst, ℕ}
 use Rattle.std.proofs.lemmas.Option.{same_Some}
 use Rattle.std.specs.Option.{option_map}
 use Rattle.depth_cert.specs.Known.{Known, state}
