@@ -1,15 +1,21 @@
 -- Nodes found by key.
-use Rattle.std.proofs.Common.{◌≡◌, ℕ, suc, ◌<◌, ◌≤◌, List, [], ◌∷◌, length, map, get_or, true, false, Some, None, refl, sym, ap, ◌∙◌, ltb, eqb, eq-eqb, inl, inr, arith}
-use Rattle.std.specs.Option.{option_map}
+use Rattle.std.proofs.Common.{◌≡◌, Bool, Option, ℕ, suc, ◌<◌, ◌≤◌, List, [], ◌∷◌, length, map, get_or, true, false, Some, None, refl, sym, ap, ◌∙◌, ltb, eqb, eq-eqb, inl, inr, arith}
+use Rattle.std.specs.Option.{option_map, option_eq}
 use Rattle.std.specs.List.{find, All}
 use Rattle.std.specs.List.Sorted.{IsStrictlyIncreasing, IsPartitionPoint}
-use Rattle.std.proofs.lemmas.Bool.{cases_Bool, ne_eqb}
+use Rattle.std.proofs.lemmas.Bool.{cases_Bool, ne_eqb, eqb-true}
+use Rattle.std.proofs.lemmas.Option.{same_Some}
 use Rattle.depth_cert.specs.declared.keys.Key.{Key}
 use Rattle.depth_cert.specs.Keys.{number_of_key}
-use Rattle.depth_cert.specs.Nodes.{find_node}
+use Rattle.depth_cert.specs.declared.points.Point.{Point}
+use Rattle.depth_cert.specs.Points.{find_point}
+use Rattle.depth_cert.specs.Nodes.{NodeData, find_node}
 use Rattle.depth_cert.proofs.FindLaws.{found, missing, missing_end}
 use Rattle.packed_cert.specs.declared.places.NodePlaces.{NodePlaces}
-use Rattle.packed_cert.specs.NodesInBytes.{node_of, nodes_of, HasPlaces}
+use Rattle.packed_cert.specs.declared.places.PointPlace.{PointPlace}
+use Rattle.packed_cert.specs.PointsInBytes.{points_in, point_in, state_in}
+use Rattle.packed_cert.specs.NodesInBytes.{exit_in, node_of, nodes_of, HasPlaces}
+use Rattle.packed_cert.specs.EnteredAlike.{node_state, AreEnteredAlike, IsEnteredAt}
 
 -- finding in the nodes is finding by the numbers that are kept
 find_in : (version : ℕ) (bytes : List ℕ) (k : Key) (ns : List NodePlaces) → All (HasPlaces version bytes) ns → find_node k (nodes_of version bytes ns) ≡ option_map (node_of version bytes) (find (λ n. eqb n.number (number_of_key k)) ns)
@@ -39,3 +45,24 @@ pub node_past : (version : ℕ) (bytes : List ℕ) (k : Key) (i : ℕ) (ns : Lis
 node_past version bytes k i ns all parts end =
     let number : NodePlaces → ℕ = λ n. n.number in
     find_in version bytes k ns all ∙ ap (option_map (node_of version bytes)) (missing_end number ns (number_of_key k) i parts end)
+
+-- ---- nodes that are entered alike
+-- what was found is at the places that were found
+pub entered_at : (version : ℕ) (bytes : List ℕ) (ns : List NodePlaces) (k : Key) (n : NodePlaces) (p : PointPlace) → find_node k (nodes_of version bytes ns) ≡ Some (node_of version bytes n)
+    → find_point k.entry (points_in version bytes n.points.items) ≡ Some (point_in version bytes p) → IsEnteredAt version bytes ns k p.place n.exit
+entered_at version bytes ns k n p found point m is =
+    let same : m ≡ node_of version bytes n = same_Some _ _ (sym is ∙ found) in
+    (ap (node_state k.entry) same ∙ ap (option_map (λ (x : Point). x.state)) point, ap (λ (d : NodeData). d.exit) same)
+
+-- and what is at equal places is equal
+pub entered_alike : (version : ℕ) (bytes : List ℕ) (ns : List NodePlaces) (a b : Key) (x y : ℕ) (e f : Option ℕ) → IsEnteredAt version bytes ns a x e → IsEnteredAt version bytes ns b y f → x ≡ y → e ≡ f → AreEnteredAlike (nodes_of version bytes ns) a b
+entered_alike version bytes ns a b x y e f one two state exit n m is also = (
+  (one n is).0 ∙ ap (λ (p : ℕ). Some (state_in version bytes p)) state ∙ sym (two m also).0,
+  (one n is).1 ∙ ap (option_map (exit_in version bytes)) exit ∙ sym (two m also).1,
+)
+
+pub same_place : (o p : Option ℕ) (b : Bool) → b ≡ option_eq eqb o p → b ≡ true → o ≡ p
+same_place None None b e t = refl
+same_place None (Some y) b e t = absurd (let f : false ≡ true = sym e ∙ t in cc)
+same_place (Some x) None b e t = absurd (let f : false ≡ true = sym e ∙ t in cc)
+same_place (Some x) (Some y) b e t = ap (λ (n : ℕ). Some n) (eqb-true x y (sym e ∙ t))

@@ -7,7 +7,7 @@ use Rattle.tcd_base.specs.Place.{Place, place_between}
 use Rattle.tcd_base.specs.FieldReaders.{u8_at}
 use Rattle.depth_cert.specs.declared.points.Exit.{Exit}
 use Rattle.depth_cert.specs.Keys.{cert_flag_byte}
-use Rattle.depth_cert.specs.Exits.{IsExit}
+use Rattle.depth_cert.specs.Exits.{IsExit, no_exit}
 use Rattle.depth_cert.specs.Grammar.{flag_at, values_at, exit_at}
 use Rattle.depth_cert.specs.Spelling.{bytes_of_value}
 use Rattle.tcd_base.proofs.FieldReads.{bind_ok}
@@ -15,9 +15,9 @@ use Rattle.tcd_base.proofs.PassedLaws.{AreBytes, bytes_from, Passed, passed_byte
 use Rattle.depth_cert.proofs.GrammarLaws.{next, flag_passed, values_passed}
 use Rattle.depth_cert.proofs.WrittenLaws.{IsRead, done, seq, byte, flag, values_read}
 use Rattle.packed_cert.specs.declared.places.ExitPlaces.{ExitPlaces}
-use Rattle.packed_cert.specs.ValuesInBytes.{place_in_bytes}
+use Rattle.packed_cert.specs.ValuesInBytes.{place_in_bytes, read_from_bytes_or}
 use Rattle.packed_cert.specs.RepeatedBytes.{MovesOverRepeated}
-use Rattle.packed_cert.specs.NodesInBytes.{ReadsExit, ExitStands}
+use Rattle.packed_cert.specs.NodesInBytes.{exit_in, ReadsExit, ExitStands}
 use Rattle.packed_cert.proofs.SameBytes.{Small, split, moved}
 
 -- the bytes that spell an exit
@@ -74,17 +74,17 @@ exit_from version bytes x e s small h read =
     }
 
 -- where the same bytes come again, the same exit is read
-pub exit_again : (version n : ℕ) (bytes : List ℕ) (p : ExitPlaces) (c d : Place) → Small bytes → ExitStands version bytes p → c.bytes ≡ bytes → p.start + n ≡ p.end → MovesOverRepeated bytes p.start n c d → ReadsExit version c d
+pub exit_again : (version n : ℕ) (bytes : List ℕ) (p : ExitPlaces) (c d : Place) → Small bytes → ExitStands version bytes p → c.bytes ≡ bytes → p.start + n ≡ p.end → MovesOverRepeated bytes p.start n c d → exit_at version c ≡ Ok (exit_in version bytes p.start, d)
 exit_again version n bytes p c d small h b len m =
     let s : Exit = h.read.0 in
     let from = exit_from version bytes p.start p.end s small (omega (arith, h.order, h.within)) h.read.1 in
     let there : c ≡ place_in_bytes bytes c.place = ap (λ (l : List ℕ). place_in_bytes l c.place) b in
-    let after : place_in_bytes bytes (c.place + n) ≡ d = ap (λ (l : List ℕ). place_in_bytes l (c.place + n)) (sym b) ∙ sym m.0 in (
-      s,
-      ap (exit_at version) there
-          ∙ from.same c.place n len m.1 m.2
-          ∙ ap (λ (q : Place). let r : Result (Exit × Place) FormErr = Ok (s, q) in r) after,
-    )
+    let after : place_in_bytes bytes (c.place + n) ≡ d = ap (λ (l : List ℕ). place_in_bytes l (c.place + n)) (sym b) ∙ sym m.0 in
+    let own : s ≡ exit_in version bytes p.start = sym (ap (read_from_bytes_or no_exit) h.read.1) in
+    ap (exit_at version) there
+    ∙ from.same c.place n len m.1 m.2
+    ∙ ap (λ (q : Place). let r : Result (Exit × Place) FormErr = Ok (s, q) in r) after
+    ∙ ap (λ (x : Exit). let r : Result (Exit × Place) FormErr = Ok (x, d) in r) own
 
 -- what was read stands where it was read
 pub exit_where : (version : ℕ) (bytes : List ℕ) (c d : Place) (p : ExitPlaces) → Small bytes → c.bytes ≡ bytes → d.bytes ≡ bytes → p.start ≡ c.place → p.end ≡ d.place → p.start ≤ length bytes → ReadsExit version c d → ExitStands version bytes p

@@ -3,7 +3,7 @@ use Rattle.std.specs.Prelude.{◌≡◌, ◌≤◌, ◌<◌, ◌⊎◌, slice_in
 use Rattle.value_domain.specs.declared.values.Val.{Val}
 use Rattle.value_domain.specs.Values.{any_val}
 use Rattle.packed_cert.specs.declared.places.ValueRow.{ValueRow}
-use Rattle.packed_cert.specs.ValuesInBytes.{place_after_value, place_after_values}
+use Rattle.packed_cert.specs.ValuesInBytes.{place_after_values}
 
 -- a number is before a row or after it
 abbrev pub IsOutside : ValueRow → ℕ → Type 0

@@ -3,6 +3,7 @@ pub mod ToCover
 pub mod ValuesInBytes
 pub mod Moves
 pub mod NodesInBytes
+pub mod EnteredAlike
 pub mod PointsInBytes
 pub mod RepeatedBytes
 pub mod Walks

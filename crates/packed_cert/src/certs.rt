@@ -1,11 +1,13 @@
 // The type `Cert`: a certificate that stays on the bytes of its file.
-ghost use Rattle.std.specs.Prelude.{◌≡◌, ◌≤◌, ◌<◌, ◌^◌, ℕ, nat_lt, true, false, map, sum_by, length, slice_index, Ok, IfOk, IfErr};
+ghost use Rattle.std.specs.Prelude.{◌≡◌, ◌≤◌, ◌<◌, ◌^◌, ℕ, nat_lt, true, false, map, sum_by, length, slice_index, Ok, IfOk, IfErr, IfSome, IsTrue};
 ghost use Rattle.std.specs.List.{All, slice_get};
 ghost use Rattle.std.specs.List.Sorted.{IsStrictlyIncreasing, IsPartitionPoint};
 ghost use Rattle.depth_cert.specs.Answers.{IsFaultOf};
+ghost use Rattle.packed_cert.specs.NodesInBytes.{HasPlaces};
+ghost use Rattle.packed_cert.specs.EnteredAlike.{IsEnteredAt};
 
 use crate::cert_reader::read_cert_parts;
-use crate::nodes::Node;
+use crate::nodes::{Node, node_point_place};
 use crate::places::NodePlaces;
 use depth_cert::{CertErr, Key, number_of};
 use std::alloc::Global;
@@ -36,6 +38,7 @@ impl Cert {
     ghost use Rattle.depth_cert.specs.Nodes.{find_node, count_points};
     ghost use Rattle.depth_cert.specs.Grammar.{certificate_of};
     ghost use Rattle.depth_cert.specs.Spelling.{bytes_of_cert};
+    ghost use Rattle.packed_cert.specs.EnteredAlike.{AreEnteredAlike};
 
     /// Makes a `Cert`, which keeps the bytes that spell a certificate and the places of its
     /// nodes, or returns the first fault of the bytes.
@@ -107,6 +110,48 @@ impl Cert {
         }
         None
     }
+
+    /// Returns true only if the nodes of two keys have the same state at the keys' entries, and the
+    /// same exit. Their places are compared: what is at equal places is equal.
+    pub fn are_entered_alike(&self, a: &Key, b: &Key) -> bool
+        ensures { IsTrue result → AreEnteredAlike self.now.nodes a.now b.now }
+    {
+        let bytes = self.bytes.as_slice();
+        let nodes = self.nodes.as_slice();
+        let Some(one) = entry_places(bytes, self.version, nodes, a) else {
+            return false;
+        };
+        let Some(two) = entry_places(bytes, self.version, nodes, b) else {
+            return false;
+        };
+        one.0 == two.0 && one.1 == two.1
+    }
+}
+
+/// Returns the places of the state at a key's entry and of the exit of the key's node. `None` if
+/// there is no such node or no point at the entry.
+fn entry_places(
+    bytes: &[u8],
+    version: u8,
+    nodes: &[NodePlaces],
+    key: &Key,
+) -> Option<(u32, Option<u32>)>
+    requires places { All (HasPlaces version bytes.now) nodes.now }
+    requires rising { IsStrictlyIncreasing (map (λ n. n.number) nodes.now) }
+    ensures { IfSome result (λ r. IsEnteredAt version bytes.now nodes.now key.now r.0 r.1) }
+{
+    let number = number_of(key);
+    let at = cert_node_place(nodes, number);
+    if at >= nodes.len() || nodes[at].number != number {
+        return None;
+    }
+    let node = &nodes[at];
+    let points = node.points.as_slice();
+    let first = node_point_place(points, key.entry, 0);
+    if first >= points.len() || points[first].addr != key.entry {
+        return None;
+    }
+    Some((points[first].place, node.exit))
 }
 
 /// A fact for proofs: the bytes of a packed certificate are below 256, as their type says.

@@ -1,6 +1,6 @@
 // The type `ExitAt`: an exit that stays in the bytes of its certificate.
 ghost use Rattle.std.specs.Prelude.{◌≡◌, ◌≤◌, ◌^◌, ◌↔◌, IsTrue, length, Ok, Err, OnOk, IfOk, IfErr, IfSome};
-ghost use Rattle.packed_cert.specs.NodesInBytes.{exit_in, HasExit, ExitStands, ReadsExit};
+ghost use Rattle.packed_cert.specs.NodesInBytes.{exit_in, HasExit, ExitStands};
 ghost use Rattle.std.specs.Option.{option_map};
 ghost use Rattle.tcd_base.specs.FieldReaders.{ReadsField};
 ghost use Rattle.depth_cert.specs.Grammar.{optional_exit_at, exit_at};
@@ -149,34 +149,35 @@ pub(crate) fn read_exit_place(
     if !read_has_exit(c, kind)? {
         return Ok(None);
     }
-    let place = c.place() as u32;
-    read_exit_like(c, bytes, version, room)?;
-    Ok(Some(place))
+    Ok(Some(read_exit_like(c, bytes, version, room)?))
 }
 
-/// Reads an exit into its room. If the bytes of the last one come again, they are passed over.
+/// Reads an exit into its room, and returns its place. If the bytes of the last one come again,
+/// they are passed over, and its place is that of the last one.
 pub(crate) fn read_exit_like(
     c: &mut Cursor<'_>,
     bytes: &[u8],
     version: u8,
     room: &mut ExitRoom,
-) -> Result<(), FormErr>
+) -> Result<u32, FormErr>
     requires short { length c.old.bytes ≤ 2 ^ 30 }
     requires same { c.old.bytes ≡ bytes.now }
     requires last { IfSome room.old.last (ExitStands version bytes.now) }
-    ensures ok { OnOk result (ReadsExit version c.old c.new) }
+    ensures ok { IfOk result (λ p.
+        exit_at version c.old ≡ Ok (exit_in version bytes.now p, c.new)) }
     ensures err { IfErr result (λ e. exit_at version c.old ≡ Err e) }
+    ensures exit { IfOk result (HasExit version bytes.now) }
     ensures last { OnOk result (IfSome room.new.last (ExitStands version bytes.now)) }
     ensures bytes { c.new.bytes ≡ c.old.bytes }
 {
     if let Some(at) = room.last {
         if has_passed_repeated_bytes(c, bytes, at.start, at.end - at.start) {
-            return Ok(());
+            return Ok(at.start as u32);
         }
     }
     let start = c.place();
     read_exit(c, version, &mut room.exit)?;
     let end = c.place();
     room.last = Some(ExitPlaces { start, end });
-    Ok(())
+    Ok(start as u32)
 }

@@ -2,6 +2,7 @@ use Rattle.std.proofs.Common.{◌≡◌, ◌-◌, ◌∙◌, ap, sym, arith}
 use Rattle.tcd_base.specs.Place.{Place}
 use Rattle.depth_cert.specs.Grammar.{exit_at}
 use Rattle.packed_cert.proofs.SameExits.{exit_again, exit_where}
+use Rattle.packed_cert.proofs.NodeReads.{exit_read}
 use Rattle.packed_cert.proofs.exits.read_exit_like.Goals as goal
 use Rattle.packed_cert.proofs.exits.read_exit_like.Goals.{in-Some+else-has_passed_repeated_bytes, in_default}
 
@@ -10,10 +11,21 @@ returns-then-has_passed_repeated_bytes-clause-ok c =
     let stands = rw c.in-Some.is at c.requires.last in
     exit_again c.args.version (c.in-Some.at.end - c.in-Some.at.start) c.args.bytes.now c.in-Some.at c.args.c.now c.has_passed_repeated_bytes.new.c (λ k. (c.type_inv.bytes k).fits) stands c.requires.same (omega (arith, stands.order)) (c.has_passed_repeated_bytes.ensures.moved c.if-has_passed_repeated_bytes.true)
 
+pub returns-then-has_passed_repeated_bytes-clause-exit : goal.returns-then-has_passed_repeated_bytes-clause-exit
+returns-then-has_passed_repeated_bytes-clause-exit c =
+    let stands = rw c.in-Some.is at c.requires.last in
+    (_, stands.read.1)
+
 pub returns-clause-ok : goal.returns-clause-ok
 returns-clause-ok c =
     let same : c.match-room.c ≡ c.args.c.now = elim c.match-room.branch [ in-Some+else-has_passed_repeated_bytes w ↦ w.c-is ∙ w.has_passed_repeated_bytes.ensures.kept w.if-has_passed_repeated_bytes.false | in_default w ↦ w.c-is ] in
-    (c.read_exit.new.out, ap (exit_at c.args.version) (sym same) ∙ c.in_ok-read_exit.ensures.ok)
+    let here = exit_read c.args.version c.args.bytes.now c.match-room.c c.place-start.result _ _ (ap (λ (p : Place). p.bytes) same ∙ c.requires.same) c.place-start.ensures.place c.in_ok-read_exit.ensures.ok in
+    rw here.0 (ap (exit_at c.args.version) (sym same) ∙ c.in_ok-read_exit.ensures.ok)
+
+pub returns-clause-exit : goal.returns-clause-exit
+returns-clause-exit c =
+    let same : c.match-room.c ≡ c.args.c.now = elim c.match-room.branch [ in-Some+else-has_passed_repeated_bytes w ↦ w.c-is ∙ w.has_passed_repeated_bytes.ensures.kept w.if-has_passed_repeated_bytes.false | in_default w ↦ w.c-is ] in
+    (exit_read c.args.version c.args.bytes.now c.match-room.c c.place-start.result _ _ (ap (λ (p : Place). p.bytes) same ∙ c.requires.same) c.place-start.ensures.place c.in_ok-read_exit.ensures.ok).1
 
 pub returns-clause-last : goal.returns-clause-last
 returns-clause-last c =

@@ -1,5 +1,5 @@
-use Rattle.std.proofs.Common.{◌≡◌, ◌+◌, subst, ap, arith, ℕ}
-use Rattle.packed_cert.specs.RepeatedBytes.{SameBytesAtPlaces, eight_bytes_at_place}
+use Rattle.std.proofs.Common.{◌≡◌, ◌+◌, subst, arith, ℕ}
+use Rattle.packed_cert.specs.RepeatedBytes.{SameBytesAtPlaces}
 use Rattle.packed_cert.proofs.SameWords.{eight_more}
 use Rattle.packed_cert.proofs.repeated_bytes.is_half_block_repeated.Goals as goal
 
