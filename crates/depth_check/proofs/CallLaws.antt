@@ -1,14 +1,23 @@
 -- Calls and jumps by a register that hold in a state hold at each point that has the state.
-use Rattle.std.proofs.Common.{◌≡◌, ℕ, List, [], ◌∷◌, Option, Some, None, drop, ◌∙◌, sym, ap, subst}
-use Rattle.std.specs.Prelude.{IfSome, IsSomeAnd, unwrap_or}
+use Rattle.std.proofs.Common.{◌≡◌, ◌+◌, ◌≤◌, Bool, true, length, refl, arith, ℕ, List, [], ◌∷◌, Option, Some, None, drop, ◌∙◌, sym, ap, subst}
+use Rattle.std.specs.Prelude.{IfSome, IsSomeAnd, IsTrue, ◌↔◌, unwrap_or}
 use Rattle.std.specs.List.{flat_map}
-use Rattle.std.specs.Option.{option_and}
+use Rattle.std.specs.Option.{option_and, option_map}
 use Rattle.std.proofs.lemmas.List.Elements.{All-nil, All-cons, All-head, All-tail}
 use Rattle.tcd_plan.specs.PlanData.{PlanData}
 use Rattle.value_domain.specs.declared.states.State.{State}
 use Rattle.value_domain.specs.State.{Covers}
 use Rattle.vd_transfer.specs.Registers.{reg_of}
+use Rattle.vd_transfer.specs.declared.change.Change.{Change}
+use Rattle.vd_transfer.specs.Changes.{state_after}
 use Rattle.depth_cert.specs.declared.keys.Key.{Key}
+use Rattle.depth_cert.specs.Keys.{call_kind}
+use Rattle.depth_cert.specs.Points.{find_point}
+use Rattle.packed_cert.specs.EnteredAlike.{node_state, AreEnteredAlike}
+use Rattle.depth_check.specs.PointCheckData.{PointCheckData}
+use Rattle.depth_check.specs.LeastBroken.{LeastBrokenByDuties, lesser_broken_rule, broken_rule_unless}
+use Rattle.depth_check.proofs.Deciding.{yes}
+use Rattle.depth_check.proofs.DutyLaws.{entry_found}
 use Rattle.depth_cert.specs.declared.points.Exit.{Exit}
 use Rattle.depth_cert.specs.declared.points.Point.{Point}
 use Rattle.depth_cert.specs.Exits.{state_after_exit}
@@ -20,7 +29,7 @@ use Rattle.cfg_recover.specs.LocalRules.{targets_named_by}
 use Rattle.cfg_recover.specs.Duties.{Owed, owed, enter, resume, entered_and_back}
 use Rattle.packed_cert.specs.Walks.{WalkData, RepeatsAt}
 use Rattle.depth_check.specs.declared.fast_paths.CheckedRegisters.{CheckedRegisters}
-use Rattle.depth_check.specs.CheckedRegisters.{calls_by, RegisterCallsHold, RegistersHold}
+use Rattle.depth_check.specs.CheckedRegisters.{calls_by, RegisterCallsHold, RegistersHold, IsHeldCall}
 use Rattle.depth_check.specs.DutiesHold.{HasPointWithState, DutyHolds, DutiesHold}
 
 -- points with the same state cover the same states
@@ -85,3 +94,40 @@ pub holds_next : (plan : PlanData) (cert : CertData) (node : NodeData) (w : Walk
 holds_next plan cert node w s None rs e f h = λ p after split. record { called = tt; jumped = tt }
 holds_next plan cert node w s (Some a) rs e f h = λ p after split.
     subst (λ (t : State). RegistersHold plan cert node t rs) (e ∙ ap (λ (q : Point). q.state) (first_same (record { addr = a; state = w.current }) p (drop 1 w.left) after (sym f ∙ split))) h
+
+-- ---- nodes that are entered alike
+state_covers : (a b : ℕ) (n m : NodeData) (t : State) → node_state a n ≡ node_state b m → HasPoint n a t → HasPoint m b t
+state_covers a b n m t e h = covers (find_point b m.points) (subst (λ (o : Option State). IsSomeAnd o (λ s. Covers s t)) e (states (find_point a n.points) h))
+  where
+    states : (o : Option Point) → IsSomeAnd o (λ p. Covers p.state t) → IsSomeAnd (option_map (λ p. p.state) o) (λ s. Covers s t)
+    states None h = absurd h
+    states (Some p) h = h
+
+    covers : (o : Option Point) → IsSomeAnd (option_map (λ p. p.state) o) (λ s. Covers s t) → IsSomeAnd o (λ p. Covers p.state t)
+    covers None h = absurd h
+    covers (Some p) h = h
+
+-- what a call asks of the called node, if the call of another node holds that is entered alike
+met_alike : (cert : CertData) (node : NodeData) (s t : State) (h k : Key) (back : ℕ) (m : NodeData) (o : Option NodeData) → h.kind ≡ k.kind → AreEnteredAlike cert.nodes h k → find_node k cert.nodes ≡ Some m → find_node h cert.nodes ≡ o
+    → IsSomeAnd o (λ n. HasPoint n h.entry t) → IfSome o (λ n. IfSome n.exit (λ x. HasPoint node back (state_after_exit s x h.kind))) → HasPoint m k.entry t × IfSome m.exit (λ x. HasPoint node back (state_after_exit s x k.kind))
+met_alike cert node s t h k back m None kind alike found other into on = absurd into
+met_alike cert node s t h k back m (Some n) kind alike found other into on =
+    let same = alike n m other found in (
+      state_covers h.entry k.entry n m t same.0 into,
+      subst (λ (d : ℕ). IfSome m.exit (λ x. HasPoint node back (state_after_exit s x d))) kind (subst (λ (e : Option Exit). IfSome e (λ x. HasPoint node back (state_after_exit s x h.kind))) same.1 on),
+    )
+
+lesser_none : (o : Option ℕ) → lesser_broken_rule o None ≡ o
+lesser_none None = refl
+lesser_none (Some r) = refl
+
+-- so only its need is asked
+pub alike_found : (at : PointCheckData) (entry : Change) (h k : Key) (back : ℕ) (m : NodeData) (need : Bool) → k.kind ≡ call_kind → IsHeldCall at entry back h → AreEnteredAlike (at.cert).nodes h k → find_node k (at.cert).nodes ≡ Some m
+    → (IsTrue need ↔ (length (at.point.state).locals.items + 1 + m.need ≤ (at.node).need)) → LeastBrokenByDuties at (entered_and_back 5 k (state_after at.point.state entry) back) (broken_rule_unless need 14)
+alike_found at entry h k back m need kind held alike found d =
+    let t = state_after at.point.state entry in
+    let holds = DutyHolds at.cert at.node at.point.state in
+    let into = (All-head (holds 5) (owed 5 (enter h t)) (owed 4 (resume h back) ∷ []) (held.holds 5)).met refl in
+    let on = (All-head (holds 4) (owed 4 (resume h back)) [] (All-tail (holds 4) (owed 5 (enter h t)) (owed 4 (resume h back) ∷ []) (held.holds 4))).met refl in
+    let both = met_alike at.cert at.node at.point.state t h k back m (find_node h (at.cert).nodes) (held.kind ∙ sym kind) alike found refl into on in
+    rw (lesser_none (broken_rule_unless need 14)) at (entry_found at.cert at.node at.point.state 5 k t (Some back) m true need true found (omega arith) (yes _ both.0) d (yes _ both.1))

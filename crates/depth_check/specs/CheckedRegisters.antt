@@ -1,10 +1,13 @@
 -- Calls and jumps by a register that hold in a state, so that they aren't checked again.
-use Rattle.std.specs.Prelude.{ℕ, [], List, Option, IfSome, unwrap_or}
+use Rattle.std.specs.Prelude.{◌≡◌, ℕ, [], List, Option, IfSome, unwrap_or}
 use Rattle.std.specs.List.{flat_map}
 use Rattle.tcd_plan.specs.PlanData.{PlanData}
 use Rattle.value_domain.specs.declared.states.State.{State}
 use Rattle.vd_transfer.specs.Registers.{reg_of}
+use Rattle.vd_transfer.specs.declared.change.Change.{Change}
+use Rattle.vd_transfer.specs.Changes.{state_after}
 use Rattle.depth_cert.specs.declared.keys.Key.{Key}
+use Rattle.depth_cert.specs.Keys.{call_kind}
 use Rattle.depth_cert.specs.Nodes.{NodeData}
 use Rattle.depth_cert.specs.Certs.{CertData}
 use Rattle.cfg_recover.specs.Entries.{call_key, call_entry}
@@ -43,3 +46,9 @@ RegisterCallsHoldAt at called = IfSome called (RegisterCallsHold at.plan at.cert
 -- jumps by this register, if there is one, hold in the state of the point that is checked
 abbrev pub RegisterJumpsHoldAt : PointCheckData → Option ℕ → Type 0
 RegisterJumpsHoldAt at jumped = IfSome jumped (RegisterJumpsHold at.plan at.node at.point.state)
+
+-- a call of this key's node holds, which enters it with the changed state and returns to this
+-- address
+pub record IsHeldCall (at : PointCheckData) (entry : Change) (back : ℕ) (key : Key) : Type 0 where
+  pub kind : key.kind ≡ call_kind
+  pub holds : (q : ℕ) → DutiesHold at.cert at.node at.point.state (entered_and_back 5 key (state_after at.point.state entry) back) q

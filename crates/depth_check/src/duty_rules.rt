@@ -1,8 +1,9 @@
 // The rules of the duties of a point: what it enters, its interrupts, and how it leaves the node.
-ghost use Rattle.std.specs.Prelude.{◌≡◌, length, ◌≤◌, ◌↔◌, IsTrue, ◌+◌, [], ◌∷◌, unwrap_or};
+ghost use Rattle.std.specs.Prelude.{◌≡◌, length, ◌≤◌, ◌↔◌, IsTrue, IfSome, ◌+◌, [], ◌∷◌, unwrap_or};
 ghost use Rattle.std.specs.List.{flat_map};
 ghost use Rattle.depth_check.specs.LeastBroken.{FindsLeastBroken, LeastBrokenByDuties};
 ghost use Rattle.depth_check.specs.DutiesHold.{GoesOn, LeavingHolds};
+ghost use Rattle.depth_cert.specs.Keys.{call_kind};
 ghost use Rattle.value_domain.specs.State.{AreWell};
 ghost use Rattle.vd_transfer.specs.Changes.{state_after};
 ghost use Rattle.tc_isa.specs.InBounds.{IsShape, IsShapeAccessSize, IsTarget};
@@ -13,7 +14,7 @@ ghost use Rattle.cfg_recover.specs.LocalRules.{targets_of};
 ghost use Rattle.cfg_recover.specs.Duties.{owed, enter, entered_and_back, entries_of, misaligned_at, misaligned_of, interrupts_of, duties_of};
 ghost use Rattle.cfg_recover.specs.FlowDuties.{told_flow_return, told_irqs};
 ghost use Rattle.cfg_recover.specs.SetOperations.{HoldsCachedResults};
-ghost use Rattle.depth_check.specs.CheckedRegisters.{RegisterCallsHoldAt, RegistersHoldAt};
+ghost use Rattle.depth_check.specs.CheckedRegisters.{IsHeldCall, RegisterCallsHoldAt, RegistersHoldAt};
 ghost use Rattle.cfg_recover.specs.Entries as entries;
 ghost use Rattle.cfg_recover.specs.FlowDuties as flows;
 
@@ -245,10 +246,43 @@ fn broken_by_calls(
 {
     let node = at.node;
     let mut found = None;
+    let mut held = None;
     for t in targets {
         let key = entered_key(&node.key, CALL, *t);
-        let one = broken_by_entry(at, NO_FUNCTION, &key, entry, Some(back));
+        let one = broken_by_called(at, &key, entry, back, &mut held);
         found = lesser_broken_rule(found, one);
+    }
+    found
+}
+
+/// The least rule that a call of a key's node breaks. If the call of the key `held` holds and both
+/// nodes have the same entry and exit, only needs are compared. If a call holds, its key is kept.
+fn broken_by_called(
+    at: &PointCheck<'_, '_>,
+    key: &Key,
+    entry: &Change,
+    back: u32,
+    held: &mut Option<Key>,
+) -> Option<u8>
+    requires entry { AreWell (state_after at.now.point.state entry.now).regs }
+    requires kind { key.now.kind ≡ call_kind }
+    requires held { IfSome held.old (IsHeldCall at.now entry.now back) }
+    ensures found { LeastBrokenByDuties at.now
+        (entered_and_back 5 key.now (state_after at.now.point.state entry.now) back) result }
+    ensures held { IfSome held.new (IsHeldCall at.now entry.now back) }
+{
+    if let Some(last) = *held {
+        if at.cert.are_entered_alike(&last, key) {
+            let Some(entered) = at.cert.node(key) else {
+                return Some(NO_FUNCTION);
+            };
+            let has_need = has_need_for_entry(at.node, at.point.state, &entered);
+            return rule_unless(has_need, SMALL_NEED);
+        }
+    }
+    let found = broken_by_entry(at, NO_FUNCTION, key, entry, Some(back));
+    if found.is_none() {
+        *held = Some(*key);
     }
     found
 }

@@ -7,13 +7,19 @@ use Rattle.depth_check.proofs.DutyLaws.{called, entries_more, entries_done}
 use Rattle.depth_check.proofs.duty_rules.broken_by_calls.Goals as goal
 
 pub loop-t-preserved : goal.loop-t-preserved
-loop-t-preserved c =
-    entries_more c.args.at.now.cert c.args.at.now.node c.args.at.now.point.state 5 (c.args.at.now.node).key c.entered_key-key.result (called (state_after c.args.at.now.point.state c.args.entry.now) c.args.targets.now c.args.back) c.args.targets.now c.loop-t.t-index
-    c.loop-t.found c.broken_by_entry-one.result c.lesser_broken_rule-found.result c.loop-t-test.true
-    (rw (← c.at.view_is) (c.entered_key-key.ensures ∙ ap (λ (k : Key). entered_key k 1 (get_or c.args.targets.now c.loop-t.t-index 0)) (ap (λ (n : NodeData). n.key) c.node.view_is)))
-    c.lesser_broken_rule-found.ensures c.loop-t.invariant c.broken_by_entry-one.ensures
+loop-t-preserved c = record {
+  found =
+      entries_more c.args.at.now.cert c.args.at.now.node c.args.at.now.point.state 5 (c.args.at.now.node).key c.entered_key-key.result (called (state_after c.args.at.now.point.state c.args.entry.now) c.args.targets.now c.args.back) c.args.targets.now c.loop-t.t-index
+      c.loop-t.found c.broken_by_called-one.result c.lesser_broken_rule-found.result c.loop-t-test.true
+      (rw (← c.at.view_is) (c.entered_key-key.ensures ∙ ap (λ (k : Key). entered_key k 1 (get_or c.args.targets.now c.loop-t.t-index 0)) (ap (λ (n : NodeData). n.key) c.node.view_is)))
+      c.lesser_broken_rule-found.ensures c.loop-t.invariant.found c.broken_by_called-one.ensures.found;
+  held = c.broken_by_called-one.ensures.held;
+}
 
 pub returns : goal.returns
 returns c =
     entries_done c.args.at.now.cert c.args.at.now.node c.args.at.now.point.state 5 (c.args.at.now.node).key (called (state_after c.args.at.now.point.state c.args.entry.now) c.args.targets.now c.args.back) c.args.targets.now c.loop-t.t-index c.loop-t.found
-    c.loop-t-test.false c.loop-t.invariant
+    c.loop-t-test.false c.loop-t.invariant.found
+
+pub broken_by_called-one-requires-clause-kind : goal.broken_by_called-one-requires-clause-kind
+broken_by_called-one-requires-clause-kind c = ap (λ (k : Key). k.kind) c.entered_key-key.ensures
