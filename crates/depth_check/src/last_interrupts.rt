@@ -1,7 +1,6 @@
 // A fast path: entries of interrupts that hold in one state hold in other states too.
 ghost use Rattle.std.specs.Prelude.{◌≡◌, IfSome, IsTrue, IsSomeAnd, ◌<◌};
 ghost use Rattle.depth_cert.specs.Certs.{CertData};
-ghost use Rattle.cfg_recover.specs.RulesHoldOrFail.{limits_in};
 ghost use Rattle.value_domain.specs.State.{AreValues};
 ghost use Rattle.value_domain.specs.Values.{IsWell, IsValue};
 ghost use Rattle.vd_transfer.specs.Registers.{a10_of};
@@ -72,8 +71,8 @@ impl LastInterrupts {
         }
     }
 
-    /// Keeps the context of a point whose entries hold. This is a function of its own, so that the
-    /// loop over points needs no stack for a value.
+    /// Keeps the context of a point whose entries hold, and drops the older of the two contexts.
+    /// This is a function of its own, so that the loop over points needs no stack for a value.
     #[inline(never)]
     pub(crate) fn keep_context(&mut self, at: &PointCheck<'_, '_>)
         requires holds { InterruptsHold at.now.plan at.now.cert at.now.node at.now.point.state }
@@ -81,18 +80,8 @@ impl LastInterrupts {
         ensures { LastInterruptsHold at.now.plan at.now.cert self.new }
     {
         let sp = common_stack(at, &*self);
-        self.add(at.node, at.point.state, sp);
-    }
-
-    /// Keeps the context of a state with an A10 with which the entries hold. The older of the two
-    /// contexts is dropped.
-    fn add(&mut self, node: &Node<'_>, s: &State, sp: Val)
-        ensures { (plan : PlanData) (cert : CertData) → LastInterruptsHold plan cert self.old
-            → IsValue (limits_in plan cert) sp → InterruptsHoldWith plan cert node.now s.now sp
-            → LastInterruptsHold plan cert self.new }
-    {
         self.before = self.last.take();
-        self.last = Some(InterruptContext::at(node, s, sp));
+        self.last = Some(InterruptContext::at(at.node, at.point.state, sp));
     }
 }
 
