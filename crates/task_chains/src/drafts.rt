@@ -31,7 +31,11 @@ pub(crate) fn draft_of(bytes: &[u8]) -> Result<TasksDraft, TasksErr>
     ensures err { let lines = text_lines bytes.now in
         IfErr result (λ e. (n : ℕ) × (e ≡ BadLine n) × FirstBadTaskLine lines n) }
 {
-    let mut draft = new_tasks_draft();
+    let mut draft = TasksDraft {
+        places: None,
+        list: ArrayVec::new(),
+        eighth: None,
+    };
     let mut number = 0u32;
     let mut rest = bytes;
     'lines: while !rest.is_empty() {
@@ -41,17 +45,6 @@ pub(crate) fn draft_of(bytes: &[u8]) -> Result<TasksDraft, TasksErr>
         rest = behind;
     }
     Ok(draft)
-}
-
-/// Returns the draft before the first line.
-fn new_tasks_draft() -> TasksDraft
-    ensures { IsTasksDraft [] result }
-{
-    TasksDraft {
-        places: None,
-        list: ArrayVec::new(),
-        eighth: None,
-    }
 }
 
 /// Adds what line `number` says, or returns the error of its form.

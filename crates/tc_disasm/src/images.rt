@@ -2,7 +2,7 @@
 ghost use Rattle.std.specs.Prelude.{◌≡◌, ◌++◌, ◌≤◌, ◌+◌, ◌^◌, length, IfOk, OnOk, string_bytes, IsTrue, map};
 ghost use Rattle.std.specs.List.{list_all};
 ghost use Rattle.elf_image.specs.Images.{segment_data, is_segment};
-ghost use Rattle.tc_disasm.specs.Listing.{section_line, section_text, listing_sections_from, listing_of};
+ghost use Rattle.tc_disasm.specs.Listing.{section_text, listing_sections_from, listing_of};
 ghost use Rattle.tc_disasm.specs.LentSegments.{lent_segment_data};
 
 use crate::lines::append_lines;
@@ -46,26 +46,17 @@ fn append_sections(text: &mut String, segments: &[&Segment]) -> Result<(), NoMem
 }
 
 /// Appends a section of the listing: its first line, and the lines of the segment's bytes.
-#[tactic(auto, unfolding(crate::specs::Listing::section_text))]
+#[tactic(auto, unfolding(crate::specs::Listing::section_text, crate::specs::Listing::section_line))]
 fn append_section(text: &mut String, number: u32, segment: &Segment) -> Result<(), NoMemory>
     requires { segment.now.at + length segment.now.bytes.items ≤ 2 ^ 32 }
     ensures { OnOk result
         (string_bytes text.new
         ≡ string_bytes text.old ++ section_text number (segment_data segment.now)) }
 {
-    append_section_line(text, number, segment.at)?;
-    append_lines(text, segment.at, &segment.bytes)
-}
-
-// Appends the line that begins a section.
-#[tactic(auto, unfolding(crate::specs::Listing::section_line))]
-fn append_section_line(text: &mut String, number: u32, address: u32) -> Result<(), NoMemory>
-    ensures { OnOk result
-        (string_bytes text.new ≡ string_bytes text.old ++ section_line number address) }
-{
     append_listing_text(text, ".section s")?;
     append_listing_decimal(text, number)?;
     append_listing_text(text, " # ")?;
-    append_hex_word(text, address)?;
-    append_listing_text(text, "\n")
+    append_hex_word(text, segment.at)?;
+    append_listing_text(text, "\n")?;
+    append_lines(text, segment.at, &segment.bytes)
 }

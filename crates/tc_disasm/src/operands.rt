@@ -5,7 +5,7 @@ ghost use Rattle.tc_isa.specs.InBounds.{IsBelow};
 ghost use Rattle.tc_isa.specs.FromFields.{code_address_in_constant};
 ghost use Rattle.tc_stmt.specs.declared.want.Want.TheVariants.{Memory};
 ghost use Rattle.tc_stmt.specs.RowFields.{field_of};
-ghost use Rattle.tc_disasm.specs.Texts.{register_text, number_text, target_text, absolute_operand_address, absolute_text, base_text, operand_text, operands_text};
+ghost use Rattle.tc_disasm.specs.Texts.{register_text, number_text, target_text, absolute_operand_address, absolute_text, operand_text, operands_text};
 ghost use Rattle.tc_stmt.specs.Displacements.{is_two_way};
 ghost use Rattle.std.specs.List.{flat_map};
 
@@ -131,8 +131,9 @@ fn append_absolute(text: &mut String, form: Form, f: &Fields) -> Result<(), NoMe
     append_hex_word(text, absolute_operand_address(form, f))
 }
 
-/// Appends a memory operand: its base register, and its offset if the row has one.
-#[tactic(auto, unfolding(crate::specs::Texts::operand_text))]
+/// Appends a memory operand: its base register, `[aN]` or `[aN+]`, and its offset if the row has
+/// one.
+#[tactic(auto, unfolding(crate::specs::Texts::operand_text, crate::specs::Texts::base_text))]
 fn append_memory(
     text: &mut String,
     form: Form,
@@ -145,7 +146,9 @@ fn append_memory(
         (string_bytes text.new
         ≡ string_bytes text.old ++ operand_text form f.now (Memory plus offset)) }
 {
-    append_base(text, plus, u32::from(f.s2))?;
+    append_listing_text(text, "[")?;
+    append_register(text, true, u32::from(f.s2))?;
+    append_listing_text(text, if plus { "+]" } else { "]" })?;
     if offset {
         append_number(text, true, bounds_of(form).k, f.k)?;
     }
@@ -188,16 +191,6 @@ fn code_address(f: &Fields) -> u32
     ensures { result ≡ code_address_in_constant f.now }
 {
     f.k / 1_048_576 % 16 * 268_435_456 + f.k % 1_048_576 * 2
-}
-
-/// Appends the base register of a memory operand: `[aN]` or `[aN+]`.
-#[tactic(auto, unfolding(crate::specs::Texts::base_text))]
-fn append_base(text: &mut String, plus: bool, n: u32) -> Result<(), NoMemory>
-    ensures { OnOk result (string_bytes text.new ≡ string_bytes text.old ++ base_text plus n) }
-{
-    append_listing_text(text, "[")?;
-    append_register(text, true, n)?;
-    append_listing_text(text, if plus { "+]" } else { "]" })
 }
 
 /// Appends the texts of all operands after the first one, each after a comma and a blank.

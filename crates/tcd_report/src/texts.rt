@@ -24,22 +24,8 @@ pub(crate) fn append_key(text: &mut String, key: &Key) -> Result<(), NoMemory>
     extend_text(text, key_kind_text(key.kind))?;
     append_hex_word(text, key.entry)?;
     extend_text(text, " prio ")?;
-    append_decimal(text, key.prio)?;
+    let prio = key.prio;
+    write!(text, "{prio}")?;
     extend_text(text, " is ")?;
-    extend_text(text, stack_text(key.is))
-}
-
-/// Appends the priority of a key to the key's text, in decimal.
-fn append_decimal(text: &mut String, n: u8) -> Result<(), NoMemory>
-    ensures { OnOk result (string_bytes text.new ≡ string_bytes text.old ++ decimal n) }
-{
-    write!(text, "{n}")?;
-    Ok(())
-}
-
-/// Returns the digit for the interrupt stack in the text of a key (1: in use).
-fn stack_text(is: bool) -> &'static str
-    ensures { result.now ≡ (if is then 49 else 48) ∷ [] }
-{
-    if is { "1" } else { "0" }
+    extend_text(text, if key.is { "1" } else { "0" })
 }

@@ -1,6 +1,6 @@
 // Lines of a text of cells.
 ghost use Rattle.std.specs.Prelude.{◌≡◌, [], ◌∷◌, IfSome};
-ghost use Rattle.value_cells.specs.CellListText.{cell_of, cell_of_words, cell_of_numbers, IsCellOfLine};
+ghost use Rattle.value_cells.specs.CellListText.{cell_of, cell_of_words, IsCellOfLine};
 
 use crate::Cell;
 use tcd_text::{Words, hex_number, words_in};
@@ -20,8 +20,9 @@ pub(crate) fn cell_in(line: &[u8]) -> Option<Cell>
     }
 }
 
-// Returns the cell of a line's four words, if they have its form.
-#[tactic(auto, unfolding(crate::specs::CellListText::cell_of_words))]
+// Returns the cell of a line's four words, if they have its form: the address is a multiple of 4,
+// and the bounds are in order.
+#[tactic(auto, unfolding(crate::specs::CellListText::cell_of_words, crate::specs::CellListText::cell_of_numbers))]
 fn cell_of_words(word: &[u8], at: &[u8], lo: &[u8], hi: &[u8]) -> Option<Cell>
     ensures cell { result ≡ cell_of_words (word.now ∷ at.now ∷ lo.now ∷ hi.now ∷ []) }
     ensures said { IfSome result IsCellOfLine }
@@ -32,14 +33,6 @@ fn cell_of_words(word: &[u8], at: &[u8], lo: &[u8], hi: &[u8]) -> Option<Cell>
     let at = hex_number(at)?;
     let lo = hex_number(lo)?;
     let hi = hex_number(hi)?;
-    cell_of_numbers(at, lo, hi)
-}
-
-// Returns a cell, if its address is a multiple of 4 and its bounds are in order.
-fn cell_of_numbers(at: u32, lo: u32, hi: u32) -> Option<Cell>
-    ensures cell { result ≡ cell_of_numbers at lo hi }
-    ensures said { IfSome result IsCellOfLine }
-{
     if at % 4 == 0 && lo <= hi {
         Some(Cell { at, lo, hi })
     } else {

@@ -1,6 +1,5 @@
 // The addresses where a point goes on, by the words of its lines.
 ghost use Rattle.std.specs.Prelude.{◌≡◌, OnOk};
-ghost use Rattle.tcd_plan.specs.PlanData.{PlanData};
 ghost use Rattle.tc_isa.specs.InBounds.{IsShape};
 ghost use Rattle.value_domain.specs.State.{AreValues};
 ghost use Rattle.tcd_report.specs.Graphs.{AreEdges};
@@ -10,12 +9,11 @@ ghost use Rattle.depth_cert.specs.Points.{point_of};
 
 use crate::graphs::addresses::{keep_once, sort_once};
 use crate::graphs::entries::{push_called, set_misaligned, set_system_call};
-use crate::graphs::handlers::{Handlers, find_handlers, no_handlers};
+use crate::graphs::handlers::{Handlers, find_handlers};
 use crate::graphs::successors::{add_returns, push_successors};
 use crate::judged::Judged;
 use cfg_recover::Located;
 use depth_cert::Key;
-use std::alloc::Global;
 use tcd_base::NoMemory;
 use value_domain::State;
 
@@ -33,22 +31,6 @@ pub(crate) struct Edges {
     pub(crate) found: Vec<u32>,
     /// Room for return addresses, one for each entered frame that may return.
     pub(crate) returns: Vec<u32>,
-}
-
-/// No addresses.
-pub(crate) fn no_edges(alloc: Global) -> Edges
-    ensures { (plan : PlanData) → KnowsHandlers plan result.irq }
-{
-    Edges {
-        to: Vec::new(alloc),
-        call: Vec::new(alloc),
-        back: Vec::new(alloc),
-        sys: Vec::new(alloc),
-        aln: Vec::new(alloc),
-        irq: no_handlers(alloc),
-        found: Vec::new(alloc),
-        returns: Vec::new(alloc),
-    }
 }
 
 /// Finds the addresses where a point with this instruction goes on.

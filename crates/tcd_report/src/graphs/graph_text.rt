@@ -10,8 +10,8 @@ ghost use Rattle.tcd_report.specs.Judging.{IsJudged};
 ghost use Rattle.tcd_report.specs.Texts.{GrowsBy};
 ghost use Rattle.depth_cert.specs.Points.{point_of};
 
-use crate::graphs::edges::{Edges, find_edges, no_edges};
-use crate::graphs::handlers::set_front;
+use crate::graphs::edges::{Edges, find_edges};
+use crate::graphs::handlers::{no_handlers, set_front};
 use crate::graphs::lines::{
     append_edges, append_leaving, set_node_line_front, set_point_line_front,
 };
@@ -43,7 +43,16 @@ pub(crate) fn empty_graph_text(alloc: Global) -> Drawing
         text: String::new(alloc),
         key_front: String::new(alloc),
         front: String::new(alloc),
-        ways: no_edges(alloc),
+        ways: Edges {
+            to: Vec::new(alloc),
+            call: Vec::new(alloc),
+            back: Vec::new(alloc),
+            sys: Vec::new(alloc),
+            aln: Vec::new(alloc),
+            irq: no_handlers(alloc),
+            found: Vec::new(alloc),
+            returns: Vec::new(alloc),
+        },
     }
 }
 

@@ -41,7 +41,8 @@ pub(crate) fn push_successors(
     let next = addr.wrapping_add(found.size);
     match shape {
         Shape::Branch { by, .. } => {
-            push_sides(all, judged, shape, s, next, addr.wrapping_add(by))
+            push_side(all, judged, shape, s, false, next)?;
+            push_side(all, judged, shape, s, true, addr.wrapping_add(by))
         }
         Shape::Jump { to } => push_targets(all, judged.plan, addr, s, to),
         Shape::Call { .. } | Shape::Ret | Shape::Rfe | Shape::Syscall { .. } | Shape::Mtcr { .. } =>
@@ -93,25 +94,6 @@ pub(crate) fn add_returns(
         Shape::Syscall { .. } => push_return(all, judged.cert, &sys_key(judged.plan, key), back),
         _ => Ok(()),
     }
-}
-
-// Appends the addresses of those sides of a branch that are possible.
-fn push_sides(
-    all: &mut Vec<u32>,
-    judged: &Judged,
-    shape: Shape,
-    s: &State,
-    next: u32,
-    to: u32,
-) -> Result<(), NoMemory>
-    requires shape { IsShape shape }
-    requires values { AreValues judged.now.bounds.now s.now.regs }
-    ensures { let j = judged.now in OnOk result (all.new.items ≡ all.old.items
-        ++ jumped_in (jump_on next (refine_of j.bounds.now j.plan.now shape s.now false)
-        ++ jump_on to (refine_of j.bounds.now j.plan.now shape s.now true))) }
-{
-    push_side(all, judged, shape, s, false, next)?;
-    push_side(all, judged, shape, s, true, to)
 }
 
 // Appends the address of a side of a branch, if that side is possible.
@@ -170,20 +152,10 @@ fn push_return(all: &mut Vec<u32>, cert: &Cert, key: &Key, back: u32) -> Result<
     ensures { OnOk result
         (all.new.items ≡ all.old.items ++ back_by cert.now (resume key.now back)) }
 {
-    if can_node_return(cert, key) {
-        all.push(back)?;
+    if let Some(node) = cert.node(key) {
+        if node.exit().is_some() {
+            all.push(back)?;
+        }
     }
     Ok(())
-}
-
-/// Returns true if the node of this key has an exit, so that the address after the call or system
-/// call that enters it is a successor in the graph.
-fn can_node_return(cert: &Cert, key: &Key) -> bool
-    ensures { result
-        ≡ option_map_or (λ n. is_some n.exit) (find_node key.now cert.now.nodes) false }
-{
-    match cert.node(key) {
-        None => false,
-        Some(node) => node.exit().is_some(),
-    }
 }

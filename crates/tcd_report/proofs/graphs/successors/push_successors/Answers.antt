@@ -5,9 +5,6 @@ use Rattle.tcd_report.specs.Graphs.{jumped_in}
 use Rattle.tcd_report.proofs.GraphLemmas.DutyLists.{jumps_are}
 use Rattle.tcd_report.proofs.graphs.successors.push_successors.Goals as goal
 
-pub returns-in-Branch : goal.returns-in-Branch
-returns-in-Branch c = rw c.in-Branch.is c.push_sides.ensures
-
 pub returns-in-Jump : goal.returns-in-Jump
 returns-in-Jump c =
     rw c.in-Jump.is
