@@ -2,7 +2,6 @@ pub mod BootReports
 pub mod CellcertReports
 pub mod CellsReports
 pub mod CommandLaws
-pub mod DifferentNames
 pub mod FunctionCounts
 pub mod GenReports
 pub mod LinkLaws
