@@ -6,6 +6,7 @@ pub mod FunctionCounts
 pub mod GenReports
 pub mod LinkLaws
 pub mod ShipReports
+pub mod SureCalls
 pub mod Words
 pub mod MakingLaws
 pub mod GraphReports

@@ -6,9 +6,11 @@ mod cert_making;
 mod command;
 mod commands;
 mod distinct_names;
+mod laws;
 mod lines;
 mod own_output;
 mod tools;
 
+pub use laws::sure_call_law;
 pub use tcd_reading::Status;
 pub use tools::tool;
