@@ -304,19 +304,21 @@ own_state b image plan t k p y old fine entry value stands =
     let e = point_state b image plan t k p old.value fine at in
     (e.0, e.1, at ∙ ap (λ (w : Known). Some w) e.1)
 
--- the state that was read there
-pub state_there : (b : Limits) (image : ImageData) (plan : PlanData) (t : made.Table) (k : Key) (p : ℕ) (y : Spot) (old : Marked Known) (u : State) → IsFine b image plan t → slice_get t.places.entries t.near ≡ Some (y, old)
-    → get spot_eq t.places y ≡ Some old → PlaceHasNumber t.places t.near (Point k p) → IsKnownState old.value u → value_for t.places (Point k p) ≡ Some (state u)
-state_there b image plan t k p y old u fine entry value stands read =
-    let e = own_state b image plan t k p y old fine entry value stands in
-    let is : u ≡ e.0 = subst (λ (w : Known). IsKnownState w u) e.1 read in
-    e.2 ∙ ap (λ (w : State). Some (state w)) (sym is)
-
 -- the state of the visited point
 pub visited_at : (b : Limits) (image : ImageData) (plan : PlanData) (laws : AreMakerLaws b image plan) (t : made.Table) (k : Key) (p : ℕ) (u : State) → IsFine b image plan t → PlaceHasNumber t.places t.near (Point k p)
     → value_for t.places (Point k p) ≡ Some (state u) → IsVisited b image plan t k p u
 unfolding seen
 visited_at b image plan laws t k p u fine stands at = record { fine = fine; well_formed = derived_well_formed b image plan laws (seen t).cells (fine.table).derived (point k p) (state u) at; at = λ free. at; stands = stands }
+
+-- the state that was read there
+pub state_read : (b : Limits) (image : ImageData) (plan : PlanData) (laws : AreMakerLaws b image plan) (t : made.Table) (k : Key) (p : ℕ) (y : Spot) (old : Marked Known) (read u : State) → IsFine b image plan t
+    → slice_get t.places.entries t.near ≡ Some (y, old) → get spot_eq t.places y ≡ Some old → PlaceHasNumber t.places t.near (Point k p) → IsKnownState old.value read → u ≡ read
+    → IsVisited b image plan t k p u × (value_for t.places (Point k p) ≡ Some (state u))
+state_read b image plan laws t k p y old read u fine entry value stands known same =
+    let e = own_state b image plan t k p y old fine entry value stands in
+    let is : read ≡ e.0 = subst (λ (w : Known). IsKnownState w read) e.1 known in
+    let at : value_for t.places (Point k p) ≡ Some (state u) = e.2 ∙ ap (λ (w : State). Some (state w)) (sym (same ∙ is)) in
+    (visited_at b image plan laws t k p u fine stands at, at)
 
 -- an exit owes nothing
 pub duties_exit : (b : Limits) (image : ImageData) (plan : PlanData) (s : made.Table) (k : Key) → IsFine b image plan s → VisitJoinsPoint b image plan s s (Exit k)

@@ -22,7 +22,6 @@ use Rattle.frame_places.specs.Marks.{is_queued, mark_for}
 use Rattle.depth_maker.specs.declared.inputs_and_limits.Visit.{Visit}
 use Rattle.depth_maker.specs.Joins.{JoinKeeps}
 use Rattle.depth_maker.specs.declared.table.Table as made
-use Rattle.depth_maker.specs.EnteredFrames.{IsPlainAt}
 
 -- of what the visited point p of frame k owes by its state u, these duties were joined, unless the
 -- point has new work
@@ -118,7 +117,3 @@ resumes_by v back targets = map (λ t. owed 4 (resume (call_key v.key t) back)) 
 -- all duties that the visited point owes are covered
 pub record AllSettledByVisit (b : Limits) (image : ImageData) (plan : PlanData) (t : made.Table) (k : Key) (p : ℕ) (u : State) : Type 0 where
   pub each : (shape : Shape) (n : ℕ) (d : Owed) → IsCode image plan p shape n → Contains (duties_of b image plan k p u shape n) d → Settled (seen t) k p u d.duty
-
--- the visited point owes no entry of a frame by its instruction itself, only by interrupts
-abbrev pub IsPlainBy : Visit → Type 0
-IsPlainBy v = IsPlainAt (v.ground.now).image.now (v.ground.now).plan.now v.addr

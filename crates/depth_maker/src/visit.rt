@@ -6,7 +6,7 @@ ghost use Rattle.depth_cert.specs.Known.{state};
 ghost use Rattle.frame_places.specs.declared.places.Spot.TheVariants.{Point};
 ghost use Rattle.cfg_recover.specs.SetOperations.{HoldsCachedResults};
 ghost use Rattle.depth_maker.specs.EnteredFrames.{IsPlainAt, IsPlainIn};
-ghost use Rattle.depth_maker.specs.VisitDuties.{IsPlainBy, JoinedBy, OwesDutiesOf, duties_by, step_by};
+ghost use Rattle.depth_maker.specs.VisitDuties.{JoinedBy, OwesDutiesOf, duties_by, step_by};
 ghost use Rattle.depth_maker.specs.TableView.{seen};
 ghost use Rattle.depth_maker.specs.Answers.{RefusalIsRight};
 ghost use Rattle.depth_maker.specs.Visits.{VisitJoinsPointOn, VisitedBy};
@@ -30,40 +30,6 @@ use frame_places::{Refusal, Spot};
 use std::alloc::Global;
 use tc_isa::Shape;
 use vd_transfer::Change;
-
-/// Joins what the point owes, or a part of it if the point has new work. Returns true only if its
-/// instruction enters no frame by itself. The change by the instruction is written over `c`, and
-/// results of operations on two sets are in `cache`.
-pub(crate) fn visit_point(
-    alloc: Global,
-    table: &mut Table,
-    v: &Visit,
-    located: &Option<Located>,
-    c: &mut Change,
-    cache: &mut OperationCache,
-) -> Result<bool, Refusal>
-    requires visited { VisitedBy v.now table.old }
-    requires at { (seen table.old).cells (point v.now.key v.now.addr)
-        ≡ Some (state v.now.state.now) }
-    requires code { LocatesCode v.now.ground.now.image.now v.now.ground.now.plan.now
-        v.now.addr located.now }
-    requires shape { IfSome located.now (λ found. IsShape found.shape) }
-    requires results { HoldsCachedResults v.now.ground.now.bounds.now cache.old }
-    ensures ok { OnOk result
-        (VisitJoinsPointOn v.now.ground.now table.old table.new (Point v.now.key v.now.addr)) }
-    ensures plain { IfOk result (λ plain. IsTrue plain → IsPlainBy v.now) }
-    ensures err { IfErr result (RefusalIsRight v.now.ground.now) }
-    ensures results { HoldsCachedResults v.now.ground.now.bounds.now cache.new }
-{
-    let g = v.ground;
-    match check_located(g.bounds, g.plan, &v.key, v.state, located) {
-        Ok(found) => {
-            join_visit_duties(alloc, table, v, found, c, cache)?;
-            Ok(enters_no_frame(g.plan, found.shape))
-        }
-        Err(rule) => Err(Refusal::Fault(rule, Spot::Point(v.key, v.addr))),
-    }
-}
 
 /// Joins what the visited place owes, and returns true only if its instruction enters no frame by
 /// itself. An exit owes nothing. The state of a point may be written over `scratch`, its changes
@@ -153,8 +119,8 @@ fn join_visit_duties(
     join_leavings(alloc, table, v, found.shape)
 }
 
-/// Reads the state of the visited point over `scratch`, and joins what the point owes, as
-/// `visit_point` does.
+/// Reads the state of the visited point over `scratch`, and joins what the point owes, or a part of
+/// it if the point has new work. Returns true only if its instruction enters no frame by itself.
 fn read_and_visit(
     alloc: Global,
     table: &mut Table,
@@ -189,5 +155,12 @@ fn read_and_visit(
         addr: site.addr,
         state: scratch.state.state(),
     };
-    visit_point(alloc, table, &v, site.located, change, cache)
+    let g = v.ground;
+    match check_located(g.bounds, g.plan, &v.key, v.state, site.located) {
+        Ok(found) => {
+            join_visit_duties(alloc, table, &v, found, change, cache)?;
+            Ok(enters_no_frame(g.plan, found.shape))
+        }
+        Err(rule) => Err(Refusal::Fault(rule, Spot::Point(v.key, v.addr))),
+    }
 }
