@@ -18,7 +18,7 @@ use Rattle.depth_maker.specs.SpotsAsPlaces.{spot_of, place_of_spot}
 use Rattle.frame_places.specs.Marks.{is_queued, mark_for}
 use Rattle.frame_places.specs.Numbers.{PlaceHasNumber}
 use Rattle.frame_places.specs.Work.{all_work}
-use Rattle.depth_maker.specs.TableLevels.{level, LevelRises, LevelAdvances}
+use Rattle.depth_maker.specs.TableLevels.{level, LevelAdvances}
 use Rattle.depth_maker.specs.declared.inputs_and_limits.Ground.{Ground}
 use Rattle.depth_maker.specs.declared.inputs_and_limits.Visit.{Visit}
 use Rattle.depth_maker.specs.Joins.{JoinKeeps}
@@ -31,10 +31,6 @@ pub record IsVisitOpenAt (t : made.Table) (x : Spot) : Type 0 where
   pub at : mark_for t.places x ≡ Some Open
   pub only : (q : Spot) → mark_for t.places q ≡ Some Open → q ≡ x
   pub stands : PlaceHasNumber t.places t.near x
-
--- a visit is under way: some place is being visited
-abbrev pub HasVisitOpen : made.Table → Type 0
-HasVisitOpen t = (x : Spot) × IsVisitOpenAt t x
 
 -- between visits: no place is being visited
 abbrev pub NoVisitOpen : made.Table → Type 0
@@ -60,10 +56,6 @@ pub record IsVisited (b : Limits) (image : ImageData) (plan : PlanData) (t : mad
 -- unless the point has new work
 abbrev pub VisitJoinsPointOn : Ground → made.Table → made.Table → Spot → Type 0
 VisitJoinsPointOn g s t x = VisitJoinsPoint g.bounds.now g.image.now g.plan.now s t x
-
--- a visit has ended: no place is being visited, and nothing was queued unless the level rose
-abbrev pub VisitEndsOn : Ground → made.Table → made.Table → Type 0
-VisitEndsOn g s t = TableHolds g t × NoVisitOpen t × LevelRises s t
 
 -- a step: the level rose, or the work list is shorter by one; false if nothing was listed
 abbrev pub VisitStepsOn : Ground → made.Table → made.Table → Result Bool Refusal → Type 0

@@ -1,12 +1,12 @@
 // The worklist algorithm: visits all points with work.
-ghost use Rattle.std.specs.Prelude.{◌≡◌, OnOk, IfOk, IfErr, None};
+ghost use Rattle.std.specs.Prelude.{◌≡◌, IfOk, IfErr, None};
 ghost use Rattle.indexmap.specs.IndexMap.{get};
 ghost use Rattle.frame_places.specs.declared.places.Spot as spots;
 ghost use Rattle.frame_places.specs.Spots.{spot_eq};
 ghost use Rattle.cfg_recover.specs.SetOperations.{HoldsCachedResults};
 ghost use Rattle.depth_maker.specs.TableInvariant.{TableHolds, IsDone};
 ghost use Rattle.depth_maker.specs.Answers.{RefusalIsRight};
-ghost use Rattle.depth_maker.specs.Visits.{VisitEndsOn, HasVisitOpen, NoVisitOpen, VisitStepsOn, VisitTurnsOn};
+ghost use Rattle.depth_maker.specs.Visits.{NoVisitOpen, VisitStepsOn, VisitTurnsOn};
 
 use crate::covered::CoveredEntries;
 use crate::inputs_and_limits::Ground;
@@ -135,27 +135,7 @@ fn fixpoint_step(
     }
     table.near = number;
     begin_visit(&mut table.places, number);
-    fixpoint_visit(alloc, ground, table, scratch, change, cache)?;
-    Ok(true)
-}
-
-/// Visits the place that was taken off the list.
-fn fixpoint_visit(
-    alloc: Global,
-    ground: &Ground,
-    table: &mut Table,
-    scratch: &mut VisitScratch,
-    change: &mut Change,
-    cache: &mut OperationCache,
-) -> Result<(), Refusal>
-    requires fine { TableHolds ground.now table.old }
-    requires opened { HasVisitOpen table.old }
-    requires results { HoldsCachedResults ground.now.bounds.now cache.old }
-    ensures ok { OnOk result (VisitEndsOn ground.now table.old table.new) }
-    ensures err { IfErr result (RefusalIsRight ground.now) }
-    ensures results { HoldsCachedResults ground.now.bounds.now cache.new }
-{
     let plain = visit_place(alloc, ground, table, scratch, change, cache)?;
     end_visit(&mut table.places, table.near, plain);
-    Ok(())
+    Ok(true)
 }
