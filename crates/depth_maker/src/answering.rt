@@ -6,7 +6,6 @@ ghost use Rattle.depth_maker.specs.SpelledCert.{AreSpelledBytes};
 ghost use Rattle.depth_maker.specs.Rows.{IsRowSource};
 ghost use Rattle.depth_maker.specs.TableInvariant.{IsDone};
 ghost use Rattle.depth_maker.specs.declared.answering.MakeErr.TheVariants.{NoMemory};
-ghost use Rattle.frame_places.specs.declared.refusals.Refusal.TheVariants.{Fault};
 
 use crate::fixpoint::least_fixpoint;
 use crate::inputs_and_limits::Ground;
@@ -129,12 +128,19 @@ fn answer_from_table(
 }
 
 /// Returns the refusal for a fault of a derived assignment.
-fn answer_for_refusal(ground: &Ground, refusal: Refusal) -> MakeErr
-    requires { RefusalIsRight ground.now refusal }
-    ensures { Refuses ground.now result }
+fn answer_for_refusal(_ground: &Ground, refusal: Refusal) -> MakeErr
+    requires { RefusalIsRight _ground.now refusal }
+    ensures { Refuses _ground.now result }
 {
     match refusal {
-        Refusal::Fault(rule, place) => answer_for_fault(ground, rule, place),
+        Refusal::Fault(rule, place) => match place {
+            Spot::Point(key, addr) => MakeErr::Refused { rule, key, addr },
+            Spot::Exit(key) => MakeErr::Refused {
+                rule,
+                key,
+                addr: key.entry,
+            },
+        },
         Refusal::NoMemory => MakeErr::NoMemory,
     }
 }
@@ -150,20 +156,5 @@ fn answer_from_source(alloc: Global, source: &Source, version: u8) -> Result<Vec
     match frame_needs(alloc, source)? {
         Ok(needs) => Ok(spelled_cert_bytes(alloc, source, version, needs.as_slice())?),
         Err(place) => Err(needs_error(source, place)),
-    }
-}
-
-/// Returns the refusal for a fault of a derived assignment at a place.
-fn answer_for_fault(_ground: &Ground, rule: u8, place: Spot) -> MakeErr
-    requires { RefusalIsRight _ground.now (Fault rule place) }
-    ensures { Refuses _ground.now result }
-{
-    match place {
-        Spot::Point(key, addr) => MakeErr::Refused { rule, key, addr },
-        Spot::Exit(key) => MakeErr::Refused {
-            rule,
-            key,
-            addr: key.entry,
-        },
     }
 }
