@@ -52,11 +52,11 @@ module _ (s : Source) (marks : List Bool) (k : Key) (ys : List Spot) where
   pub first_none : IsFirstRecursive s marks k [] None
   first_none p c e = absurd (omega (arith, c.1))
 
-  pub first_past : (p q : ℕ) → IsFirstRecursive s marks k ys (Some p) → p ≤ q → IsFirstRecursive s marks k (ys ++ Point k q ∷ []) (Some p)
-  first_past p q h le = (
+  pub first_past : (y : Spot) (p q : ℕ) → y ≡ Point k q → IsFirstRecursive s marks k ys (Some p) → p ≤ q → IsFirstRecursive s marks k (ys ++ y ∷ []) (Some p)
+  first_past y p q is h le = (
     h.0,
     (λ r c e.
-        elim (Contains-push_cases ys (Point k q) (Point k r) c) [
+        elim (Contains-push_cases ys y (Point k r) c) [
           | inl i ↦ h.1 r i e
           | inr same ↦ (let f : q ≡ r = cc in omega arith)
         ]),
@@ -66,22 +66,22 @@ module _ (s : Source) (marks : List Bool) (k : Key) (ys : List Spot) where
   first_other y None h out = λ r c e. elim (Contains-push_cases ys y (Point k r) c) [ inl i ↦ h r i e | inr same ↦ out r same e ]
   first_other y (Some p) h out = (h.0, (λ r c e. elim (Contains-push_cases ys y (Point k r) c) [ inl i ↦ h.1 r i e | inr same ↦ absurd (out r same e) ]))
 
-  pub first_not : (q : ℕ) (first : Option ℕ) → IsFirstRecursive s marks k ys first → (IsRecursiveByMarks s marks k q → ⊥) → IsFirstRecursive s marks k (ys ++ Point k q ∷ []) first
-  first_not q first h out = first_other (Point k q) first h (λ p same e. out (let f : p ≡ q = cc in subst (IsRecursiveByMarks s marks k) f e))
+  pub first_not : (y : Spot) (q : ℕ) (first : Option ℕ) → y ≡ Point k q → IsFirstRecursive s marks k ys first → (IsRecursiveByMarks s marks k q → ⊥) → IsFirstRecursive s marks k (ys ++ y ∷ []) first
+  first_not y q first is h out = first_other y first h (λ p same e. out (let f : p ≡ q = cc in subst (IsRecursiveByMarks s marks k) f e))
 
-  pub first_here : (q : ℕ) (first : Option ℕ) → IsFirstRecursive s marks k ys first → ((p : ℕ) → first ≡ Some p → q < p) → IsRecursiveByMarks s marks k q → IsFirstRecursive s marks k (ys ++ Point k q ∷ []) (Some q)
-  first_here q None h less m = (
+  pub first_here : (y : Spot) (q : ℕ) (first : Option ℕ) → y ≡ Point k q → IsFirstRecursive s marks k ys first → ((p : ℕ) → first ≡ Some p → q < p) → IsRecursiveByMarks s marks k q → IsFirstRecursive s marks k (ys ++ y ∷ []) (Some q)
+  first_here y q None is h less m = (
     m,
     (λ r c e.
-        elim (Contains-push_cases ys (Point k q) (Point k r) c) [
+        elim (Contains-push_cases ys y (Point k r) c) [
           | inl i ↦ absurd (h r i e)
           | inr same ↦ (let f : q ≡ r = cc in omega arith)
         ]),
   )
-  first_here q (Some p) h less m = (
+  first_here y q (Some p) is h less m = (
     m,
     (λ r c e.
-        elim (Contains-push_cases ys (Point k q) (Point k r) c) [
+        elim (Contains-push_cases ys y (Point k r) c) [
           | inl i ↦ (let below = less p refl in let f = h.1 r i e in omega (arith, below, f))
           | inr same ↦ (let f : q ≡ r = cc in omega arith)
         ]),

@@ -1,9 +1,7 @@
 // The first point that enters a frame from which its own is reached.
-ghost use Rattle.std.specs.Prelude.{◌≡◌, ◌↔◌, IsTrue, IfOk, Some};
-ghost use Rattle.frame_places.specs.NodeGraph.{IsFirstRecurring};
-ghost use Rattle.depth_maker.specs.Recursing.{RecursionEdgesOn, IsRecursiveByMarks, IsFirstRecursive, IsFirstRecursiveWith, IsRecursion, recursion_orders_in};
+ghost use Rattle.std.specs.Prelude.{◌≡◌, ◌↔◌, IsTrue, IfOk};
+ghost use Rattle.depth_maker.specs.Recursing.{RecursionEdgesOn, IsRecursiveByMarks, IsFirstRecursive, IsFirstRecursiveWith, IsRecursion};
 ghost use Rattle.depth_maker.specs.Rows.{IsRowSource};
-ghost use Rattle.frame_places.specs.declared.places.Spot.TheVariants.{Point};
 
 use crate::rows::{KnownPoint, Source, point_row};
 use cfg_recover::start_state;
@@ -30,26 +28,9 @@ pub(crate) fn recursion(
     ensures { IfOk result (IsRecursion source.now) }
 {
     let orders = frame_orders(alloc, frames)?;
-    match first_recurring(alloc, orders.as_slice(), edges, ranks)? {
-        None => Ok(None),
-        Some(node) => recursion_in(alloc, source, edges, frames, node),
-    }
-}
-
-/// Returns the first recursive point of the first recursive frame.
-fn recursion_in(
-    alloc: Global,
-    source: &Source,
-    edges: &[FrameEdge],
-    frames: &[Key],
-    node: usize,
-) -> Result<Option<(Key, u32)>, AllocError>
-    requires source { IsRowSource source.now }
-    requires frames { frames.now ≡ source.now.table.now.frames.items }
-    requires edges { RecursionEdgesOn source.now edges.now }
-    requires first { IsFirstRecurring (recursion_orders_in source.now) edges.now (Some node) }
-    ensures { IfOk result (IsRecursion source.now) }
-{
+    let Some(node) = first_recurring(alloc, orders.as_slice(), edges, ranks)? else {
+        return Ok(None);
+    };
     let marks = nodes_reaching(alloc, frames.len(), edges, node)?;
     let key = frames[node];
     let points = source.table.points.as_slice();
@@ -77,7 +58,8 @@ fn first_recursive_address(
     Ok(first)
 }
 
-/// Returns the first address among some places and this one, which may be in any frame.
+/// Returns the first address among some places and this one, which may be in any frame. `first` is
+/// that of the others.
 fn recursive_address_at_place(
     alloc: Global,
     source: &Source,
@@ -89,24 +71,9 @@ fn recursive_address_at_place(
     requires { IsRowSource source.now }
     ensures { IfOk result (IsFirstRecursiveWith source.now marks.now key place first) }
 {
-    match address_in_frame(key, place) {
-        None => Ok(first),
-        Some(addr) => recursive_address_with(alloc, source, marks, key, addr, first),
-    }
-}
-
-/// Returns the first address among some places and this one. `first` is that of the others.
-fn recursive_address_with(
-    alloc: Global,
-    source: &Source,
-    marks: &[bool],
-    key: Key,
-    addr: u32,
-    first: Option<u32>,
-) -> Result<Option<u32>, AllocError>
-    requires { IsRowSource source.now }
-    ensures { IfOk result (IsFirstRecursiveWith source.now marks.now key (Point key addr) first) }
-{
+    let Some(addr) = address_in_frame(key, place) else {
+        return Ok(first);
+    };
     if let Some(other) = first {
         if other <= addr {
             return Ok(Some(other));
