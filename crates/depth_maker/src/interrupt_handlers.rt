@@ -18,7 +18,7 @@ pub(crate) struct Handler {
     node: usize,
 }
 
-/// Returns the handlers of all stated interrupts.
+/// Returns the handlers of all stated interrupts, each with its priority and the number of its frame.
 pub(crate) fn all_handler_frames(
     alloc: Global,
     plan: &Plan,
@@ -28,7 +28,13 @@ pub(crate) fn all_handler_frames(
         → AreFrameNumbers numbers.now frames frames
         → AreHandlers plan.now frames plan.now.irqs handlers.items) }
 {
-    handler_frames_of(alloc, plan, numbers, plan.irqs.as_slice())
+    let irqs = plan.irqs.as_slice();
+    let mut handlers = Vec::new(alloc);
+    for p in irqs {
+        let node = frame_number(numbers, irq_key(plan, *p));
+        handlers.push(Handler { prio: *p, node })?;
+    }
+    Ok(handlers)
 }
 
 /// Appends the frames of the interrupts that may be taken: those above this priority if IE is on.
@@ -46,26 +52,6 @@ pub(crate) fn add_taken_handlers(
     into.reserve(handlers.len())?;
     add_handlers_above(into, ccpn, handlers);
     Ok(())
-}
-
-/// Returns the maker's list of the handlers of these interrupts, each with its priority and the
-/// number of its frame.
-fn handler_frames_of(
-    alloc: Global,
-    plan: &Plan,
-    numbers: &IndexMap<Key, usize>,
-    irqs: &[u8],
-) -> Result<Vec<Handler>, AllocError>
-    ensures { IfOk result (λ handlers. (frames : List keys.Key)
-        → AreFrameNumbers numbers.now frames frames
-        → AreHandlers plan.now frames irqs.now handlers.items) }
-{
-    let mut handlers = Vec::new(alloc);
-    for p in irqs {
-        let node = frame_number(numbers, irq_key(plan, *p));
-        handlers.push(Handler { prio: *p, node })?;
-    }
-    Ok(handlers)
 }
 
 /// Appends the numbers of the frames of all interrupt handlers above this priority. There is room
