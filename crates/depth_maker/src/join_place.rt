@@ -28,7 +28,7 @@ use small_states::{Incoming, SmallKnown, incoming_priority};
 use std::alloc::{AllocError, Global};
 
 /// Adds the place `y` with this value, which flows in, and counts it. If `y` is known, returns its
-/// number and adds nothing. It is never inlined: if `join_new_place` and `pass_on` each had its
+/// number and adds nothing. It is never inlined: if `join_place_alone` and `pass_on` each had its
 /// text, LLVM would inline neither `add_or_find_place` nor the pushes of `count_place`.
 #[inline(never)]
 pub(crate) fn add_joined_place(
@@ -101,7 +101,14 @@ fn join_place_alone(
             return join_known_place(alloc, table, v, number, y, incoming);
         }
     }
-    join_new_place(alloc, table, v, y, incoming)
+    let Some((_, own)) = table.places.get_index(table.near) else {
+        unreachable!();
+    };
+    let value = own.value.apply(alloc, incoming)?;
+    match add_joined_place(table, *y, value)? {
+        None => Ok(true),
+        Some(number) => join_known_place(alloc, table, v, number, y, incoming),
+    }
 }
 
 /// Queues all readers of `y`. They wait for the next round, or are next. A point has no readers.
@@ -166,32 +173,4 @@ fn join_known_place(
         y.is_entry(),
     )?;
     Ok(true)
-}
-
-/// Adds the place `y` with what flows in. If `y` is known, joins what flows in, unless it is
-/// covered. Returns whether it wasn't.
-fn join_new_place(
-    alloc: Global,
-    table: &mut Table,
-    v: &Visit,
-    y: &Spot,
-    incoming: &Incoming,
-) -> Result<bool, Refusal>
-    requires fine { TableHolds v.now.ground.now table.old }
-    requires near { PlaceHasNumber table.old.places table.old.near (Point v.now.key v.now.addr) }
-    requires at { (seen table.old).cells (point v.now.key v.now.addr)
-        ≡ Some (state v.now.state.now) }
-    requires own { sender_state incoming.now ≡ v.now.state.now }
-    requires incoming { AsksOn v.now.ground.now table.old y.now (incoming_known incoming.now) }
-    ensures { JoinsOn v.now.ground.now table.old table.new y.now
-        (incoming_known incoming.now) result }
-{
-    let Some((_, own)) = table.places.get_index(table.near) else {
-        unreachable!();
-    };
-    let value = own.value.apply(alloc, incoming)?;
-    match add_joined_place(table, *y, value)? {
-        None => Ok(true),
-        Some(number) => join_known_place(alloc, table, v, number, y, incoming),
-    }
 }
