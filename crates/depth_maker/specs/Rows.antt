@@ -107,10 +107,6 @@ pub record AddsRow (s : Source) (old new : RowsDraft) (row : NeedRow) : Type 0 w
   pub rows : new.rows.items ≡ old.rows.items ++ row ∷ []
   pub outlines : HaveRows s old.rows.items old.outlines.items → HaveRows s new.rows.items new.outlines.items
 
--- the row of a plain point is appended
-abbrev pub AddsPlainRow : Source → RowsDraft → RowsDraft → ℕ → Outline → Type 0
-AddsPlainRow s old new node o = (row : NeedRow) × IsPlainRow s node o row × AddsRow s old new row
-
 -- the row of a point is appended
 abbrev pub AddsPointRow : Source → RowsDraft → RowsDraft → KnownPoint → Type 0
 AddsPointRow s old new at = (row : NeedRow) × IsPointRow s at.key at.addr row × AddsRow s old new row

@@ -6,7 +6,7 @@ ghost use Rattle.depth_cert.specs.WellFormed.{IsWellFormedState};
 ghost use Rattle.frame_places.specs.Numbers.{frame_number_in};
 ghost use Rattle.depth_maker.specs.InterruptHandlers.{AreNumberedHandlers};
 ghost use Rattle.depth_maker.specs.VisitDuties.{OwesDutiesOf};
-ghost use Rattle.depth_maker.specs.Rows.{AddsPlainRow, AddsPointRow, RowFramesKnownBy, IsDraft, IsKnownRowPoint, IsPointRow, IsRowBy, HasEqualRow, IsRowSource, RowsOn};
+ghost use Rattle.depth_maker.specs.Rows.{AddsPointRow, RowFramesKnownBy, IsDraft, IsKnownRowPoint, IsPointRow, IsRowBy, HasEqualRow, IsRowSource, RowsOn};
 
 use crate::entered_frames::entered_frames;
 use crate::inputs_and_limits::{Ground, Visit};
@@ -176,7 +176,8 @@ fn has_equal_row(outlines: &[Option<Outline>], node: usize, known: &Marked<Small
     }
 }
 
-/// Appends the row of a point. Few points need this call.
+/// Appends the row of a point. If its instruction enters no frame by itself, its outline says all.
+/// Few points need this call.
 #[inline(never)]
 fn add_point_row(
     alloc: Global,
@@ -191,34 +192,20 @@ fn add_point_row(
     if is_plain_mark(at.known.mark) {
         let cell = &at.known.value;
         if let Some(outline) = cell.outline() {
-            add_plain_row(alloc, source, draft, at.node, outline)?;
+            let mut into = Vec::new(alloc);
+            add_taken_handlers(&mut into, outline.ie, outline.ccpn, source.handlers)?;
+            draft.rows.push(NeedRow {
+                node: at.node,
+                held: outline.held,
+                into,
+            })?;
+            if at.node < draft.outlines.len() {
+                draft.outlines[at.node] = Some(outline);
+            }
             return Ok(());
         }
     }
     let row = point_row(alloc, source, &mut draft.state, at)?;
     draft.rows.push(row)?;
-    Ok(())
-}
-
-/// Appends the row of a point whose instruction enters no frame by itself.
-fn add_plain_row(
-    alloc: Global,
-    source: &Source,
-    draft: &mut RowsDraft,
-    node: usize,
-    outline: Outline,
-) -> Result<(), AllocError>
-    ensures { OnOk result (AddsPlainRow source.now draft.old draft.new node outline) }
-{
-    let mut into = Vec::new(alloc);
-    add_taken_handlers(&mut into, outline.ie, outline.ccpn, source.handlers)?;
-    draft.rows.push(NeedRow {
-        node,
-        held: outline.held,
-        into,
-    })?;
-    if node < draft.outlines.len() {
-        draft.outlines[node] = Some(outline);
-    }
     Ok(())
 }
