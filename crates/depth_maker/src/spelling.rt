@@ -4,7 +4,7 @@ ghost use Rattle.frame_places.specs.PointEntries.{place_at};
 ghost use Rattle.frame_places.specs.Spots.{spot_address};
 ghost use Rattle.depth_maker.specs.Needs.{need_by, NeedsAre};
 ghost use Rattle.depth_maker.specs.Rows.{IsRowSource};
-ghost use Rattle.depth_maker.specs.SpelledCert.{AreSpelledFrames, AreSpelledPointsOf, IsSpelledFrameOf, IsSpelledVersion, IsSpelledInOrder, IsSpelledPointOf, IsSpelledOn, SpellsTableCert, SpellsTableExit, SpellsTableNode, SpellsTableNodes, SpellsTablePoint, SpellsTablePoints};
+ghost use Rattle.depth_maker.specs.SpelledCert.{AreSpelledFrames, AreSpelledPointsOf, IsSpelledFrameOf, IsSpelledVersion, IsSpelledInOrder, IsSpelledPointOf, IsSpelledOn, SpellsTableExit, SpellsTableNode, SpellsTableNodes, SpellsTablePoint, SpellsTablePoints};
 ghost use Rattle.depth_maker.specs.SpotsAsPlaces.{spots_on};
 
 use crate::rows::Source;
@@ -126,26 +126,12 @@ pub(crate) fn spelled_cert_bytes(
         needs,
         points: points.as_slice(),
     };
-    let out = spell_table_cert(alloc, &ordered, version, frames.as_slice())?;
-    Ok(out)
-}
-
-/// Returns the bytes of the certificate of these frames, which are in order.
-fn spell_table_cert(
-    alloc: Global,
-    ordered: &Ordered,
-    version: u8,
-    frames: &[Key],
-) -> Result<Vec<u8>, NoMemory>
-    requires ordered { IsSpelledInOrder ordered.now }
-    requires frames { AreSpelledFrames ordered.now frames.now }
-    ensures { IfOk result (λ out. SpellsTableCert ordered.now version frames.now out.items) }
-{
+    let frames = frames.as_slice();
     let mut out = Vec::new(alloc);
     put_u32(&mut out, MAGIC)?;
     put_u16(&mut out, u16::from(version))?;
     put_u16(&mut out, frames.len() as u16)?;
-    spell_table_nodes(&mut out, ordered, frames)?;
+    spell_table_nodes(&mut out, &ordered, frames)?;
     Ok(out)
 }
 
