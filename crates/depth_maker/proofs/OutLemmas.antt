@@ -23,7 +23,7 @@ use Rattle.depth_cert.specs.Known.{Known, state, leaving, IsNoExit, exit_if_know
 use Rattle.depth_cert.specs.WellFormed.{IsWellFormedExit}
 use Rattle.depth_maker.specs.Needs.{need_by}
 use Rattle.depth_maker.specs.Rows.{IsRowSource}
-use Rattle.depth_maker.specs.SpelledCert.{AreSpelledFrames, AreSpelledPointsOf, IsSpelledFrameOf, SpellsTableCert, HasSpelledCcpns, IsSpelledVersion, IsSpelledInOrder, IsSpelledOn, SpellsTablePoint, SpellsTablePoints, SpellsTableExit, SpellsTableNode, SpellsTableNodes, spelled_cert_on, spelled_exit_on, spelled_known_on, spelled_node_on, spelled_point_on, spelled_state_at}
+use Rattle.depth_maker.specs.SpelledCert.{AreSpelledFrames, AreSpelledPointsOf, IsSpelledFrameOf, HasSpelledCcpns, IsSpelledVersion, IsSpelledInOrder, IsSpelledOn, SpellsTablePoint, SpellsTablePoints, SpellsTableExit, SpellsTableNode, SpellsTableNodes, spelled_cert_on, spelled_exit_on, spelled_known_on, spelled_node_on, spelled_point_on, spelled_state_at}
 use Rattle.depth_maker.specs.SpotsAsPlaces.{spots_of, spots_on, place_of_spot, spot_of}
 use Rattle.frame_places.specs.Spots.{AreRangedSpots, is_point_of, spot_address}
 use Rattle.frame_places.specs.PointEntries.{is_in_frame, place_at, points_in}
@@ -204,28 +204,25 @@ abbrev all_nodes : Ordered → List Key → List ℕ
 all_nodes o ks = flat_map (λ k. bytes_of_node (spelled_node_on o.source.now o.needs.now (spots_of o) k)) ks
 
 pub writes_cert : (o : Ordered) (version count : ℕ) (ks : List Key) (out a b c new : List ℕ) → out ≡ [] → count ≡ length ks → a ≡ out ++ bytes_of_word 1128547156 → b ≡ a ++ bytes_of_half version → c ≡ b ++ bytes_of_half count
-    → SpellsTableNodes o ks c new → SpellsTableCert o version ks new
+    → SpellsTableNodes o ks c new → new ≡ bytes_of_cert (spelled_cert_on o.source.now version o.needs.now ks (spots_of o))
 unfolding bytes_of_cert
-writes_cert o version count ks out a b c new empty is one two three so = record {
-  bytes =
-      so.bytes ∙ ap (λ (x : List ℕ). x ++ all_nodes o ks) (three ∙ ap (λ (x : List ℕ). x ++ bytes_of_half count) (two ∙ ap (λ (x : List ℕ). x ++ bytes_of_half version) (one ∙ ap (λ (x : List ℕ). x ++ bytes_of_word 1128547156) empty)))
-      ∙ append_assoc (bytes_of_word 1128547156 ++ bytes_of_half version) (bytes_of_half count) (all_nodes o ks) ∙ append_assoc (bytes_of_word 1128547156) (bytes_of_half version) (bytes_of_half count ++ all_nodes o ks)
-      ∙ ap (λ (m : ℕ). bytes_of_word 1128547156 ++ (bytes_of_half version ++ (bytes_of_half m ++ all_nodes o ks))) (is ∙ sym (length-map ks (spelled_node_on o.source.now o.needs.now (spots_of o))))
-      ∙ ap (λ (l : List ℕ). bytes_of_word 1128547156 ++ (bytes_of_half version ++ (bytes_of_half (length (map (spelled_node_on o.source.now o.needs.now (spots_of o)) ks)) ++ l))) (sym (flat_twice bytes_of_node (spelled_node_on o.source.now o.needs.now (spots_of o)) ks));
-  ccpn = so.ccpn;
-}
+writes_cert o version count ks out a b c new empty is one two three so =
+    so.bytes ∙ ap (λ (x : List ℕ). x ++ all_nodes o ks) (three ∙ ap (λ (x : List ℕ). x ++ bytes_of_half count) (two ∙ ap (λ (x : List ℕ). x ++ bytes_of_half version) (one ∙ ap (λ (x : List ℕ). x ++ bytes_of_word 1128547156) empty)))
+    ∙ append_assoc (bytes_of_word 1128547156 ++ bytes_of_half version) (bytes_of_half count) (all_nodes o ks) ∙ append_assoc (bytes_of_word 1128547156) (bytes_of_half version) (bytes_of_half count ++ all_nodes o ks)
+    ∙ ap (λ (m : ℕ). bytes_of_word 1128547156 ++ (bytes_of_half version ++ (bytes_of_half m ++ all_nodes o ks))) (is ∙ sym (length-map ks (spelled_node_on o.source.now o.needs.now (spots_of o))))
+    ∙ ap (λ (l : List ℕ). bytes_of_word 1128547156 ++ (bytes_of_half version ++ (bytes_of_half (length (map (spelled_node_on o.source.now o.needs.now (spots_of o)) ks)) ++ l))) (sym (flat_twice bytes_of_node (spelled_node_on o.source.now o.needs.now (spots_of o)) ks))
 
-pub spelled_is : (o : Ordered) (version : ℕ) (ks : List Key) (out : List ℕ) → IsSpelledInOrder o → AreSpelledFrames o ks → IsNonDecreasingBy (λ (k : Key). number_of_key k) ks → (version ≡ 1) ⊎ (version ≡ 2) → IsSpelledVersion o.source.now version
-    → SpellsTableCert o version ks out → IsSpelledOn o.source.now version out
+pub spelled_is : (o : Ordered) (version : ℕ) (ks : List Key) (c out : List ℕ) → IsSpelledInOrder o → AreSpelledFrames o ks → IsNonDecreasingBy (λ (k : Key). number_of_key k) ks → (version ≡ 1) ⊎ (version ≡ 2) → IsSpelledVersion o.source.now version
+    → out ≡ bytes_of_cert (spelled_cert_on o.source.now version o.needs.now ks (spots_of o)) → SpellsTableNodes o ks c out → IsSpelledOn o.source.now version out
 unfolding seen
-spelled_is o version ks out ordered frames rising known limits w =
+spelled_is o version ks c out ordered frames rising known limits bytes so =
     let s = o.source.now in
     let done = (ordered.source).done in
     let t = s.table.now in
     let few = few_spots t.points.items t.frames.items (done.counted).few in (
       spelled_cert_on s version o.needs.now ks (spots_of o),
-      w.bytes,
+      bytes,
       is_written _ _ _ (s.ground.now).sound (seen t).cells done.derived done.closed done.faultless t.frames.items (points_in t.places) (entries_counted t.places t.points.items t.frames.items ordered.unique done.counted)
           (entries_few t.places t.points.items t.frames.items ordered.unique done.counted) few.1 ks (spots_of o) frames ordered.points (rising_spots t.places o.points.now ordered.entries ordered.rising) rising version
-          known limits (need_by t.frames.items o.needs.now) (ordered.needs).least (ordered.needs).few ((((s.ground.now).sound).is_plan).areas).few w.ccpn,
+          known limits (need_by t.frames.items o.needs.now) (ordered.needs).least (ordered.needs).few ((((s.ground.now).sound).is_plan).areas).few so.ccpn,
     )

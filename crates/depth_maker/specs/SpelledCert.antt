@@ -124,11 +124,6 @@ pub record SpellsTableNodes (o : Ordered) (ks : List Key) (old new : List ℕ) :
   pub bytes : new ≡ old ++ flat_map (λ k. bytes_of_node (spelled_node_on o.source.now o.needs.now (spots_of o) k)) ks
   pub ccpn : All (λ k. HasSpelledCcpns (spelled_node_on o.source.now o.needs.now (spots_of o) k)) ks
 
--- the whole certificate
-pub record SpellsTableCert (o : Ordered) (version : ℕ) (ks : List Key) (out : List ℕ) : Type 0 where
-  pub bytes : out ≡ bytes_of_cert (spelled_cert_on o.source.now version o.needs.now ks (spots_of o))
-  pub ccpn : All (λ k. HasSpelledCcpns (spelled_node_on o.source.now o.needs.now (spots_of o) k)) ks
-
 -- these frames are the table's
 abbrev pub AreSpelledFrames : Ordered → List Key → Type 0
 AreSpelledFrames o ks = IsPermutation ((o.source.now).table.now).frames.items ks

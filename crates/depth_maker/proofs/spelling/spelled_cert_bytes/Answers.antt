@@ -36,7 +36,8 @@ returns c =
     (subst (IsPermutation c.as_slice.result.now) (sym c.as_slice-frames.ensures.value) c.in_ok-frames.ensures.same)
     in
     let rising = subst (IsNonDecreasingBy (λ (k : Key). number_of_key k)) (sym c.as_slice-frames.ensures.value) c.in_ok-frames.ensures.rising in
-    spelled_is o c.args.version c.as_slice-frames.result.now c.spell_table_nodes.new.out.items ordered frames rising c.requires.known c.requires.limits
+    spelled_is o c.args.version c.as_slice-frames.result.now _ c.spell_table_nodes.new.out.items ordered frames rising c.requires.known c.requires.limits
     (writes_cert o c.args.version _ c.as_slice-frames.result.now c.new-out.result.items c.put_u32.new.out.items c.put_u16.new.out.items c.put_u16-2.new.out.items c.spell_table_nodes.new.out.items
     c.new-out.ensures.items refl c.in_ok-put_u32.ensures.ok
     (c.in_ok-put_u16.ensures ∙ ap (λ (n : ℕ). c.put_u32.new.out.items ++ bytes_of_half n) c.from.ensures) c.in_ok-put_u16-2.ensures c.in_ok-spell_table_nodes.ensures)
+    c.in_ok-spell_table_nodes.ensures
