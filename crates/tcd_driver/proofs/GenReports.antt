@@ -16,22 +16,14 @@ use Rattle.tcd_driver.specs.declared.command.Command.{Command as Words}
 use Rattle.tcd_driver.specs.declared.command.Command.TheVariants as held
 use Rattle.tcd_forms.proofs.FormLaws.{plan_lawful}
 use Rattle.tc_machine.specs.Safe.{Safe}
-use Rattle.depth_cert.specs.declared.keys.Key.{Key}
-use Rattle.depth_cert.specs.Certs.{CertData, IsCert}
+use Rattle.depth_cert.specs.Certs.{CertData}
 use Rattle.depth_cert.specs.Nodes.{count_points}
-use Rattle.depth_cert.specs.Grammar.{certificate_of}
-use Rattle.depth_cert.proofs.BackLaws.{written_is_read}
-use Rattle.depth_cert.proofs.SizeLaws.{cert_most}
-use Rattle.tcd_base.specs.declared.errors.FormErr.{FormErr}
 use Rattle.cfg_recover.specs.RulesHoldOrFail.{certified_need}
-use Rattle.depth_maker.specs.LeastCertMade.{IsMade, AreMade}
-use Rattle.depth_maker.specs.Answers.{IsRefused}
-use Rattle.depth_maker.specs.declared.answering.MakeErr.{MakeErr}
-use Rattle.depth_maker.specs.declared.answering.MakeErr.TheVariants as make
 use Rattle.tcd_reading.specs.Reports.{IsReportStatus, Report, says}
-use Rattle.tcd_forms.specs.Lines.{refused_line, generated_line}
+use Rattle.tcd_forms.specs.Lines.{generated_line}
+use Rattle.tcd_driver.specs.BestCert.{IsLeastWithNeed}
 use Rattle.tcd_driver.specs.Gen.{IsGenReport, refused, certified}
-use Rattle.tcd_reading.specs.declared.status.Status.TheVariants.{Done, Refused}
+use Rattle.tcd_reading.specs.declared.status.Status.TheVariants.{Done}
 use Rattle.tcd_reading.proofs.Decided.{AreAlike, status_is, writes_are}
 
 module _ (n : ℕ) (i : ImageData) (p : PlanData) where
@@ -52,24 +44,12 @@ module _ (n : ℕ) (i : ImageData) (p : PlanData) where
   pub summary_alike : AreAlike (IsGenReport n i p)
   summary_alike = record { told = summary_told; done = summary_done; one = summary_one }
 
--- the report that no certificate is accepted
-pub refused_report : (n : ℕ) (i : ImageData) (p : PlanData) (rule : ℕ) (key : Key) (addr : ℕ) (e : MakeErr) (r : Report) → e ≡ make.Refused rule key addr → IsRefused i p 1 e → r ≡ says Refused (refused_line rule key addr) → IsGenReport n i p r
-refused_report n i p rule key addr e r is why said = let k = subst (IsRefused i p 1) is why in refused rule key addr k.1 k.0 said
-
--- the bytes of the certificate are at most as many as may be read
-pub made_most : (i : ImageData) (p : PlanData) (bytes : List ℕ) → AreMade i p 1 bytes → length bytes ≤ 2 ^ 30
-made_most i p bytes m = subst (λ (b : List ℕ). length b ≤ 2 ^ 30) (sym m.spell) (cert_most m.cert m.is_cert)
-
-same_cert : (r : Result CertData FormErr) (x y : CertData) → r ≡ Ok x → r ≡ Ok y → x ≡ y
-same_cert r x y e f = cc
-
--- the certificate that is read is the one that was made
-pub counted_report : (n : ℕ) (i : ImageData) (fields p : PlanData) (bytes : List ℕ) (c : CertData) (need : ℕ) (r : Report) → fields ≡ p → AreMade i p 1 bytes → certificate_of bytes ≡ Ok c → need ≡ certified_need i p c → Safe i p need →
-    r ≡ says Done (generated_line n (length c.nodes) (count_points c.nodes) need (fields.areas - fields.reserve)) → IsGenReport n i p r
-counted_report n i fields p bytes c need r same m read is safe e =
-    let one : m.cert ≡ c = same_cert (certificate_of bytes) m.cert c (ap certificate_of m.spell ∙ written_is_read m.cert m.is_cert) read in
-    certified c (subst IsCert one m.is_cert) (subst (IsMade i p 1) one m.made) (subst (λ (k : ℕ). Safe i p k) is safe)
-    (e ∙ ap (λ (k : ℕ). says Done (generated_line n (length c.nodes) (count_points c.nodes) k (fields.areas - fields.reserve))) is
+-- the report on the certificate
+pub counted_report : (n : ℕ) (i : ImageData) (fields p : PlanData) (c : CertData) (need : ℕ) (r : Report) → fields ≡ p → IsLeastWithNeed i p 1 c need
+    → r ≡ says Done (generated_line n (length c.nodes) (count_points c.nodes) need (fields.areas - fields.reserve)) → IsGenReport n i p r
+counted_report n i fields p c need r same least e =
+    certified c least.is_cert least.made (subst (λ (k : ℕ). Safe i p k) least.need_is least.safe)
+    (e ∙ ap (λ (k : ℕ). says Done (generated_line n (length c.nodes) (count_points c.nodes) k (fields.areas - fields.reserve))) least.need_is
     ∙ ap (λ (q : PlanData). says Done (generated_line n (length c.nodes) (count_points c.nodes) (certified_need i p c) (q.areas - q.reserve))) same)
 
 -- ---- reading what was generated

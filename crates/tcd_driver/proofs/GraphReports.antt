@@ -1,24 +1,22 @@
 -- The reports of `cfg` and `report`.
-use Rattle.std.proofs.Common.{◌≡◌, ◌≢◌, ◌≤◌, ◌<◌, ◌^◌, ℕ, List, [], length, Result, Ok, Err, sym, subst, ◌∙◌, inl, inr}
+use Rattle.std.proofs.Common.{◌≡◌, ◌≢◌, ◌<◌, ◌^◌, ℕ, List, [], Result, Ok, Err, sym, ◌∙◌, inl, inr}
 use Rattle.std.specs.Prelude.{IfOk, IsOkAnd}
-use Rattle.tcd_base.specs.declared.errors.FormErr.{FormErr}
 use Rattle.elf_image.specs.Images.{ImageData}
 use Rattle.tcd_plan.specs.PlanData.{PlanData, IsPlan}
 use Rattle.depth_cert.specs.Certs.{CertData}
-use Rattle.depth_cert.specs.Grammar.{certificate_of}
 use Rattle.depth_check.proofs.FirstLaws.{fails_refutes}
 use Rattle.depth_check.proofs.Held.{edges_are_owed}
 use Rattle.tcd_report.specs.Graphs.{IsGraph}
 use Rattle.tcd_report.proofs.GraphLemmas.EdgeProofs.{edges_stand}
 use Rattle.tcd_reading.specs.Reports.{IsReportStatus, Report, says}
-use Rattle.tcd_driver.specs.BestCert.{IsAcceptedBestCert, SpellBestCert, SpellSomeBestCert}
+use Rattle.tcd_driver.specs.BestCert.{IsAcceptedBestCert}
 use Rattle.tcd_driver.specs.Cfg as cfg
 use Rattle.tcd_driver.specs.Cfg.{IsCfgText, IsCfgReport}
 use Rattle.tcd_driver.specs.Reporting as reporting
 use Rattle.tcd_driver.specs.Reporting.{IsReporting}
 use Rattle.tcd_reading.specs.declared.status.Status.TheVariants.{Done}
 use Rattle.tcd_reading.proofs.Decided.{AreAlike, status_is, writes_are}
-use Rattle.tcd_driver.proofs.MakingLaws.{none_best, best_most, best_read, spelled_is_read}
+use Rattle.tcd_driver.proofs.MakingLaws.{none_best}
 
 -- a report whose text was made without an error
 pub told_text : {V E : Type 0} (items : V → List ℕ) (Is : List ℕ → Type 0) (Q : Type 0) (text : Result V E) (r : Report) → IfOk text (λ l. Is (items l)) → IsOkAnd text (λ l. r ≡ says Done (items l))
@@ -27,22 +25,6 @@ told_text items Is Q (Ok l) r made said next = next (items l) made said
 told_text items Is Q (Err e) r made said next = absurd said
 
 -- ---- cfg
--- bytes that spell the best certificate with some need
-best_of : (i : ImageData) (p : PlanData) (bytes : List ℕ) → SpellSomeBestCert i p bytes → SpellBestCert i p bytes
-best_of i p bytes s = record { cert = (s.1).cert; spell = (s.1).spell; is_cert = ((s.1).certified).is_cert; best = ((s.1).certified).best }
-
-pub one_most : (i : ImageData) (p : PlanData) (lent bytes : List ℕ) → lent ≡ bytes → SpellSomeBestCert i p bytes → length lent ≤ 2 ^ 30
-one_most i p lent bytes e s = subst (λ (b : List ℕ). length b ≤ 2 ^ 30) (sym e) (best_most i p bytes (best_of i p bytes s))
-
--- reading these bytes gives a certificate
-pub one_is_read : (i : ImageData) (p : PlanData) (bytes : List ℕ) (f : FormErr) → SpellSomeBestCert i p bytes → certificate_of bytes ≡ Err f → ⊥
-one_is_read i p bytes f s bad = spelled_is_read (s.1).cert bytes f ((s.1).certified).is_cert (s.1).spell bad
-
--- the certificate that is read from these bytes is the best one
-pub read_certified : (i : ImageData) (p : PlanData) (lent bytes : List ℕ) (c : CertData) → lent ≡ bytes → SpellSomeBestCert i p bytes → certificate_of lent ≡ Ok c → IsAcceptedBestCert i p c
-unfolding best_of
-read_certified i p lent bytes c e s read = subst (IsAcceptedBestCert i p) (best_read i p lent bytes c e (best_of i p bytes s) read) (s.1).certified
-
 -- the report with its graph
 pub graph_drawn : (i : ImageData) (p : PlanData) (c : CertData) (text : List ℕ) → i.entry < 2 ^ 32 → IsPlan p → IsAcceptedBestCert i p c → IsGraph i p c text → IsCfgText i p text
 graph_drawn i p c text entry plan is g = record {

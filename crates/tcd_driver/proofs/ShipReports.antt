@@ -5,8 +5,8 @@ use Rattle.std.proofs.lemmas.List.{length-append}
 use Rattle.elf_image.specs.Images.{ImageData}
 use Rattle.elf_image.specs.ReadElf.{image_of_file}
 use Rattle.elf_image.specs.WrittenElf.{file_of}
-use Rattle.elf_image.specs.declared.errors.ImageErr.{ImageErr}
 use Rattle.tcd_plan.specs.PlanData.{PlanData}
+use Rattle.depth_cert.specs.Certs.{CertData}
 use Rattle.depth_cert.specs.Spelling.{bytes_of_cert}
 use Rattle.cfg_recover.specs.RulesHoldOrFail.{certified_need}
 use Rattle.tc_object.specs.Objects.{ObjectData}
@@ -24,8 +24,8 @@ use Rattle.tcd_reading.specs.Inputs.{HoldsInput, each, answer}
 use Rattle.tcd_forms.specs.Forms.{SourceData, IsSource, placed_source_form}
 use Rattle.tcd_forms.specs.Lines.{bad_link_line, certified_line}
 use Rattle.tcd_forms.proofs.FormLaws.{ok_err}
-use Rattle.tcd_driver.specs.BestCert.{SpellBestWithNeed}
-use Rattle.tcd_driver.specs.Ship.{objects_of_sources, texts_of_sources, AreSourcesOfObjects, IsShipping, IsShipped, SpellShippedImage, refused, shipped, unlinked, of_image}
+use Rattle.tcd_driver.specs.BestCert.{IsAcceptedBestCert}
+use Rattle.tcd_driver.specs.Ship.{objects_of_sources, texts_of_sources, AreSourcesOfObjects, IsShipping, IsShipped, refused, shipped, unlinked, of_image}
 use Rattle.tcd_reading.specs.declared.status.Status.TheVariants.{Done, BadInput}
 use Rattle.tcd_reading.proofs.Decided.{AreAlike, status_is, writes_are}
 use Rattle.tcd_reading.proofs.EachReads.{HasReadSome, rest_of, none_read, next_read}
@@ -72,27 +72,17 @@ module _ (elf cert : List ℕ) (p : PlanData) (l : LayoutData) (ss : List Source
   shipped_alike = record { told = shipped_told; done = shipped_done; one = shipped_one }
 
 -- the report with the image and its certificate
-pub shipping_report : (elf cert bytes made : List ℕ) (i : ImageData) (fields p : PlanData) (need : ℕ) (first second : ReportFile) (r : Report) → fields ≡ p → bytes ≡ file_of i → image_of_file (file_of i) ≡ Ok i → SpellBestWithNeed i p made need →
-    first ≡ record { name = elf; bytes = bytes } → second ≡ record { name = cert; bytes = made } → r ≡ writes_two first second (certified_line need (fields.areas - fields.reserve)) → IsShipping elf cert p i r
-shipping_report elf cert bytes made i fields p need first second r same spell reads s one two e =
+pub shipping_report : (elf cert bytes made : List ℕ) (i : ImageData) (fields p : PlanData) (c : CertData) (need : ℕ) (first second : ReportFile) (r : Report) → fields ≡ p → bytes ≡ file_of i → image_of_file bytes ≡ Ok i
+    → IsAcceptedBestCert i p c × (need ≡ certified_need i p c) → made ≡ bytes_of_cert c → first ≡ record { name = elf; bytes = bytes } → second ≡ record { name = cert; bytes = made }
+    → r ≡ writes_two first second (certified_line need (fields.areas - fields.reserve)) → IsShipping elf cert p i r
+shipping_report elf cert bytes made i fields p c need first second r same spell reads best spell_cert one two e =
     let one' : first ≡ record { name = elf; bytes = file_of i } = one ∙ ap (λ (b : List ℕ). record { name = elf; bytes = b }) spell in
-    let two' : second ≡ record { name = cert; bytes = bytes_of_cert s.cert } = two ∙ ap (λ (b : List ℕ). record { name = cert; bytes = b }) s.spell in
-    shipped s.cert s.certified reads
+    let two' : second ≡ record { name = cert; bytes = bytes_of_cert c } = two ∙ ap (λ (b : List ℕ). record { name = cert; bytes = b }) spell_cert in
+    shipped c best.0 (ap image_of_file (sym spell) ∙ reads)
     (e ∙ ap (λ (w : ReportFile). writes_two w second (certified_line need (fields.areas - fields.reserve))) one'
     ∙ ap (λ (w : ReportFile). writes_two (record { name = elf; bytes = file_of i }) w (certified_line need (fields.areas - fields.reserve))) two'
-    ∙ ap (λ (n : ℕ). writes_two (record { name = elf; bytes = file_of i }) (record { name = cert; bytes = bytes_of_cert s.cert }) (certified_line n (fields.areas - fields.reserve))) s.need_is
-    ∙ ap (λ (q : PlanData). writes_two (record { name = elf; bytes = file_of i }) (record { name = cert; bytes = bytes_of_cert s.cert }) (certified_line (certified_need i p s.cert) (q.areas - q.reserve))) same)
-
-same_read : (o : Result ImageData ImageErr) (i j : ImageData) → o ≡ Ok i → o ≡ Ok j → j ≡ i
-same_read o i j e f = cc
-
--- reading the bytes of an image gives this image
-pub read_again : (i j : ImageData) (lent bytes : List ℕ) → lent ≡ bytes → image_of_file bytes ≡ Ok i → image_of_file lent ≡ Ok j → j ≡ i
-read_again i j lent bytes same e f = same_read (image_of_file bytes) i j e (ap image_of_file (sym same) ∙ f)
-
-pub spelled_again : (i j : ImageData) (lent bytes : List ℕ) → lent ≡ bytes → bytes ≡ file_of i → image_of_file bytes ≡ Ok i → image_of_file lent ≡ Ok j → SpellShippedImage j bytes
-spelled_again i j lent bytes same is e f =
-    subst (λ (x : ImageData). SpellShippedImage x bytes) (sym (read_again i j lent bytes same e f)) (record { spell = is; read = ap image_of_file (sym is) ∙ e })
+    ∙ ap (λ (n : ℕ). writes_two (record { name = elf; bytes = file_of i }) (record { name = cert; bytes = bytes_of_cert c }) (certified_line n (fields.areas - fields.reserve))) best.1
+    ∙ ap (λ (q : PlanData). writes_two (record { name = elf; bytes = file_of i }) (record { name = cert; bytes = bytes_of_cert c }) (certified_line (certified_need i p c) (q.areas - q.reserve))) same)
 
 -- ---- linking
 -- the objects can be linked

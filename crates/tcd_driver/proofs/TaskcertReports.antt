@@ -1,27 +1,24 @@
 -- What `taskcert` reports.
-use Rattle.std.proofs.Common.{◌≡◌, ◌≢◌, ◌-◌, ◌*◌, ◌+◌, ◌^◌, ◌<◌, ◌≤◌, ◌⊎◌, ◌==◌, inl, inr, zero, ℕ, suc, refl, List, [], ◌∷◌, ◌++◌, length, Option, Some, None, Result, Ok, sym, ap, subst, ◌∙◌, arith}
+use Rattle.std.proofs.Common.{◌≡◌, ◌≢◌, ◌-◌, ◌*◌, ◌+◌, ◌^◌, ◌<◌, ◌≤◌, ◌⊎◌, ◌==◌, inl, inr, zero, ℕ, suc, refl, List, [], ◌∷◌, ◌++◌, length, Option, Some, None, Result, Ok, Err, sym, ap, subst, ◌∙◌, arith}
 use Rattle.std.specs.Prelude.{max, if◌then◌else◌, slice_get}
 use Rattle.std.specs.List.{find}
+use Rattle.std.specs.declared.vec.Vec.{Vec}
+use Rattle.std.specs.declared.alloc.Global.{Global}
 use Rattle.std.proofs.lemmas.Bool.{cases_lt, eqb-true}
 use Rattle.std.proofs.lemmas.List.{length-append, get_or_append_left, get_or_push}
 use Rattle.std.proofs.lemmas.List.Elements.{All-contains}
 use Rattle.csa_chain.specs.SeveralChains.{sum_over_chains}
 use Rattle.elf_image.specs.Images.{ImageData}
 use Rattle.tcd_plan.specs.PlanData.{PlanData, IsPlan}
-use Rattle.tcd_base.specs.declared.errors.FormErr.{FormErr}
-use Rattle.tc_machine.specs.Safe.{Safe}
 use Rattle.depth_cert.specs.declared.keys.Key.{Key}
 use Rattle.depth_cert.specs.Keys.{number_of_key}
 use Rattle.depth_cert.specs.Nodes.{NodeData, IsNode, need_of, find_node}
 use Rattle.depth_cert.specs.Certs.{CertData, IsCert}
 use Rattle.depth_cert.specs.Spelling.{bytes_of_cert}
-use Rattle.depth_cert.specs.Grammar.{certificate_of}
-use Rattle.depth_cert.proofs.BackLaws.{written_is_read}
-use Rattle.depth_cert.proofs.SizeLaws.{cert_most}
 use Rattle.depth_cert.proofs.KeyLaws.{found_in}
 use Rattle.cfg_recover.specs.RulesHoldOrFail.{certified_need}
 use Rattle.cfg_recover.specs.Entries.{start_key}
-use Rattle.depth_maker.specs.LeastCertMade.{IsMade, needs_in, AreMade}
+use Rattle.depth_maker.specs.LeastCertMade.{IsMade, needs_in}
 use Rattle.depth_maker.specs.Answers.{IsRefused}
 use Rattle.depth_maker.specs.declared.answering.MakeErr.{MakeErr}
 use Rattle.depth_maker.specs.declared.answering.MakeErr.TheVariants as make_err
@@ -41,72 +38,38 @@ use Rattle.tcd_reading.specs.declared.outcome.Outcome.{Outcome}
 use Rattle.tcd_reading.proofs.Told.{comes_told}
 use Rattle.tcd_forms.specs.Lines.{certified_tasks_line, refused_sum_line}
 use Rattle.tcd_driver.specs.BadInputLines.{bad_tasks_line}
+use Rattle.tcd_driver.specs.BestCert.{IsLeastWithNeed}
 use Rattle.tcd_driver.specs.Tasks.{cert_of_task, needs_of, sum_of_needs, AreTasksJudged, with_name_per_task}
-use Rattle.tcd_driver.specs.Taskcert.{NoneKeepsTaskApart, IsTaskUncertified, unaccepted, not_apart, AreTasksMade, IsFirstUncertified, cert_files, IsTaskcerting, no_switch, refused, above, certified, SpellTaskViewCert, MakesTaskViewCert, MakesTaskCert, AreTaskCertFiles, IsTaskCertMade, SpellTaskCert}
-use Rattle.tcd_driver.specs.declared.cert_making.Making.{Making}
-use Rattle.tcd_driver.specs.declared.cert_making.Making.TheVariants as making
+use Rattle.tcd_driver.specs.Taskcert.{NoneKeepsTaskApart, IsTaskUncertified, unaccepted, not_apart, AreTasksMade, cert_files, IsTaskcerting, no_switch, refused, above, certified, MakesTaskViewCert, IsTaskCertWithNeed, MakesTaskCert, AreTaskCertFiles, MakesAllTaskCerts, IsTaskCertMade}
 use Rattle.tcd_reading.specs.declared.status.Status.TheVariants.{Done, Refused, BadInput}
 use Rattle.tcd_reading.proofs.Decided.{AreAlike, IsDecided, decided_answer, status_is, writes_are}
 use Rattle.tcd_driver.proofs.TasksReports.{judged_well, decided_each_named, sum_next, as_many, not_as_many}
 
 -- ---- the certificate of a view
--- the bytes that were made are few enough to be read
-pub made_most : (v : ImageData) (b : PlanData) (lent bytes : List ℕ) → lent ≡ bytes → AreMade v b 2 bytes → length lent ≤ 2 ^ 30
-made_most v b lent bytes e m = subst (λ (x : List ℕ). length x ≤ 2 ^ 30) (sym (e ∙ m.spell)) (cert_most m.cert m.is_cert)
-
-same_cert : (r : Result CertData FormErr) (x y : CertData) → r ≡ Ok x → r ≡ Ok y → x ≡ y
-same_cert r x y e f = cc
-
--- reading them gives that certificate
-made_read : (v : ImageData) (b : PlanData) (lent bytes : List ℕ) (c : CertData) → lent ≡ bytes → (m : AreMade v b 2 bytes) → certificate_of lent ≡ Ok c → m.cert ≡ c
-made_read v b lent bytes c e m read =
-    same_cert (certificate_of lent) m.cert c (ap certificate_of (e ∙ m.spell) ∙ written_is_read m.cert m.is_cert) read
-
 -- if the least certificate fails rule 17, each one does
 none_apart : (v : ImageData) (b : PlanData) (t : TasksData) (c : CertData) (k : Key) (x : ℕ) → IsPlan b → IsCert c → IsMade v b 2 c → FailsApart v b t c k x → NoneKeepsTaskApart v b t
 none_apart v b t c k x ok is_c made fails d is_d version accepted apart =
     task_faults_refute v b t d k x (task_faults_grow v b t c d k x ok is_c is_d (made.of_version ∙ sym version) made.accepted accepted (made.best d is_d version accepted).below fails) apart
 
--- if the certificate that was read keeps rule 17, the one that the bytes spell does
-pub apart_made : (v : ImageData) (b : PlanData) (t : TasksData) (lent bytes : List ℕ) (c : CertData) (need : ℕ) → lent ≡ bytes → AreMade v b 2 bytes → certificate_of lent ≡ Ok c
-    → need ≡ certified_need v b c → Safe v b need → KeepsApart v b t c → SpellTaskViewCert v b t bytes need
-apart_made v b t lent bytes c need e m read is safe apart =
-    let same = sym (made_read v b lent bytes c e m read) in
-    record {
-      cert = m.cert;
-      spell = m.spell;
-      is_cert = m.is_cert;
-      made = m.made;
-      apart = subst (KeepsApart v b t) same apart;
-      safe = safe;
-      need_is = is ∙ ap (certified_need v b) same;
-    }
-
--- if it fails rule 17, each one does
-pub apart_fails : (v : ImageData) (fields b : PlanData) (t : TasksData) (lent bytes : List ℕ) (c : CertData) (k : Key) (x : ℕ) → fields ≡ b → IsPlan fields → lent ≡ bytes → AreMade v b 2 bytes
-    → certificate_of lent ≡ Ok c → IsTaskFault v b t c k x → IsTaskUncertified v b t 17 k x
-apart_fails v fields b t lent bytes c k x plan_is is_plan e m read fault =
-    let same = sym (made_read v b lent bytes c e m read) in
-    let there : IsTaskFault v b t m.cert k x = subst (λ (d : CertData). IsTaskFault v b t d k x) same fault in
-    not_apart m.cert k x m.is_cert m.made there (none_apart v b t m.cert k x (subst IsPlan plan_is is_plan) m.is_cert m.made there.fails)
+-- the report of its fault, if the certificate that is made fails rule 17
+pub apart_fails : (v : ImageData) (fields b : PlanData) (t : TasksData) (c : CertData) (need : ℕ) (k : Key) (x : ℕ) → fields ≡ b → IsPlan fields → IsLeastWithNeed v b 2 c need → IsTaskFault v b t c k x → IsTaskUncertified v b t 17 k x
+apart_fails v fields b t c need k x plan_is is_plan least fault =
+    not_apart c k x least.is_cert least.made fault (none_apart v b t c k x (subst IsPlan plan_is is_plan) least.is_cert least.made fault.fails)
 
 -- no certificate is made
-pub unmade : (v : ImageData) (b : PlanData) (t : TasksData) (e : MakeErr) (rule r : ℕ) (key k : Key) (addr a : ℕ) → e ≡ make_err.Refused rule key addr → IsRefused v b 2 e → r ≡ rule → k ≡ key → a ≡ addr → IsTaskUncertified v b t r k a
-unmade v b t e rule r key k addr a is why same_r same_k same_a =
-    let h : IsRefused v b 2 (make_err.Refused rule key addr) = subst (IsRefused v b 2) is why in
-    subst (λ (x : ℕ). IsTaskUncertified v b t x k a) (sym same_r) (subst (λ (j : Key). IsTaskUncertified v b t rule j a) (sym same_k) (subst (λ (x : ℕ). IsTaskUncertified v b t rule key x) (sym same_a) (unaccepted rule key addr h.1 h.0)))
+pub unmade_view : (v : ImageData) (b : PlanData) (t : TasksData) (e : MakeErr) → IsRefused v b 2 e → MakesTaskViewCert v b t (Err e)
+unmade_view v b t (make_err.Refused rule key addr) why = unaccepted rule key addr why.1 why.0
+unmade_view v b t make_err.NoMemory why = tt
 
 -- ---- the certificate of a task
 -- the same by the task's number
-pub task_made : (i : ImageData) (fields p : PlanData) (parts t : TasksData) (u : ℕ) (bytes : List ℕ) (need : ℕ) (v : ImageData) (b : PlanData) → fields ≡ p → IsPlan fields → parts ≡ t → AreTasks parts → FitPlan p t → u < count t
-    → v ≡ view_image_of i t u → b ≡ view_plan_of p t u → SpellTaskViewCert v b t bytes need → SpellTaskCert i p t u bytes need
-task_made i fields p parts t u bytes need v b same is_plan same_t are fit lt seen planned s =
-    let judged = judged_well i fields p parts t s.cert s.cert u need v b same is_plan same_t are refl s.is_cert fit lt seen planned (s.made).accepted s.need_is s.safe s.apart in
+pub task_made : (i : ImageData) (fields p : PlanData) (parts t : TasksData) (u : ℕ) (c : CertData) (need : ℕ) (v : ImageData) (b : PlanData) → fields ≡ p → IsPlan fields → parts ≡ t → AreTasks parts → FitPlan p t → u < count t
+    → v ≡ view_image_of i t u → b ≡ view_plan_of p t u → IsLeastWithNeed v b 2 c need → KeepsApart v b t c → IsTaskCertWithNeed i p t u c need
+task_made i fields p parts t u c need v b same is_plan same_t are fit lt seen planned s apart =
+    let judged = judged_well i fields p parts t c c u need v b same is_plan same_t are refl s.is_cert fit lt seen planned (s.made).accepted s.need_is s.safe apart in
     record {
-      cert = s.cert;
-      spell = s.spell;
       made = record {
-        made = subst (λ (q : PlanData). IsMade (view_image_of i t u) q 2 s.cert) planned (subst (λ (w : ImageData). IsMade w b 2 s.cert) seen s.made);
+        made = subst (λ (q : PlanData). IsMade (view_image_of i t u) q 2 c) planned (subst (λ (w : ImageData). IsMade w b 2 c) seen s.made);
         judged = judged.0;
       };
       need_is = judged.1;
@@ -118,11 +81,11 @@ task_uncertified i p t u rule k x v b seen planned h =
     subst (λ (q : PlanData). IsTaskUncertified (view_image_of i t u) q t rule k x) planned (subst (λ (w : ImageData). IsTaskUncertified w b t rule k x) seen h)
 
 -- the result of making a certificate for the task's view
-pub makes_task : (i : ImageData) (fields p : PlanData) (parts t : TasksData) (u : ℕ) (v : ImageData) (b : PlanData) (m : Making) → fields ≡ p → IsPlan fields → parts ≡ t → AreTasks parts → FitPlan p t → u < count t
+pub makes_task : (i : ImageData) (fields p : PlanData) (parts t : TasksData) (u : ℕ) (v : ImageData) (b : PlanData) (m : Result (CertData × ℕ) MakeErr) → fields ≡ p → IsPlan fields → parts ≡ t → AreTasks parts → FitPlan p t → u < count t
     → v ≡ view_image_of i t u → b ≡ view_plan_of p t u → MakesTaskViewCert v b t m → MakesTaskCert i p t u m
-makes_task i fields p parts t u v b (making.Certified bytes need) same is_plan same_t are fit lt seen planned h = task_made i fields p parts t u _ need v b same is_plan same_t are fit lt seen planned h
-makes_task i fields p parts t u v b (making.Refused rule key addr) same is_plan same_t are fit lt seen planned h = task_uncertified i p t u rule key addr v b seen planned h
-makes_task i fields p parts t u v b making.NoMemory same is_plan same_t are fit lt seen planned h = tt
+makes_task i fields p parts t u v b (Ok made) same is_plan same_t are fit lt seen planned h = task_made i fields p parts t u made.0 made.1 v b same is_plan same_t are fit lt seen planned h.0 h.1
+makes_task i fields p parts t u v b (Err (make_err.Refused rule key addr)) same is_plan same_t are fit lt seen planned h = task_uncertified i p t u rule key addr v b seen planned h
+makes_task i fields p parts t u v b (Err make_err.NoMemory) same is_plan same_t are fit lt seen planned h = tt
 
 -- ---- one need for each task
 -- a list is searched alike by keys of one number
@@ -263,38 +226,39 @@ made_more i p t certs c n many made here u lt =
     ]
 
 -- one task more
-pub next_made : (names : List (List ℕ)) (i : ImageData) (p : PlanData) (t : TasksData) (n : ℕ) (name : List ℕ) (writes writes' : List ReportFile) (sum need more : ℕ) (bytes : List ℕ) → slice_get names n ≡ Some name → more ≤ 2 ^ 32
-    → AreFilesSoFar names i p t n writes sum → SpellTaskCert i p t n bytes need → writes' ≡ writes ++ record { name = name; bytes = bytes } ∷ [] → more ≡ (if n == 0 then need else max need 2)
+pub next_made : (names : List (List ℕ)) (i : ImageData) (p : PlanData) (t : TasksData) (n : ℕ) (name : List ℕ) (writes writes' : List ReportFile) (sum need more : ℕ) (c : CertData) (bytes : List ℕ) → slice_get names n ≡ Some name → more ≤ 2 ^ 32
+    → AreFilesSoFar names i p t n writes sum → IsTaskCertWithNeed i p t n c need → bytes ≡ bytes_of_cert c → writes' ≡ writes ++ record { name = name; bytes = bytes } ∷ [] → more ≡ (if n == 0 then need else max need 2)
     → AreFilesSoFar names i p t (n + 1) writes' (sum + more)
-next_made names i p t n name writes writes' sum need more bytes at small so_far s pushed counts_as =
+next_made names i p t n name writes writes' sum need more c bytes at small so_far s spell pushed counts_as =
     let certs = so_far.certs in
     let many : length certs ≡ n = so_far.many in
     let below = so_far.few in
-    let last : cert_of_task (certs ++ s.cert ∷ []) n ≡ s.cert = cert_last certs s.cert n many in
-    let need_is : more ≡ needs_of i p t (certs ++ s.cert ∷ []) n =
+    let last : cert_of_task (certs ++ c ∷ []) n ≡ c = cert_last certs c n many in
+    let need_is : more ≡ needs_of i p t (certs ++ c ∷ []) n =
     counts_as ∙ ap (λ (m : ℕ). if n == 0 then m else max m 2) (s.need_is ∙ ap (certified_need (view_image_of i t n) (view_plan_of p t n)) (sym last)) in
-    let low : sum_over_chains n (needs_of i p t certs) ≡ sum_over_chains n (needs_of i p t (certs ++ s.cert ∷ [])) =
-    same_below n (needs_of i p t certs) (needs_of i p t (certs ++ s.cert ∷ []))
-    (λ u lt. ap (λ (c : CertData). if u == 0 then certified_need (view_image_of i t u) (view_plan_of p t u) c else max (certified_need (view_image_of i t u) (view_plan_of p t u) c) 2) (sym (cert_before certs s.cert u (omega arith)))) in
+    let low : sum_over_chains n (needs_of i p t certs) ≡ sum_over_chains n (needs_of i p t (certs ++ c ∷ [])) =
+    same_below n (needs_of i p t certs) (needs_of i p t (certs ++ c ∷ []))
+    (λ u lt. ap (λ (c : CertData). if u == 0 then certified_need (view_image_of i t u) (view_plan_of p t u) c else max (certified_need (view_image_of i t u) (view_plan_of p t u) c) 2) (sym (cert_before certs c u (omega arith)))) in
     record {
-      certs = certs ++ s.cert ∷ [];
-      many = length-append certs (s.cert ∷ []) ∙ ap (λ m. m + 1) many;
-      made = made_more i p t certs s.cert n many so_far.made s.made;
+      certs = certs ++ c ∷ [];
+      many = length-append certs (c ∷ []) ∙ ap (λ m. m + 1) many;
+      made = made_more i p t certs c n many so_far.made s.made;
       files = pushed ∙ ap (λ (ws : List ReportFile). ws ++ record { name = name; bytes = bytes } ∷ []) so_far.files
-          ∙ ap (λ (b : List ℕ). cert_files names certs ++ record { name = name; bytes = b } ∷ []) s.spell
-          ∙ sym (file_next names name certs s.cert (ap (λ (m : ℕ). slice_get names m) many ∙ at));
-      sum_is = let so = so_far.sum_is in let next : sum_over_chains (n + 1) (needs_of i p t (certs ++ s.cert ∷ [])) ≡ sum_over_chains n (needs_of i p t (certs ++ s.cert ∷ [])) + needs_of i p t (certs ++ s.cert ∷ []) n = sum_next n (needs_of i p t (certs ++ s.cert ∷ [])) in omega arith;
+          ∙ ap (λ (b : List ℕ). cert_files names certs ++ record { name = name; bytes = b } ∷ []) spell
+          ∙ sym (file_next names name certs c (ap (λ (m : ℕ). slice_get names m) many ∙ at));
+      sum_is = let so = so_far.sum_is in let next : sum_over_chains (n + 1) (needs_of i p t (certs ++ c ∷ [])) ≡ sum_over_chains n (needs_of i p t (certs ++ c ∷ [])) + needs_of i p t (certs ++ c ∷ []) n = sum_next n (needs_of i p t (certs ++ c ∷ [])) in omega arith;
       few = omega arith;
     }
 
 -- a task without a certificate is the first
-pub first_uncertified : (names : List (List ℕ)) (i : ImageData) (p : PlanData) (t : TasksData) (n : ℕ) (writes : List ReportFile) (sum rule : ℕ) (k : Key) (x : ℕ) → n < count t → AreFilesSoFar names i p t n writes sum
-    → IsTaskUncertified (view_image_of i t n) (view_plan_of p t n) t rule k x → IsFirstUncertified i p t n rule k x
-first_uncertified names i p t n writes sum rule k x lt so_far h = record {
+pub first_uncertified : (names : List (List ℕ)) (i : ImageData) (p : PlanData) (t : TasksData) (n : ℕ) (writes : Vec ReportFile Global) (sum : ℕ) (e : MakeErr) → n < count t → AreFilesSoFar names i p t n writes.items sum
+    → MakesTaskCert i p t n (Err e) → MakesAllTaskCerts names i p t (Err (n, e))
+first_uncertified names i p t n writes sum (make_err.Refused rule k x) lt so_far h = record {
   task = lt;
   before = λ w less. (cert_of_task so_far.certs w, so_far.made w (let m = so_far.many in omega arith));
   uncertified = h;
 }
+first_uncertified names i p t n writes sum make_err.NoMemory lt so_far h = tt
 
 -- all are made
 pub all_made : (names : List (List ℕ)) (i : ImageData) (p : PlanData) (t : TasksData) (n : ℕ) (writes : List ReportFile) (sum : ℕ) → n ≡ count t → AreFilesSoFar names i p t n writes sum → AreTaskCertFiles names i p t writes sum

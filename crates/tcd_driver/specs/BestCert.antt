@@ -1,17 +1,19 @@
 -- The certificate that is made for an image and a plan, and why there is none.
-use Rattle.std.specs.Prelude.{◌≡◌, ℕ, List, ◌≤◌}
+use Rattle.std.specs.Prelude.{◌≡◌, ℕ, ◌≤◌, Result, Ok, Err}
 use Rattle.elf_image.specs.Images.{ImageData}
 use Rattle.tcd_plan.specs.PlanData.{PlanData}
 use Rattle.tc_machine.specs.Safe.{Safe}
 use Rattle.depth_cert.specs.declared.keys.Key.{Key}
 use Rattle.depth_cert.specs.Certs.{CertData, IsCert}
-use Rattle.depth_cert.specs.Spelling.{bytes_of_cert}
 use Rattle.cfg_recover.specs.RulesHoldOrFail.{Accepts, certified_need}
 use Rattle.cfg_recover.specs.CertRefusals.{IsRefusal}
 use Rattle.depth_maker.specs.LeastCertMade.{IsMade, needs_in}
-use Rattle.depth_maker.specs.Answers.{NoneAccepted}
-use Rattle.tcd_driver.specs.declared.cert_making.Making.{Making}
-use Rattle.tcd_driver.specs.declared.cert_making.Making.TheVariants as making
+use Rattle.depth_maker.specs.Answers.{NoneAccepted, IsRefused}
+use Rattle.depth_maker.specs.declared.answering.MakeErr.{MakeErr}
+use Rattle.depth_maker.specs.declared.answering.MakeErr.TheVariants as make_err
+use Rattle.tcd_reading.specs.Reports.{Report, says}
+use Rattle.tcd_reading.specs.declared.status.Status.TheVariants.{Refused}
+use Rattle.tcd_forms.specs.Lines.{refused_line}
 use Rattle.cfg_recover.specs.Assignments.{IsBelowAt, known_in}
 
 -- the best certificate: the least of version 1, or the least of version 2 if none of version 1 is
@@ -34,27 +36,6 @@ pub record HaveNoBestCert (image : ImageData) (plan : PlanData) (rule : ℕ) (ke
   pub second : NoneAccepted image plan 2
   pub why : IsRefusal image plan 2 rule key addr
 
--- ---- the same, by the values in the code
--- the bytes spell the best certificate
-pub record SpellBestCert (image : ImageData) (plan : PlanData) (bytes : List ℕ) : Type 0 where
-  pub cert : CertData
-  pub spell : bytes ≡ bytes_of_cert cert
-  pub is_cert : IsCert cert
-  pub best : IsBestCert image plan cert
-
--- the bytes spell the best certificate, which has this need
-pub record SpellBestWithNeed (image : ImageData) (plan : PlanData) (bytes : List ℕ) (need : ℕ) : Type 0 where
-  pub cert : CertData
-  pub spell : bytes ≡ bytes_of_cert cert
-  pub certified : IsAcceptedBestCert image plan cert
-  pub need_is : need ≡ certified_need image plan cert
-
--- the result of making the best certificate for an image and a plan
-abbrev pub MakesBestCert : ImageData → PlanData → Making → Type 0
-MakesBestCert image plan (making.Certified bytes need) = SpellBestWithNeed image plan bytes.items need
-MakesBestCert image plan (making.Refused rule key addr) = HaveNoBestCert image plan rule key addr
-MakesBestCert image plan making.NoMemory = Unit {0}
-
 -- the best certificate is the least of its version: no accepted one of that version states a lesser
 -- need of a frame, or less of what is known at a point
 pub record IsLeastOfItsVersion (image : ImageData) (plan : PlanData) (cert : CertData) : Type 0 where
@@ -68,6 +49,26 @@ pub record NoneIsAccepted (image : ImageData) (plan : PlanData) (rule : ℕ) (fr
   pub each : (cert : CertData) → IsCert cert → Accepts image plan cert → ⊥
   pub why : IsRefusal image plan 2 rule frame address
 
--- the bytes spell the best certificate, which has some need
-abbrev pub SpellSomeBestCert : ImageData → PlanData → List ℕ → Type 0
-SpellSomeBestCert image plan bytes = (need : ℕ) × SpellBestWithNeed image plan bytes need
+-- ---- by the values in the code
+-- the least certificate of a version, which was checked, and its need
+pub record IsLeastWithNeed (image : ImageData) (plan : PlanData) (version : ℕ) (cert : CertData) (need : ℕ) : Type 0 where
+  pub is_cert : IsCert cert
+  pub made : IsMade image plan version cert
+  pub safe : Safe image plan need
+  pub need_is : need ≡ certified_need image plan cert
+
+-- the result of making the least certificate of a version
+abbrev pub MakesLeastCert : ImageData → PlanData → ℕ → Result (CertData × ℕ) MakeErr → Type 0
+MakesLeastCert image plan version (Ok made) = IsLeastWithNeed image plan version made.0 made.1
+MakesLeastCert image plan version (Err e) = IsRefused image plan version e
+
+-- the result of making the best certificate for an image and a plan, with its need
+abbrev pub MakesBestCert : ImageData → PlanData → Result (CertData × ℕ) MakeErr → Type 0
+MakesBestCert image plan (Ok made) = IsAcceptedBestCert image plan made.0 × (made.1 ≡ certified_need image plan made.0)
+MakesBestCert image plan (Err (make_err.Refused rule key addr)) = HaveNoBestCert image plan rule key addr
+MakesBestCert image plan (Err make_err.NoMemory) = Unit {0}
+
+-- the report that no certificate is made: the rule, with its place
+abbrev pub IsUnmadeReport : MakeErr → Report → Type 0
+IsUnmadeReport (make_err.Refused rule key addr) report = report ≡ says Refused (refused_line rule key addr)
+IsUnmadeReport make_err.NoMemory report = ⊥

@@ -87,8 +87,3 @@ pub record AreSourcesOfObjects (sources : List SourceData) (objects : List Objec
 -- the report on sources, with the names of the two files to write
 abbrev pub shipped_by : Shipment → PlanData → LayoutData → List SourceData → Report → Type 0
 shipped_by s plan layout sources = IsShipped s.elf.now s.cert.now plan layout sources
-
--- these bytes are the file of the image, and read back as it
-pub record SpellShippedImage (image : ImageData) (bytes : List ℕ) : Type 0 where
-  pub spell : bytes ≡ file_of image
-  pub read : image_of_file (file_of image) ≡ Ok image

@@ -1,15 +1,18 @@
 -- What `taskcert` reads, prints and writes.
-use Rattle.std.specs.Prelude.{◌≡◌, ◌-◌, ◌<◌, ◌≤◌, ℕ, List, ◌∷◌, length, []}
+use Rattle.std.specs.Prelude.{◌≡◌, ◌-◌, ◌<◌, ◌≤◌, ℕ, List, ◌∷◌, length, [], Result, Ok, Err}
+use Rattle.std.specs.declared.vec.Vec.{Vec}
+use Rattle.std.specs.declared.alloc.Global.{Global}
 use Rattle.elf_image.specs.Images.{ImageData}
 use Rattle.tcd_plan.specs.PlanData.{PlanData}
 use Rattle.depth_cert.specs.Certs.{CertData, IsCert}
 use Rattle.depth_cert.specs.Spelling.{bytes_of_cert}
 use Rattle.depth_cert.specs.declared.keys.Key.{Key}
-use Rattle.tc_machine.specs.Safe.{Safe}
 use Rattle.cfg_recover.specs.RulesHoldOrFail.{Accepts, certified_need}
 use Rattle.cfg_recover.specs.CertRefusals.{IsRefusal}
 use Rattle.depth_maker.specs.LeastCertMade.{IsMade}
 use Rattle.depth_maker.specs.Answers.{NoneAccepted}
+use Rattle.depth_maker.specs.declared.answering.MakeErr.{MakeErr}
+use Rattle.depth_maker.specs.declared.answering.MakeErr.TheVariants as make_err
 use Rattle.task_chains.specs.Tasks.{TasksData, count}
 use Rattle.task_chains.specs.SwitchRoutine.{HasRoutine, IsRoutineFault}
 use Rattle.task_chains.specs.Views.{view_image_of, view_plan_of}
@@ -17,14 +20,11 @@ use Rattle.task_chains.specs.Rule17.{KeepsApart, IsTaskFault}
 use Rattle.task_chains.specs.SafeTasks.{SafeTasks, IsJudged}
 use Rattle.tcd_reading.specs.Reports.{Report, ReportFile, says, writes_files}
 use Rattle.tcd_reading.specs.Inputs.{Reading, input, answer}
+use Rattle.tcd_driver.specs.BestCert.{IsLeastWithNeed}
 use Rattle.tcd_driver.specs.CellAndTaskForms.{tasks_form}
 use Rattle.tcd_forms.specs.Forms.{elf_form, plan_form}
 use Rattle.tcd_forms.specs.Lines.{refused_switch_line, refused_task_line, refused_sum_line, certified_tasks_line}
 use Rattle.tcd_driver.specs.Tasks.{cert_of_task, needs_of, sum_of_needs, with_name_per_task}
-use Rattle.tcd_driver.specs.declared.cert_making.Making.{Making}
-use Rattle.tcd_driver.specs.declared.cert_making.Making.TheVariants as making
-use Rattle.tcd_driver.specs.declared.commands.taskcert.TasksMaking.{TasksMaking}
-use Rattle.tcd_driver.specs.declared.commands.taskcert.TasksMaking.TheVariants as all
 use Rattle.tcd_reading.specs.declared.status.Status.TheVariants.{Refused}
 
 -- the names of the files that `taskcert` reads, and of the certificates that it writes
@@ -100,34 +100,22 @@ taskcert_reading names =
     (λ tasks. with_name_per_task names.certs tasks (answer (IsTaskcerting names.certs image plan tasks)))))
 
 -- ---- by what the code has
--- the bytes spell the least certificate of a view, which keeps rule 17, and this is its need
-pub record SpellTaskViewCert (view : ImageData) (plan : PlanData) (tasks : TasksData) (bytes : List ℕ) (need : ℕ) : Type 0 where
-  pub cert : CertData
-  pub spell : bytes ≡ bytes_of_cert cert
-  pub is_cert : IsCert cert
-  pub made : IsMade view plan 2 cert
-  pub apart : KeepsApart view plan tasks cert
-  pub safe : Safe view plan need
-  pub need_is : need ≡ certified_need view plan cert
+-- the result of making the least certificate of a view that keeps rule 17, with its need
+abbrev pub MakesTaskViewCert : ImageData → PlanData → TasksData → Result (CertData × ℕ) MakeErr → Type 0
+MakesTaskViewCert view plan tasks (Ok made) = IsLeastWithNeed view plan 2 made.0 made.1 × KeepsApart view plan tasks made.0
+MakesTaskViewCert view plan tasks (Err (make_err.Refused rule key addr)) = IsTaskUncertified view plan tasks rule key addr
+MakesTaskViewCert view plan tasks (Err make_err.NoMemory) = Unit {0}
 
--- the result of making a certificate for a task's view
-abbrev pub MakesTaskViewCert : ImageData → PlanData → TasksData → Making → Type 0
-MakesTaskViewCert view plan tasks (making.Certified bytes need) = SpellTaskViewCert view plan tasks bytes.items need
-MakesTaskViewCert view plan tasks (making.Refused rule key addr) = IsTaskUncertified view plan tasks rule key addr
-MakesTaskViewCert view plan tasks making.NoMemory = Unit {0}
-
--- the bytes spell the certificate of task u, with this need
-pub record SpellTaskCert (image : ImageData) (plan : PlanData) (tasks : TasksData) (u : ℕ) (bytes : List ℕ) (need : ℕ) : Type 0 where
-  pub cert : CertData
-  pub spell : bytes ≡ bytes_of_cert cert
+-- the certificate of task u is made, and has this need
+pub record IsTaskCertWithNeed (image : ImageData) (plan : PlanData) (tasks : TasksData) (u : ℕ) (cert : CertData) (need : ℕ) : Type 0 where
   pub made : IsTaskCertMade image plan tasks u cert
   pub need_is : need ≡ certified_need (view_image_of image tasks u) (view_plan_of plan tasks u) cert
 
 -- the result of making a certificate for task u
-abbrev pub MakesTaskCert : ImageData → PlanData → TasksData → ℕ → Making → Type 0
-MakesTaskCert image plan tasks u (making.Certified bytes need) = SpellTaskCert image plan tasks u bytes.items need
-MakesTaskCert image plan tasks u (making.Refused rule key addr) = IsTaskUncertified (view_image_of image tasks u) (view_plan_of plan tasks u) tasks rule key addr
-MakesTaskCert image plan tasks u making.NoMemory = Unit {0}
+abbrev pub MakesTaskCert : ImageData → PlanData → TasksData → ℕ → Result (CertData × ℕ) MakeErr → Type 0
+MakesTaskCert image plan tasks u (Ok made) = IsTaskCertWithNeed image plan tasks u made.0 made.1
+MakesTaskCert image plan tasks u (Err (make_err.Refused rule key addr)) = IsTaskUncertified (view_image_of image tasks u) (view_plan_of plan tasks u) tasks rule key addr
+MakesTaskCert image plan tasks u (Err make_err.NoMemory) = Unit {0}
 
 -- the files that `taskcert` writes, a certificate for each task, with the sum of the needs
 pub record AreTaskCertFiles (names : List (List ℕ)) (image : ImageData) (plan : PlanData) (tasks : TasksData) (writes : List ReportFile) (sum : ℕ) : Type 0 where
@@ -137,8 +125,9 @@ pub record AreTaskCertFiles (names : List (List ℕ)) (image : ImageData) (plan 
   pub files : writes ≡ cert_files names certs
   pub sum_is : sum ≡ sum_of_needs image plan tasks certs
 
--- the result of making a certificate for each task
-abbrev pub MakesAllTaskCerts : List (List ℕ) → ImageData → PlanData → TasksData → TasksMaking → Type 0
-MakesAllTaskCerts names image plan tasks (all.Certified writes sum) = AreTaskCertFiles names image plan tasks writes.items sum
-MakesAllTaskCerts names image plan tasks (all.Against u rule key addr) = IsFirstUncertified image plan tasks u rule key addr
-MakesAllTaskCerts names image plan tasks all.NoMemory = Unit {0}
+-- the result of making a certificate for each task: their files and the sum of their needs, or the
+-- first task without one
+abbrev pub MakesAllTaskCerts : List (List ℕ) → ImageData → PlanData → TasksData → Result (Vec ReportFile Global × ℕ) (ℕ × MakeErr) → Type 0
+MakesAllTaskCerts names image plan tasks (Ok (writes, sum)) = AreTaskCertFiles names image plan tasks writes.items sum
+MakesAllTaskCerts names image plan tasks (Err (u, make_err.Refused rule key addr)) = IsFirstUncertified image plan tasks u rule key addr
+MakesAllTaskCerts names image plan tasks (Err (u, make_err.NoMemory)) = Unit {0}

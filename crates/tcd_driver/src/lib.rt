@@ -8,7 +8,6 @@ mod commands;
 mod distinct_names;
 mod laws;
 mod lines;
-mod own_output;
 mod tools;
 
 pub use laws::sure_call_law;

@@ -1,16 +1,11 @@
 // The command `cellcert`.
-ghost use Rattle.depth_maker.specs.LeastCertMade.{AreMade};
-ghost use Rattle.value_cells.specs.Cells as spec;
 ghost use Rattle.value_cells.specs.Cells.{AreCells};
 ghost use Rattle.tcd_driver.specs.Cellcert.{IsCertifyingCells, cellcert_reading};
 ghost use Rattle.tcd_reading.specs.Outcomes.{IsCommandOutcome, IsToldOutcome};
 
 use crate::cell_and_task_files::CellsFile;
-use depth_cert::CertErr;
-use depth_check::{Verdict, check};
-use depth_maker::{MakeErr, make_bytes};
+use crate::cert_making::{make_least_cert, report_unmade};
 use elf_image::Image;
-use packed_cert::Cert;
 use std::alloc::Global;
 use tcd_base::Files;
 use tcd_forms::{ElfFile, PlanFile, certified_cells_line, refused_line};
@@ -52,43 +47,15 @@ pub(crate) fn certify_cells<F: Files>(
     make_cells_cert(alloc, cert, &image, &board, &words)
 }
 
-// Makes the certificate of version 2 under the plan in which the cells are devices, and reports it
-// with the file to write.
+// Makes the certificate of version 2 under the plan in which the cells are devices. Reports it with
+// the file to write, if it keeps the cells.
 fn make_cells_cert(alloc: Global, name: &str, image: &Image, plan: &Plan, cells: &Cells) -> Outcome
     requires { AreCells plan.now cells.now }
     ensures { IsToldOutcome (IsCertifyingCells name.now image.now plan.now cells.now) ⊥ result }
 {
-    match make_bytes(alloc, image, &with_cells(plan, cells), 2) {
-        Ok(bytes) => report_cells_cert(alloc, name, image, plan, cells, bytes),
-        Err(MakeErr::Refused { rule, key, addr }) => {
-            report(alloc, Status::Refused, refused_line(alloc, rule, key, addr))
-        }
-        Err(MakeErr::NoMemory) => Outcome::NoMemory,
-    }
-}
-
-// Checks the certificate in these bytes, and whether it keeps the cells. Reports it with the file
-// to write.
-fn report_cells_cert(
-    alloc: Global,
-    name: &str,
-    image: &Image,
-    plan: &Plan,
-    cells: &Cells,
-    bytes: Vec<u8>,
-) -> Outcome
-    requires cells { AreCells plan.now cells.now }
-    requires made { AreMade image.now (spec.with_cells plan.now cells.now) 2 bytes.items }
-    ensures { IsToldOutcome (IsCertifyingCells name.now image.now plan.now cells.now) ⊥ result }
-{
     let areas = plan.areas - plan.reserve;
-    let cert = match Cert::read(alloc, bytes) {
-        Ok(cert) => cert,
-        Err(CertErr::NoMemory) => return Outcome::NoMemory,
-        Err(CertErr::Bad(_)) => unreachable!(),
-    };
-    match check(image, &with_cells(plan, cells), &cert) {
-        Verdict::Yes(need) => match cells_fault(image, plan, cells, &cert) {
+    match make_least_cert(alloc, image, &with_cells(plan, cells), 2) {
+        Ok((cert, need)) => match cells_fault(image, plan, cells, &cert) {
             Some((key, addr)) => {
                 report(
                     alloc,
@@ -102,6 +69,6 @@ fn report_cells_cert(
                 report_file(alloc, name, cert.into_bytes(), line)
             }
         },
-        Verdict::No { .. } => unreachable!(),
+        Err(e) => report_unmade(alloc, e),
     }
 }

@@ -2,13 +2,13 @@
 ghost use Rattle.tcd_driver.specs.Cert.{IsCertifying, cert_reading};
 ghost use Rattle.tcd_reading.specs.Outcomes.{IsCommandOutcome, IsToldOutcome};
 
-use crate::cert_making::{Making, make_best_cert};
+use crate::cert_making::{make_best_cert, report_unmade};
 use elf_image::Image;
 use std::alloc::Global;
 use tcd_base::Files;
-use tcd_forms::{ElfFile, PlanFile, certified_line, refused_line};
+use tcd_forms::{ElfFile, PlanFile, certified_line};
 use tcd_plan::Plan;
-use tcd_reading::{Outcome, Status, read_input, report, report_file};
+use tcd_reading::{Outcome, read_input, report_file};
 
 /// Reads an executable and a plan, and makes their certificate.
 #[inline(never)]
@@ -39,13 +39,10 @@ fn certify_image(alloc: Global, name: &str, image: &Image, plan: &Plan) -> Outco
     ensures { IsToldOutcome (IsCertifying name.now image.now plan.now) ⊥ result }
 {
     match make_best_cert(alloc, image, plan) {
-        Making::Certified { bytes, need } => {
+        Ok((cert, need)) => {
             let line = certified_line(alloc, need, plan.areas - plan.reserve);
-            report_file(alloc, name, bytes, line)
+            report_file(alloc, name, cert.into_bytes(), line)
         }
-        Making::Refused { rule, key, addr } => {
-            report(alloc, Status::Refused, refused_line(alloc, rule, key, addr))
-        }
-        Making::NoMemory => Outcome::NoMemory,
+        Err(e) => report_unmade(alloc, e),
     }
 }

@@ -1,16 +1,15 @@
 // The command `cfg`.
 ghost use Rattle.std.specs.Prelude.{IfOk};
 ghost use Rattle.tcd_driver.specs.Cfg.{IsCfgReport, IsCfgText, cfg_reading};
-ghost use Rattle.tcd_driver.specs.BestCert.{SpellSomeBestCert};
+ghost use Rattle.tcd_driver.specs.BestCert.{IsAcceptedBestCert};
 ghost use Rattle.tcd_reading.specs.Outcomes.{IsCommandOutcome, IsToldOutcome};
 
-use crate::cert_making::{Making, make_best_cert};
-use depth_cert::CertErr;
+use crate::cert_making::{make_best_cert, report_unmade};
 use elf_image::Image;
 use packed_cert::Cert;
 use std::alloc::Global;
 use tcd_base::{Files, NoMemory};
-use tcd_forms::{ElfFile, PlanFile, refused_line};
+use tcd_forms::{ElfFile, PlanFile};
 use tcd_plan::Plan;
 use tcd_reading::{Outcome, Status, read_input, report};
 use tcd_report::graph;
@@ -37,34 +36,27 @@ fn draw_graph(alloc: Global, image: &Image, plan: &Plan) -> Outcome
     ensures { IsToldOutcome (IsCfgReport image.now plan.now) ⊥ result }
 {
     match make_best_cert(alloc, image, plan) {
-        Making::Certified { bytes, .. } => {
-            let text = cfg_command_text(alloc, image, plan, bytes);
+        Ok((cert, _)) => {
+            let text = cfg_command_text(alloc, image, plan, &cert);
             report(alloc, Status::Done, text)
         }
-        Making::Refused { rule, key, addr } => {
-            report(alloc, Status::Refused, refused_line(alloc, rule, key, addr))
-        }
-        Making::NoMemory => Outcome::NoMemory,
+        Err(e) => report_unmade(alloc, e),
     }
 }
 
-// The graph of the certificate that these bytes spell.
+// The graph of the best certificate.
 #[inline(never)]
 fn cfg_command_text(
     alloc: Global,
     image: &Image,
     plan: &Plan,
-    bytes: Vec<u8>,
+    cert: &Cert,
 ) -> Result<Vec<u8>, NoMemory>
-    requires { SpellSomeBestCert image.now plan.now bytes.items }
+    requires { IsAcceptedBestCert image.now plan.now cert.now }
     ensures { IfOk result (λ text. IsCfgText image.now plan.now text.items) }
 {
     // Reading a field gives the facts that hold for every image and for every plan.
     let _entry = image.entry;
     let _areas = plan.areas;
-    match Cert::read(alloc, bytes) {
-        Ok(cert) => Ok(graph(alloc, image, plan, &cert)?.into_bytes()),
-        Err(CertErr::NoMemory) => Err(NoMemory),
-        Err(CertErr::Bad(_)) => unreachable!(),
-    }
+    Ok(graph(alloc, image, plan, cert)?.into_bytes())
 }

@@ -1,20 +1,17 @@
 // The command `gen`.
-ghost use Rattle.std.specs.Prelude.{◌≤◌};
-ghost use Rattle.depth_maker.specs.LeastCertMade.{AreMade};
+ghost use Rattle.std.specs.Prelude.{◌≡◌, ◌≤◌};
+ghost use Rattle.elf_image.specs.declared.errors.ImageErr.TheVariants as image_error;
+ghost use Rattle.tcd_plan.specs.declared.plans.PlanErr.TheVariants as plan_error;
 ghost use Rattle.tcd_report.specs.Generated.{generated_image};
 ghost use Rattle.tcd_report.specs.Generated.Planned.{generated_plan};
 ghost use Rattle.tcd_driver.specs.Gen.{IsGenReport};
 ghost use Rattle.tcd_reading.specs.Outcomes.{IsToldOutcome};
 
-use crate::own_output::{own_image_memory_error, own_plan_memory_error};
-use depth_cert::CertErr;
-use depth_check::{Verdict, check};
-use depth_maker::{MakeErr, make_bytes};
-use elf_image::Image;
-use packed_cert::Cert;
+use crate::cert_making::{make_least_cert, report_unmade};
+use elf_image::{Image, ImageErr};
 use std::alloc::Global;
-use tcd_forms::{generated_line, refused_line};
-use tcd_plan::Plan;
+use tcd_forms::generated_line;
+use tcd_plan::{Plan, PlanErr};
 use tcd_reading::{Outcome, Status, report};
 use tcd_report::generate;
 
@@ -45,41 +42,37 @@ pub(crate) fn certify_generated_image(alloc: Global, functions: u32) -> Outcome
     }
 }
 
-/// Makes the least certificate of version 1 of a generated image, and reports it.
+/// Makes the least certificate of version 1 of a generated image, and reports the numbers of its
+/// nodes and points.
 fn report_generated_image(alloc: Global, functions: u32, image: &Image, plan: &Plan) -> Outcome
     ensures { IsToldOutcome (IsGenReport functions image.now plan.now) ⊥ result }
 {
-    match make_bytes(alloc, image, plan, 1) {
-        Ok(bytes) => count_generated_cert(alloc, functions, image, plan, bytes),
-        Err(MakeErr::Refused { rule, key, addr }) => {
-            report(alloc, Status::Refused, refused_line(alloc, rule, key, addr))
-        }
-        Err(MakeErr::NoMemory) => Outcome::NoMemory,
-    }
-}
-
-/// Checks a generated image's certificate, and reports the numbers of its nodes and points.
-fn count_generated_cert(
-    alloc: Global,
-    functions: u32,
-    image: &Image,
-    plan: &Plan,
-    bytes: Vec<u8>,
-) -> Outcome
-    requires { AreMade image.now plan.now 1 bytes.items }
-    ensures { IsToldOutcome (IsGenReport functions image.now plan.now) ⊥ result }
-{
-    let cert = match Cert::read(alloc, bytes) {
-        Ok(cert) => cert,
-        Err(CertErr::NoMemory) => return Outcome::NoMemory,
-        Err(CertErr::Bad(_)) => unreachable!(),
-    };
-    match check(image, plan, &cert) {
-        Verdict::Yes(need) => {
+    match make_least_cert(alloc, image, plan, 1) {
+        Ok((cert, need)) => {
             let areas = plan.areas - plan.reserve;
             let line = generated_line(alloc, functions, &cert, need, areas);
             report(alloc, Status::Done, line)
         }
-        Verdict::No { .. } => unreachable!(),
+        Err(e) => report_unmade(alloc, e),
+    }
+}
+
+/// The cause of an error in reading an executable that the program wrote: memory ran out.
+fn own_image_memory_error(e: ImageErr)
+    requires { e ≡ image_error.NoMemory }
+{
+    match e {
+        ImageErr::NoMemory => {}
+        _ => unreachable!(),
+    }
+}
+
+/// The cause of an error in reading a plan that the program generated: memory ran out.
+fn own_plan_memory_error(e: PlanErr)
+    requires { e ≡ plan_error.NoMemory }
+{
+    match e {
+        PlanErr::NoMemory => {}
+        _ => unreachable!(),
     }
 }

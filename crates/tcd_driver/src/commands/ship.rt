@@ -3,18 +3,15 @@ ghost use Rattle.std.specs.Prelude.{◌≡◌, ◌≤◌, IfOk, List, length, ma
 ghost use Rattle.tcd_forms.specs.Forms.{SourceData, placed_source_form};
 ghost use Rattle.tcd_reading.specs.Inputs.{each, answer};
 ghost use Rattle.tcd_reading.specs.Outcomes.{IsCommandOutcome, IsToldOutcome};
-ghost use Rattle.tcd_driver.specs.Ship.{AreSourcesOfObjects, IsShipping, SpellShippedImage, shipped_by, ship_names, ship_reading};
+ghost use Rattle.tcd_driver.specs.Ship.{AreSourcesOfObjects, IsShipping, shipped_by, ship_names, ship_reading};
 
-use crate::cert_making::{Making, make_best_cert};
-use crate::own_output::own_image_memory_error;
+use crate::cert_making::{make_best_cert, report_unmade};
 use elf_image::Image;
 use std::alloc::Global;
 use tc_link::{Layout, link};
 use tc_object::Object;
 use tcd_base::{Files, NoMemory};
-use tcd_forms::{
-    LayoutFile, PlacedSourceFile, PlanFile, bad_link_line, certified_line, refused_line,
-};
+use tcd_forms::{LayoutFile, PlacedSourceFile, PlanFile, bad_link_line, certified_line};
 use tcd_plan::Plan;
 use tcd_reading::{Outcome, Status, Write, read_input, report, report_two};
 
@@ -96,7 +93,7 @@ fn ship_objects(
     }
 }
 
-// Certifies the image that reading the bytes of the output file gives.
+// Certifies the image, and reports both files to write.
 fn ship_image(alloc: Global, names: &Shipment<'_>, plan: &Plan, image: &Image) -> Outcome
     ensures { IsToldOutcome (IsShipping names.now.elf.now names.now.cert.now plan.now image.now) ⊥
         result }
@@ -105,39 +102,15 @@ fn ship_image(alloc: Global, names: &Shipment<'_>, plan: &Plan, image: &Image) -
         Ok(bytes) => bytes,
         Err(_) => return Outcome::NoMemory,
     };
-    match Image::read(alloc, &bytes) {
-        Ok(read) => ship_bytes(alloc, names, plan, &read, bytes),
-        Err(e) => {
-            own_image_memory_error(e);
-            Outcome::NoMemory
-        }
-    }
-}
-
-// Certifies the image that these bytes spell, and reports both files to write.
-fn ship_bytes(
-    alloc: Global,
-    names: &Shipment<'_>,
-    plan: &Plan,
-    image: &Image,
-    bytes: Vec<u8>,
-) -> Outcome
-    requires { SpellShippedImage image.now bytes.items }
-    ensures { IsToldOutcome (IsShipping names.now.elf.now names.now.cert.now plan.now image.now) ⊥
-        result }
-{
     match make_best_cert(alloc, image, plan) {
-        Making::Certified { bytes: cert, need } => {
+        Ok((cert, need)) => {
             let line = certified_line(alloc, need, plan.areas - plan.reserve);
-            match shipped_files(alloc, names, bytes, cert) {
+            match shipped_files(alloc, names, bytes, cert.into_bytes()) {
                 Ok((first, second)) => report_two(alloc, first, second, line),
                 Err(_) => Outcome::NoMemory,
             }
         }
-        Making::Refused { rule, key, addr } => {
-            report(alloc, Status::Refused, refused_line(alloc, rule, key, addr))
-        }
-        Making::NoMemory => Outcome::NoMemory,
+        Err(e) => report_unmade(alloc, e),
     }
 }
 

@@ -1,6 +1,5 @@
 // The command `taskcert`.
 ghost use Rattle.std.specs.Prelude.{◌≡◌, ◌<◌, ◌++◌, ◌∷◌, [], length, map, string_bytes, IsOkAnd, OnOk};
-ghost use Rattle.depth_maker.specs.LeastCertMade.{AreMade};
 ghost use Rattle.task_chains.specs.Tasks.{count};
 ghost use Rattle.task_chains.specs.Views.{FitPlan};
 ghost use Rattle.tcd_reading.specs.Outcomes.{IsCommandOutcome, IsToldOutcome};
@@ -8,12 +7,10 @@ ghost use Rattle.tcd_driver.specs.Taskcert.{IsTaskcerting, MakesTaskViewCert, Ma
 ghost use Rattle.tcd_reading.specs.Reports.{writes_files};
 
 use crate::cell_and_task_files::TasksFile;
-use crate::cert_making::Making;
+use crate::cert_making::make_least_cert;
 use crate::commands::tasks::task_need_to_count;
 use crate::lines::bad_tasks_line;
-use depth_cert::{CertErr, Key};
-use depth_check::{Verdict, check};
-use depth_maker::{MakeErr, make_bytes};
+use depth_maker::MakeErr;
 use elf_image::Image;
 use packed_cert::Cert;
 use std::alloc::Global;
@@ -25,24 +22,6 @@ use tcd_forms::{
 };
 use tcd_plan::Plan;
 use tcd_reading::{Outcome, Status, Write, read_input, report};
-
-/// The result of making a certificate for each task.
-#[derive(Drop)]
-pub(crate) enum TasksMaking {
-    /// The files of the certificates, and the sum of their needs.
-    Certified {
-        writes: Vec<Write>,
-        sum: u64,
-    },
-    /// The first task without one, and the rule that fails, with its place.
-    Against {
-        task: usize,
-        rule: u8,
-        key: Key,
-        addr: u32,
-    },
-    NoMemory,
-}
 
 /// Reads an executable, a plan and its tasks, and makes a certificate for each task.
 #[inline(never)]
@@ -105,7 +84,7 @@ fn certify_all_tasks(
         return report(alloc, Status::Refused, refused_switch_line(alloc, addr));
     }
     match make_each_task_cert(alloc, image, plan, tasks, names) {
-        TasksMaking::Certified { writes, sum } => {
+        Ok((writes, sum)) => {
             if sum <= u64::from(areas) {
                 let line = certified_tasks_line(alloc, sum, areas, count);
                 report_task_certs(writes, line)
@@ -113,27 +92,23 @@ fn certify_all_tasks(
                 report(alloc, Status::Refused, refused_sum_line(alloc, sum, areas))
             }
         }
-        TasksMaking::Against {
-            task,
-            rule,
-            key,
-            addr,
-        } => {
+        Err((task, MakeErr::Refused { rule, key, addr })) => {
             let line = refused_task_line(alloc, rule, key, addr, task);
             report(alloc, Status::Refused, line)
         }
-        TasksMaking::NoMemory => Outcome::NoMemory,
+        Err((_, MakeErr::NoMemory)) => Outcome::NoMemory,
     }
 }
 
-// Makes a certificate for each task.
+// Makes a certificate for each task. Returns their files and the sum of their needs, or the first
+// task without a certificate, and why it has none.
 fn make_each_task_cert(
     alloc: Global,
     image: &Image,
     plan: &Plan,
     tasks: &Tasks,
     names: &[String],
-) -> TasksMaking
+) -> Result<(Vec<Write>, u64), (usize, MakeErr)>
     requires fit { FitPlan plan.now tasks.now }
     requires many { length names.now ≡ count tasks.now }
     ensures { MakesAllTaskCerts (map string_bytes names.now) image.now plan.now tasks.now result }
@@ -144,24 +119,16 @@ fn make_each_task_cert(
     let mut sum = 0u64;
     for u in 0..names.len() {
         match make_task_cert(alloc, image, plan, tasks, u) {
-            Making::Certified { bytes, need } => {
-                match add_task_cert_file(alloc, &mut writes, names[u].as_str(), bytes) {
+            Ok((cert, need)) => {
+                match add_task_cert_file(alloc, &mut writes, names[u].as_str(), cert.into_bytes()) {
                     Ok(()) => sum += u64::from(task_need_to_count(u, need)),
-                    Err(_) => return TasksMaking::NoMemory,
+                    Err(_) => return Err((u, MakeErr::NoMemory)),
                 }
             }
-            Making::Refused { rule, key, addr } => {
-                return TasksMaking::Against {
-                    task: u,
-                    rule,
-                    key,
-                    addr,
-                };
-            }
-            Making::NoMemory => return TasksMaking::NoMemory,
+            Err(e) => return Err((u, e)),
         }
     }
-    TasksMaking::Certified { writes, sum }
+    Ok((writes, sum))
 }
 
 // Reports files to write, one after another, and the text on them, unless memory ran out.
@@ -180,7 +147,13 @@ fn report_task_certs(writes: Vec<Write>, line: Result<Vec<u8>, NoMemory>) -> Out
 }
 
 // Makes the least certificate of version 2 for a task's view, and checks that it keeps rule 17.
-fn make_task_cert(alloc: Global, image: &Image, plan: &Plan, tasks: &Tasks, u: usize) -> Making
+fn make_task_cert(
+    alloc: Global,
+    image: &Image,
+    plan: &Plan,
+    tasks: &Tasks,
+    u: usize,
+) -> Result<(Cert, u32), MakeErr>
     requires task { u < count tasks.now }
     requires fit { FitPlan plan.now tasks.now }
     ensures { MakesTaskCert image.now plan.now tasks.now u result }
@@ -188,10 +161,8 @@ fn make_task_cert(alloc: Global, image: &Image, plan: &Plan, tasks: &Tasks, u: u
     // What holds of plans and tasks is known after they are read.
     let _areas = plan.areas;
     let _switch = tasks.switch;
-    match view_image(alloc, image, tasks, u) {
-        Ok(view) => make_task_view_cert(alloc, &view, &view_plan(plan, tasks, u), tasks),
-        Err(_) => Making::NoMemory,
-    }
+    let view = view_image(alloc, image, tasks, u)?;
+    make_task_view_cert(alloc, &view, &view_plan(plan, tasks, u), tasks)
 }
 
 /// Adds the certificate of a task to the files to write.
@@ -209,46 +180,23 @@ fn add_task_cert_file(
 }
 
 /// Makes the least certificate of version 2 of a task's view, and checks that it keeps rule 17.
-fn make_task_view_cert(alloc: Global, view: &Image, plan: &Plan, tasks: &Tasks) -> Making
-    ensures { MakesTaskViewCert view.now plan.now tasks.now result }
-{
-    match make_bytes(alloc, view, plan, 2) {
-        Ok(bytes) => check_task_view_cert(alloc, view, plan, tasks, bytes),
-        Err(MakeErr::Refused { rule, key, addr }) => Making::Refused { rule, key, addr },
-        Err(MakeErr::NoMemory) => Making::NoMemory,
-    }
-}
-
-/// Checks that the least certificate of a task's view, which is in these bytes, keeps rule 17.
-fn check_task_view_cert(
+fn make_task_view_cert(
     alloc: Global,
     view: &Image,
     plan: &Plan,
     tasks: &Tasks,
-    bytes: Vec<u8>,
-) -> Making
-    requires { AreMade view.now plan.now 2 bytes.items }
+) -> Result<(Cert, u32), MakeErr>
     ensures { MakesTaskViewCert view.now plan.now tasks.now result }
 {
     // What holds of every plan is known after it is read.
     let _areas = plan.areas;
-    let cert = match Cert::read(alloc, bytes) {
-        Ok(cert) => cert,
-        Err(CertErr::NoMemory) => return Making::NoMemory,
-        Err(CertErr::Bad(_)) => unreachable!(),
-    };
-    match check(view, plan, &cert) {
-        Verdict::Yes(need) => match task_fault(view, plan, tasks, &cert) {
-            Some((key, addr)) => Making::Refused {
-                rule: TASKS_RULE,
-                key,
-                addr,
-            },
-            None => Making::Certified {
-                bytes: cert.into_bytes(),
-                need,
-            },
-        },
-        Verdict::No { .. } => unreachable!(),
+    let (cert, need) = make_least_cert(alloc, view, plan, 2)?;
+    match task_fault(view, plan, tasks, &cert) {
+        Some((key, addr)) => Err(MakeErr::Refused {
+            rule: TASKS_RULE,
+            key,
+            addr,
+        }),
+        None => Ok((cert, need)),
     }
 }

@@ -1,15 +1,39 @@
-use Rattle.tcd_reading.specs.Reports.{says}
+use Rattle.std.proofs.Common.{List, length, ap, subst}
+use Rattle.tcd_plan.specs.PlanData.{PlanData, plan_data}
+use Rattle.cfg_recover.specs.RulesHoldOrFail.{Accepts}
+use Rattle.depth_maker.specs.Answers.{IsRefused}
+use Rattle.value_cells.specs.declared.cells.Cell.{Cell}
+use Rattle.value_cells.specs.Cells.{with_cells}
+use Rattle.tcd_reading.specs.Reports.{says, writes_file}
 use Rattle.tcd_reading.specs.declared.status.Status.TheVariants.{Refused}
 use Rattle.tcd_reading.proofs.Told.{told_more}
 use Rattle.tcd_reading.proofs.ReportLaws.{report_is}
-use Rattle.tcd_driver.proofs.CellcertReports.{made_under, refused_report}
+use Rattle.tcd_driver.specs.BestCert.{IsLeastWithNeed}
+use Rattle.tcd_driver.specs.Cellcert.{IsCertifyingCells, refused}
+use Rattle.tcd_driver.proofs.CellcertReports.{broken_report, kept_report}
+use Rattle.tcd_driver.proofs.MakingLaws.{unmade}
 use Rattle.tcd_driver.proofs.commands.cellcert.make_cells_cert.Goals as goal
 
-pub report_cells_cert-requires-clause-made : goal.report_cells_cert-requires-clause-made
-report_cells_cert-requires-clause-made c = made_under c.args.image.now _ _ _ _ c.with_cells.ensures c.in-Ok.ensures.made
+pub cells_fault-requires-clause-accepted : goal.cells_fault-requires-clause-accepted
+cells_fault-requires-clause-accepted c = subst (λ (q : PlanData). Accepts c.args.image.now q c.in-Ok.cert) c.with_cells.ensures ((c.in-Ok.ensures).made).accepted
 
-pub returns-in-Err-Refused : goal.returns-in-Err-Refused
-returns-in-Err-Refused c =
+pub returns-in-Some : goal.returns-in-Some
+returns-in-Some c =
     told_more _ _ c.report.result c.report.ensures
-    (λ r p. refused_report c.args.name.now c.args.image.now _ c.args.plan.now c.args.cells.now _ c.in-Err-Refused.rule c.in-Err-Refused.key c.in-Err-Refused.addr r c.with_cells.ensures c.in-Err-Refused.field-0-is c.in-Err-Refused.ensures.refused
+    (λ r p. broken_report c.args.name.now c.args.image.now (plan_data c.plan.inside) c.args.plan.now c.args.cells.now _ c.in-Ok.need c.plan.view_is c.plan.invariant c.requires
+    (subst (λ (q : PlanData). IsLeastWithNeed c.args.image.now q 2 c.in-Ok.cert c.in-Ok.need) c.with_cells.ensures c.in-Ok.ensures) c.in-Some.key c.in-Some.addr r c.in-Some.ensures.some
     (report_is _ (λ t. says Refused t) c.refused_line.result r _ c.refused_line.ensures p))
+
+pub returns-in-None : goal.returns-in-None
+returns-in-None c =
+    told_more _ _ c.report_file.result c.report_file.ensures
+    (λ r p. kept_report c.args.name.now c.args.image.now (plan_data c.plan.inside) c.args.plan.now c.args.cells.now _ c.in-Ok.need c.plan.view_is c.plan.invariant c.requires
+    (subst (λ (q : PlanData). IsLeastWithNeed c.args.image.now q 2 c.in-Ok.cert c.in-Ok.need) c.with_cells.ensures c.in-Ok.ensures) c.into_bytes.result.items _ r c.into_bytes.ensures c.in-None.ensures.none
+    (ap (λ (l : List Cell). length l) c.list-count.ensures)
+    (report_is _ (λ t. writes_file c.args.name.now c.into_bytes.result.items t) c.certified_cells_line-line.result r _ c.certified_cells_line-line.ensures p))
+
+pub returns-in-Err : goal.returns-in-Err
+returns-in-Err c =
+    unmade (IsCertifyingCells c.args.name.now c.args.image.now c.args.plan.now c.args.cells.now) (IsRefused c.args.image.now (with_cells c.args.plan.now c.args.cells.now) 2) c.in-Err.e _
+    (subst (λ (q : PlanData). IsRefused c.args.image.now q 2 c.in-Err.e) c.with_cells.ensures c.in-Err.ensures) c.report_unmade.ensures
+    (λ rule key addr r why e. refused rule key addr why.1 why.0 e)
