@@ -53,14 +53,23 @@ impl From<tcd_base::NoMemory> for MakeErr {
     }
 }
 
+/// Returns the least certificate of version 1 or 2 that the rules accept, or why none is accepted.
+pub fn make(alloc: Global, image: &Image, plan: &Plan, version: u8) -> Result<Cert, MakeErr>
+    requires { (version ≡ 1) ⊎ (version ≡ 2) }
+    ensures made { IfOk result (IsMade image.now plan.now version) }
+    ensures refused { IfErr result (IsRefused image.now plan.now version) }
+{
+    let bytes = make_bytes(alloc, image, plan, version)?;
+    match Cert::read(alloc, bytes) {
+        Ok(cert) => Ok(cert),
+        Err(CertErr::NoMemory) => Err(MakeErr::NoMemory),
+        Err(CertErr::Bad(_)) => unreachable!(),
+    }
+}
+
 /// Returns the bytes of the least certificate of version 1 or 2 that the rules accept, or why none
 /// is accepted.
-pub fn make_bytes(
-    alloc: Global,
-    image: &Image,
-    plan: &Plan,
-    version: u8,
-) -> Result<Vec<u8>, MakeErr>
+fn make_bytes(alloc: Global, image: &Image, plan: &Plan, version: u8) -> Result<Vec<u8>, MakeErr>
     requires { (version ≡ 1) ⊎ (version ≡ 2) }
     ensures made { IfOk result (λ out. AreMade image.now plan.now version out.items) }
     ensures refused { IfErr result (IsRefused image.now plan.now version) }
@@ -74,20 +83,6 @@ pub fn make_bytes(
         plan,
     };
     answer_on_ground(alloc, &ground, version)
-}
-
-/// Returns the least certificate of version 1 or 2 that the rules accept, or why none is accepted.
-pub fn make(alloc: Global, image: &Image, plan: &Plan, version: u8) -> Result<Cert, MakeErr>
-    requires { (version ≡ 1) ⊎ (version ≡ 2) }
-    ensures made { IfOk result (IsMade image.now plan.now version) }
-    ensures refused { IfErr result (IsRefused image.now plan.now version) }
-{
-    let bytes = make_bytes(alloc, image, plan, version)?;
-    match Cert::read(alloc, bytes) {
-        Ok(cert) => Ok(cert),
-        Err(CertErr::NoMemory) => Err(MakeErr::NoMemory),
-        Err(CertErr::Bad(_)) => unreachable!(),
-    }
 }
 
 /// Returns the bytes of the least certificate within these limits, or why there is none.

@@ -22,7 +22,7 @@ mod spelling;
 mod table;
 mod visit;
 
-pub use answering::{MakeErr, make, make_bytes};
+pub use answering::{MakeErr, make};
 pub use laws::{
     accepted_laws, after_laws, derived_laws, effect_growth_laws, growth_laws, making_laws,
 };
