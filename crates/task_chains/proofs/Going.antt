@@ -8,7 +8,7 @@ use Rattle.tcd_plan.specs.PlanData.{PlanData}
 use Rattle.tcd_plan.specs.MappedAddresses.{IsInAreas, IsStoreInRange}
 use Rattle.tcd_plan.proofs.ApartLaws.{rom_fits}
 use Rattle.tc_isa.specs.declared.shapes.Shape.{Shape}
-use Rattle.tc_isa.specs.declared.shapes.Shape.TheVariants.{Compute, Scaled, Load, Store, Branch, Jump, Call, Ret, Rfe, Svlcx, Rslcx, Bisr, Enable, Disable, Syscall, Mfcr, Mtcr, Nothing}
+use Rattle.tc_isa.specs.declared.shapes.Shape.TheVariants.{Store, Svlcx, Disable}
 use Rattle.tc_machine.specs.declared.events.Cause.{Cause}
 use Rattle.tc_machine.specs.declared.events.Event.{Event}
 use Rattle.tc_machine.specs.declared.events.End.TheVariants.{Running, Dead}
@@ -29,7 +29,7 @@ use Rattle.task_chains.proofs.CoreKept.{save_place}
 use Rattle.value_domain.specs.Limits.{Limits}
 use Rattle.depth_cert.specs.Certs.{CertData}
 use Rattle.cfg_recover.specs.RulesHoldOrFail.{limits_in}
-use Rattle.cfg_recover.specs.Code.{IsCode}
+use Rattle.cfg_recover.specs.Code.{IsCode, HasCode}
 use Rattle.cfg_recover.specs.Frames.{Standing, frames_left, frames_by, frames_after}
 use Rattle.cfg_recover.specs.StepEdges.{to, irq, edge_way_by_trap, edge_way_in_fetch}
 use Rattle.cfg_recover.proofs.CodeLaws.{IsCode-bounded, IsCode-one, IsCode-sized}
@@ -321,6 +321,10 @@ module _ {image : ImageData} {plan : PlanData} {tasks : TasksData} {certs : ℕ 
             subst (λ t. IfSome (cond t None (Some (x, width))) (IsTaskStore plan tasks m.pc)) (sym none) (s.0, λ out. s.1)
       ]
   store_by _ size h = tt
+
+  -- the machine is at the image's own code
+  pub goes_code : (IsInRoutine tasks m.pc → m.pc ≤ tasks.switch + 4) → HasCode image plan m.pc
+  goes_code at_first = record { shape = p.shape; size = p.size; code = same_code image view plan m.pc p.size p.shape (own_code at_first) (code_of view plan tasks u m.pc p.shape p.size p.code) }
 
   -- they are in range and miss the block
   pub goes_store : (IsInRoutine tasks m.pc → m.pc ≤ tasks.switch + 4) → IfSome (stored m e) (IsTaskStore plan tasks m.pc)

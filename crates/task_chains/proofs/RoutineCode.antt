@@ -46,12 +46,15 @@ code_at image plan p r inst shape even listed_is fits long is in_rom held =
       sized = four;
     }
 
-below_4 : (P : ℕ → Type 0) → P 0 → P 1 → P 2 → P 3 → (j : ℕ) → j < 4 → P j
-below_4 P p0 p1 p2 p3 zero lt = p0
-below_4 P p0 p1 p2 p3 (suc zero) lt = p1
-below_4 P p0 p1 p2 p3 (suc (suc zero)) lt = p2
-below_4 P p0 p1 p2 p3 (suc (suc (suc zero))) lt = p3
-below_4 P p0 p1 p2 p3 (suc (suc (suc (suc j)))) lt = absurd (omega arith)
+-- P of each number below n, and of one of them
+abbrev Each : (ℕ → Type 0) → ℕ → Type 0
+Each P zero = Unit {0}
+Each P (suc n) = P 0 × Each (λ i. P (suc i)) n
+
+each_at : (P : ℕ → Type 0) (n i : ℕ) → Each P n → i < n → P i
+each_at P zero i all lt = absurd (omega arith)
+each_at P (suc n) zero all lt = all.0
+each_at P (suc n) (suc i) all lt = each_at (λ j. P (suc j)) n i all.1 (omega arith)
 
 -- four bytes of a range
 inner : (y p k : ℕ) (plan : PlanData) → IsInOneRange y 72 plan.rom → y ≤ p → p + 4 ≤ y + 72 → IsInOneRange p 4 plan.rom
@@ -79,7 +82,7 @@ module _ (image : ImageData) (plan : PlanData) (tasks : TasksData) (are : AreTas
   held_at : (i : ℕ) → i < 18 → (bs : List ℕ) → slice_index (routine_bytes tasks) (4 * i + 0) ≡ slice_index bs 0 → slice_index (routine_bytes tasks) (4 * i + 1) ≡ slice_index bs 1 → slice_index (routine_bytes tasks) (4 * i + 2) ≡ slice_index bs 2
       → slice_index (routine_bytes tasks) (4 * i + 3) ≡ slice_index bs 3 → (j : ℕ) → j < 4 → image_byte image (tasks.switch + 4 * i + j) ≡ Some (slice_index bs j)
   held_at i lt bs e0 e1 e2 e3 j less =
-      ap (image_byte image) (sym (place i j)) ∙ (has (4 * i + j) (omega arith)).held ∙ ap (λ (x : ℕ). Some x) (below_4 (λ j. slice_index (routine_bytes tasks) (4 * i + j) ≡ slice_index bs j) e0 e1 e2 e3 j less)
+      ap (image_byte image) (sym (place i j)) ∙ (has (4 * i + j) (omega arith)).held ∙ ap (λ (x : ℕ). Some x) (each_at (λ j. slice_index (routine_bytes tasks) (4 * i + j) ≡ slice_index bs j) 4 j (e0, (e1, (e2, (e3, tt)))) less)
 
   even_at : (i : ℕ) → (tasks.switch + 4 * i) % 2 ≡ 0
   even_at i = let e = are.even in omega arith
@@ -92,7 +95,7 @@ module _ (image : ImageData) (plan : PlanData) (tasks : TasksData) (are : AreTas
       let off : x - tasks.switch ≡ 4 * i + j = omega arith in
       view_byte image tasks u x ∙ ap (option_map (seen_byte tasks x)) (ap (image_byte image) (sym (place i j)) ∙ (has (4 * i + j) (omega arith)).held)
       ∙ ap (λ t. Some (cond t (slice_index_or (view_routine_bytes tasks) (x - tasks.switch) 0) (slice_index (routine_bytes tasks) (4 * i + j)))) inside
-      ∙ ap (λ k. Some (slice_index_or (view_routine_bytes tasks) k 0)) off ∙ ap (λ (x : ℕ). Some x) (below_4 (λ j. slice_index_or (view_routine_bytes tasks) (4 * i + j) 0 ≡ slice_index bs j) e0 e1 e2 e3 j less)
+      ∙ ap (λ k. Some (slice_index_or (view_routine_bytes tasks) k 0)) off ∙ ap (λ (x : ℕ). Some x) (each_at (λ j. slice_index_or (view_routine_bytes tasks) (4 * i + j) 0 ≡ slice_index bs j) 4 j (e0, (e1, (e2, (e3, tt)))) less)
 
   -- the first eight bytes are the same in a view
   pub first_bytes : (u j : ℕ) → j < 8 → image_byte (view_image_of image tasks u) (tasks.switch + j) ≡ image_byte image (tasks.switch + j)
@@ -290,23 +293,11 @@ module _ (image : ImageData) (plan : PlanData) (tasks : TasksData) (are : AreTas
       code_at (view_image_of image tasks u) plan (tasks.switch + 4 * 17) (row (codes "ret") [] Sys 13 6) ret (Ret) (even_at 17) refl (record { below = record { c = lit< tt; s1 = lit< tt; s2 = lit< tt; n = lit< tt; k = lit< tt }; zero = refl; apart = refl }) refl refl (inner tasks.switch (tasks.switch + 4 * 17) 0 plan whole (omega arith) (omega arith)) (view_held u 17 (lit< tt) (spelling (row (codes "ret") [] Sys 13 6) (fields_in ret)) refl refl refl refl)
 
   -- each of them
-  pub some_view_code : (u i : ℕ) → i < 18 → (shape : Shape) × IsCode (view_image_of image tasks u) plan (tasks.switch + 4 * i) shape 4
-  some_view_code u zero lt = (_, view_code_0 u)
-  some_view_code u (suc zero) lt = (_, view_code_1 u)
-  some_view_code u (suc (suc zero)) lt = (_, view_code_2 u)
-  some_view_code u (suc (suc (suc zero))) lt = (_, view_code_3 u)
-  some_view_code u (suc (suc (suc (suc zero)))) lt = (_, view_code_4 u)
-  some_view_code u (suc (suc (suc (suc (suc zero))))) lt = (_, view_code_5 u)
-  some_view_code u (suc (suc (suc (suc (suc (suc zero)))))) lt = (_, view_code_6 u)
-  some_view_code u (suc (suc (suc (suc (suc (suc (suc zero))))))) lt = (_, view_code_7 u)
-  some_view_code u (suc (suc (suc (suc (suc (suc (suc (suc zero)))))))) lt = (_, view_code_8 u)
-  some_view_code u (suc (suc (suc (suc (suc (suc (suc (suc (suc zero))))))))) lt = (_, view_code_9 u)
-  some_view_code u (suc (suc (suc (suc (suc (suc (suc (suc (suc (suc zero)))))))))) lt = (_, view_code_10 u)
-  some_view_code u (suc (suc (suc (suc (suc (suc (suc (suc (suc (suc (suc zero))))))))))) lt = (_, view_code_11 u)
-  some_view_code u (suc (suc (suc (suc (suc (suc (suc (suc (suc (suc (suc (suc zero)))))))))))) lt = (_, view_code_12 u)
-  some_view_code u (suc (suc (suc (suc (suc (suc (suc (suc (suc (suc (suc (suc (suc zero))))))))))))) lt = (_, view_code_13 u)
-  some_view_code u (suc (suc (suc (suc (suc (suc (suc (suc (suc (suc (suc (suc (suc (suc zero)))))))))))))) lt = (_, view_code_14 u)
-  some_view_code u (suc (suc (suc (suc (suc (suc (suc (suc (suc (suc (suc (suc (suc (suc (suc zero))))))))))))))) lt = (_, view_code_15 u)
-  some_view_code u (suc (suc (suc (suc (suc (suc (suc (suc (suc (suc (suc (suc (suc (suc (suc (suc zero)))))))))))))))) lt = (_, view_code_16 u)
-  some_view_code u (suc (suc (suc (suc (suc (suc (suc (suc (suc (suc (suc (suc (suc (suc (suc (suc (suc zero))))))))))))))))) lt = (_, view_code_17 u)
-  some_view_code u (suc (suc (suc (suc (suc (suc (suc (suc (suc (suc (suc (suc (suc (suc (suc (suc (suc (suc i)))))))))))))))))) lt = absurd (omega arith)
+  abbrev SomeCode : ImageData → ℕ → Type 0
+  SomeCode image i = (shape : Shape) × IsCode image plan (tasks.switch + 4 * i) shape 4
+
+  pub some_code : (i : ℕ) → i < 18 → SomeCode image i
+  some_code i lt = each_at (SomeCode image) 18 i ((_, code_0), ((_, code_1), ((_, code_2), ((_, code_3), ((_, code_4), ((_, code_5), ((_, code_6), ((_, code_7), ((_, code_8), ((_, code_9), ((_, code_10), ((_, code_11), ((_, code_12), ((_, code_13), ((_, code_14), ((_, code_15), ((_, code_16), ((_, code_17), tt)))))))))))))))))) lt
+
+  pub some_view_code : (u i : ℕ) → i < 18 → SomeCode (view_image_of image tasks u) i
+  some_view_code u i lt = each_at (SomeCode (view_image_of image tasks u)) 18 i ((_, view_code_0 u), ((_, view_code_1 u), ((_, view_code_2 u), ((_, view_code_3 u), ((_, view_code_4 u), ((_, view_code_5 u), ((_, view_code_6 u), ((_, view_code_7 u), ((_, view_code_8 u), ((_, view_code_9 u), ((_, view_code_10 u), ((_, view_code_11 u), ((_, view_code_12 u), ((_, view_code_13 u), ((_, view_code_14 u), ((_, view_code_15 u), ((_, view_code_16 u), ((_, view_code_17 u), tt)))))))))))))))))) lt

@@ -8,6 +8,7 @@ use Rattle.csa_chain.specs.MemoryBytes.{Memory}
 use Rattle.csa_chain.specs.Chain.{link_address, area_word}
 use Rattle.csa_chain.proofs.ChainLaws.{Links, are_mapped_each, are_mapped_from, chain_within-Links, Links-chain_within}
 use Rattle.csa_chain.proofs.SeveralLaws.{sum_below-at, cond_same, cond_other}
+use Rattle.elf_image.specs.Images.{ImageData}
 use Rattle.tcd_base.specs.declared.range.Range.{Range}
 use Rattle.tcd_base.specs.Ranges.{IsInOneRange}
 use Rattle.tcd_base.proofs.RangeLaws.{IsInOne-front, IsInOne-behind}
@@ -174,7 +175,7 @@ module _ (switch block : ℕ) (list : List Task) (m : Machine) where
       late at = owner_late at ∙ before_is (length list) (current_task tasks m.mem) u (h.later at)
 
 -- ---- a state's parts
-module _ {plan : PlanData} (ok : IsPlan plan) (switch block : ℕ) (list : List Task) (needs : ℕ → ℕ) (m : Machine) (e : Event) where
+module _ (image : ImageData) {plan : PlanData} (ok : IsPlan plan) (switch block : ℕ) (list : List Task) (needs : ℕ → ℕ) (m : Machine) (e : Event) where
   abbrev group : TasksData
   group = record { switch = switch; block = block; list = list }
 
@@ -192,9 +193,10 @@ module _ {plan : PlanData} (ok : IsPlan plan) (switch block : ℕ) (list : List 
         off_block = λ out. at.1 (λ inside. elim out [ inl low ↦ (let from = inside.0 in omega arith) | inr high ↦ (let to_ = inside.1 in omega arith) ]);
       }
 
-  pub parts_of : AreSafeAt plan group needs m e → HasSafeTaskParts plan switch block n needs m e
+  pub parts_of : AreSafeAt image plan group needs m e → HasSafeTaskParts image plan switch block n needs m e
   parts_of safe =
       let a = safe.areas in
+      let c = safe.code_in_rom in
       let own = owner group m in
       let link = λ (u : ℕ) (lt : u < n). walks m.mem (chain_word group m u) (a.chain_of u) (Links-chain_within m.mem 4096 (chain_word group m u) (a.chain_of u) (a.chains u lt)).0 in
       record {
@@ -213,11 +215,17 @@ module _ {plan : PlanData} (ok : IsPlan plan) (switch block : ℕ) (list : List 
         within_need = a.within_need;
         within_sum = sum_below-less n (λ u. length (a.chain_of u)) needs a.within_need;
         limit = a.limit;
+        code = c.bytes;
+        inst = c.inst;
+        spelled = c.spells.spelled;
+        in_rom = lies_in plan.rom m.pc (length c.bytes) c.spells.in_rom;
+        held = c.spells.held;
+        there = c.there;
         store = store_apart (stored m e) safe.stores;
       }
 
   -- ---- and what they say
-  module _ (p : HasSafeTaskParts plan switch block n needs m e) where
+  module _ (p : HasSafeTaskParts image plan switch block n needs m e) where
     few_used : (u : ℕ) → u < n → length (p.used u) ≤ 4096
     few_used u lt = let here = sum_below-at n (λ w. length (p.used w)) u lt in let all = p.count in let few = (ok.areas).few in omega arith
 
@@ -249,7 +257,7 @@ module _ {plan : PlanData} (ok : IsPlan plan) (switch block : ℕ) (list : List 
           λ out. s.off_block (elim (cases_lt m.pc switch) [ inl low ↦ inl low | inr from ↦ elim (cases_lt m.pc (switch + 72)) [ inl within ↦ absurd (out (from, within)) | inr high ↦ inr high ] ]),
         )
 
-    pub safe_of : AreSafeAt plan group needs m e
+    pub safe_of : AreSafeAt image plan group needs m e
     safe_of = record {
       running = p.running;
       owner = subst (λ u. u < n) (sym (owner_is switch block list m p.own p.owns)) (p.owns).one;
@@ -265,6 +273,12 @@ module _ {plan : PlanData} (ok : IsPlan plan) (switch block : ℕ) (list : List 
         within_need = p.within_need;
         limit = p.limit;
       };
+      code_in_rom = record {
+        bytes = p.code;
+        inst = p.inst;
+        spells = record { spelled = p.spelled; in_rom = (let r = p.in_rom in in_one_at plan.rom m.pc (length p.code) r.place r.range r.there r.from r.to); held = p.held };
+        there = p.there;
+      };
       stores = store_at (stored m e) refl;
     }
 
@@ -273,7 +287,7 @@ pub safe_tasks_say : SafeTasksSay
 safe_tasks_say image plan switch block list needs states events n e ok safe walk start fits last =
     let r = every_run plan states events n walk fits in
     let here = safe (states 0) (first_events n events) e start r.0 (subst (λ (m : Machine). Fits plan m e) (sym r.1) last) in
-    parts_of ok switch block list needs (states n) e (subst (λ (m : Machine). AreSafeAt plan (record { switch = switch; block = block; list = list }) needs m e) r.1 here)
+    parts_of image ok switch block list needs (states n) e (subst (λ (m : Machine). AreSafeAt image plan (record { switch = switch; block = block; list = list }) needs m e) r.1 here)
 
 -- the states of a run by the number of events: those of a list, and after them always the same
 -- event
@@ -301,4 +315,4 @@ parts_are_safe image plan switch block list needs ok parts m es e start all fits
     let here =
     parts (after_events m events) events (length es) e (λ k. refl) start (fits_after plan m es e all) (subst (λ (s : Machine). Fits plan s e) (sym (run_after m es e)) fits)
     in
-    safe_of ok switch block list needs (run m es) e (subst (λ (s : Machine). HasSafeTaskParts plan switch block (length list) needs s e) (run_after m es e) here)
+    safe_of image ok switch block list needs (run m es) e (subst (λ (s : Machine). HasSafeTaskParts image plan switch block (length list) needs s e) (run_after m es e) here)

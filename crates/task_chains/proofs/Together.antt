@@ -1,5 +1,5 @@
 -- All tasks at the start, after every event, and what is safe then.
-use Rattle.std.proofs.Common.{◌≡◌, ◌≢◌, ℕ, zero, suc, ◌+◌, ◌-◌, ◌*◌, ◌<◌, ◌≤◌, ◌⊎◌, inl, inr, Bool, true, false, ◌||◌, cond, max, List, [], ◌∷◌, length, refl, sym, ap, ◌∙◌, subst, arith, ◌==◌}
+use Rattle.std.proofs.Common.{◌≡◌, ◌≢◌, ℕ, zero, suc, ◌+◌, ◌-◌, ◌*◌, ◌<◌, ◌≤◌, ◌⊎◌, inl, inr, true, false, ◌||◌, cond, max, List, [], ◌∷◌, length, refl, sym, ap, ◌∙◌, subst, arith, ◌==◌}
 use Rattle.std.proofs.lemmas.Bool.{cases_eq, cond_both, eq-eqb, ne_eqb, or_left, or_right}
 use Rattle.std.specs.Prelude.{IfSome}
 use Rattle.csa_chain.specs.SeveralChains.{sum_over_chains}
@@ -12,8 +12,10 @@ use Rattle.tc_machine.specs.PlanAreas.{first_link}
 use Rattle.tc_machine.specs.Stepping.{step, run, stored}
 use Rattle.tc_machine.specs.Safe.{Fits, AllFit}
 use Rattle.tc_machine.specs.Starting.{Starts}
+use Rattle.tc_machine.proofs.Fetched.{IsAtCode-from}
 use Rattle.tc_machine.proofs.PlanLaws.{link_lt}
 use Rattle.depth_cert.specs.Certs.{CertData}
+use Rattle.cfg_recover.specs.Code.{HasCode}
 use Rattle.cfg_recover.specs.RulesHoldOrFail.{certified_need}
 use Rattle.task_chains.specs.Tasks.{TasksData, count}
 use Rattle.task_chains.specs.Views.{view_image_of, view_plan_of}
@@ -22,10 +24,10 @@ use Rattle.task_chains.specs.SafeTasks.{task_before, owner, IsTaskStore, AreSafe
 use Rattle.task_chains.proofs.Alike.{seen_as}
 use Rattle.task_chains.proofs.Beginning.{start_memory, start_is, start_turn, begins_on, begins_lower, begins_home}
 use Rattle.task_chains.proofs.Coming.{goes_switch, comes_on, comes_lower, comes_home}
-use Rattle.task_chains.proofs.Going.{Goes, goes_runs, goes_saves, goes_store}
+use Rattle.task_chains.proofs.Going.{Goes, goes_runs, goes_saves, goes_code, goes_store}
 use Rattle.task_chains.proofs.Invariant.{after, ready, Turn, runs, switches, comes_back, begins, InRoutine, AllKept}
 use Rattle.task_chains.proofs.Joined.{World, in_or_out}
-use Rattle.task_chains.proofs.RoutineCode.{code_15, code_16, code_17}
+use Rattle.task_chains.proofs.RoutineCode.{code_15, code_16, code_17, some_code}
 use Rattle.task_chains.proofs.SharedSafe.{areas_shared}
 use Rattle.task_chains.proofs.StartShared.{start_word, start_chain, start_shared}
 use Rattle.task_chains.proofs.Turning.{goes_turning, no_store, turning_store}
@@ -133,9 +135,19 @@ module _ {image : ImageData} {plan : PlanData} {tasks : TasksData} {certs : ℕ 
     store_by (comes_back v seen i some most pc off of beside low pause now) = returns_store i some most pc off
     store_by (begins i some most pc off level later early late now) = returns_store i some most pc off
 
-    pub safe_now : AreSafeAt plan tasks needs m e
+    code_in : (i : ℕ) → i ≤ 17 → m.pc ≡ tasks.switch + 4 * i → HasCode image plan m.pc
+    code_in i most pc = let c = some_code image plan tasks wd.are wd.has i (omega arith) in subst (HasCode image plan) (sym pc) (record { shape = c.0; size = 4; code = c.1 })
+
+    code_by : Turn image plan tasks u word_of chain_of m → HasCode image plan m.pc
+    code_by (runs view pcxi fcx seen of pause now first) = goes_code wd m k view pcxi fcx seen of pause now e fits (λ i. let at = first i in omega arith)
+    code_by (switches view pcxi fcx seen i some most of pause r) = code_in i (omega arith) r.pc
+    code_by (comes_back v seen i some most pc off of beside low pause now) = code_in i most pc
+    code_by (begins i some most pc off level later early late now) = code_in i most pc
+
+    pub safe_now : AreSafeAt image plan tasks needs m e
     safe_now =
         let own = owner_by k.turn in
+        let c = (code_by k.turn).code in
         record {
           running = k.running;
           owner = subst (λ x. x < count tasks) (sym own) (k.shared).own;
@@ -146,6 +158,7 @@ module _ {image : ImageData} {plan : PlanData} {tasks : TasksData} {certs : ℕ 
                 | inr apart ↦ cond_other w (owner tasks m) m.pcxi (block_word tasks m.mem w) (λ e. apart (e ∙ own)) ∙ (k.waits w lt apart).0
               ])
               k.needs_kept;
+          code_in_rom = IsAtCode-from image wd.ok m k.rom c.bytes c.inst c.spells;
           stores = store_by k.turn;
         }
 

@@ -8,7 +8,7 @@ use Rattle.tc_machine.specs.declared.events.End.TheVariants.{Running}
 use Rattle.tc_machine.specs.declared.state.Machine.{Machine}
 use Rattle.tc_machine.specs.Stepping.{run, stored}
 use Rattle.tc_machine.specs.PlanAreas.{plan_areas}
-use Rattle.tc_machine.specs.Safe.{Fits, AllFit, Safe}
+use Rattle.tc_machine.specs.Safe.{Fits, AllFit, IsAtCode, Safe}
 use Rattle.tcd_plan.specs.MappedAddresses.{IsStoreInRange}
 use Rattle.depth_cert.specs.Certs.{CertData, IsCert}
 use Rattle.cfg_recover.specs.RulesHoldOrFail.{Accepts, certified_need}
@@ -58,17 +58,18 @@ abbrev pub IsTaskStore : PlanData → TasksData → ℕ → ℕ × ℕ → Type 
 IsTaskStore plan tasks pc at = IsStoreInRange plan at × ((IsInRoutine tasks pc → ⊥) → MissesBlock tasks at)
 
 -- a state of a run of all tasks is safe, and so is its next event
-pub record AreSafeAt (plan : PlanData) (tasks : TasksData) (needs : ℕ → ℕ) (m : Machine) (e : Event) : Type 0 where
+pub record AreSafeAt (image : ImageData) (plan : PlanData) (tasks : TasksData) (needs : ℕ → ℕ) (m : Machine) (e : Event) : Type 0 where
   pub running : m.end ≡ Running
   pub owner : owner tasks m < count tasks
   pub areas : AreAreasShared plan tasks needs m
+  pub code_in_rom : IsAtCode image plan m
   pub stores : IfSome (stored m e) (IsTaskStore plan tasks m.pc)
 
 -- this holds in every run from every start state, for every list of fitting events and every next
 -- event
 abbrev pub SafeTasks : ImageData → PlanData → TasksData → (ℕ → ℕ) → Type 0
 SafeTasks image plan tasks needs =
-    (m : Machine) (es : List Event) (e : Event) → TasksStart image plan tasks m → AllFit plan m es → Fits plan (run m es) e → AreSafeAt plan tasks needs (run m es) e
+    (m : Machine) (es : List Event) (e : Event) → TasksStart image plan tasks m → AllFit plan m es → Fits plan (run m es) e → AreSafeAt image plan tasks needs (run m es) e
 
 -- ---- the theorem's premises
 -- the need that counts for a task: the first starts with no area, each other with two

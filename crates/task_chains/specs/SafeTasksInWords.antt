@@ -1,12 +1,15 @@
 -- What safe runs of all tasks are, part by part in plain equations: the statements of two guard
 -- laws. If the definition spoke of fewer runs, or said less of a state, the first law would break;
 -- if it said more, the second. The guard laws of the premises are in TaskGuardLaws.
-use Rattle.std.specs.Prelude.{◌≡◌, ◌≢◌, ◌↔◌, ℕ, ◌+◌, ◌-◌, ◌*◌, ◌%◌, ◌^◌, ◌<◌, ◌≤◌, ◌⊎◌, List, length, map, slice_get, Some}
+use Rattle.std.specs.Prelude.{◌≡◌, ◌≢◌, ◌↔◌, ℕ, ◌+◌, ◌-◌, ◌*◌, ◌%◌, ◌^◌, ◌<◌, ◌≤◌, ◌⊎◌, List, length, map, slice_get, slice_index, Some}
+use Rattle.std.specs.FinMap as bytes
 use Rattle.csa_chain.specs.MemoryBytes.{word_at}
 use Rattle.csa_chain.specs.SeveralChains.{sum_over_chains}
-use Rattle.elf_image.specs.Images.{ImageData}
+use Rattle.elf_image.specs.Images.{ImageData, image_byte}
 use Rattle.tcd_base.specs.declared.range.Range.{Range}
 use Rattle.tcd_plan.specs.PlanData.{PlanData, IsPlan}
+use Rattle.tc_isa.specs.Insts.{InstData}
+use Rattle.tc_isa.specs.Spelling.{Spells}
 use Rattle.tc_machine.specs.declared.events.Event.{Event}
 use Rattle.tc_machine.specs.declared.events.End.TheVariants.{Running}
 use Rattle.tc_machine.specs.declared.state.Machine.{Machine}
@@ -46,9 +49,10 @@ pub record IsSafeTaskStore (plan : PlanData) (switch block n pc x size : ℕ) : 
 -- of the task that owns it, the block's words lead to those of the others, and FCX leads to the
 -- free ones. Each area of the plan has one place on one of these lists, and nothing else has a
 -- place. Each task has at most its need, and all have at most the sum. FCX has LCX's link exactly
--- if all areas except the reserve are in use. What the next event stores misses areas, rom and
--- block.
-pub record HasSafeTaskParts (plan : PlanData) (switch block n : ℕ) (needs : ℕ → ℕ) (m : Machine) (e : Event) : Type 0 where
+-- if all areas except the reserve are in use. The bytes at pc are in one rom range, the same in
+-- memory and in the image, and spell an instruction. What the next event stores misses areas, rom
+-- and block.
+pub record HasSafeTaskParts (image : ImageData) (plan : PlanData) (switch block n : ℕ) (needs : ℕ → ℕ) (m : Machine) (e : Event) : Type 0 where
   pub running : m.end ≡ Running
   pub own : ℕ
   pub owns : OwnsChain switch block n m own
@@ -64,6 +68,12 @@ pub record HasSafeTaskParts (plan : PlanData) (switch block n : ℕ) (needs : �
   pub within_need : (u : ℕ) → u < n → length (used u) ≤ needs u
   pub within_sum : sum_over_chains n (λ u. length (used u)) ≤ sum_over_chains n needs
   pub limit : (m.fcx % 2 ^ 20 ≡ m.lcx % 2 ^ 20) ↔ (sum_over_chains n (λ u. length (used u)) ≡ plan.areas - plan.reserve)
+  pub code : List ℕ
+  pub inst : InstData
+  pub spelled : Spells code inst
+  pub in_rom : LiesInRange plan.rom m.pc (length code)
+  pub held : (i : ℕ) → i < length code → image_byte image (m.pc + i) ≡ Some (slice_index code i)
+  pub there : (i : ℕ) → i < length code → bytes.get m.mem (m.pc + i) ≡ Some (slice_index code i)
   pub store : (x size : ℕ) → stored m e ≡ Some (x, size) → IsSafeTaskStore plan switch block n m.pc x size
 
 -- If all runs of tasks are safe, each state of each run has these parts, for every fitting event
@@ -74,7 +84,7 @@ SafeTasksSay =
     → IsPlan plan → SafeTasks image plan (record { switch = switch; block = block; list = list }) needs
     → IsRun states events → TasksStart image plan (record { switch = switch; block = block; list = list }) (states 0)
     → ((k : ℕ) → k < n → Fits plan (states k) (events k)) → Fits plan (states n) e
-    → HasSafeTaskParts plan switch block (length list) needs (states n) e
+    → HasSafeTaskParts image plan switch block (length list) needs (states n) e
 
 -- what safe runs of all tasks are, in plain equations: if each state of each run has these parts,
 -- all runs are safe
@@ -84,5 +94,5 @@ TaskPartsAreSafe =
     → ((states : ℕ → Machine) (events : ℕ → Event) (n : ℕ) (e : Event)
     → IsRun states events → TasksStart image plan (record { switch = switch; block = block; list = list }) (states 0)
     → ((k : ℕ) → k < n → Fits plan (states k) (events k)) → Fits plan (states n) e
-    → HasSafeTaskParts plan switch block (length list) needs (states n) e)
+    → HasSafeTaskParts image plan switch block (length list) needs (states n) e)
     → SafeTasks image plan (record { switch = switch; block = block; list = list }) needs
