@@ -1,6 +1,6 @@
 -- The reports of the commands after their inputs were read.
-use Rattle.std.proofs.Common.{◌≡◌, ◌≢◌, ◌-◌, ℕ, List, [], length, Option, Some, None, Result, Ok, Err, refl, sym, ap, subst, ◌∙◌, inl, inr}
-use Rattle.std.specs.Prelude.{IfOk, IfSome, IsOkAnd}
+use Rattle.std.proofs.Common.{◌≡◌, ◌≢◌, ◌-◌, ℕ, List, [], length, Option, Some, None, Ok, Err, refl, sym, ap, subst, ◌∙◌, inl, inr}
+use Rattle.std.specs.Prelude.{IfSome}
 use Rattle.elf_image.specs.Images.{ImageData}
 use Rattle.tcd_plan.specs.PlanData.{PlanData}
 use Rattle.tc_machine.specs.Safe.{Safe}
@@ -119,9 +119,9 @@ refused_by : (name : List ℕ) (l : LayoutData) (objects : List ObjectData) (o :
 refused_by name l objects None r some is text = absurd (some refl)
 refused_by name l objects (Some q) r some is text = refused q is text
 
-pub refused_report : {V E : Type 0} (items : V → List ℕ) (name : List ℕ) (l : LayoutData) (objects : List ObjectData) (e : LinkErr) (line : Result V E) (r : Report) → IfSome (refusal_of e) (λ q. image_of_objects objects l ≡ Err q) →
-    IfOk line (λ x. IfSome (refusal_of e) (λ q. items x ≡ bad_link_line q)) → (e ≡ error.NoMemory → ⊥) → IsOkAnd line (λ x. r ≡ says BadInput (items x)) → IsLinkReport name l objects r
-refused_report items name l objects e line r is made some said = refused_by name l objects (refusal_of e) r (λ n. some (none_memory e n)) is (line_told items line r (refusal_of e) made said)
+pub refused_report : (name : List ℕ) (l : LayoutData) (objects : List ObjectData) (e : LinkErr) (line : List ℕ) (r : Report) → IfSome (refusal_of e) (λ q. image_of_objects objects l ≡ Err q) → IfSome (refusal_of e) (λ q. line ≡ bad_link_line q) →
+    (e ≡ error.NoMemory → ⊥) → r ≡ says BadInput line → IsLinkReport name l objects r
+refused_report name l objects e line r is made some said = refused_by name l objects (refusal_of e) r (λ n. some (none_memory e n)) is (line_told line r (refusal_of e) made said)
 
 -- ---- all commands
 pub command_decided : (c : Command) → IsDecided (reading_of c)

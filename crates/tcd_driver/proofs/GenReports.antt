@@ -8,8 +8,7 @@ use Rattle.tcd_plan.specs.PlanReader.{GivesPlan}
 use Rattle.tcd_base.specs.Files.{FilesSeen}
 use Rattle.tcd_report.specs.Generated.{generated_image}
 use Rattle.tcd_report.specs.Generated.Planned.{generated_text, generated_plan}
-use Rattle.tcd_reading.specs.Outcomes.{IsToldOutcome, IsCommandOutcome}
-use Rattle.tcd_reading.specs.declared.outcome.Outcome.{Outcome}
+use Rattle.tcd_reading.specs.Outcomes.{Outcome, IsToldOutcome, IsCommandOutcome}
 use Rattle.tcd_reading.proofs.Told.{comes_told}
 use Rattle.tcd_driver.specs.Commands.{command_of_value, reading_of}
 use Rattle.tcd_driver.specs.declared.command.Command.{Command as Words}

@@ -1,6 +1,5 @@
 -- The reports of `cfg` and `report`.
-use Rattle.std.proofs.Common.{◌≡◌, ◌≢◌, ◌<◌, ◌^◌, ℕ, List, [], Result, Ok, Err, sym, ◌∙◌, inl, inr}
-use Rattle.std.specs.Prelude.{IfOk, IsOkAnd}
+use Rattle.std.proofs.Common.{◌≡◌, ◌≢◌, ◌<◌, ◌^◌, ℕ, List, [], sym, ◌∙◌, inl, inr}
 use Rattle.elf_image.specs.Images.{ImageData}
 use Rattle.tcd_plan.specs.PlanData.{PlanData, IsPlan}
 use Rattle.depth_cert.specs.Certs.{CertData}
@@ -8,7 +7,7 @@ use Rattle.depth_check.proofs.FirstLaws.{fails_refutes}
 use Rattle.depth_check.proofs.Held.{edges_are_owed}
 use Rattle.tcd_report.specs.Graphs.{IsGraph}
 use Rattle.tcd_report.proofs.GraphLemmas.EdgeProofs.{edges_stand}
-use Rattle.tcd_reading.specs.Reports.{IsReportStatus, Report, says}
+use Rattle.tcd_reading.specs.Reports.{IsReportStatus, Report}
 use Rattle.tcd_driver.specs.BestCert.{IsAcceptedBestCert}
 use Rattle.tcd_driver.specs.Cfg as cfg
 use Rattle.tcd_driver.specs.Cfg.{IsCfgText, IsCfgReport}
@@ -17,12 +16,6 @@ use Rattle.tcd_driver.specs.Reporting.{IsReporting}
 use Rattle.tcd_reading.specs.declared.status.Status.TheVariants.{Done}
 use Rattle.tcd_reading.proofs.Decided.{AreAlike, status_is, writes_are}
 use Rattle.tcd_driver.proofs.MakingLaws.{none_best}
-
--- a report whose text was made without an error
-pub told_text : {V E : Type 0} (items : V → List ℕ) (Is : List ℕ → Type 0) (Q : Type 0) (text : Result V E) (r : Report) → IfOk text (λ l. Is (items l)) → IsOkAnd text (λ l. r ≡ says Done (items l))
-    → ((t : List ℕ) → Is t → r ≡ says Done t → Q) → Q
-told_text items Is Q (Ok l) r made said next = next (items l) made said
-told_text items Is Q (Err e) r made said next = absurd said
 
 -- ---- cfg
 -- the report with its graph

@@ -1,6 +1,6 @@
 -- The reports on refusals of the linker.
-use Rattle.std.proofs.Common.{◌≡◌, ℕ, List, Option, Some, None, Result, Ok, Err, refl, ap, ◌∙◌}
-use Rattle.std.specs.Prelude.{IfOk, IfSome, IsOkAnd}
+use Rattle.std.proofs.Common.{◌≡◌, ℕ, List, Option, Some, None, refl, ap, ◌∙◌}
+use Rattle.std.specs.Prelude.{IfSome}
 use Rattle.tc_link.specs.Refusals.{Refusal}
 use Rattle.tc_link.specs.Errors.{refusal_of}
 use Rattle.tc_link.specs.declared.errors.LinkErr.{LinkErr}
@@ -13,7 +13,6 @@ pub none_memory : (e : LinkErr) → refusal_of e ≡ None → e ≡ error.NoMemo
 none_memory error.NoMemory h = refl
 none_memory _ h = cc
 
-pub line_told : {V E : Type 0} (items : V → List ℕ) (line : Result V E) (r : Report) (o : Option Refusal) → IfOk line (λ l. IfSome o (λ q. items l ≡ bad_link_line q)) → IsOkAnd line (λ l. r ≡ says BadInput (items l)) → IfSome o (λ q. r ≡ says BadInput (bad_link_line q))
-line_told items (Ok l) r None made said = tt
-line_told items (Ok l) r (Some q) made said = said ∙ ap (λ (t : List ℕ). says BadInput t) made
-line_told items (Err e) r o made said = absurd said
+pub line_told : (line : List ℕ) (r : Report) (o : Option Refusal) → IfSome o (λ q. line ≡ bad_link_line q) → r ≡ says BadInput line → IfSome o (λ q. r ≡ says BadInput (bad_link_line q))
+line_told line r None made said = tt
+line_told line r (Some q) made said = said ∙ ap (λ (t : List ℕ). says BadInput t) made

@@ -1,6 +1,5 @@
 -- The reports of commands that make a certificate.
 use Rattle.std.proofs.Common.{◌≡◌, ◌≢◌, ◌-◌, ℕ, List, [], Result, Ok, Err, sym, ap, subst, ◌∙◌, inl, inr}
-use Rattle.std.specs.Result.{IsErrAnd}
 use Rattle.elf_image.specs.Images.{ImageData}
 use Rattle.tcd_plan.specs.PlanData.{PlanData}
 use Rattle.depth_cert.specs.Certs.{CertData, IsCert}
@@ -12,8 +11,7 @@ use Rattle.depth_maker.specs.Answers.{NoneAccepted}
 use Rattle.depth_maker.specs.declared.answering.MakeErr.{MakeErr}
 use Rattle.depth_maker.specs.declared.answering.MakeErr.TheVariants as make_err
 use Rattle.tcd_reading.specs.Reports.{IsReportStatus, Report, says, writes_file}
-use Rattle.tcd_reading.specs.Outcomes.{IsToldOutcome}
-use Rattle.tcd_reading.specs.declared.outcome.Outcome.{Outcome}
+use Rattle.tcd_reading.specs.Outcomes.{Outcome, IsToldOutcome}
 use Rattle.tcd_forms.specs.Lines.{certified_line, refused_line}
 use Rattle.tcd_driver.specs.BestCert.{IsBestCert, first, second, IsAcceptedBestCert, IsLeastWithNeed, MakesLeastCert, MakesBestCert, IsUnmadeReport}
 use Rattle.tcd_driver.specs.Cert as made
@@ -44,11 +42,6 @@ pub best_second : (i : ImageData) (p : PlanData) (r : Result (CertData × ℕ) M
 best_second i p (Ok made) none h = best_least i p 2 made.0 made.1 (second none h.made) h
 best_second i p (Err (make_err.Refused rule key addr)) none h = record { first = none; second = h.1; why = h.0 }
 best_second i p (Err make_err.NoMemory) none h = tt
-
--- an error that `?` passes on
-pub passed_on : {T E : Type 0} (P : Result T E → Type 0) (r : Result T E) (e : E) → IsErrAnd r (λ x. x ≡ e) → P (Err e) → P r
-passed_on P (Ok x) e is h = absurd is
-passed_on {T} {E} P (Err x) e is h = subst (λ (y : E). P (Err y)) (sym is) h
 
 -- a report that no certificate is made, by the reason for that
 pub unmade : (P : Report → Type 0) (Why : MakeErr → Type 0) (e : MakeErr) (o : Outcome) → Why e → IsToldOutcome (IsUnmadeReport e) ⊥ o

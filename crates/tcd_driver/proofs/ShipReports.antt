@@ -1,6 +1,6 @@
 -- The reports of `ship`, and the sources that it reads.
 use Rattle.std.proofs.Common.{◌≡◌, ◌≢◌, ◌≤◌, ◌+◌, ◌-◌, ℕ, List, [], ◌∷◌, ◌++◌, length, Option, Some, None, Result, Ok, Err, refl, sym, ap, subst, ◌∙◌, inl, inr}
-use Rattle.std.specs.Prelude.{IfOk, IfSome, IsOkAnd, slice_get}
+use Rattle.std.specs.Prelude.{IfSome, slice_get}
 use Rattle.std.proofs.lemmas.List.{length-append}
 use Rattle.elf_image.specs.Images.{ImageData}
 use Rattle.elf_image.specs.ReadElf.{image_of_file}
@@ -96,11 +96,11 @@ unlinked_by elf cert p l ss None r some is text = absurd (some refl)
 unlinked_by elf cert p l ss (Some q) r some is text = unlinked q is text
 
 -- the objects can't be linked
-pub unlinked_report : {V E : Type 0} (items : V → List ℕ) (elf cert : List ℕ) (p : PlanData) (l : LayoutData) (ss : List SourceData) (os : List ObjectData) (e : LinkErr) (line : Result V E) (r : Report) → AreSourcesOfObjects ss os →
-    IfSome (refusal_of e) (λ q. image_of_objects os l ≡ Err q) → IfOk line (λ x. IfSome (refusal_of e) (λ q. items x ≡ bad_link_line q)) → (e ≡ error.NoMemory → ⊥) → IsOkAnd line (λ x. r ≡ says BadInput (items x)) → IsShipped elf cert p l ss r
-unlinked_report items elf cert p l ss os e line r are is made some said =
+pub unlinked_report : (elf cert : List ℕ) (p : PlanData) (l : LayoutData) (ss : List SourceData) (os : List ObjectData) (e : LinkErr) (line : List ℕ) (r : Report) → AreSourcesOfObjects ss os → IfSome (refusal_of e) (λ q. image_of_objects os l ≡ Err q) →
+    IfSome (refusal_of e) (λ q. line ≡ bad_link_line q) → (e ≡ error.NoMemory → ⊥) → r ≡ says BadInput line → IsShipped elf cert p l ss r
+unlinked_report elf cert p l ss os e line r are is made some said =
     unlinked_by elf cert p l ss (refusal_of e) r (λ n. some (none_memory e n))
-    (subst (λ (x : List ObjectData). IfSome (refusal_of e) (λ q. image_of_objects x l ≡ Err q)) are.objects_are is) (line_told items line r (refusal_of e) made said)
+    (subst (λ (x : List ObjectData). IfSome (refusal_of e) (λ q. image_of_objects x l ≡ Err q)) are.objects_are is) (line_told line r (refusal_of e) made said)
 
 -- ---- sources
 assembled_more : (ss : List SourceData) (s : SourceData) → AreProgramObjects (texts_of_sources ss) (objects_of_sources ss) → IsSource s.text s.object → AreProgramObjects (texts_of_sources (ss ++ s ∷ [])) (objects_of_sources (ss ++ s ∷ []))

@@ -33,8 +33,7 @@ use Rattle.tcd_reading.specs.Reports.{IsReportStatus, Report, ReportFile, says, 
 use Rattle.tcd_base.specs.Files.{FilesSeen}
 use Rattle.task_chains.specs.declared.task_lists.TasksErr.TheVariants.{Count}
 use Rattle.tcd_reading.specs.Inputs.{answer}
-use Rattle.tcd_reading.specs.Outcomes.{IsCommandOutcome, IsToldOutcome}
-use Rattle.tcd_reading.specs.declared.outcome.Outcome.{Outcome}
+use Rattle.tcd_reading.specs.Outcomes.{Outcome, IsCommandOutcome, IsToldOutcome}
 use Rattle.tcd_reading.proofs.Told.{comes_told}
 use Rattle.tcd_forms.specs.Lines.{certified_tasks_line, refused_sum_line}
 use Rattle.tcd_driver.specs.BadInputLines.{bad_tasks_line}

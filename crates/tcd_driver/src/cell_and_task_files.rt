@@ -5,7 +5,7 @@ use task_chains::Tasks;
 use tcd_base::NoMemory;
 use tcd_forms::{LIMIT, copy_printed_line, long_cells_line, long_tasks_line};
 use tcd_plan::Plan;
-use tcd_reading::{Form, Outcome, bad_input_outcome};
+use tcd_reading::{Form, Stop, bad_input};
 use value_cells::Cells;
 
 /// A file of cells for a plan.
@@ -33,10 +33,10 @@ impl<'a> Form for CellsFile<'a> {
         copy_printed_line(alloc, long_cells_line())
     }
 
-    fn value(&self, alloc: Global, bytes: Vec<u8>) -> Result<Cells, Outcome> {
+    fn value(&self, alloc: Global, bytes: Vec<u8>) -> Result<Cells, Stop> {
         match Cells::read(&bytes, self.plan) {
             Ok(cells) => Ok(cells),
-            Err(e) => Err(bad_input_outcome(alloc, bad_cells_line(alloc, e))),
+            Err(e) => Err(bad_input(bad_cells_line(alloc, e))),
         }
     }
 }
@@ -66,10 +66,10 @@ impl<'a> Form for TasksFile<'a> {
         copy_printed_line(alloc, long_tasks_line())
     }
 
-    fn value(&self, alloc: Global, bytes: Vec<u8>) -> Result<Tasks, Outcome> {
+    fn value(&self, alloc: Global, bytes: Vec<u8>) -> Result<Tasks, Stop> {
         match Tasks::read(&bytes, self.plan) {
             Ok(tasks) => Ok(tasks),
-            Err(e) => Err(bad_input_outcome(alloc, bad_tasks_line(alloc, e))),
+            Err(e) => Err(bad_input(bad_tasks_line(alloc, e))),
         }
     }
 }

@@ -10,7 +10,7 @@ use packed_cert::Cert;
 use std::alloc::Global;
 use tcd_forms::refused_line;
 use tcd_plan::Plan;
-use tcd_reading::{Outcome, Status, report};
+use tcd_reading::{Outcome, Report, Status, Stop};
 
 /// Makes the least certificate of version 1 or 2, and checks it. Returns it with its need, or why
 /// none is accepted.
@@ -54,8 +54,12 @@ pub(crate) fn report_unmade(alloc: Global, e: MakeErr) -> Outcome
 {
     match e {
         MakeErr::Refused { rule, key, addr } => {
-            report(alloc, Status::Refused, refused_line(alloc, rule, key, addr))
+            Ok(Report::of(
+                alloc,
+                Status::Refused,
+                refused_line(alloc, rule, key, addr)?,
+            ))
         }
-        MakeErr::NoMemory => Outcome::NoMemory,
+        MakeErr::NoMemory => Err(Stop::NoMemory),
     }
 }

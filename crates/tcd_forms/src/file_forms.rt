@@ -16,7 +16,7 @@ use tc_object::{ObjErr, Object, ObjectRef};
 use tc_script::Script;
 use tcd_base::NoMemory;
 use tcd_plan::Plan;
-use tcd_reading::{Form, Outcome, bad_input_outcome};
+use tcd_reading::{Form, Stop, bad_input};
 
 /// The most bytes of a file other than a certificate.
 pub const LIMIT: u32 = 16_777_216;
@@ -45,10 +45,10 @@ impl Form for ElfFile {
         copy_printed_line(alloc, long_elf_line())
     }
 
-    fn value(&self, alloc: Global, bytes: Vec<u8>) -> Result<Image, Outcome> {
+    fn value(&self, alloc: Global, bytes: Vec<u8>) -> Result<Image, Stop> {
         match Image::read(alloc, &bytes) {
             Ok(image) => Ok(image),
-            Err(e) => Err(bad_input_outcome(alloc, bad_elf_line(alloc, e))),
+            Err(e) => Err(bad_input(bad_elf_line(alloc, e))),
         }
     }
 }
@@ -74,10 +74,10 @@ impl Form for PlanFile {
         copy_printed_line(alloc, long_plan_line())
     }
 
-    fn value(&self, alloc: Global, bytes: Vec<u8>) -> Result<Plan, Outcome> {
+    fn value(&self, alloc: Global, bytes: Vec<u8>) -> Result<Plan, Stop> {
         match Plan::read(alloc, &bytes) {
             Ok(plan) => Ok(plan),
-            Err(e) => Err(bad_input_outcome(alloc, bad_plan_line(alloc, e))),
+            Err(e) => Err(bad_input(bad_plan_line(alloc, e))),
         }
     }
 }
@@ -103,11 +103,11 @@ impl Form for CertFile {
         copy_printed_line(alloc, long_cert_line())
     }
 
-    fn value(&self, alloc: Global, bytes: Vec<u8>) -> Result<Cert, Outcome> {
+    fn value(&self, alloc: Global, bytes: Vec<u8>) -> Result<Cert, Stop> {
         match Cert::read(alloc, bytes) {
             Ok(cert) => Ok(cert),
-            Err(CertErr::Bad(e)) => Err(bad_input_outcome(alloc, bad_cert_line(alloc, e))),
-            Err(CertErr::NoMemory) => Err(Outcome::NoMemory),
+            Err(CertErr::Bad(e)) => Err(bad_input(bad_cert_line(alloc, e))),
+            Err(CertErr::NoMemory) => Err(Stop::NoMemory),
         }
     }
 }
@@ -137,10 +137,10 @@ impl<'a> Form for ScriptFile<'a> {
         copy_printed_line(alloc, long_script_line())
     }
 
-    fn value(&self, alloc: Global, bytes: Vec<u8>) -> Result<Script, Outcome> {
+    fn value(&self, alloc: Global, bytes: Vec<u8>) -> Result<Script, Stop> {
         match Script::read(alloc, &bytes, self.plan) {
             Ok(script) => Ok(script),
-            Err(e) => Err(bad_input_outcome(alloc, bad_script_line(alloc, e))),
+            Err(e) => Err(bad_input(bad_script_line(alloc, e))),
         }
     }
 }
@@ -166,13 +166,13 @@ impl Form for SourceFile {
         long_source_line(alloc, 0)
     }
 
-    fn value(&self, alloc: Global, bytes: Vec<u8>) -> Result<Object, Outcome> {
+    fn value(&self, alloc: Global, bytes: Vec<u8>) -> Result<Object, Stop> {
         match assemble(alloc, &bytes) {
             Ok(object) => Ok(object),
             Err(AsmErr::Bad { line, rule }) => {
-                Err(bad_input_outcome(alloc, bad_source_line(alloc, 0, rule, line)))
+                Err(bad_input(bad_source_line(alloc, 0, rule, line)))
             }
-            Err(AsmErr::NoMemory) => Err(Outcome::NoMemory),
+            Err(AsmErr::NoMemory) => Err(Stop::NoMemory),
         }
     }
 }
@@ -220,16 +220,16 @@ impl Form for PlacedSourceFile {
         long_source_line(alloc, self.place)
     }
 
-    fn value(&self, alloc: Global, bytes: Vec<u8>) -> Result<Source, Outcome> {
+    fn value(&self, alloc: Global, bytes: Vec<u8>) -> Result<Source, Stop> {
         match assemble(alloc, &bytes) {
             Ok(object) => Ok(Source {
                 text: bytes,
                 object,
             }),
             Err(AsmErr::Bad { line, rule }) => {
-                Err(bad_input_outcome(alloc, bad_source_line(alloc, self.place, rule, line)))
+                Err(bad_input(bad_source_line(alloc, self.place, rule, line)))
             }
-            Err(AsmErr::NoMemory) => Err(Outcome::NoMemory),
+            Err(AsmErr::NoMemory) => Err(Stop::NoMemory),
         }
     }
 }
@@ -255,10 +255,10 @@ impl Form for LayoutFile {
         copy_printed_line(alloc, long_layout_line())
     }
 
-    fn value(&self, alloc: Global, bytes: Vec<u8>) -> Result<Layout, Outcome> {
+    fn value(&self, alloc: Global, bytes: Vec<u8>) -> Result<Layout, Stop> {
         match Layout::read(alloc, &bytes) {
             Ok(layout) => Ok(layout),
-            Err(e) => Err(bad_input_outcome(alloc, bad_layout_line(alloc, e))),
+            Err(e) => Err(bad_input(bad_layout_line(alloc, e))),
         }
     }
 }
@@ -289,17 +289,14 @@ impl<'a> Form for ObjectFile<'a> {
         long_object_line(alloc, self.place)
     }
 
-    fn value(&self, alloc: Global, bytes: Vec<u8>) -> Result<ObjectRef<'a>, Outcome> {
+    fn value(&self, alloc: Global, bytes: Vec<u8>) -> Result<ObjectRef<'a>, Stop> {
         let Ok(kept) = self.arena.try_alloc_slice_copy(&bytes) else {
-            return Err(Outcome::NoMemory);
+            return Err(Stop::NoMemory);
         };
         match ObjectRef::read(alloc, kept) {
             Ok(object) => Ok(object),
-            Err(ObjErr::Bad(e)) => Err(bad_input_outcome(
-                alloc,
-                bad_object_line(alloc, self.place, e),
-            )),
-            Err(ObjErr::NoMemory) => Err(Outcome::NoMemory),
+            Err(ObjErr::Bad(e)) => Err(bad_input(bad_object_line(alloc, self.place, e))),
+            Err(ObjErr::NoMemory) => Err(Stop::NoMemory),
         }
     }
 }

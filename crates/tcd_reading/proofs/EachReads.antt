@@ -1,14 +1,15 @@
 -- Files of a list, which are read one after another.
-use Rattle.std.proofs.Common.{◌≡◌, ◌<◌, ◌≤◌, ◌+◌, ℕ, zero, suc, List, [], ◌∷◌, ◌++◌, length, drop, get_or, map, Option, Some, refl, sym, ap, subst, ◌∙◌, append_assoc, arith}
+use Rattle.std.proofs.Common.{◌≡◌, ◌<◌, ◌≤◌, ◌+◌, ℕ, zero, suc, List, [], ◌∷◌, ◌++◌, length, drop, get_or, map, Option, Some, Err, refl, sym, ap, subst, ◌∙◌, append_assoc, arith}
 use Rattle.std.specs.Prelude.{slice_get, option_map}
+use Rattle.std.specs.Result.{IsErrAnd}
 use Rattle.std.proofs.lemmas.List.{append-nil, length-append}
 use Rattle.std.proofs.lemmas.Option.{slice_get-map, slice_get-get_or}
 use Rattle.tcd_base.specs.Files.{FilesSeen, LeavesFiles}
 use Rattle.tcd_reading.specs.Reports.{Report}
 use Rattle.tcd_reading.specs.Inputs.{FormSeen, HoldsInput, IsInputRefusal, Reading, answer, input, each}
-use Rattle.tcd_reading.specs.Outcomes.{IsToldOutcome, IsBadInputOutcome, HasFailedToRead, IsCommandOutcome}
-use Rattle.tcd_reading.specs.declared.outcome.Outcome.{Outcome}
-use Rattle.tcd_reading.specs.declared.outcome.Outcome.TheVariants as outcome
+use Rattle.tcd_reading.specs.Outcomes.{Outcome, IsToldOutcome, IsBadInputStop, HasFailedToRead, IsCommandOutcome}
+use Rattle.tcd_reading.specs.declared.outcome.Stop.{Stop}
+use Rattle.tcd_reading.specs.declared.outcome.Stop.TheVariants as stop
 use Rattle.tcd_reading.proofs.Told.{Leads, leads_here, leads_read, leads_then, comes_stopped, comes_told, comes_none}
 
 -- ---- names
@@ -75,16 +76,16 @@ module _ (A : Type 0) (form : ℕ → FormSeen A) (names : List (List ℕ)) (P :
   }
 
   -- the next one isn't there
-  pub next_stops : (whole : Reading) (i : ℕ) (name : List ℕ) (xs : List A) (old mid new : FilesSeen) (o : Outcome) → slice_get names i ≡ Some name → Leads whole (rest_of i xs) old mid → LeavesFiles name mid new → mid.faults ≤ new.faults →
-      IsBadInputOutcome (IsInputRefusal (form i) mid.held name) (HasFailedToRead name mid new) o → IsCommandOutcome whole old new o
-  next_stops whole i name xs old mid new o at so_far leaves later stops =
-      so_far.comes new o (subst (λ (r : Reading). IsCommandOutcome r mid new o) (sym (rest_at i name xs at)) (comes_stopped A (form i) name _ mid new o leaves later stops))
+  pub next_stops : (whole : Reading) (i : ℕ) (name : List ℕ) (xs : List A) (old mid new : FilesSeen) (s : Stop) (o : Outcome) → IsErrAnd o (λ x. x ≡ s) → slice_get names i ≡ Some name → Leads whole (rest_of i xs) old mid → LeavesFiles name mid new →
+      mid.faults ≤ new.faults → IsBadInputStop (IsInputRefusal (form i) mid.held name) (HasFailedToRead name mid new) s → IsCommandOutcome whole old new o
+  next_stops whole i name xs old mid new s o is at so_far leaves later stops =
+      so_far.comes new o (subst (λ (r : Reading). IsCommandOutcome r mid new o) (sym (rest_at i name xs at)) (comes_stopped A (form i) name _ mid new s o is leaves later stops))
 
   -- the next one is there, and memory runs out
   pub next_memory : (whole : Reading) (i : ℕ) (name : List ℕ) (xs : List A) (x : A) (old mid new : FilesSeen) → slice_get names i ≡ Some name → Leads whole (rest_of i xs) old mid → LeavesFiles name mid new → mid.faults ≤ new.faults →
-      HoldsInput (form i) mid.held name x → IsCommandOutcome whole old new outcome.NoMemory
+      HoldsInput (form i) mid.held name x → IsCommandOutcome whole old new (Err stop.NoMemory)
   next_memory whole i name xs x old mid new at so_far leaves later holds =
-      so_far.comes new outcome.NoMemory ((step i name xs (xs ++ x ∷ []) x mid new at leaves later holds refl).comes new outcome.NoMemory (comes_none (rest_of (i + 1) (xs ++ x ∷ [])) new))
+      so_far.comes new (Err stop.NoMemory) ((step i name xs (xs ++ x ∷ []) x mid new at leaves later holds refl).comes new (Err stop.NoMemory) (comes_none (rest_of (i + 1) (xs ++ x ∷ [])) new))
 
   -- all are read
   pub all_read : (whole : Reading) (i : ℕ) (xs : List A) (old new : FilesSeen) (o : Outcome) → i ≡ length names → Leads whole (rest_of i xs) old new → IsToldOutcome (P xs) ⊥ o → IsCommandOutcome whole old new o

@@ -1,17 +1,16 @@
 -- How a command ends, from its outcome.
-use Rattle.std.proofs.Common.{◌≡◌, ◌≢◌, ◌≤◌, ◌⊎◌, ℕ, inl, inr, List, [], Option, sym, ap, subst, ◌∙◌, arith}
+use Rattle.std.proofs.Common.{◌≡◌, ◌≢◌, ◌≤◌, ◌⊎◌, ℕ, inl, inr, List, [], Option, Ok, Err, sym, ap, subst, ◌∙◌, arith}
 use Rattle.std.specs.Prelude.{IsTrue}
 use Rattle.tcd_base.specs.Files.{FileMap, FilesSeen, LeavesFaults}
 use Rattle.tcd_base.specs.Sink.{SinkSeen}
-use Rattle.tcd_reading.specs.Reports.{ReportFile, Report, with_report_files}
+use Rattle.tcd_reading.specs.Reports.{ReportFile, Report, with_report_files, says}
 use Rattle.tcd_reading.specs.Endings.{ReportWritingStopped, FilesAndSinkStay, whole, cut, IsReported, printed, unwritten, no_memory, FinishesOutcome, HasRoomForReports, Ends}
 use Rattle.tcd_reading.specs.Inputs.{Reading, ReadingSays, HasAllInputs, HasNotRead}
-use Rattle.tcd_reading.specs.Outcomes.{IsCommandOutcome}
+use Rattle.tcd_reading.specs.Outcomes.{Outcome, IsCommandOutcome}
 use Rattle.tcd_reading.specs.Endings as ending
 use Rattle.tcd_reading.specs.declared.status.Status.{Status}
 use Rattle.tcd_reading.specs.declared.status.Status.TheVariants.{Done, Refused, BadInput, Fault, NoMemory, BadWords}
-use Rattle.tcd_reading.specs.declared.outcome.Outcome.{Outcome}
-use Rattle.tcd_reading.specs.declared.outcome.Outcome.TheVariants as outcome
+use Rattle.tcd_reading.specs.declared.outcome.Stop.TheVariants as stop
 use Rattle.tcd_reading.proofs.Told.{counted_later}
 use Rattle.tcd_reading.proofs.Decided.{IsDecided, never_words, said_told, said_done, said_one}
 
@@ -123,7 +122,8 @@ memory_ends reading old mid new sink sink' o result decided comes quiet e =
     }
 
 pub ends : (reading : Reading) (old mid new : FilesSeen) (sink sink' : SinkSeen) (o : Outcome) (result : Status) → IsDecided reading → IsCommandOutcome reading old mid o → FinishesOutcome o mid new sink sink' result → Ends reading old new sink sink' result
-ends reading old mid new sink sink' (outcome.Report s text writes) result decided comes f =
-    reported_ends reading old mid new sink sink' (outcome.Report s text writes) (record { status = s; text = text.items; writes = writes.items }) result decided comes comes.told f.0 f.1 f.2 f.3
-ends reading old mid new sink sink' outcome.Unread result decided comes f = unread_ends reading old mid new sink sink' outcome.Unread result decided comes comes.told f.0 f.1
-ends reading old mid new sink sink' outcome.NoMemory result decided comes f = memory_ends reading old mid new sink sink' outcome.NoMemory result decided comes f.0 f.1
+ends reading old mid new sink sink' (Ok r) result decided comes f = reported_ends reading old mid new sink sink' (Ok r) r result decided comes comes.told f.0 f.1 f.2 f.3
+ends reading old mid new sink sink' (Err (stop.BadInput line)) result decided comes f =
+    reported_ends reading old mid new sink sink' (Err (stop.BadInput line)) (says BadInput line.items) result decided comes comes.told f.0 f.1 f.2 f.3
+ends reading old mid new sink sink' (Err stop.Unread) result decided comes f = unread_ends reading old mid new sink sink' (Err stop.Unread) result decided comes comes.told f.0 f.1
+ends reading old mid new sink sink' (Err stop.NoMemory) result decided comes f = memory_ends reading old mid new sink sink' (Err stop.NoMemory) result decided comes f.0 f.1

@@ -1,34 +1,42 @@
 -- The outcome of a command, from the results of its parts.
 use Rattle.std.proofs.Common.{◌≡◌, ◌≤◌, inl, inr, ℕ, List, length, Option, Result, Ok, Err, refl, sym, subst, ◌∙◌, arith}
 use Rattle.std.specs.Prelude.{IfErr, IsTrue}
+use Rattle.std.specs.Result.{IsErrAnd}
 use Rattle.tcd_base.specs.Files.{FileMap, FilesSeen, LeavesFiles, IsFileTooLong, ReadsFile}
 use Rattle.tcd_base.specs.FailingCalls.{FaultCounted}
-use Rattle.tcd_reading.specs.Reports.{Report, RefusesInput}
+use Rattle.tcd_reading.specs.Reports.{Report, RefusesInput, says}
 use Rattle.tcd_reading.specs.Inputs.{FormSeen, HoldsInput, IsInputRefusal, long, bad, Reading, answer, input, ReadingSays, HoldsAsked, HasAllInputs, HasNotRead}
-use Rattle.tcd_reading.specs.Outcomes.{IsToldOutcome, IsBadInputOutcome, HasFailedToRead, IsCommandOutcome}
-use Rattle.tcd_reading.specs.declared.outcome.Outcome.{Outcome}
-use Rattle.tcd_reading.specs.declared.outcome.Outcome.TheVariants as outcome
+use Rattle.tcd_reading.specs.Outcomes.{Outcome, IsToldOutcome, IsBadInputStop, HasFailedToRead, IsCommandOutcome}
+use Rattle.tcd_reading.specs.declared.outcome.Stop.{Stop}
+use Rattle.tcd_reading.specs.declared.outcome.Stop.TheVariants as stop
+use Rattle.tcd_reading.specs.declared.status.Status.TheVariants.{BadInput}
 
 -- ---- outcomes
 -- an outcome for one property of reports is one for a weaker property
 pub told_as : (P Q : Report → Type 0) (F G : Type 0) (o : Outcome) → IsToldOutcome P F o → ((r : Report) → P r → Q r) → (F → G) → IsToldOutcome Q G o
-told_as P Q F G (outcome.Report s text writes) h p f = p (record { status = s; text = text.items; writes = writes.items }) h
-told_as P Q F G outcome.Unread h p f = f h
-told_as P Q F G outcome.NoMemory h p f = tt
+told_as P Q F G (Ok r) h p f = p r h
+told_as P Q F G (Err (stop.BadInput line)) h p f = p (says BadInput line.items) h
+told_as P Q F G (Err stop.Unread) h p f = f h
+told_as P Q F G (Err stop.NoMemory) h p f = tt
 
 pub told_more : (P Q : Report → Type 0) (o : Outcome) → IsToldOutcome P ⊥ o → ((r : Report) → P r → Q r) → IsToldOutcome Q ⊥ o
 told_more P Q o h p = told_as P Q ⊥ ⊥ o h p (λ f. f)
 
--- a refusal by other words
-pub refuses_as : (P Q : List ℕ → Type 0) (r : Report) → RefusesInput P r → ((t : List ℕ) → P t → Q t) → RefusesInput Q r
-refuses_as P Q r h f = record { status = h.status; line = f r.text h.line; nothing = h.nothing }
+-- a stop by other words
+pub stops_as : (P Q : List ℕ → Type 0) (F G : Type 0) (s : Stop) → IsBadInputStop P F s → ((t : List ℕ) → P t → Q t) → (F → G) → IsBadInputStop Q G s
+stops_as P Q F G (stop.BadInput line) h p f = p line.items h
+stops_as P Q F G stop.Unread h p f = f h
+stops_as P Q F G stop.NoMemory h p f = tt
 
-pub stops_as : (P Q : List ℕ → Type 0) (F G : Type 0) (o : Outcome) → IsBadInputOutcome P F o → ((t : List ℕ) → P t → Q t) → (F → G) → IsBadInputOutcome Q G o
-stops_as P Q F G o h p f = told_as (λ r. RefusesInput P r) (λ r. RefusesInput Q r) F G o h (λ r x. refuses_as P Q r x p) f
-
-pub err_as : {T : Type 0} (P Q : List ℕ → Type 0) (F G : Type 0) (r : Result T Outcome) → IfErr r (IsBadInputOutcome P F) → ((t : List ℕ) → P t → Q t) → (F → G) → IfErr r (IsBadInputOutcome Q G)
+pub err_as : {T : Type 0} (P Q : List ℕ → Type 0) (F G : Type 0) (r : Result T Stop) → IfErr r (IsBadInputStop P F) → ((t : List ℕ) → P t → Q t) → (F → G) → IfErr r (IsBadInputStop Q G)
 err_as P Q F G (Ok x) h p f = tt
-err_as P Q F G (Err o) h p f = stops_as P Q F G o h p f
+err_as P Q F G (Err s) h p f = stops_as P Q F G s h p f
+
+-- a stop of a command that may end with the report on a bad input
+stopped : (P : List ℕ → Type 0) (Q : Report → Type 0) (F G : Type 0) (s : Stop) → IsBadInputStop P F s → ((r : Report) → RefusesInput P r → Q r) → (F → G) → IsToldOutcome Q G (Err s)
+stopped P Q F G (stop.BadInput line) h p f = p _ (record { status = refl; line = h; nothing = refl })
+stopped P Q F G stop.Unread h p f = f h
+stopped P Q F G stop.NoMemory h p f = tt
 
 -- ---- one input
 -- a file above the limit, and bytes that are none
@@ -48,18 +56,23 @@ counted_later a b c le (inr h) = inr h
 pub record Leads (whole rest : Reading) (old mid : FilesSeen) : Type 0 where
   pub comes : (new : FilesSeen) (o : Outcome) → IsCommandOutcome rest mid new o → IsCommandOutcome whole old new o
 
+-- an error that `?` passes on
+pub passed_on : {T E : Type 0} (P : Result T E → Type 0) (r : Result T E) (e : E) → IsErrAnd r (λ x. x ≡ e) → P (Err e) → P r
+passed_on P (Ok x) e is h = absurd is
+passed_on {T} {E} P (Err x) e is h = subst (λ (y : E). P (Err y)) (sym is) h
+
 -- an input that isn't there
-pub comes_stopped : (A : Type 0) (form : FormSeen A) (name : List ℕ) (next : A → Reading) (old new : FilesSeen) (o : Outcome) → LeavesFiles name old new → old.faults ≤ new.faults →
-    IsBadInputOutcome (IsInputRefusal form old.held name) (HasFailedToRead name old new) o → IsCommandOutcome (input A form name next) old new o
-comes_stopped A form name next old new o leaves later stops = record {
+pub comes_stopped : (A : Type 0) (form : FormSeen A) (name : List ℕ) (next : A → Reading) (old new : FilesSeen) (s : Stop) (o : Outcome) → IsErrAnd o (λ x. x ≡ s) → LeavesFiles name old new → old.faults ≤ new.faults →
+    IsBadInputStop (IsInputRefusal form old.held name) (HasFailedToRead name old new) s → IsCommandOutcome (input A form name next) old new o
+comes_stopped A form name next old new s o is leaves later stops = passed_on (IsCommandOutcome (input A form name next) old new) o s is (record {
   held = leaves.held;
   steady = leaves.steady;
   later = later;
   sure = λ s. leaves.sure (record { steady = s.steady; holds = s.hold.0 });
-  told = told_as (λ r. RefusesInput (IsInputRefusal form old.held name) r) (ReadingSays (input A form name next) old.held) (HasFailedToRead name old new) (HasNotRead (input A form name next) old new) o stops
+  told = stopped (IsInputRefusal form old.held name) (ReadingSays (input A form name next) old.held) (HasFailedToRead name old new) (HasNotRead (input A form name next) old new) s stops
       (λ r h. inl h)
       (λ f. record { counted = f.counted; unsure = λ s. f.unsure (record { steady = s.steady; holds = s.hold.0 }) });
-}
+})
 
 -- an input that is read, and then the rest
 sure_next : (A : Type 0) (form : FormSeen A) (name : List ℕ) (next : A → Reading) (x : A) (old mid : FilesSeen) → LeavesFiles name old mid → HoldsInput form old.held name x → HasAllInputs (input A form name next) old → HasAllInputs (next x) mid
@@ -96,5 +109,5 @@ comes_told P files o h = record {
 }
 
 -- memory ran out
-pub comes_none : (reading : Reading) (files : FilesSeen) → IsCommandOutcome reading files files outcome.NoMemory
+pub comes_none : (reading : Reading) (files : FilesSeen) → IsCommandOutcome reading files files (Err stop.NoMemory)
 comes_none reading files = record { held = refl; steady = refl; later = omega arith; sure = λ s. refl; told = tt }

@@ -1,15 +1,15 @@
 -- How a command ends, in terms of the views of the files and of the sink.
-use Rattle.std.specs.Prelude.{◌≡◌, ◌≢◌, ◌⊎◌, Option, ◌≤◌, ℕ, List, IsTrue, ◌∷◌, ◌++◌, []}
+use Rattle.std.specs.Prelude.{◌≡◌, ◌≢◌, ◌⊎◌, Option, ◌≤◌, ℕ, List, IsTrue, ◌∷◌, ◌++◌, [], Ok, Err}
 use Rattle.tcd_base.specs.Files.{FileMap, FilesSeen, LeavesFaults, OthersStay}
 use Rattle.tcd_base.specs.FailingCalls.{FaultCounted}
 use Rattle.tcd_base.specs.Sink.{SinkSeen, HasRoomFor, AppendsFront, IsPrinted}
-use Rattle.tcd_reading.specs.Reports.{Report, IsReportStatus, with_report_files, ReportFile}
+use Rattle.tcd_reading.specs.Reports.{Report, IsReportStatus, with_report_files, ReportFile, says}
 use Rattle.tcd_reading.specs.Inputs.{Reading, ReadingSays, HasAllInputs}
 use Rattle.tcd_reading.specs.declared.status.Status.{Status}
 use Rattle.tcd_reading.specs.declared.status.Status.TheVariants.{Done, Refused, BadInput, Fault, NoMemory, BadWords}
-use Rattle.tcd_reading.specs.declared.outcome.Outcome.{Outcome}
+use Rattle.tcd_reading.specs.Outcomes.{Outcome}
 use Rattle.tcd_reading.specs.declared.status.Status.TheVariants as status
-use Rattle.tcd_reading.specs.declared.outcome.Outcome.TheVariants as outcome
+use Rattle.tcd_reading.specs.declared.outcome.Stop.TheVariants as stop
 
 -- the sink has room for the text of each report that a command may have, so that the command can't
 -- end with a fault of the sink
@@ -47,13 +47,17 @@ pub record FilesAndSinkStay (files files' : FilesSeen) (sink sink' : SinkSeen) :
   pub files_stay : files' ≡ files
   pub sink_stays : sink' ≡ sink
 
+-- how a command that has a report ends, with the counts of faults
+abbrev pub FinishesReport : Report → FilesSeen → FilesSeen → SinkSeen → SinkSeen → Status → Type 0
+FinishesReport report files files' sink sink' result =
+    IsReported report files files' sink sink' result × LeavesFaults files files' × (files.faults ≤ files'.faults) × (sink.faults ≤ sink'.faults)
+
 -- how a command with this outcome ends, by the views of the files and of the sink before and after
 abbrev pub FinishesOutcome : Outcome → FilesSeen → FilesSeen → SinkSeen → SinkSeen → Status → Type 0
-FinishesOutcome (outcome.Report s text writes) files files' sink sink' result =
-    IsReported (record { status = s; text = text.items; writes = writes.items }) files files' sink sink' result × LeavesFaults files files' × (files.faults ≤ files'.faults)
-    × (sink.faults ≤ sink'.faults)
-FinishesOutcome outcome.Unread files files' sink sink' result = FilesAndSinkStay files files' sink sink' × (result ≡ status.Fault)
-FinishesOutcome outcome.NoMemory files files' sink sink' result = FilesAndSinkStay files files' sink sink' × (result ≡ status.NoMemory)
+FinishesOutcome (Ok report) files files' sink sink' result = FinishesReport report files files' sink sink' result
+FinishesOutcome (Err (stop.BadInput line)) files files' sink sink' result = FinishesReport (says BadInput line.items) files files' sink sink' result
+FinishesOutcome (Err stop.Unread) files files' sink sink' result = FilesAndSinkStay files files' sink sink' × (result ≡ status.Fault)
+FinishesOutcome (Err stop.NoMemory) files files' sink sink' result = FilesAndSinkStay files files' sink sink' × (result ≡ status.NoMemory)
 
 -- A report was written and printed. Or a file couldn't be read, so the files aren't sure of all
 -- needed inputs. Or memory ran out before anything was written or printed.

@@ -1,21 +1,29 @@
 -- The outcome of a command.
-use Rattle.std.specs.Prelude.{◌≡◌, ◌≤◌, ℕ, List}
+use Rattle.std.specs.Prelude.{◌≡◌, ◌≤◌, ℕ, List, Result, Ok, Err}
 use Rattle.tcd_base.specs.Files.{FilesSeen, AreSure}
 use Rattle.tcd_base.specs.FailingCalls.{FaultCounted}
-use Rattle.tcd_reading.specs.Reports.{Report, RefusesInput}
+use Rattle.tcd_reading.specs.Reports.{Report, says}
 use Rattle.tcd_reading.specs.Inputs.{Reading, ReadingSays, HasAllInputs, HasNotRead}
-use Rattle.tcd_reading.specs.declared.outcome.Outcome.{Outcome}
-use Rattle.tcd_reading.specs.declared.outcome.Outcome.TheVariants as outcome
+use Rattle.tcd_reading.specs.declared.outcome.Stop.{Stop}
+use Rattle.tcd_reading.specs.declared.outcome.Stop.TheVariants as stop
+use Rattle.tcd_reading.specs.declared.status.Status.TheVariants.{BadInput}
+
+-- the outcome of a command: its report, or why it stopped before
+abbrev pub Outcome : Type 0
+Outcome = Result Report Stop
 
 -- the outcome is such a report; or a file wasn't read, if that can happen; or memory ran out
 abbrev pub IsToldOutcome : (Report → Type 0) → Type 0 → Outcome → Type 0
-IsToldOutcome IsReport MayFail (outcome.Report s text writes) = IsReport (record { status = s; text = text.items; writes = writes.items })
-IsToldOutcome IsReport MayFail outcome.Unread = MayFail
-IsToldOutcome IsReport MayFail outcome.NoMemory = Unit {0}
+IsToldOutcome IsReport MayFail (Ok report) = IsReport report
+IsToldOutcome IsReport MayFail (Err (stop.BadInput line)) = IsReport (says BadInput line.items)
+IsToldOutcome IsReport MayFail (Err stop.Unread) = MayFail
+IsToldOutcome IsReport MayFail (Err stop.NoMemory) = Unit {0}
 
 -- an input that isn't in its form stops a command, with one of these lines
-abbrev pub IsBadInputOutcome : (List ℕ → Type 0) → Type 0 → Outcome → Type 0
-IsBadInputOutcome IsLine MayFail o = IsToldOutcome (λ r. RefusesInput IsLine r) MayFail o
+abbrev pub IsBadInputStop : (List ℕ → Type 0) → Type 0 → Stop → Type 0
+IsBadInputStop IsLine MayFail (stop.BadInput line) = IsLine line.items
+IsBadInputStop IsLine MayFail stop.Unread = MayFail
+IsBadInputStop IsLine MayFail stop.NoMemory = Unit {0}
 
 -- why an outcome has no report: a file couldn't be read, so that a fault was counted, and the files
 -- weren't sure of that file

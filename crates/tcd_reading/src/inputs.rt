@@ -2,9 +2,9 @@
 ghost use Rattle.std.specs.Prelude.{◌≡◌, ◌≤◌, length, IfOk, IfErr};
 ghost use Rattle.tcd_base.specs.Files.{LeavesFiles};
 ghost use Rattle.tcd_reading.specs.Inputs.{FormSeen, HoldsInput, IsInputRefusal};
-ghost use Rattle.tcd_reading.specs.Outcomes.{HasFailedToRead, IsBadInputOutcome};
+ghost use Rattle.tcd_reading.specs.Outcomes.{HasFailedToRead, IsBadInputStop};
 
-use crate::outcome::{Outcome, bad_input_outcome};
+use crate::outcome::{Stop, bad_input};
 use std::alloc::Global;
 use tcd_base::{FileErr, Files, NoMemory};
 
@@ -28,12 +28,12 @@ pub trait Form {
     fn long_line(&self, alloc: Global) -> Result<Vec<u8>, NoMemory>
         ensures { IfOk result (λ line. line.items ≡ (form self.now).long_line) };
 
-    /// The value of these bytes, or the outcome with the line that says why there is none.
-    fn value(&self, alloc: Global, bytes: Vec<u8>) -> Result<Self::Out, Outcome>
+    /// The value of these bytes, or the line that says why there is none.
+    fn value(&self, alloc: Global, bytes: Vec<u8>) -> Result<Self::Out, Stop>
         requires { length bytes.items ≤ (form self.now).limit }
         ensures found { IfOk result ((form self.now).Is bytes.items) }
         ensures fits { IfOk result (Fits self.now) }
-        ensures stops { IfErr result (IsBadInputOutcome ((form self.now).IsBad bytes.items) ⊥) };
+        ensures stops { IfErr result (IsBadInputStop ((form self.now).IsBad bytes.items) ⊥) };
 }
 
 /// Reads the input of this form from a file.
@@ -42,29 +42,29 @@ pub fn read_input<I: Form, F: Files>(
     alloc: Global,
     name: &str,
     files: &mut F,
-) -> Result<I::Out, Outcome>
+) -> Result<I::Out, Stop>
     ensures leaves { LeavesFiles name.now (F.seen files.old) (F.seen files.new) }
     ensures later { (F.seen files.old).faults ≤ (F.seen files.new).faults }
     ensures found { IfOk result (HoldsInput (I.form form.now) (F.seen files.old).held name.now) }
     ensures fits { IfOk result (I.Fits form.now) }
     ensures stops { IfErr result
-        (IsBadInputOutcome (IsInputRefusal (I.form form.now) (F.seen files.old).held name.now)
+        (IsBadInputStop (IsInputRefusal (I.form form.now) (F.seen files.old).held name.now)
         (HasFailedToRead name.now (F.seen files.old) (F.seen files.new))) }
 {
     match files.read(alloc, name, form.limit()) {
         Ok(bytes) => form.value(alloc, bytes),
-        Err(e) => Err(unread_file_outcome(form, alloc, e)),
+        Err(e) => Err(unread_file(form, alloc, e)),
     }
 }
 
-// The outcome for a file that wasn't read: it is too large, or reading failed.
-fn unread_file_outcome<I: Form>(form: &I, alloc: Global, e: FileErr) -> Outcome
-    ensures { IsBadInputOutcome (λ t. (e ≡ FileErr.TooLong) × (t ≡ (I.form form.now).long_line))
+// Why a command stops at a file that wasn't read: it is too large, or reading failed.
+fn unread_file<I: Form>(form: &I, alloc: Global, e: FileErr) -> Stop
+    ensures { IsBadInputStop (λ t. (e ≡ FileErr.TooLong) × (t ≡ (I.form form.now).long_line))
         (e ≡ FileErr.Failed) result }
 {
     match e {
-        FileErr::Failed => Outcome::Unread,
-        FileErr::TooLong => bad_input_outcome(alloc, form.long_line(alloc)),
-        FileErr::NoMemory => Outcome::NoMemory,
+        FileErr::Failed => Stop::Unread,
+        FileErr::TooLong => bad_input(form.long_line(alloc)),
+        FileErr::NoMemory => Stop::NoMemory,
     }
 }

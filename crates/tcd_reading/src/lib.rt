@@ -9,6 +9,6 @@ mod status;
 pub use inputs::{Form, read_input};
 pub use laws::{AnyCommand, endings_in_words, readings_in_words};
 pub use outcome::{
-    Outcome, Write, bad_input_outcome, finish_outcome, report, report_file, report_two,
+    Outcome, Report, Stop, Write, bad_input, finish_outcome, report_file, report_two,
 };
 pub use status::{Status, print_with_status};

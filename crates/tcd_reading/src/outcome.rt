@@ -4,7 +4,7 @@ ghost use Rattle.tcd_base.specs.Files.{LeavesFaults};
 ghost use Rattle.tcd_base.specs.FailingCalls.{FaultCounted};
 ghost use Rattle.tcd_reading.specs.Reports.{says, writes_file, writes_two, with_report_files};
 ghost use Rattle.tcd_reading.specs.Endings.{ReportWritingStopped, FinishesOutcome};
-ghost use Rattle.tcd_reading.specs.Outcomes.{IsToldOutcome, IsBadInputOutcome};
+ghost use Rattle.tcd_reading.specs.Outcomes.{IsBadInputStop};
 
 use crate::status::{Status, print_with_status, status_of_failed_write};
 use std::alloc::Global;
@@ -39,79 +39,99 @@ impl Write {
     }
 }
 
-/// The outcome of a command, before a file is written or a text printed.
+/// The report of a command: a status, the text to print, and the files to write before it.
 #[derive(Drop)]
-pub enum Outcome {
-    /// A status, the text to print, and the files to write before it.
-    Report {
-        status: Status,
-        text: Vec<u8>,
-        writes: Vec<Write>,
-    },
-    /// An input file that couldn't be read.
+pub struct Report {
+    pub status: Status,
+    pub text: Vec<u8>,
+    pub writes: Vec<Write>,
+}
+
+impl Model for Report {
+    ghost use Rattle.tcd_reading.specs.Reports as reports;
+
+    ghost Value = { reports.Report };
+
+    ghost view = { λ r. record {
+      status = r.status;
+      text = r.text.items;
+      writes = r.writes.items;
+    } };
+}
+
+impl Report {
+    /// Makes a report with nothing to write.
+    pub fn of(alloc: Global, status: Status, text: Vec<u8>) -> Report
+        ensures { result ≡ says status text.items }
+    {
+        Report {
+            status,
+            text,
+            writes: Vec::new(alloc),
+        }
+    }
+}
+
+/// Why a command has no report on all its inputs.
+#[derive(Drop)]
+pub enum Stop {
+    /// An input isn't in its form, with the line that is printed.
+    BadInput(Vec<u8>),
+    /// An input file couldn't be read.
     Unread,
     /// Out of memory.
     NoMemory,
 }
 
-/// A report with nothing to write, or out of memory.
-pub fn report(alloc: Global, status: Status, line: Result<Vec<u8>, NoMemory>) -> Outcome
-    ensures { IsToldOutcome (λ r. IsOkAnd line (λ l. r ≡ says status l.items)) ⊥ result }
-{
-    match line {
-        Ok(text) => Outcome::Report {
-            status,
-            text,
-            writes: Vec::new(alloc),
-        },
-        Err(_) => Outcome::NoMemory,
+impl From<NoMemory> for Stop {
+    ghost use Rattle.std.specs.Prelude.{◌≡◌};
+    ghost use Rattle.tcd_reading.specs.declared.outcome.Stop.TheVariants as stop;
+
+    ghost from_gives = { λ _ e. e ≡ stop.NoMemory };
+
+    fn from(_error: NoMemory) -> Stop {
+        Stop::NoMemory
     }
 }
 
-/// A report with one file to write, or out of memory.
+/// The outcome of a command, before a file is written or a text printed.
+pub type Outcome = Result<Report, Stop>;
+
+/// A report with one file to write.
 pub fn report_file(
     alloc: Global,
     name: &str,
     bytes: Vec<u8>,
-    line: Result<Vec<u8>, NoMemory>,
-) -> Outcome
-    ensures { IsToldOutcome
-        (λ r. IsOkAnd line (λ l. r ≡ writes_file name.now bytes.items l.items)) ⊥ result }
+    text: Vec<u8>,
+) -> Result<Report, NoMemory>
+    ensures { IfOk result (λ r. r ≡ writes_file name.now bytes.items text.items) }
 {
-    match line {
-        Ok(text) => match one_file_to_write(alloc, name, bytes) {
-            Ok(writes) => Outcome::Report {
-                status: Status::Done,
-                text,
-                writes,
-            },
-            Err(_) => Outcome::NoMemory,
-        },
-        Err(_) => Outcome::NoMemory,
-    }
+    let mut writes = Vec::new(alloc);
+    writes.push(Write::of(alloc, name, bytes)?)?;
+    Ok(Report {
+        status: Status::Done,
+        text,
+        writes,
+    })
 }
 
-/// A report with two files to write, in this order, or out of memory.
+/// A report with two files to write, in this order.
 pub fn report_two(
     alloc: Global,
     first: Write,
     second: Write,
-    line: Result<Vec<u8>, NoMemory>,
-) -> Outcome
-    ensures { IsToldOutcome (λ r. IsOkAnd line (λ l. r ≡ writes_two first second l.items)) ⊥
-        result }
+    text: Vec<u8>,
+) -> Result<Report, NoMemory>
+    ensures { IfOk result (λ r. r ≡ writes_two first second text.items) }
 {
-    match line {
-        Ok(text) => match two_files_to_write(alloc, first, second) {
-            Ok(writes) => Outcome::Report {
-                status: Status::Done,
-                text,
-                writes,
-            },
-            Err(_) => Outcome::NoMemory,
-        },
-        Err(_) => Outcome::NoMemory,
-    }
+    let mut writes = Vec::new(alloc);
+    writes.push(first)?;
+    writes.push(second)?;
+    Ok(Report {
+        status: Status::Done,
+        text,
+        writes,
+    })
 }
 
 /// Writes the files of an outcome, and then prints its text. After the first file, memory is only
@@ -126,50 +146,24 @@ pub fn finish_outcome<F: Files, S: Sink>(
         (S.seen out.old) (S.seen out.new) result }
 {
     match outcome {
-        Outcome::Report {
-            status,
-            text,
-            writes,
-        } => match write_report_files(alloc, &writes, files) {
-            Ok(()) => print_with_status(out, &text, status),
+        Ok(report) => match write_report_files(alloc, &report.writes, files) {
+            Ok(()) => print_with_status(out, &report.text, report.status),
             Err(e) => status_of_failed_write(e),
         },
-        Outcome::Unread => Status::Fault,
-        Outcome::NoMemory => Status::NoMemory,
+        Err(Stop::BadInput(text)) => print_with_status(out, &text, Status::BadInput),
+        Err(Stop::Unread) => Status::Fault,
+        Err(Stop::NoMemory) => Status::NoMemory,
     }
 }
 
-/// The outcome for an input that isn't in its form, with the line that is printed.
-pub fn bad_input_outcome(alloc: Global, line: Result<Vec<u8>, NoMemory>) -> Outcome
-    ensures { IsBadInputOutcome (λ t. IsOkAnd line (λ l. t ≡ l.items)) ⊥ result }
+/// The stop at an input that isn't in its form, with the line that is printed.
+pub fn bad_input(line: Result<Vec<u8>, NoMemory>) -> Stop
+    ensures { IsBadInputStop (λ t. IsOkAnd line (λ l. t ≡ l.items)) ⊥ result }
 {
     match line {
-        Ok(text) => Outcome::Report {
-            status: Status::BadInput,
-            text,
-            writes: Vec::new(alloc),
-        },
-        Err(_) => Outcome::NoMemory,
+        Ok(text) => Stop::BadInput(text),
+        Err(_) => Stop::NoMemory,
     }
-}
-
-/// The list of a report's files to write: this one.
-fn one_file_to_write(alloc: Global, name: &str, bytes: Vec<u8>) -> Result<Vec<Write>, NoMemory>
-    ensures { IfOk result (λ w. w.items ≡ record { name = name.now; bytes = bytes.items } ∷ []) }
-{
-    let mut writes = Vec::new(alloc);
-    writes.push(Write::of(alloc, name, bytes)?)?;
-    Ok(writes)
-}
-
-/// Returns the list of files that the report in an outcome has to write: these two, in this order.
-fn two_files_to_write(alloc: Global, first: Write, second: Write) -> Result<Vec<Write>, NoMemory>
-    ensures { IfOk result (λ w. w.items ≡ first ∷ second ∷ []) }
-{
-    let mut writes = Vec::new(alloc);
-    writes.push(first)?;
-    writes.push(second)?;
-    Ok(writes)
 }
 
 /// Writes the files of a report in order, up to the first failure.

@@ -6,7 +6,7 @@ use std::alloc::Global;
 use tc_object::Object;
 use tcd_base::Files;
 use tcd_forms::{SourceFile, assembled_line};
-use tcd_reading::{Outcome, read_input, report_file};
+use tcd_reading::{Outcome, Stop, read_input, report_file};
 
 /// Reads a source and assembles it.
 #[inline(never)]
@@ -19,10 +19,8 @@ pub(crate) fn assemble_file<F: Files>(
     ensures { IsCommandOutcome (asm_reading (record { source = source.now; object = object.now }))
         (F.seen files.old) (F.seen files.new) result }
 {
-    match read_input(&SourceFile, alloc, source, files) {
-        Ok(made) => object_report(alloc, object, &made),
-        Err(outcome) => outcome,
-    }
+    let made = read_input(&SourceFile, alloc, source, files)?;
+    object_report(alloc, object, &made)
 }
 
 // The report with an object to write under this name.
@@ -31,9 +29,9 @@ fn object_report(alloc: Global, name: &str, object: &Object) -> Outcome
 {
     match object.write(alloc) {
         Ok(bytes) => {
-            let line = assembled_line(alloc, &bytes);
-            report_file(alloc, name, bytes, line)
+            let line = assembled_line(alloc, &bytes)?;
+            Ok(report_file(alloc, name, bytes, line)?)
         }
-        Err(_) => Outcome::NoMemory,
+        Err(_) => Err(Stop::NoMemory),
     }
 }

@@ -11,7 +11,7 @@ use tc_boot::boot_ok;
 use tcd_base::Files;
 use tcd_forms::{CertFile, ElfFile, PlanFile, boots_line, refused_line};
 use tcd_plan::Plan;
-use tcd_reading::{Outcome, Status, read_input, report};
+use tcd_reading::{Outcome, Report, Status, read_input};
 
 /// Reads the three files, and reports whether the certificate is accepted and the boot sequence is
 /// at this address.
@@ -28,18 +28,9 @@ pub(crate) fn boot_files<F: Files>(
         (boot_reading (record { elf = elf.now; plan = plan.now; cert = cert.now; at = at }))
         (F.seen files.old) (F.seen files.new) result }
 {
-    let image = match read_input(&ElfFile, alloc, elf, files) {
-        Ok(image) => image,
-        Err(outcome) => return outcome,
-    };
-    let board = match read_input(&PlanFile, alloc, plan, files) {
-        Ok(board) => board,
-        Err(outcome) => return outcome,
-    };
-    let proof = match read_input(&CertFile, alloc, cert, files) {
-        Ok(proof) => proof,
-        Err(outcome) => return outcome,
-    };
+    let image = read_input(&ElfFile, alloc, elf, files)?;
+    let board = read_input(&PlanFile, alloc, plan, files)?;
+    let proof = read_input(&CertFile, alloc, cert, files)?;
     boot_verdict(alloc, &image, &board, &proof, at)
 }
 
@@ -51,15 +42,19 @@ fn boot_verdict(alloc: Global, image: &Image, plan: &Plan, cert: &Cert, at: u32)
     let _entry = image.entry;
     match check(image, plan, cert) {
         Verdict::Yes(need) => match boot_ok(image, plan, at) {
-            Ok(events) => report(
+            Ok(events) => Ok(Report::of(
                 alloc,
                 Status::Done,
-                boots_line(alloc, events, need, plan.areas - plan.reserve),
-            ),
-            Err(e) => report(alloc, Status::Refused, refused_boot_line(alloc, e)),
+                boots_line(alloc, events, need, plan.areas - plan.reserve)?,
+            )),
+            Err(e) => Ok(Report::of(alloc, Status::Refused, refused_boot_line(alloc, e)?)),
         },
         Verdict::No { rule, key, addr } => {
-            report(alloc, Status::Refused, refused_line(alloc, rule, key, addr))
+            Ok(Report::of(
+                alloc,
+                Status::Refused,
+                refused_line(alloc, rule, key, addr)?,
+            ))
         }
     }
 }

@@ -30,10 +30,8 @@ pub(crate) fn generate_boot<F: Files>(
         }))
         (F.seen files.old) (F.seen files.new) result }
 {
-    match read_input(&PlanFile, alloc, plan, files) {
-        Ok(board) => boot_report(alloc, &board, entry, at, source),
-        Err(outcome) => outcome,
-    }
+    let board = read_input(&PlanFile, alloc, plan, files)?;
+    boot_report(alloc, &board, entry, at, source)
 }
 
 // The report with the source of a boot sequence to write under this name.
@@ -41,11 +39,7 @@ fn boot_report(alloc: Global, plan: &Plan, entry: u32, at: u32, source: &str) ->
     requires { at + 224 ≤ 2 ^ 32 }
     ensures { IsToldOutcome (WritesBoot entry at source.now plan.now) ⊥ result }
 {
-    match boot_source(alloc, plan, entry, at) {
-        Ok(text) => {
-            let line = copy_printed_line(alloc, generated_boot_line());
-            report_file(alloc, source, text.into_bytes(), line)
-        }
-        Err(_) => Outcome::NoMemory,
-    }
+    let text = boot_source(alloc, plan, entry, at)?;
+    let line = copy_printed_line(alloc, generated_boot_line())?;
+    Ok(report_file(alloc, source, text.into_bytes(), line)?)
 }

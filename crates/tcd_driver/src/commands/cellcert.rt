@@ -10,7 +10,7 @@ use std::alloc::Global;
 use tcd_base::Files;
 use tcd_forms::{ElfFile, PlanFile, certified_cells_line, refused_line};
 use tcd_plan::Plan;
-use tcd_reading::{Outcome, Status, read_input, report, report_file};
+use tcd_reading::{Outcome, Report, Status, read_input, report_file};
 use value_cells::{CELLS_RULE, Cells, cells_fault, with_cells};
 
 /// Reads an executable, a plan and its cells, and makes their certificate.
@@ -32,18 +32,9 @@ pub(crate) fn certify_cells<F: Files>(
         }))
         (F.seen files.old) (F.seen files.new) result }
 {
-    let image = match read_input(&ElfFile, alloc, elf, files) {
-        Ok(image) => image,
-        Err(outcome) => return outcome,
-    };
-    let board = match read_input(&PlanFile, alloc, plan, files) {
-        Ok(board) => board,
-        Err(outcome) => return outcome,
-    };
-    let words = match read_input(&CellsFile { plan: &board }, alloc, cells, files) {
-        Ok(words) => words,
-        Err(outcome) => return outcome,
-    };
+    let image = read_input(&ElfFile, alloc, elf, files)?;
+    let board = read_input(&PlanFile, alloc, plan, files)?;
+    let words = read_input(&CellsFile { plan: &board }, alloc, cells, files)?;
     make_cells_cert(alloc, cert, &image, &board, &words)
 }
 
@@ -57,16 +48,16 @@ fn make_cells_cert(alloc: Global, name: &str, image: &Image, plan: &Plan, cells:
     match make_least_cert(alloc, image, &with_cells(plan, cells), 2) {
         Ok((cert, need)) => match cells_fault(image, plan, cells, &cert) {
             Some((key, addr)) => {
-                report(
+                Ok(Report::of(
                     alloc,
                     Status::Refused,
-                    refused_line(alloc, CELLS_RULE, key, addr),
-                )
+                    refused_line(alloc, CELLS_RULE, key, addr)?,
+                ))
             }
             None => {
                 let count = cells.list().len();
-                let line = certified_cells_line(alloc, need, areas, count);
-                report_file(alloc, name, cert.into_bytes(), line)
+                let line = certified_cells_line(alloc, need, areas, count)?;
+                Ok(report_file(alloc, name, cert.into_bytes(), line)?)
             }
         },
         Err(e) => report_unmade(alloc, e),

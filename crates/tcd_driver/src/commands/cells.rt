@@ -11,7 +11,7 @@ use std::alloc::Global;
 use tcd_base::Files;
 use tcd_forms::{CertFile, ElfFile, PlanFile, certified_cells_line, refused_line};
 use tcd_plan::Plan;
-use tcd_reading::{Outcome, Status, read_input, report};
+use tcd_reading::{Outcome, Report, Status, read_input};
 use value_cells::{CELLS_RULE, Cells, cells_fault, with_cells};
 
 /// Reads the four files, and reports whether the certificate is accepted under the plan in which
@@ -34,22 +34,10 @@ pub(crate) fn check_cells<F: Files>(
         }))
         (F.seen files.old) (F.seen files.new) result }
 {
-    let image = match read_input(&ElfFile, alloc, elf, files) {
-        Ok(image) => image,
-        Err(outcome) => return outcome,
-    };
-    let board = match read_input(&PlanFile, alloc, plan, files) {
-        Ok(board) => board,
-        Err(outcome) => return outcome,
-    };
-    let words = match read_input(&CellsFile { plan: &board }, alloc, cells, files) {
-        Ok(words) => words,
-        Err(outcome) => return outcome,
-    };
-    let proof = match read_input(&CertFile, alloc, cert, files) {
-        Ok(proof) => proof,
-        Err(outcome) => return outcome,
-    };
+    let image = read_input(&ElfFile, alloc, elf, files)?;
+    let board = read_input(&PlanFile, alloc, plan, files)?;
+    let words = read_input(&CellsFile { plan: &board }, alloc, cells, files)?;
+    let proof = read_input(&CertFile, alloc, cert, files)?;
     cells_verdict(alloc, &image, &board, &words, &proof)
 }
 
@@ -64,21 +52,25 @@ fn cells_verdict(alloc: Global, image: &Image, plan: &Plan, cells: &Cells, cert:
     match check(image, &with_cells(plan, cells), cert) {
         Verdict::Yes(need) => match cells_fault(image, plan, cells, cert) {
             Some((key, addr)) => {
-                report(
+                Ok(Report::of(
                     alloc,
                     Status::Refused,
-                    refused_line(alloc, CELLS_RULE, key, addr),
-                )
+                    refused_line(alloc, CELLS_RULE, key, addr)?,
+                ))
             }
             None => {
                 let areas = plan.areas - plan.reserve;
                 let count = cells.list().len();
-                let line = certified_cells_line(alloc, need, areas, count);
-                report(alloc, Status::Done, line)
+                let line = certified_cells_line(alloc, need, areas, count)?;
+                Ok(Report::of(alloc, Status::Done, line))
             }
         },
         Verdict::No { rule, key, addr } => {
-            report(alloc, Status::Refused, refused_line(alloc, rule, key, addr))
+            Ok(Report::of(
+                alloc,
+                Status::Refused,
+                refused_line(alloc, rule, key, addr)?,
+            ))
         }
     }
 }

@@ -23,14 +23,8 @@ pub(crate) fn certify_files<F: Files>(
         (cert_reading (record { elf = elf.now; plan = plan.now; cert = cert.now }))
         (F.seen files.old) (F.seen files.new) result }
 {
-    let image = match read_input(&ElfFile, alloc, elf, files) {
-        Ok(image) => image,
-        Err(outcome) => return outcome,
-    };
-    let board = match read_input(&PlanFile, alloc, plan, files) {
-        Ok(board) => board,
-        Err(outcome) => return outcome,
-    };
+    let image = read_input(&ElfFile, alloc, elf, files)?;
+    let board = read_input(&PlanFile, alloc, plan, files)?;
     certify_image(alloc, cert, &image, &board)
 }
 
@@ -40,8 +34,8 @@ fn certify_image(alloc: Global, name: &str, image: &Image, plan: &Plan) -> Outco
 {
     match make_best_cert(alloc, image, plan) {
         Ok((cert, need)) => {
-            let line = certified_line(alloc, need, plan.areas - plan.reserve);
-            report_file(alloc, name, cert.into_bytes(), line)
+            let line = certified_line(alloc, need, plan.areas - plan.reserve)?;
+            Ok(report_file(alloc, name, cert.into_bytes(), line)?)
         }
         Err(e) => report_unmade(alloc, e),
     }

@@ -11,7 +11,7 @@ use std::alloc::Global;
 use tcd_base::{Files, NoMemory};
 use tcd_forms::{ElfFile, PlanFile};
 use tcd_plan::Plan;
-use tcd_reading::{Outcome, Status, read_input, report};
+use tcd_reading::{Outcome, Report, Status, read_input};
 use tcd_report::graph;
 
 /// Reads an executable and a plan, and reports the graph of their certificate.
@@ -20,14 +20,8 @@ pub(crate) fn draw_files<F: Files>(alloc: Global, elf: &str, plan: &str, files: 
     ensures { IsCommandOutcome (cfg_reading (record { elf = elf.now; plan = plan.now }))
         (F.seen files.old) (F.seen files.new) result }
 {
-    let image = match read_input(&ElfFile, alloc, elf, files) {
-        Ok(image) => image,
-        Err(outcome) => return outcome,
-    };
-    let board = match read_input(&PlanFile, alloc, plan, files) {
-        Ok(board) => board,
-        Err(outcome) => return outcome,
-    };
+    let image = read_input(&ElfFile, alloc, elf, files)?;
+    let board = read_input(&PlanFile, alloc, plan, files)?;
     draw_graph(alloc, &image, &board)
 }
 
@@ -37,8 +31,8 @@ fn draw_graph(alloc: Global, image: &Image, plan: &Plan) -> Outcome
 {
     match make_best_cert(alloc, image, plan) {
         Ok((cert, _)) => {
-            let text = cfg_command_text(alloc, image, plan, &cert);
-            report(alloc, Status::Done, text)
+            let text = cfg_command_text(alloc, image, plan, &cert)?;
+            Ok(Report::of(alloc, Status::Done, text))
         }
         Err(e) => report_unmade(alloc, e),
     }

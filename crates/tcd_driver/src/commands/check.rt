@@ -9,7 +9,7 @@ use std::alloc::Global;
 use tcd_base::Files;
 use tcd_forms::{CertFile, ElfFile, PlanFile, certified_line, refused_line};
 use tcd_plan::Plan;
-use tcd_reading::{Outcome, Status, read_input, report};
+use tcd_reading::{Outcome, Report, Status, read_input};
 
 /// Reads the three files, and reports whether the certificate is accepted.
 #[inline(never)]
@@ -24,18 +24,9 @@ pub(crate) fn check_files<F: Files>(
         (check_reading (record { elf = elf.now; plan = plan.now; cert = cert.now }))
         (F.seen files.old) (F.seen files.new) result }
 {
-    let image = match read_input(&ElfFile, alloc, elf, files) {
-        Ok(image) => image,
-        Err(outcome) => return outcome,
-    };
-    let board = match read_input(&PlanFile, alloc, plan, files) {
-        Ok(board) => board,
-        Err(outcome) => return outcome,
-    };
-    let proof = match read_input(&CertFile, alloc, cert, files) {
-        Ok(proof) => proof,
-        Err(outcome) => return outcome,
-    };
+    let image = read_input(&ElfFile, alloc, elf, files)?;
+    let board = read_input(&PlanFile, alloc, plan, files)?;
+    let proof = read_input(&CertFile, alloc, cert, files)?;
     check_verdict(alloc, &image, &board, &proof)
 }
 
@@ -45,14 +36,18 @@ fn check_verdict(alloc: Global, image: &Image, plan: &Plan, cert: &Cert) -> Outc
 {
     match check(image, plan, cert) {
         Verdict::Yes(need) => {
-            report(
+            Ok(Report::of(
                 alloc,
                 Status::Done,
-                certified_line(alloc, need, plan.areas - plan.reserve),
-            )
+                certified_line(alloc, need, plan.areas - plan.reserve)?,
+            ))
         }
         Verdict::No { rule, key, addr } => {
-            report(alloc, Status::Refused, refused_line(alloc, rule, key, addr))
+            Ok(Report::of(
+                alloc,
+                Status::Refused,
+                refused_line(alloc, rule, key, addr)?,
+            ))
         }
     }
 }

@@ -12,7 +12,7 @@ use elf_image::{Image, ImageErr};
 use std::alloc::Global;
 use tcd_forms::generated_line;
 use tcd_plan::{Plan, PlanErr};
-use tcd_reading::{Outcome, Status, report};
+use tcd_reading::{Outcome, Report, Status, Stop};
 use tcd_report::generate;
 
 /// Generates the image with this number of functions and its plan, and certifies them.
@@ -22,22 +22,19 @@ pub(crate) fn certify_generated_image(alloc: Global, functions: u32) -> Outcome
     ensures { IsToldOutcome (IsGenReport functions (generated_image functions) generated_plan) ⊥
         result }
 {
-    let files = match generate(alloc, functions) {
-        Ok(files) => files,
-        Err(_) => return Outcome::NoMemory,
-    };
+    let files = generate(alloc, functions)?;
     let image = match Image::read(alloc, &files.elf) {
         Ok(image) => image,
         Err(e) => {
             own_image_memory_error(e);
-            return Outcome::NoMemory;
+            return Err(Stop::NoMemory);
         }
     };
     match Plan::read(alloc, &files.plan) {
         Ok(plan) => report_generated_image(alloc, functions, &image, &plan),
         Err(e) => {
             own_plan_memory_error(e);
-            Outcome::NoMemory
+            Err(Stop::NoMemory)
         }
     }
 }
@@ -50,8 +47,8 @@ fn report_generated_image(alloc: Global, functions: u32, image: &Image, plan: &P
     match make_least_cert(alloc, image, plan, 1) {
         Ok((cert, need)) => {
             let areas = plan.areas - plan.reserve;
-            let line = generated_line(alloc, functions, &cert, need, areas);
-            report(alloc, Status::Done, line)
+            let line = generated_line(alloc, functions, &cert, need, areas)?;
+            Ok(Report::of(alloc, Status::Done, line))
         }
         Err(e) => report_unmade(alloc, e),
     }

@@ -13,7 +13,7 @@ use tc_link::{Layout, link_borrowed};
 use tc_object::ObjectRef;
 use tcd_base::Files;
 use tcd_forms::{LayoutFile, ObjectFile, bad_link_line, linked_line};
-use tcd_reading::{Outcome, Status, read_input, report, report_file};
+use tcd_reading::{Outcome, Report, Status, Stop, read_input, report_file};
 
 /// Reads a layout and objects, and links the objects by the layout.
 #[inline(never)]
@@ -33,10 +33,8 @@ pub(crate) fn link_files<F: Files>(
         }))
         (F.seen files.old) (F.seen files.new) result }
 {
-    match read_input(&LayoutFile, alloc, layout, files) {
-        Ok(places) => link_object_files(alloc, image, &places, objects, files),
-        Err(outcome) => outcome,
-    }
+    let places = read_input(&LayoutFile, alloc, layout, files)?;
+    link_object_files(alloc, image, &places, objects, files)
 }
 
 // Reads the objects, and links them by this layout.
@@ -60,13 +58,10 @@ fn link_object_files<F: Files>(
             place: i as u32,
             arena: &arena,
         };
-        let part = match read_input(&form, alloc, objects[i].as_str(), files) {
-            Ok(part) => part,
-            Err(outcome) => return outcome,
-        };
+        let part = read_input(&form, alloc, objects[i].as_str(), files)?;
         match parts.push(part) {
             Ok(()) => {}
-            Err(_) => return Outcome::NoMemory,
+            Err(_) => return Err(Stop::NoMemory),
         }
     }
     link_and_report(alloc, name, layout, &parts)
@@ -79,7 +74,7 @@ fn link_and_report(alloc: Global, name: &str, layout: &Layout, objects: &[Object
 {
     match link_borrowed(alloc, objects, layout) {
         Ok(image) => linked_image_report(alloc, name, &image),
-        Err(e) => report(alloc, Status::BadInput, bad_link_line(alloc, e)),
+        Err(e) => Ok(Report::of(alloc, Status::BadInput, bad_link_line(alloc, e)?)),
     }
 }
 
@@ -89,9 +84,9 @@ fn linked_image_report(alloc: Global, name: &str, image: &Image) -> Outcome
 {
     match image.write(alloc) {
         Ok(bytes) => {
-            let line = linked_line(alloc, &bytes);
-            report_file(alloc, name, bytes, line)
+            let line = linked_line(alloc, &bytes)?;
+            Ok(report_file(alloc, name, bytes, line)?)
         }
-        Err(_) => Outcome::NoMemory,
+        Err(_) => Err(Stop::NoMemory),
     }
 }

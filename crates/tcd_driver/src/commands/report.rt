@@ -12,7 +12,7 @@ use std::alloc::Global;
 use tcd_base::{Files, NoMemory};
 use tcd_forms::{CertFile, ElfFile, PlanFile, refused_line};
 use tcd_plan::Plan;
-use tcd_reading::{Outcome, Status, read_input, report};
+use tcd_reading::{Outcome, Report, Status, read_input};
 use tcd_report::report as chain_report;
 
 /// Reads the three files, and prints the report of the certificate if it is accepted.
@@ -28,18 +28,9 @@ pub(crate) fn report_files<F: Files>(
         (report_reading (record { elf = elf.now; plan = plan.now; cert = cert.now }))
         (F.seen files.old) (F.seen files.new) result }
 {
-    let image = match read_input(&ElfFile, alloc, elf, files) {
-        Ok(image) => image,
-        Err(outcome) => return outcome,
-    };
-    let board = match read_input(&PlanFile, alloc, plan, files) {
-        Ok(board) => board,
-        Err(outcome) => return outcome,
-    };
-    let proof = match read_input(&CertFile, alloc, cert, files) {
-        Ok(proof) => proof,
-        Err(outcome) => return outcome,
-    };
+    let image = read_input(&ElfFile, alloc, elf, files)?;
+    let board = read_input(&PlanFile, alloc, plan, files)?;
+    let proof = read_input(&CertFile, alloc, cert, files)?;
     check_and_report(alloc, &image, &board, &proof)
 }
 
@@ -48,13 +39,17 @@ fn check_and_report(alloc: Global, image: &Image, plan: &Plan, cert: &Cert) -> O
     ensures { IsToldOutcome (IsReporting image.now plan.now cert.now) ⊥ result }
 {
     match check(image, plan, cert) {
-        Verdict::Yes(_) => report(
+        Verdict::Yes(_) => Ok(Report::of(
             alloc,
             Status::Done,
-            report_command_text(alloc, image, plan, cert),
-        ),
+            report_command_text(alloc, image, plan, cert)?,
+        )),
         Verdict::No { rule, key, addr } => {
-            report(alloc, Status::Refused, refused_line(alloc, rule, key, addr))
+            Ok(Report::of(
+                alloc,
+                Status::Refused,
+                refused_line(alloc, rule, key, addr)?,
+            ))
         }
     }
 }

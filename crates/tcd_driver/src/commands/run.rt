@@ -10,7 +10,7 @@ use tc_script::{Script, drive_by_script};
 use tcd_base::Files;
 use tcd_forms::{ElfFile, PlanFile, ScriptFile, run_line};
 use tcd_plan::Plan;
-use tcd_reading::{Outcome, Status, read_input, report};
+use tcd_reading::{Outcome, Report, Status, read_input};
 
 /// Reads the three files, runs the machine by the script, and reports how the run ended.
 #[inline(never)]
@@ -25,19 +25,10 @@ pub(crate) fn run_files<F: Files>(
         (run_reading (record { elf = elf.now; plan = plan.now; script = script.now }))
         (F.seen files.old) (F.seen files.new) result }
 {
-    let image = match read_input(&ElfFile, alloc, elf, files) {
-        Ok(image) => image,
-        Err(outcome) => return outcome,
-    };
-    let board = match read_input(&PlanFile, alloc, plan, files) {
-        Ok(board) => board,
-        Err(outcome) => return outcome,
-    };
+    let image = read_input(&ElfFile, alloc, elf, files)?;
+    let board = read_input(&PlanFile, alloc, plan, files)?;
     let form = ScriptFile { plan: &board };
-    let turns = match read_input(&form, alloc, script, files) {
-        Ok(turns) => turns,
-        Err(outcome) => return outcome,
-    };
+    let turns = read_input(&form, alloc, script, files)?;
     run_script(alloc, &image, &board, &turns)
 }
 
@@ -46,16 +37,8 @@ fn run_script(alloc: Global, image: &Image, plan: &Plan, script: &Script) -> Out
     requires { FitsPlan plan.now script.now }
     ensures { IsToldOutcome (IsRunReport image.now plan.now script.now) ⊥ result }
 {
-    match Machine::start(alloc, image, plan) {
-        Ok(machine) => {
-            let mut machine = machine;
-            let done = drive_by_script(&mut machine, plan, script);
-            report(
-                alloc,
-                Status::Done,
-                run_line(alloc, done.events, done.peak, &machine),
-            )
-        }
-        Err(_) => Outcome::NoMemory,
-    }
+    let mut machine = Machine::start(alloc, image, plan)?;
+    let done = drive_by_script(&mut machine, plan, script);
+    let line = run_line(alloc, done.events, done.peak, &machine)?;
+    Ok(Report::of(alloc, Status::Done, line))
 }

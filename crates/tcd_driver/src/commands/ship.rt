@@ -13,7 +13,7 @@ use tc_object::Object;
 use tcd_base::{Files, NoMemory};
 use tcd_forms::{LayoutFile, PlacedSourceFile, PlanFile, bad_link_line, certified_line};
 use tcd_plan::Plan;
-use tcd_reading::{Outcome, Status, Write, read_input, report, report_two};
+use tcd_reading::{Outcome, Report, Status, Stop, Write, read_input, report_two};
 
 /// The names of the files that `ship` reads, and of the two files that it writes.
 #[derive(Clone, Copy)]
@@ -33,14 +33,8 @@ pub(crate) fn ship_files<F: Files>(alloc: Global, names: &Shipment<'_>, files: &
         (F.seen files.new)
         result }
 {
-    let plan = match read_input(&PlanFile, alloc, names.plan, files) {
-        Ok(plan) => plan,
-        Err(outcome) => return outcome,
-    };
-    let layout = match read_input(&LayoutFile, alloc, names.layout, files) {
-        Ok(layout) => layout,
-        Err(outcome) => return outcome,
-    };
+    let plan = read_input(&PlanFile, alloc, names.plan, files)?;
+    let layout = read_input(&LayoutFile, alloc, names.layout, files)?;
     ship_sources(alloc, names, &plan, &layout, files)
 }
 
@@ -62,13 +56,10 @@ fn ship_sources<F: Files>(
     let mut objects = Vec::new(alloc);
     for i in 0..sources.len() {
         let form = PlacedSourceFile { place: i as u32 };
-        let source = match read_input(&form, alloc, sources[i].as_str(), files) {
-            Ok(source) => source,
-            Err(outcome) => return outcome,
-        };
+        let source = read_input(&form, alloc, sources[i].as_str(), files)?;
         match objects.push(source.object) {
             Ok(()) => {}
-            Err(_) => return Outcome::NoMemory,
+            Err(_) => return Err(Stop::NoMemory),
         }
     }
     ship_objects(alloc, names, plan, layout, &objects)
@@ -89,7 +80,7 @@ fn ship_objects(
     let _entry = &layout.entry;
     match link(alloc, objects, layout) {
         Ok(image) => ship_image(alloc, names, plan, &image),
-        Err(e) => report(alloc, Status::BadInput, bad_link_line(alloc, e)),
+        Err(e) => Ok(Report::of(alloc, Status::BadInput, bad_link_line(alloc, e)?)),
     }
 }
 
@@ -100,15 +91,13 @@ fn ship_image(alloc: Global, names: &Shipment<'_>, plan: &Plan, image: &Image) -
 {
     let bytes = match image.write(alloc) {
         Ok(bytes) => bytes,
-        Err(_) => return Outcome::NoMemory,
+        Err(_) => return Err(Stop::NoMemory),
     };
     match make_best_cert(alloc, image, plan) {
         Ok((cert, need)) => {
-            let line = certified_line(alloc, need, plan.areas - plan.reserve);
-            match shipped_files(alloc, names, bytes, cert.into_bytes()) {
-                Ok((first, second)) => report_two(alloc, first, second, line),
-                Err(_) => Outcome::NoMemory,
-            }
+            let line = certified_line(alloc, need, plan.areas - plan.reserve)?;
+            let (first, second) = shipped_files(alloc, names, bytes, cert.into_bytes())?;
+            Ok(report_two(alloc, first, second, line)?)
         }
         Err(e) => report_unmade(alloc, e),
     }

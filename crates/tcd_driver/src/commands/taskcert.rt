@@ -4,24 +4,22 @@ ghost use Rattle.task_chains.specs.Tasks.{count};
 ghost use Rattle.task_chains.specs.Views.{FitPlan};
 ghost use Rattle.tcd_reading.specs.Outcomes.{IsCommandOutcome, IsToldOutcome};
 ghost use Rattle.tcd_driver.specs.Taskcert.{IsTaskcerting, MakesTaskViewCert, MakesTaskCert, MakesAllTaskCerts, taskcert_reading};
-ghost use Rattle.tcd_reading.specs.Reports.{writes_files};
 
 use crate::cell_and_task_files::TasksFile;
 use crate::cert_making::make_least_cert;
-use crate::commands::tasks::task_need_to_count;
-use crate::lines::bad_tasks_line;
+use crate::commands::tasks::{report_task_count, task_need_to_count};
 use depth_maker::MakeErr;
 use elf_image::Image;
 use packed_cert::Cert;
 use std::alloc::Global;
-use task_chains::{TASKS_RULE, Tasks, TasksErr, routine_fault, task_fault, view_image, view_plan};
+use task_chains::{TASKS_RULE, Tasks, routine_fault, task_fault, view_image, view_plan};
 use tcd_base::{Files, NoMemory};
 use tcd_forms::{
     ElfFile, PlanFile, certified_tasks_line, refused_sum_line, refused_switch_line,
     refused_task_line,
 };
 use tcd_plan::Plan;
-use tcd_reading::{Outcome, Status, Write, read_input, report};
+use tcd_reading::{Outcome, Report, Status, Stop, Write, read_input};
 
 /// Reads an executable, a plan and its tasks, and makes a certificate for each task.
 #[inline(never)]
@@ -42,26 +40,13 @@ pub(crate) fn certify_tasks<F: Files>(
         }))
         (F.seen files.old) (F.seen files.new) result }
 {
-    let image = match read_input(&ElfFile, alloc, elf, files) {
-        Ok(image) => image,
-        Err(outcome) => return outcome,
-    };
-    let board = match read_input(&PlanFile, alloc, plan, files) {
-        Ok(board) => board,
-        Err(outcome) => return outcome,
-    };
-    let list = match read_input(&TasksFile { plan: &board }, alloc, tasks, files) {
-        Ok(list) => list,
-        Err(outcome) => return outcome,
-    };
+    let image = read_input(&ElfFile, alloc, elf, files)?;
+    let board = read_input(&PlanFile, alloc, plan, files)?;
+    let list = read_input(&TasksFile { plan: &board }, alloc, tasks, files)?;
     if certs.len() == list.list.len() {
         certify_all_tasks(alloc, &image, &board, &list, certs)
     } else {
-        report(
-            alloc,
-            Status::BadInput,
-            bad_tasks_line(alloc, TasksErr::Count),
-        )
+        report_task_count(alloc)
     }
 }
 
@@ -81,22 +66,26 @@ fn certify_all_tasks(
     let areas = plan.areas - plan.reserve;
     let count = tasks.list.len();
     if let Some(addr) = routine_fault(image, plan, tasks) {
-        return report(alloc, Status::Refused, refused_switch_line(alloc, addr));
+        return Ok(Report::of(alloc, Status::Refused, refused_switch_line(alloc, addr)?));
     }
     match make_each_task_cert(alloc, image, plan, tasks, names) {
         Ok((writes, sum)) => {
             if sum <= u64::from(areas) {
-                let line = certified_tasks_line(alloc, sum, areas, count);
-                report_task_certs(writes, line)
+                let line = certified_tasks_line(alloc, sum, areas, count)?;
+                Ok(Report {
+                    status: Status::Done,
+                    text: line,
+                    writes,
+                })
             } else {
-                report(alloc, Status::Refused, refused_sum_line(alloc, sum, areas))
+                Ok(Report::of(alloc, Status::Refused, refused_sum_line(alloc, sum, areas)?))
             }
         }
         Err((task, MakeErr::Refused { rule, key, addr })) => {
-            let line = refused_task_line(alloc, rule, key, addr, task);
-            report(alloc, Status::Refused, line)
+            let line = refused_task_line(alloc, rule, key, addr, task)?;
+            Ok(Report::of(alloc, Status::Refused, line))
         }
-        Err((_, MakeErr::NoMemory)) => Outcome::NoMemory,
+        Err((_, MakeErr::NoMemory)) => Err(Stop::NoMemory),
     }
 }
 
@@ -129,21 +118,6 @@ fn make_each_task_cert(
         }
     }
     Ok((writes, sum))
-}
-
-// Reports files to write, one after another, and the text on them, unless memory ran out.
-fn report_task_certs(writes: Vec<Write>, line: Result<Vec<u8>, NoMemory>) -> Outcome
-    ensures { IsToldOutcome (λ r. IsOkAnd line (λ l. r ≡ writes_files writes.items l.items)) ⊥
-        result }
-{
-    match line {
-        Ok(text) => Outcome::Report {
-            status: Status::Done,
-            text,
-            writes,
-        },
-        Err(_) => Outcome::NoMemory,
-    }
 }
 
 // Makes the least certificate of version 2 for a task's view, and checks that it keeps rule 17.

@@ -6,6 +6,10 @@ ghost use Rattle.task_chains.specs.Views.{FitPlan};
 ghost use Rattle.tcd_forms.specs.Forms.{cert_form};
 ghost use Rattle.tcd_reading.specs.Inputs.{each, answer};
 ghost use Rattle.tcd_reading.specs.Outcomes.{IsCommandOutcome, IsToldOutcome};
+ghost use Rattle.tcd_reading.specs.Reports.{says};
+ghost use Rattle.tcd_reading.specs.declared.status.Status.TheVariants.{BadInput};
+ghost use Rattle.task_chains.specs.declared.task_lists.TasksErr.TheVariants.{Count};
+ghost use Rattle.tcd_driver.specs.BadInputLines.{bad_tasks_line};
 ghost use Rattle.tcd_driver.specs.Tasks.{IsTasksVerdict, JudgesTask, Tallies, task_certs_reading, tasks_reading};
 
 use crate::cell_and_task_files::TasksFile;
@@ -22,7 +26,7 @@ use tcd_forms::{
     refused_task_line,
 };
 use tcd_plan::Plan;
-use tcd_reading::{Outcome, Status, read_input, report};
+use tcd_reading::{Outcome, Report, Status, Stop, read_input};
 
 /// The result for all certificates: the sum of the needs, or the first task whose certificate is
 /// refused.
@@ -57,18 +61,9 @@ pub(crate) fn check_tasks<F: Files>(
         }))
         (F.seen files.old) (F.seen files.new) result }
 {
-    let image = match read_input(&ElfFile, alloc, elf, files) {
-        Ok(image) => image,
-        Err(outcome) => return outcome,
-    };
-    let board = match read_input(&PlanFile, alloc, plan, files) {
-        Ok(board) => board,
-        Err(outcome) => return outcome,
-    };
-    let list = match read_input(&TasksFile { plan: &board }, alloc, tasks, files) {
-        Ok(list) => list,
-        Err(outcome) => return outcome,
-    };
+    let image = read_input(&ElfFile, alloc, elf, files)?;
+    let board = read_input(&PlanFile, alloc, plan, files)?;
+    let list = read_input(&TasksFile { plan: &board }, alloc, tasks, files)?;
     read_task_certs(alloc, &image, &board, &list, certs, files)
 }
 
@@ -78,6 +73,14 @@ pub(crate) fn task_need_to_count(u: usize, need: u32) -> u32
     ensures { result ≡ (if u == 0 then need else max need 2) }
 {
     if u == 0 { need } else { need.max(2) }
+}
+
+/// The report that there aren't as many names of certificates as tasks.
+pub(crate) fn report_task_count(alloc: Global) -> Outcome
+    ensures { IsToldOutcome (λ r. r ≡ says BadInput (bad_tasks_line Count)) ⊥ result }
+{
+    let line = bad_tasks_line(alloc, TasksErr::Count)?;
+    Ok(Report::of(alloc, Status::BadInput, line))
 }
 
 // Reads the certificates if there are as many as tasks, and reports the verdict.
@@ -97,11 +100,7 @@ fn read_task_certs<F: Files>(
     if names.len() == tasks.list.len() {
         read_each_task_cert(alloc, image, plan, tasks, names, files)
     } else {
-        report(
-            alloc,
-            Status::BadInput,
-            bad_tasks_line(alloc, TasksErr::Count),
-        )
+        report_task_count(alloc)
     }
 }
 
@@ -123,13 +122,10 @@ fn read_each_task_cert<F: Files>(
 {
     let mut certs = Vec::new(alloc);
     for i in 0..names.len() {
-        let cert = match read_input(&CertFile, alloc, names[i].as_str(), files) {
-            Ok(cert) => cert,
-            Err(outcome) => return outcome,
-        };
+        let cert = read_input(&CertFile, alloc, names[i].as_str(), files)?;
         match certs.push(cert) {
             Ok(()) => {}
-            Err(_) => return Outcome::NoMemory,
+            Err(_) => return Err(Stop::NoMemory),
         }
     }
     tasks_verdict(alloc, image, plan, tasks, &certs)
@@ -151,29 +147,26 @@ fn tasks_verdict(
     let areas = plan.areas - plan.reserve;
     let count = tasks.list.len();
     if let Some(addr) = routine_fault(image, plan, tasks) {
-        return report(alloc, Status::Refused, refused_switch_line(alloc, addr));
+        return Ok(Report::of(alloc, Status::Refused, refused_switch_line(alloc, addr)?));
     }
-    match judge_tasks(alloc, image, plan, tasks, certs) {
-        Ok(Tally::Sum(sum)) => {
+    match judge_tasks(alloc, image, plan, tasks, certs)? {
+        Tally::Sum(sum) => {
             if sum <= u64::from(areas) {
-                let line = certified_tasks_line(alloc, sum, areas, count);
-                report(alloc, Status::Done, line)
+                let line = certified_tasks_line(alloc, sum, areas, count)?;
+                Ok(Report::of(alloc, Status::Done, line))
             } else {
-                report(alloc, Status::Refused, refused_sum_line(alloc, sum, areas))
+                Ok(Report::of(alloc, Status::Refused, refused_sum_line(alloc, sum, areas)?))
             }
         }
-        Ok(
-            Tally::Against {
-                task,
-                rule,
-                key,
-                addr,
-            },
-        ) => {
-            let line = refused_task_line(alloc, rule, key, addr, task);
-            report(alloc, Status::Refused, line)
+        Tally::Against {
+            task,
+            rule,
+            key,
+            addr,
+        } => {
+            let line = refused_task_line(alloc, rule, key, addr, task)?;
+            Ok(Report::of(alloc, Status::Refused, line))
         }
-        Err(_) => Outcome::NoMemory,
     }
 }
 

@@ -1,6 +1,6 @@
 use Rattle.cfg_recover.proofs.FaultLaws.{fails_refutes}
 use Rattle.tcd_driver.specs.BestCert.{MakesLeastCert}
-use Rattle.tcd_driver.proofs.MakingLaws.{passed_on}
+use Rattle.tcd_reading.proofs.Told.{passed_on}
 use Rattle.tcd_driver.proofs.cert_making.make_least_cert.Goals as goal
 
 pub returns : goal.returns

@@ -1,24 +1,20 @@
+use Rattle.std.proofs.Common.{ap, ◌∙◌}
 use Rattle.tcd_plan.specs.PlanData.{plan_data}
 use Rattle.tcd_reading.specs.Reports.{says}
-use Rattle.tcd_driver.specs.Boot.{IsBootVerdict, refused, unbooted}
+use Rattle.tcd_driver.specs.Boot.{refused, unbooted}
 use Rattle.tcd_reading.specs.declared.status.Status.TheVariants.{Done, Refused}
-use Rattle.tcd_reading.proofs.Told.{told_more}
-use Rattle.tcd_reading.proofs.ReportLaws.{report_is}
 use Rattle.tcd_driver.proofs.BootReports.{boots_report}
 use Rattle.tcd_driver.proofs.commands.boot.boot_verdict.Goals as goal
 
-pub returns-in-Ok : goal.returns-in-Ok
-returns-in-Ok c =
-    told_more _ _ c.report.result c.report.ensures
-    (λ r p. boots_report _ c.args.image.now (plan_data c.plan.inside) c.args.plan.now c.args.cert.now c.args.at c.in-Ok.events c.in-Yes.need r c.image.view_is c.image.invariant c.plan.view_is c.plan.invariant
-    c.in-Yes.ensures.judges.0 c.in-Yes.ensures.judges.1 c.in-Yes.ensures.safe c.in-Ok.ensures.0 c.in-Ok.ensures.1 (report_is _ (λ t. says Done t) c.boots_line.result r _ c.boots_line.ensures p))
+pub returns-in_ok-boots_line-in-Ok : goal.returns-in_ok-boots_line-in-Ok
+returns-in_ok-boots_line-in-Ok c =
+    boots_report _ c.args.image.now (plan_data c.plan.inside) c.args.plan.now c.args.cert.now c.args.at c.in-Ok.events c.in-Yes.need _ c.image.view_is c.image.invariant c.plan.view_is c.plan.invariant
+    c.in-Yes.ensures.judges.0 c.in-Yes.ensures.judges.1 c.in-Yes.ensures.safe c.in-Ok.ensures.0 c.in-Ok.ensures.1 (c.of.ensures ∙ ap (λ t. says Done t) c.in_ok-boots_line-in-Ok.ensures)
 
-pub returns-in-Err : goal.returns-in-Err
-returns-in-Err c =
-    told_more _ _ c.report-in-Err.result c.report-in-Err.ensures
-    (λ r p. unbooted c.in-Err.e c.in-Yes.ensures.judges.0 c.in-Err.ensures (report_is _ (λ t. says Refused t) c.refused_boot_line.result r _ c.refused_boot_line.ensures p))
+pub returns-in_ok-refused_boot_line-in-Err : goal.returns-in_ok-refused_boot_line-in-Err
+returns-in_ok-refused_boot_line-in-Err c =
+    unbooted c.in-Err.e c.in-Yes.ensures.judges.0 c.in-Err.ensures (c.of-in-Err.ensures ∙ ap (λ t. says Refused t) c.in_ok-refused_boot_line-in-Err.ensures)
 
-pub returns-in-No : goal.returns-in-No
-returns-in-No c =
-    told_more _ (IsBootVerdict c.args.image.now c.args.plan.now c.args.cert.now c.args.at) c.report-in-No.result c.report-in-No.ensures
-    (λ r p. refused c.in-No.rule c.in-No.key c.in-No.addr c.in-No.ensures.judges (report_is _ (λ t. says Refused t) c.refused_line.result r _ c.refused_line.ensures p))
+pub returns-in_ok-refused_line-in-No : goal.returns-in_ok-refused_line-in-No
+returns-in_ok-refused_line-in-No c =
+    refused c.in-No.rule c.in-No.key c.in-No.addr c.in-No.ensures.judges (c.of-in-No.ensures ∙ ap (λ t. says Refused t) c.in_ok-refused_line-in-No.ensures)

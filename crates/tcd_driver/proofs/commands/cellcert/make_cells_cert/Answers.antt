@@ -1,4 +1,4 @@
-use Rattle.std.proofs.Common.{List, length, ap, subst}
+use Rattle.std.proofs.Common.{List, length, ap, subst, ◌∙◌}
 use Rattle.tcd_plan.specs.PlanData.{PlanData, plan_data}
 use Rattle.cfg_recover.specs.RulesHoldOrFail.{Accepts}
 use Rattle.depth_maker.specs.Answers.{IsRefused}
@@ -6,8 +6,6 @@ use Rattle.value_cells.specs.declared.cells.Cell.{Cell}
 use Rattle.value_cells.specs.Cells.{with_cells}
 use Rattle.tcd_reading.specs.Reports.{says, writes_file}
 use Rattle.tcd_reading.specs.declared.status.Status.TheVariants.{Refused}
-use Rattle.tcd_reading.proofs.Told.{told_more}
-use Rattle.tcd_reading.proofs.ReportLaws.{report_is}
 use Rattle.tcd_driver.specs.BestCert.{IsLeastWithNeed}
 use Rattle.tcd_driver.specs.Cellcert.{IsCertifyingCells, refused}
 use Rattle.tcd_driver.proofs.CellcertReports.{broken_report, kept_report}
@@ -17,20 +15,18 @@ use Rattle.tcd_driver.proofs.commands.cellcert.make_cells_cert.Goals as goal
 pub cells_fault-requires-clause-accepted : goal.cells_fault-requires-clause-accepted
 cells_fault-requires-clause-accepted c = subst (λ (q : PlanData). Accepts c.args.image.now q c.in-Ok.cert) c.with_cells.ensures ((c.in-Ok.ensures).made).accepted
 
-pub returns-in-Some : goal.returns-in-Some
-returns-in-Some c =
-    told_more _ _ c.report.result c.report.ensures
-    (λ r p. broken_report c.args.name.now c.args.image.now (plan_data c.plan.inside) c.args.plan.now c.args.cells.now _ c.in-Ok.need c.plan.view_is c.plan.invariant c.requires
-    (subst (λ (q : PlanData). IsLeastWithNeed c.args.image.now q 2 c.in-Ok.cert c.in-Ok.need) c.with_cells.ensures c.in-Ok.ensures) c.in-Some.key c.in-Some.addr r c.in-Some.ensures.some
-    (report_is _ (λ t. says Refused t) c.refused_line.result r _ c.refused_line.ensures p))
+pub returns-in_ok-refused_line-in-Some : goal.returns-in_ok-refused_line-in-Some
+returns-in_ok-refused_line-in-Some c =
+    broken_report c.args.name.now c.args.image.now (plan_data c.plan.inside) c.args.plan.now c.args.cells.now _ c.in-Ok.need c.plan.view_is c.plan.invariant c.requires
+    (subst (λ (q : PlanData). IsLeastWithNeed c.args.image.now q 2 c.in-Ok.cert c.in-Ok.need) c.with_cells.ensures c.in-Ok.ensures) c.in-Some.key c.in-Some.addr _ c.in-Some.ensures.some
+    (c.of.ensures ∙ ap (λ t. says Refused t) c.in_ok-refused_line-in-Some.ensures)
 
-pub returns-in-None : goal.returns-in-None
-returns-in-None c =
-    told_more _ _ c.report_file.result c.report_file.ensures
-    (λ r p. kept_report c.args.name.now c.args.image.now (plan_data c.plan.inside) c.args.plan.now c.args.cells.now _ c.in-Ok.need c.plan.view_is c.plan.invariant c.requires
-    (subst (λ (q : PlanData). IsLeastWithNeed c.args.image.now q 2 c.in-Ok.cert c.in-Ok.need) c.with_cells.ensures c.in-Ok.ensures) c.into_bytes.result.items _ r c.into_bytes.ensures c.in-None.ensures.none
+pub returns-in_ok-report_file-in-None : goal.returns-in_ok-report_file-in-None
+returns-in_ok-report_file-in-None c =
+    kept_report c.args.name.now c.args.image.now (plan_data c.plan.inside) c.args.plan.now c.args.cells.now _ c.in-Ok.need c.plan.view_is c.plan.invariant c.requires
+    (subst (λ (q : PlanData). IsLeastWithNeed c.args.image.now q 2 c.in-Ok.cert c.in-Ok.need) c.with_cells.ensures c.in-Ok.ensures) c.into_bytes.result.items _ _ c.into_bytes.ensures c.in-None.ensures.none
     (ap (λ (l : List Cell). length l) c.list-count.ensures)
-    (report_is _ (λ t. writes_file c.args.name.now c.into_bytes.result.items t) c.certified_cells_line-line.result r _ c.certified_cells_line-line.ensures p))
+    (c.in_ok-report_file-in-None.ensures ∙ ap (λ t. writes_file c.args.name.now c.into_bytes.result.items t) c.in_ok-line-in-None.ensures)
 
 pub returns-in-Err : goal.returns-in-Err
 returns-in-Err c =

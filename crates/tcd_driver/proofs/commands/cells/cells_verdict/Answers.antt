@@ -6,30 +6,25 @@ use Rattle.value_cells.specs.declared.cells.Cell.{Cell}
 use Rattle.tcd_reading.specs.Reports.{says}
 use Rattle.tcd_driver.specs.Cells.{refused, broken}
 use Rattle.tcd_reading.specs.declared.status.Status.TheVariants.{Done, Refused}
-use Rattle.tcd_reading.proofs.Told.{told_more}
-use Rattle.tcd_reading.proofs.ReportLaws.{report_is}
 use Rattle.tcd_driver.proofs.CellsReports.{cells_report}
 use Rattle.tcd_driver.proofs.commands.cells.cells_verdict.Goals as goal
 
-pub returns-in-Some : goal.returns-in-Some
-returns-in-Some c =
-    told_more _ _ c.report.result c.report.ensures
-    (λ r p. broken _ _ (subst (λ (q : PlanData). Accepts c.args.image.now q c.args.cert.now) c.with_cells.ensures c.in-Yes.ensures.judges.0) c.in-Some.ensures.some
-    (report_is _ (λ t. says Refused t) c.refused_line.result r _ c.refused_line.ensures p))
+pub returns-in_ok-refused_line-in-Some : goal.returns-in_ok-refused_line-in-Some
+returns-in_ok-refused_line-in-Some c =
+    broken _ _ (subst (λ (q : PlanData). Accepts c.args.image.now q c.args.cert.now) c.with_cells.ensures c.in-Yes.ensures.judges.0) c.in-Some.ensures.some
+    (c.of.ensures ∙ ap (λ t. says Refused t) c.in_ok-refused_line-in-Some.ensures)
 
-pub returns-in-None : goal.returns-in-None
-returns-in-None c =
-    told_more _ _ c.report-in-None.result c.report-in-None.ensures
-    (λ r p. cells_report c.args.image.now (plan_data c.plan.inside) c.args.plan.now c.args.cells.now _ c.args.cert.now c.in-Yes.need _ r c.plan.view_is c.plan.invariant c.requires refl c.version-version.ensures.limits
+pub returns-in_ok-line-in-None : goal.returns-in_ok-line-in-None
+returns-in_ok-line-in-None c =
+    cells_report c.args.image.now (plan_data c.plan.inside) c.args.plan.now c.args.cells.now _ c.args.cert.now c.in-Yes.need _ _ c.plan.view_is c.plan.invariant c.requires refl c.version-version.ensures.limits
     (subst (λ (q : PlanData). Accepts c.args.image.now q c.args.cert.now) c.with_cells.ensures c.in-Yes.ensures.judges.0)
     (c.in-Yes.ensures.judges.1 ∙ ap (λ (q : PlanData). certified_need c.args.image.now q c.args.cert.now) c.with_cells.ensures)
     (subst (λ (q : PlanData). Safe c.args.image.now q c.in-Yes.need) c.with_cells.ensures c.in-Yes.ensures.safe) c.in-None.ensures.none
     (ap (λ (l : List Cell). length l) c.list-count.ensures)
-    (report_is _ (λ t. says Done t) c.certified_cells_line-line.result r _ c.certified_cells_line-line.ensures p))
+    (c.of-in-None.ensures ∙ ap (λ t. says Done t) c.in_ok-line-in-None.ensures)
 
-pub returns-in-No : goal.returns-in-No
-returns-in-No c =
-    told_more _ _ c.report-in-No.result c.report-in-No.ensures
-    (λ r p. refused c.in-No.rule c.in-No.key c.in-No.addr
+pub returns-in_ok-refused_line-in-No : goal.returns-in_ok-refused_line-in-No
+returns-in_ok-refused_line-in-No c =
+    refused c.in-No.rule c.in-No.key c.in-No.addr
     (subst (λ (q : PlanData). IsFirstFault c.args.image.now q c.args.cert.now c.in-No.rule c.in-No.key c.in-No.addr) c.with_cells.ensures c.in-No.ensures.judges)
-    (report_is _ (λ t. says Refused t) c.refused_line-in-No.result r _ c.refused_line-in-No.ensures p))
+    (c.of-in-No.ensures ∙ ap (λ t. says Refused t) c.in_ok-refused_line-in-No.ensures)

@@ -1,18 +1,15 @@
-use Rattle.std.proofs.Common.{Err}
+use Rattle.std.proofs.Common.{Err, ap, ◌∙◌}
 use Rattle.tcd_plan.specs.PlanData.{plan_data}
 use Rattle.tcd_reading.specs.Reports.{writes_file}
 use Rattle.tcd_driver.specs.BestCert.{MakesBestCert}
 use Rattle.tcd_driver.specs.Cert.{IsCertifying, refused}
-use Rattle.tcd_reading.proofs.Told.{told_more}
-use Rattle.tcd_reading.proofs.ReportLaws.{report_is}
 use Rattle.tcd_driver.proofs.MakingLaws.{certifying_report, unmade}
 use Rattle.tcd_driver.proofs.commands.cert.certify_image.Goals as goal
 
-pub returns-in-Ok : goal.returns-in-Ok
-returns-in-Ok c =
-    told_more _ (IsCertifying c.args.name.now c.args.image.now c.args.plan.now) c.report_file.result c.report_file.ensures
-    (λ r p. certifying_report _ c.args.image.now (plan_data c.plan.inside) c.args.plan.now _ c.in-Ok.need _ r c.plan.view_is c.in-Ok.ensures c.into_bytes.ensures
-    (report_is _ (λ t. writes_file c.args.name.now c.into_bytes.result.items t) c.certified_line-line.result r _ c.certified_line-line.ensures p))
+pub returns-in_ok-report_file-in-Ok : goal.returns-in_ok-report_file-in-Ok
+returns-in_ok-report_file-in-Ok c =
+    certifying_report _ c.args.image.now (plan_data c.plan.inside) c.args.plan.now _ c.in-Ok.need _ _ c.plan.view_is c.in-Ok.ensures c.into_bytes.ensures
+    (c.in_ok-report_file-in-Ok.ensures ∙ ap (λ t. writes_file c.args.name.now c.into_bytes.result.items t) c.in_ok-line-in-Ok.ensures)
 
 pub returns-in-Err : goal.returns-in-Err
 returns-in-Err c =

@@ -11,20 +11,20 @@ use Rattle.tcd_driver.proofs.commands.link.link_object_files.Goals as goal
 pub loop-i-init : goal.loop-i-init
 loop-i-init g c = none_read ObjectData object_form (map string_bytes c.args.objects.now) (IsLinkReport c.args.name.now c.args.layout.now) c.new-parts.result.items _ c.new-parts.ensures.items
 
+pub returns-in_err-part : goal.returns-in_err-part
+returns-in_err-part g c =
+    next_stops ObjectData object_form (map string_bytes c.args.objects.now) (IsLinkReport c.args.name.now c.args.layout.now) _ c.loop-i.i c.as_str.result.now c.loop-i.parts.items _ _ _ _ c.from_residual.result c.from_residual.ensures.1
+    (name_here string_bytes c.args.objects.now c.loop-i.i c.index-objects-i.result _ (omega arith) c.index-objects-i.is c.as_str.ensures.value) c.loop-i.invariant.leads c.in_err-part.ensures.leaves c.in_err-part.ensures.later c.in_err-part.ensures.stops
+
 pub returns-in-Err : goal.returns-in-Err
 returns-in-Err g c =
-    next_stops ObjectData object_form (map string_bytes c.args.objects.now) (IsLinkReport c.args.name.now c.args.layout.now) _ c.loop-i.i c.as_str.result.now c.loop-i.parts.items _ _ _ _
-    (name_here string_bytes c.args.objects.now c.loop-i.i c.index-objects-i.result _ (omega arith) c.index-objects-i.is c.as_str.ensures.value) c.loop-i.invariant.leads c.in-Err.ensures.leaves c.in-Err.ensures.later c.in-Err.ensures.stops
-
-pub returns-in-Err-push : goal.returns-in-Err-push
-returns-in-Err-push g c =
     next_memory ObjectData object_form (map string_bytes c.args.objects.now) (IsLinkReport c.args.name.now c.args.layout.now) _ c.loop-i.i c.as_str.result.now c.loop-i.parts.items _ _ _ _
-    (name_here string_bytes c.args.objects.now c.loop-i.i c.index-objects-i.result _ (omega arith) c.index-objects-i.is c.as_str.ensures.value) c.loop-i.invariant.leads c.in-Ok.ensures.leaves c.in-Ok.ensures.later c.in-Ok.ensures.found
+    (name_here string_bytes c.args.objects.now c.loop-i.i c.index-objects-i.result _ (omega arith) c.index-objects-i.is c.as_str.ensures.value) c.loop-i.invariant.leads c.in_ok-part.ensures.leaves c.in_ok-part.ensures.later c.in_ok-part.ensures.found
 
 pub loop-i-preserved : goal.loop-i-preserved
 loop-i-preserved g c =
     next_read ObjectData object_form (map string_bytes c.args.objects.now) (IsLinkReport c.args.name.now c.args.layout.now) _ c.loop-i.i c.as_str.result.now c.loop-i.parts.items _ _ _ _ _
-    (name_here string_bytes c.args.objects.now c.loop-i.i c.index-objects-i.result _ (omega arith) c.index-objects-i.is c.as_str.ensures.value) c.loop-i.invariant c.in-Ok.ensures.leaves c.in-Ok.ensures.later c.in-Ok.ensures.found c.in-Ok-push.ensures.items
+    (name_here string_bytes c.args.objects.now c.loop-i.i c.index-objects-i.result _ (omega arith) c.index-objects-i.is c.as_str.ensures.value) c.loop-i.invariant c.in_ok-part.ensures.leaves c.in_ok-part.ensures.later c.in_ok-part.ensures.found c.in-Ok.ensures.items
 
 pub returns : goal.returns
 returns g c =

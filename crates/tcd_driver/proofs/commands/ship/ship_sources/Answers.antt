@@ -10,21 +10,21 @@ use Rattle.tcd_driver.proofs.commands.ship.ship_sources.Goals as goal
 pub loop-i-init : goal.loop-i-init
 loop-i-init g c = no_sources (map string_bytes c.args.names.now.sources.now) (shipped_by c.args.names.now c.args.plan.now c.args.layout.now) _ _ c.new-objects.ensures.items
 
+pub returns-in_err-source : goal.returns-in_err-source
+returns-in_err-source g c =
+    next_stops SourceData placed_source_form (map string_bytes c.args.names.now.sources.now) (shipped_by c.args.names.now c.args.plan.now c.args.layout.now) _ c.loop-i.i c.as_str.result.now c.loop-i.invariant.sources _ _ _ _ c.from_residual.result c.from_residual.ensures.1
+    (name_here string_bytes c.args.names.now.sources.now c.loop-i.i c.index-sources-i.result _ (omega arith) c.index-sources-i.is c.as_str.ensures.value) c.loop-i.invariant.read.leads c.in_err-source.ensures.leaves c.in_err-source.ensures.later c.in_err-source.ensures.stops
+
 pub returns-in-Err : goal.returns-in-Err
 returns-in-Err g c =
-    next_stops SourceData placed_source_form (map string_bytes c.args.names.now.sources.now) (shipped_by c.args.names.now c.args.plan.now c.args.layout.now) _ c.loop-i.i c.as_str.result.now c.loop-i.invariant.sources _ _ _ _
-    (name_here string_bytes c.args.names.now.sources.now c.loop-i.i c.index-sources-i.result _ (omega arith) c.index-sources-i.is c.as_str.ensures.value) c.loop-i.invariant.read.leads c.in-Err.ensures.leaves c.in-Err.ensures.later c.in-Err.ensures.stops
-
-pub returns-in-Err-push : goal.returns-in-Err-push
-returns-in-Err-push g c =
     next_memory SourceData placed_source_form (map string_bytes c.args.names.now.sources.now) (shipped_by c.args.names.now c.args.plan.now c.args.layout.now) _ c.loop-i.i c.as_str.result.now c.loop-i.invariant.sources _ _ _ _
-    (name_here string_bytes c.args.names.now.sources.now c.loop-i.i c.index-sources-i.result _ (omega arith) c.index-sources-i.is c.as_str.ensures.value) c.loop-i.invariant.read.leads c.in-Ok.ensures.leaves c.in-Ok.ensures.later c.in-Ok.ensures.found
+    (name_here string_bytes c.args.names.now.sources.now c.loop-i.i c.index-sources-i.result _ (omega arith) c.index-sources-i.is c.as_str.ensures.value) c.loop-i.invariant.read.leads c.in_ok-source.ensures.leaves c.in_ok-source.ensures.later c.in_ok-source.ensures.found
 
 pub loop-i-preserved : goal.loop-i-preserved
 loop-i-preserved g c =
     more_sources (map string_bytes c.args.names.now.sources.now) (shipped_by c.args.names.now c.args.plan.now c.args.layout.now) c.loop-i.i c.as_str.result.now _ _ _ _ _ _
-    (name_here string_bytes c.args.names.now.sources.now c.loop-i.i c.index-sources-i.result _ (omega arith) c.index-sources-i.is c.as_str.ensures.value) c.loop-i.invariant c.in-Ok.ensures.leaves c.in-Ok.ensures.later c.in-Ok.ensures.found
-    (c.in-Ok-push.ensures.items ∙ ap (λ (s : SourceData). c.loop-i.objects.items ++ s.object ∷ []) c.source.view_is)
+    (name_here string_bytes c.args.names.now.sources.now c.loop-i.i c.index-sources-i.result _ (omega arith) c.index-sources-i.is c.as_str.ensures.value) c.loop-i.invariant c.in_ok-source.ensures.leaves c.in_ok-source.ensures.later c.in_ok-source.ensures.found
+    (c.in-Ok.ensures.items ∙ ap (λ (s : SourceData). c.loop-i.objects.items ++ s.object ∷ []) c.source.view_is)
 
 pub returns : goal.returns
 returns g c =

@@ -1,5 +1,5 @@
 use Rattle.tcd_driver.specs.Taskcert.{MakesTaskViewCert}
-use Rattle.tcd_driver.proofs.MakingLaws.{passed_on}
+use Rattle.tcd_reading.proofs.Told.{passed_on}
 use Rattle.tcd_driver.proofs.TaskcertReports.{apart_fails, unmade_view}
 use Rattle.tcd_driver.proofs.commands.taskcert.make_task_view_cert.Goals as goal
 

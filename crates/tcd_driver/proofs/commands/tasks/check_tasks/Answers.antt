@@ -1,22 +1,22 @@
 use Rattle.tcd_reading.proofs.Told.{comes_stopped, leads_read}
 use Rattle.tcd_driver.proofs.commands.tasks.check_tasks.Goals as goal
 
-pub returns-in-Err : goal.returns-in-Err
-returns-in-Err g c = comes_stopped _ _ _ _ _ _ _ c.in-Err.ensures.leaves c.in-Err.ensures.later c.in-Err.ensures.stops
+pub returns-in_err-image : goal.returns-in_err-image
+returns-in_err-image g c = comes_stopped _ _ _ _ _ _ _ c.from_residual.result c.from_residual.ensures.1 c.in_err-image.ensures.leaves c.in_err-image.ensures.later c.in_err-image.ensures.stops
 
-pub returns-in-Err-read_input : goal.returns-in-Err-read_input
-returns-in-Err-read_input g c =
-    (leads_read _ _ _ _ _ _ _ c.in-Ok.ensures.leaves c.in-Ok.ensures.later c.in-Ok.ensures.found).comes _ _
-    (comes_stopped _ _ _ _ _ _ _ c.in-Err-read_input.ensures.leaves c.in-Err-read_input.ensures.later c.in-Err-read_input.ensures.stops)
+pub returns-in_err-board : goal.returns-in_err-board
+returns-in_err-board g c =
+    (leads_read _ _ _ _ _ _ _ c.in_ok-image.ensures.leaves c.in_ok-image.ensures.later c.in_ok-image.ensures.found).comes _ _
+    (comes_stopped _ _ _ _ _ _ _ c.from_residual-in_err-board.result c.from_residual-in_err-board.ensures.1 c.in_err-board.ensures.leaves c.in_err-board.ensures.later c.in_err-board.ensures.stops)
 
-pub returns-in-Err-read_input-2 : goal.returns-in-Err-read_input-2
-returns-in-Err-read_input-2 g c =
-    (leads_read _ _ _ _ _ _ _ c.in-Ok.ensures.leaves c.in-Ok.ensures.later c.in-Ok.ensures.found).comes _ _
-    ((leads_read _ _ _ _ _ _ _ c.in-Ok-read_input.ensures.leaves c.in-Ok-read_input.ensures.later c.in-Ok-read_input.ensures.found).comes _ _
-    (comes_stopped _ _ _ _ _ _ _ c.in-Err-read_input-2.ensures.leaves c.in-Err-read_input-2.ensures.later c.in-Err-read_input-2.ensures.stops))
+pub returns-in_err-list : goal.returns-in_err-list
+returns-in_err-list g c =
+    (leads_read _ _ _ _ _ _ _ c.in_ok-image.ensures.leaves c.in_ok-image.ensures.later c.in_ok-image.ensures.found).comes _ _
+    ((leads_read _ _ _ _ _ _ _ c.in_ok-board.ensures.leaves c.in_ok-board.ensures.later c.in_ok-board.ensures.found).comes _ _
+    (comes_stopped _ _ _ _ _ _ _ c.from_residual-in_err-list.result c.from_residual-in_err-list.ensures.1 c.in_err-list.ensures.leaves c.in_err-list.ensures.later c.in_err-list.ensures.stops))
 
 pub returns : goal.returns
 returns g c =
-    (leads_read _ _ _ _ _ _ _ c.in-Ok.ensures.leaves c.in-Ok.ensures.later c.in-Ok.ensures.found).comes _ _
-    ((leads_read _ _ _ _ _ _ _ c.in-Ok-read_input.ensures.leaves c.in-Ok-read_input.ensures.later c.in-Ok-read_input.ensures.found).comes _ _
-    ((leads_read _ _ _ _ _ _ _ c.in-Ok-read_input-2.ensures.leaves c.in-Ok-read_input-2.ensures.later c.in-Ok-read_input-2.ensures.found).comes _ _ c.read_task_certs.ensures))
+    (leads_read _ _ _ _ _ _ _ c.in_ok-image.ensures.leaves c.in_ok-image.ensures.later c.in_ok-image.ensures.found).comes _ _
+    ((leads_read _ _ _ _ _ _ _ c.in_ok-board.ensures.leaves c.in_ok-board.ensures.later c.in_ok-board.ensures.found).comes _ _
+    ((leads_read _ _ _ _ _ _ _ c.in_ok-list.ensures.leaves c.in_ok-list.ensures.later c.in_ok-list.ensures.found).comes _ _ c.read_task_certs.ensures))

@@ -11,20 +11,20 @@ use Rattle.tcd_driver.proofs.commands.tasks.read_each_task_cert.Goals as goal
 pub loop-i-init : goal.loop-i-init
 loop-i-init g c = none_read CertData (λ _. cert_form) (map string_bytes c.args.names.now) (IsTasksVerdict c.args.image.now c.args.plan.now c.args.tasks.now) c.new-certs.result.items _ c.new-certs.ensures.items
 
+pub returns-in_err-cert : goal.returns-in_err-cert
+returns-in_err-cert g c =
+    next_stops CertData (λ _. cert_form) (map string_bytes c.args.names.now) (IsTasksVerdict c.args.image.now c.args.plan.now c.args.tasks.now) _ c.loop-i.i c.as_str.result.now c.loop-i.certs.items _ _ _ _ c.from_residual.result c.from_residual.ensures.1
+    (name_here string_bytes c.args.names.now c.loop-i.i c.index-names-i.result _ (omega arith) c.index-names-i.is c.as_str.ensures.value) c.loop-i.invariant.leads c.in_err-cert.ensures.leaves c.in_err-cert.ensures.later c.in_err-cert.ensures.stops
+
 pub returns-in-Err : goal.returns-in-Err
 returns-in-Err g c =
-    next_stops CertData (λ _. cert_form) (map string_bytes c.args.names.now) (IsTasksVerdict c.args.image.now c.args.plan.now c.args.tasks.now) _ c.loop-i.i c.as_str.result.now c.loop-i.certs.items _ _ _ _
-    (name_here string_bytes c.args.names.now c.loop-i.i c.index-names-i.result _ (omega arith) c.index-names-i.is c.as_str.ensures.value) c.loop-i.invariant.leads c.in-Err.ensures.leaves c.in-Err.ensures.later c.in-Err.ensures.stops
-
-pub returns-in-Err-push : goal.returns-in-Err-push
-returns-in-Err-push g c =
     next_memory CertData (λ _. cert_form) (map string_bytes c.args.names.now) (IsTasksVerdict c.args.image.now c.args.plan.now c.args.tasks.now) _ c.loop-i.i c.as_str.result.now c.loop-i.certs.items _ _ _ _
-    (name_here string_bytes c.args.names.now c.loop-i.i c.index-names-i.result _ (omega arith) c.index-names-i.is c.as_str.ensures.value) c.loop-i.invariant.leads c.in-Ok.ensures.leaves c.in-Ok.ensures.later c.in-Ok.ensures.found
+    (name_here string_bytes c.args.names.now c.loop-i.i c.index-names-i.result _ (omega arith) c.index-names-i.is c.as_str.ensures.value) c.loop-i.invariant.leads c.in_ok-cert.ensures.leaves c.in_ok-cert.ensures.later c.in_ok-cert.ensures.found
 
 pub loop-i-preserved : goal.loop-i-preserved
 loop-i-preserved g c =
     next_read CertData (λ _. cert_form) (map string_bytes c.args.names.now) (IsTasksVerdict c.args.image.now c.args.plan.now c.args.tasks.now) _ c.loop-i.i c.as_str.result.now c.loop-i.certs.items _ _ _ _ _
-    (name_here string_bytes c.args.names.now c.loop-i.i c.index-names-i.result _ (omega arith) c.index-names-i.is c.as_str.ensures.value) c.loop-i.invariant c.in-Ok.ensures.leaves c.in-Ok.ensures.later c.in-Ok.ensures.found c.in-Ok-push.ensures.items
+    (name_here string_bytes c.args.names.now c.loop-i.i c.index-names-i.result _ (omega arith) c.index-names-i.is c.as_str.ensures.value) c.loop-i.invariant c.in_ok-cert.ensures.leaves c.in_ok-cert.ensures.later c.in_ok-cert.ensures.found c.in-Ok.ensures.items
 
 pub returns : goal.returns
 returns g c =
