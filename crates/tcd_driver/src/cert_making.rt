@@ -54,11 +54,8 @@ pub(crate) fn report_unmade(alloc: Global, e: MakeErr) -> Outcome
 {
     match e {
         MakeErr::Refused { rule, key, addr } => {
-            Ok(Report::of(
-                alloc,
-                Status::Refused,
-                refused_line(alloc, rule, key, addr)?,
-            ))
+            let line = refused_line(alloc, rule, key, addr)?;
+            Ok(Report::of(alloc, Status::Refused, line))
         }
         MakeErr::NoMemory => Err(Stop::NoMemory),
     }

@@ -42,19 +42,15 @@ fn boot_verdict(alloc: Global, image: &Image, plan: &Plan, cert: &Cert, at: u32)
     let _entry = image.entry;
     match check(image, plan, cert) {
         Verdict::Yes(need) => match boot_ok(image, plan, at) {
-            Ok(events) => Ok(Report::of(
-                alloc,
-                Status::Done,
-                boots_line(alloc, events, need, plan.areas - plan.reserve)?,
-            )),
+            Ok(events) => {
+                let line = boots_line(alloc, events, need, plan.areas - plan.reserve)?;
+                Ok(Report::of(alloc, Status::Done, line))
+            }
             Err(e) => Ok(Report::of(alloc, Status::Refused, refused_boot_line(alloc, e)?)),
         },
         Verdict::No { rule, key, addr } => {
-            Ok(Report::of(
-                alloc,
-                Status::Refused,
-                refused_line(alloc, rule, key, addr)?,
-            ))
+            let line = refused_line(alloc, rule, key, addr)?;
+            Ok(Report::of(alloc, Status::Refused, line))
         }
     }
 }

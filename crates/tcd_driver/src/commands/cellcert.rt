@@ -48,11 +48,8 @@ fn make_cells_cert(alloc: Global, name: &str, image: &Image, plan: &Plan, cells:
     match make_least_cert(alloc, image, &with_cells(plan, cells), 2) {
         Ok((cert, need)) => match cells_fault(image, plan, cells, &cert) {
             Some((key, addr)) => {
-                Ok(Report::of(
-                    alloc,
-                    Status::Refused,
-                    refused_line(alloc, CELLS_RULE, key, addr)?,
-                ))
+                let line = refused_line(alloc, CELLS_RULE, key, addr)?;
+                Ok(Report::of(alloc, Status::Refused, line))
             }
             None => {
                 let count = cells.list().len();

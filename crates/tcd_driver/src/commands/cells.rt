@@ -52,11 +52,8 @@ fn cells_verdict(alloc: Global, image: &Image, plan: &Plan, cells: &Cells, cert:
     match check(image, &with_cells(plan, cells), cert) {
         Verdict::Yes(need) => match cells_fault(image, plan, cells, cert) {
             Some((key, addr)) => {
-                Ok(Report::of(
-                    alloc,
-                    Status::Refused,
-                    refused_line(alloc, CELLS_RULE, key, addr)?,
-                ))
+                let line = refused_line(alloc, CELLS_RULE, key, addr)?;
+                Ok(Report::of(alloc, Status::Refused, line))
             }
             None => {
                 let areas = plan.areas - plan.reserve;
@@ -66,11 +63,8 @@ fn cells_verdict(alloc: Global, image: &Image, plan: &Plan, cells: &Cells, cert:
             }
         },
         Verdict::No { rule, key, addr } => {
-            Ok(Report::of(
-                alloc,
-                Status::Refused,
-                refused_line(alloc, rule, key, addr)?,
-            ))
+            let line = refused_line(alloc, rule, key, addr)?;
+            Ok(Report::of(alloc, Status::Refused, line))
         }
     }
 }

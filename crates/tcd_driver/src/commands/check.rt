@@ -36,18 +36,12 @@ fn check_verdict(alloc: Global, image: &Image, plan: &Plan, cert: &Cert) -> Outc
 {
     match check(image, plan, cert) {
         Verdict::Yes(need) => {
-            Ok(Report::of(
-                alloc,
-                Status::Done,
-                certified_line(alloc, need, plan.areas - plan.reserve)?,
-            ))
+            let line = certified_line(alloc, need, plan.areas - plan.reserve)?;
+            Ok(Report::of(alloc, Status::Done, line))
         }
         Verdict::No { rule, key, addr } => {
-            Ok(Report::of(
-                alloc,
-                Status::Refused,
-                refused_line(alloc, rule, key, addr)?,
-            ))
+            let line = refused_line(alloc, rule, key, addr)?;
+            Ok(Report::of(alloc, Status::Refused, line))
         }
     }
 }

@@ -39,17 +39,13 @@ fn check_and_report(alloc: Global, image: &Image, plan: &Plan, cert: &Cert) -> O
     ensures { IsToldOutcome (IsReporting image.now plan.now cert.now) ⊥ result }
 {
     match check(image, plan, cert) {
-        Verdict::Yes(_) => Ok(Report::of(
-            alloc,
-            Status::Done,
-            report_command_text(alloc, image, plan, cert)?,
-        )),
+        Verdict::Yes(_) => {
+            let text = report_command_text(alloc, image, plan, cert)?;
+            Ok(Report::of(alloc, Status::Done, text))
+        }
         Verdict::No { rule, key, addr } => {
-            Ok(Report::of(
-                alloc,
-                Status::Refused,
-                refused_line(alloc, rule, key, addr)?,
-            ))
+            let line = refused_line(alloc, rule, key, addr)?;
+            Ok(Report::of(alloc, Status::Refused, line))
         }
     }
 }

@@ -15,11 +15,11 @@ use Rattle.tcd_driver.proofs.commands.cellcert.make_cells_cert.Goals as goal
 pub cells_fault-requires-clause-accepted : goal.cells_fault-requires-clause-accepted
 cells_fault-requires-clause-accepted c = subst (λ (q : PlanData). Accepts c.args.image.now q c.in-Ok.cert) c.with_cells.ensures ((c.in-Ok.ensures).made).accepted
 
-pub returns-in_ok-refused_line-in-Some : goal.returns-in_ok-refused_line-in-Some
-returns-in_ok-refused_line-in-Some c =
+pub returns-in_ok-line-in-Some : goal.returns-in_ok-line-in-Some
+returns-in_ok-line-in-Some c =
     broken_report c.args.name.now c.args.image.now (plan_data c.plan.inside) c.args.plan.now c.args.cells.now _ c.in-Ok.need c.plan.view_is c.plan.invariant c.requires
     (subst (λ (q : PlanData). IsLeastWithNeed c.args.image.now q 2 c.in-Ok.cert c.in-Ok.need) c.with_cells.ensures c.in-Ok.ensures) c.in-Some.key c.in-Some.addr _ c.in-Some.ensures.some
-    (c.of.ensures ∙ ap (λ t. says Refused t) c.in_ok-refused_line-in-Some.ensures)
+    (c.of.ensures ∙ ap (λ t. says Refused t) c.in_ok-line-in-Some.ensures)
 
 pub returns-in_ok-report_file-in-None : goal.returns-in_ok-report_file-in-None
 returns-in_ok-report_file-in-None c =
