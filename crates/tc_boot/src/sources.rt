@@ -17,22 +17,13 @@ pub fn boot_source(alloc: Global, plan: &Plan, entry: u32, at: u32) -> Result<St
     ensures { IfOk result (λ text. string_bytes text
         ≡ listing_of (boot_image_of plan.now entry at)) }
 {
-    let image = boot_image(alloc, plan, entry, at)?;
-    listing(alloc, &image)
-}
-
-/// Returns the image that the source of a boot sequence is listed from: its one segment is the
-/// sequence of a plan and an entry, at an address.
-fn boot_image(alloc: Global, plan: &Plan, entry: u32, at: u32) -> Result<Image, NoMemory>
-    requires { at + 224 ≤ 2 ^ 32 }
-    ensures { IfOk result (λ i. i ≡ boot_image_of plan.now entry at) }
-{
     let bytes = Vec::from_slice(alloc, &boot_bytes(plan, entry))?;
     let mut segments = Vec::new(alloc);
     segments.push(Segment { at, bytes })?;
     read_segments(&segments);
-    Ok(Image {
+    let image = Image {
         entry: at,
         segments,
-    })
+    };
+    listing(alloc, &image)
 }
