@@ -9,7 +9,7 @@ use Rattle.tcd_plan.specs.PlanData.{PlanData, IsPlan}
 use Rattle.tc_isa.specs.Meanings.{shape_of}
 use Rattle.tc_isa.specs.InBounds.{IsShape}
 use Rattle.tc_isa.specs.declared.shapes.Shape.{Shape}
-use Rattle.tc_isa.specs.declared.shapes.Shape.TheVariants.{Compute, Scaled, Load, Store, Branch, Jump, Call, Ret, Rfe, Svlcx, Rslcx, Bisr, Enable, Disable, Syscall, Mfcr, Mtcr, Nothing}
+use Rattle.tc_isa.specs.declared.shapes.Shape.TheVariants.{Store}
 use Rattle.tc_isa.proofs.ShapeBounds.{shape_is}
 use Rattle.tc_encode.specs.Decoding.{decoded_of}
 use Rattle.tc_encode.proofs.DecodeProofs.{decode_laws}

@@ -1,5 +1,5 @@
 -- Cells read one line after another.
-use Rattle.std.proofs.Common.{◌≡◌, ◌≢◌, ℕ, zero, suc, ◌+◌, ◌<◌, ◌≤◌, inl, Bool, List, [], ◌∷◌, ◌++◌, length, take, map, IsTrue, refl, sym, ap, ◌∙◌, subst, arith, nat_lt, nat_le}
+use Rattle.std.proofs.Common.{◌≡◌, ℕ, zero, suc, ◌+◌, ◌<◌, ◌≤◌, inl, Bool, List, [], ◌∷◌, ◌++◌, length, take, map, IsTrue, refl, sym, ap, ◌∙◌, subst, arith, nat_lt, nat_le}
 use Rattle.std.specs.Prelude.{filter_map}
 use Rattle.std.proofs.lemmas.Bool.{ltb-true, lt-ltb, leb-true}
 use Rattle.std.proofs.lemmas.List.{length-append, length-map}
@@ -14,7 +14,7 @@ use Rattle.value_cells.specs.declared.cells.Cell.{Cell}
 use Rattle.tcd_plan.specs.Cutting.{cut_plan_ranges}
 use Rattle.value_cells.specs.Cells.{cell_device, ram_without_cells, with_cells, AreCells}
 use Rattle.value_cells.specs.CellListText.{cell_of, cell_of_words, IsCellLine, AreRead, HasRoom, TakesLine}
-use Rattle.value_cells.proofs.CellPlan.{ram_behind, take_whole}
+use Rattle.value_cells.proofs.CellPlan.{ram_behind}
 
 abbrev no_cell : List Cell
 no_cell = []
@@ -57,13 +57,6 @@ room_else plan cells c n parts many = (
   λ t. absurd (let le = leb-true n 16 t in omega arith),
   λ room. absurd (let few = room_few plan cells c room in omega arith),
 )
-
--- with one more there are at most 16 cells
-pub room_push : (plan : PlanData) (cells : List Cell) (c : Cell) → AreCells plan (cells ++ c ∷ []) → length cells < 16
-room_push plan cells c are =
-    let all = are.few_devices (length (cells ++ c ∷ [])) (omega arith) in
-    let few : length (with_cells plan (cells ++ c ∷ [])).devices ≤ 16 = subst (λ (l : List Cell). length (with_cells plan l).devices ≤ 16) (take_whole (cells ++ c ∷ [])) all in
-    omega (arith, room_devices plan cells c)
 
 -- ---- one line more
 

@@ -1,10 +1,10 @@
 // Cells, and their reading from a text.
 use crate::CellsErr;
 use crate::lines::cell_in;
-use crate::plans::{count_ranges_without_cell, is_cell_in_ram, ram_without_cells};
+use crate::plans::{is_cell_in_ram, ram_without_cells};
 use arrayvec::ArrayVec;
 use std::marker::Model;
-use tcd_plan::Plan;
+use tcd_plan::{Plan, cut_plan_ranges};
 use tcd_text::cut_line;
 
 /// The most ranges of ram and the most devices of a plan.
@@ -35,9 +35,9 @@ impl Model for Cells {
 }
 
 impl Cells {
-    ghost use Rattle.std.specs.Prelude.{◌≡◌, ◌≤◌, ◌^◌, ◌↔◌, [], ◌∷◌, ◌++◌, length, IsTrue, Any, OnOk, IfOk, IfErr, IfSome, IfNone};
+    ghost use Rattle.std.specs.Prelude.{◌≡◌, ◌≤◌, ◌^◌, ◌↔◌, [], length, IsTrue, Any, OnOk, IfOk, IfErr};
     ghost use Rattle.value_cells.specs.Cells.{IsCell, AreCells};
-    ghost use Rattle.value_cells.specs.CellListText.{HasRoom, IsCellOfLine, IsRefused, TakesLine, IsBadLine, Reads};
+    ghost use Rattle.value_cells.specs.CellListText.{HasRoom, TakesLine, IsBadLine, Reads};
 
     /// Reads the cells of a plan from a text. Each line is empty or `cell AT LO HI`, where each
     /// number has eight upper-case hex digits. The error is that of the first bad line; if several
@@ -89,30 +89,17 @@ impl Cells {
         let Some(cell) = cell_in(line) else {
             return Err(CellsErr::BadLine(number));
         };
-        if let Some(fault) = self.fault_of(plan, number, &cell) {
-            return Err(fault);
+        if !is_cell_in_ram(plan, cell.at) {
+            return Err(CellsErr::NotRam(number));
+        }
+        if self.has_at(cell.at) {
+            return Err(CellsErr::Twice(number));
+        }
+        if !self.has_room(plan, &cell) {
+            return Err(CellsErr::TooMany(number));
         }
         self.list.push(cell);
         Ok(())
-    }
-
-    // Returns the error of one more cell, from line `number`, if there is one.
-    fn fault_of(&self, plan: &Plan, number: u32, cell: &Cell) -> Option<CellsErr>
-        requires cells { AreCells plan.now self.now }
-        requires said { IsCellOfLine cell.now }
-        ensures good { IfNone result (AreCells plan.now (self.now ++ cell.now ∷ [])) }
-        ensures bad { IfSome result (IsRefused plan.now self.now cell.now number) }
-    {
-        if !is_cell_in_ram(plan, cell.at) {
-            return Some(CellsErr::NotRam(number));
-        }
-        if self.has_at(cell.at) {
-            return Some(CellsErr::Twice(number));
-        }
-        if !self.has_room(plan, cell) {
-            return Some(CellsErr::TooMany(number));
-        }
-        None
     }
 
     // Returns whether there is a cell at this address.
@@ -130,7 +117,7 @@ impl Cells {
     {
         let _areas = plan.areas;
         let ram = ram_without_cells(plan, self.list());
-        count_ranges_without_cell(ram.as_slice(), cell.at) <= MOST
+        cut_plan_ranges(ram.as_slice(), cell.at, 4).len() <= MOST
             && plan.devices.len() + self.list.len() < MOST
     }
 }

@@ -1,12 +1,13 @@
 // Lines of a text of cells.
-ghost use Rattle.std.specs.Prelude.{◌≡◌, [], ◌∷◌, IfSome};
-ghost use Rattle.value_cells.specs.CellListText.{cell_of, cell_of_words, IsCellOfLine};
+ghost use Rattle.std.specs.Prelude.{◌≡◌, IfSome};
+ghost use Rattle.value_cells.specs.CellListText.{cell_of, IsCellOfLine};
 
 use crate::Cell;
 use tcd_text::{Words, hex_number, words_in};
 
-/// Returns the cell of a line, or nothing if the line has another form.
-#[tactic(auto, using(crate::proofs::LineForms::more), unfolding(crate::specs::CellListText::cell_of_words))]
+/// Returns the cell of a line, or nothing if the line has another form: four words, an address
+/// that is a multiple of 4, and bounds in order.
+#[tactic(auto, using(crate::proofs::LineForms::more), unfolding(crate::specs::CellListText::cell_of_words, crate::specs::CellListText::cell_of_numbers))]
 pub(crate) fn cell_in(line: &[u8]) -> Option<Cell>
     ensures cell { result ≡ cell_of line.now }
     ensures said { IfSome result IsCellOfLine }
@@ -15,27 +16,19 @@ pub(crate) fn cell_in(line: &[u8]) -> Option<Cell>
         Words::One(_) => None,
         Words::Two(_, _) => None,
         Words::Three(_, _, _) => None,
-        Words::Four(word, at, lo, hi) => cell_of_words(word, at, lo, hi),
+        Words::Four(word, at, lo, hi) => {
+            if word != b"cell".as_slice() {
+                return None;
+            }
+            let at = hex_number(at)?;
+            let lo = hex_number(lo)?;
+            let hi = hex_number(hi)?;
+            if at % 4 == 0 && lo <= hi {
+                Some(Cell { at, lo, hi })
+            } else {
+                None
+            }
+        }
         Words::More => None,
-    }
-}
-
-// Returns the cell of a line's four words, if they have its form: the address is a multiple of 4,
-// and the bounds are in order.
-#[tactic(auto, unfolding(crate::specs::CellListText::cell_of_words, crate::specs::CellListText::cell_of_numbers))]
-fn cell_of_words(word: &[u8], at: &[u8], lo: &[u8], hi: &[u8]) -> Option<Cell>
-    ensures cell { result ≡ cell_of_words (word.now ∷ at.now ∷ lo.now ∷ hi.now ∷ []) }
-    ensures said { IfSome result IsCellOfLine }
-{
-    if word != b"cell".as_slice() {
-        return None;
-    }
-    let at = hex_number(at)?;
-    let lo = hex_number(lo)?;
-    let hi = hex_number(hi)?;
-    if at % 4 == 0 && lo <= hi {
-        Some(Cell { at, lo, hi })
-    } else {
-        None
     }
 }

@@ -17,15 +17,6 @@ pub(crate) fn is_cell_in_ram(plan: &Plan, at: u32) -> bool
     is_in_any_range(plan.ram.as_slice(), at, 4)
 }
 
-/// Returns the number of ranges that are left without the word at an address.
-pub(crate) fn count_ranges_without_cell(ranges: &[Range], at: u32) -> usize
-    requires few { length ranges.now ≤ 16 }
-    requires fit { All (λ r. r.at + r.len ≤ 2 ^ 32) ranges.now }
-    ensures { result ≡ length (cutting.cut_plan_ranges at 4 ranges.now) }
-{
-    cut_plan_ranges(ranges, at, 4).len()
-}
-
 /// Returns the ranges of ram without the words of all cells.
 pub(crate) fn ram_without_cells(plan: &Plan, cells: &[Cell]) -> ArrayVec<Range, 16>
     requires { AreCells plan.now cells.now }
