@@ -5,7 +5,7 @@ ghost use Rattle.tcd_report.specs.Reports.{IsReport};
 
 use crate::judged::Judged;
 use crate::reports::heights::heights;
-use crate::reports::longest_by_priority::{longest_by_priority, priority_count, rows_below};
+use crate::reports::longest_by_priority::{longest_by_priority, rows_below};
 use crate::reports::report_text::{need_of_start, nodes_value, rows_value, whole_value};
 use crate::texts::extend_text;
 use elf_image::Image;
@@ -15,7 +15,6 @@ use tcd_base::NoMemory;
 use tcd_plan::Plan;
 use value_domain::Bounds;
 
-pub(crate) mod call_chains;
 pub(crate) mod heights;
 pub(crate) mod longest_by_priority;
 pub(crate) mod report_text;
@@ -36,7 +35,7 @@ pub fn report(alloc: Global, image: &Image, plan: &Plan, cert: &Cert) -> Result<
     };
     let heights = heights(alloc, &judged)?;
     let known = longest_by_priority(alloc, cert, &heights)?;
-    let rows = rows_below(alloc, &known, priority_count())?;
+    let rows = rows_below(alloc, &known, 256)?;
     let need = need_of_start(image, plan, cert);
     let calls = rows_value(alloc, &rows)?;
     let nodes = nodes_value(alloc, cert)?;

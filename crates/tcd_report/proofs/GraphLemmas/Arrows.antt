@@ -5,7 +5,6 @@ use Rattle.std.specs.List.{flat_map}
 use Rattle.std.proofs.lemmas.Bool.{cases_Bool, eqb-true}
 use Rattle.std.proofs.lemmas.List.Elements.{Contains-append_left, Contains-append_right}
 use Rattle.tc_isa.specs.declared.shapes.Shape.{Shape}
-use Rattle.tc_isa.specs.declared.shapes.Shape.TheVariants as shape
 use Rattle.value_domain.specs.Sets.{Among, sorted_set_of}
 use Rattle.value_domain.proofs.SetLaws.{distinct_has}
 use Rattle.depth_cert.specs.declared.keys.Key.{Key}

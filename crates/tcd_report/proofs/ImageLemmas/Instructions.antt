@@ -11,17 +11,21 @@ word_small : (k : ℕ) → k < 2 ^ 24 → word_by_form B 0x6d 0 (fields 0 0 0 0 
 unfolding word_by_form
 word_small k h = omega arith
 
+word_is : (k : ℕ) → k < 2 ^ 24 → k % 65536 * 65536 + k / 65536 * 256 + 0x6d ≡ word_by_form B 0x6d 0 (fields 0 0 0 0 k)
+unfolding word_by_form
+word_is k h = omega arith
+
 call_is : (at to : ℕ) → call_from at to ≡ four_bytes (word_by_form B 0x6d 0 (fields 0 0 0 0 ((to - at) / 2)))
 unfolding generated_code
 call_is at to = refl
 
 -- the bytes of a call's word
-pub call_bytes : (at to w : ℕ) → (to - at) / 2 < 2 ^ 24 → w ≡ word_by_form B 0x6d 0 (fields 0 0 0 0 ((to - at) / 2)) → bytes_of_word w ≡ call_from at to
-call_bytes at to w h e =
+pub call_bytes : (at to : ℕ) → (to - at) / 2 < 2 ^ 24 → bytes_of_word ((to - at) / 2 % 65536 * 65536 + (to - at) / 2 / 65536 * 256 + 0x6d) ≡ call_from at to
+call_bytes at to h =
     let x : ℕ = word_by_form B 0x6d 0 (fields 0 0 0 0 ((to - at) / 2)) in
     let small : x < 2 ^ 32 = word_small ((to - at) / 2) h in
     let p : x / 16777216 % 256 ≡ x / 2 ^ 24 = omega arith in
-    ap bytes_of_word e ∙ ap (λ d. x % 256 ∷ x / 256 % 256 ∷ x / 65536 % 256 ∷ d ∷ []) p ∙ sym (call_is at to)
+    ap bytes_of_word (word_is ((to - at) / 2) h) ∙ ap (λ d. x % 256 ∷ x / 256 % 256 ∷ x / 65536 % 256 ∷ d ∷ []) p ∙ sym (call_is at to)
 
 -- ---- functions and handlers
 pub function_bytes : (n i : ℕ) → function_code n i ≡ 0x20 ∷ 0x08 ∷ 0x74 ∷ 0xaf ∷ (call_if_below n (generated_function_at i + 4) (2 * i + 1) ++ (call_if_below n (generated_function_at i + 8) (2 * i + 2) ++ 0x00 ∷ 0x90 ∷ []))

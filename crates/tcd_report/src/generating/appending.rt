@@ -1,8 +1,5 @@
 // Bytes, zeros and calls, appended to the bytes of a segment.
-ghost use Rattle.std.specs.Prelude.{◌≡◌, ◌≤◌, ◌<◌, ◌+◌, ◌-◌, ◌/◌, ◌^◌, ◌++◌, OnOk, replicate};
-ghost use Rattle.tc_isa.specs.declared.table.Form.TheVariants.{B};
-ghost use Rattle.tc_isa.specs.Forms.{fields};
-ghost use Rattle.tc_isa.specs.Spelling.{word_by_form};
+ghost use Rattle.std.specs.Prelude.{◌≡◌, ◌≤◌, ◌<◌, ◌+◌, ◌^◌, ◌++◌, OnOk, replicate};
 ghost use Rattle.tcd_report.specs.Generated.{call_from};
 
 use tcd_base::{NoMemory, put_u32};
@@ -31,15 +28,6 @@ pub(crate) fn append_call(out: &mut Vec<u8>, at: u32, to: u32) -> Result<(), NoM
     requires near { to < at + 2 ^ 24 }
     ensures { OnOk result (out.new.items ≡ out.old.items ++ call_from at to) }
 {
-    put_u32(out, call_word((to - at) / 2))
-}
-
-/// Returns the word of a call that is appended to a segment of a generated image, by its
-/// displacement in halfwords.
-#[tactic(auto, unfolding(tc_isa::specs::Spelling::word_by_form))]
-fn call_word(k: u32) -> u32
-    requires { k < 2 ^ 24 }
-    ensures { result ≡ word_by_form B 0x6d 0 (fields 0 0 0 0 k) }
-{
-    k % 65536 * 65536 + k / 65536 * 256 + 0x6d
+    let k = (to - at) / 2;
+    put_u32(out, k % 65536 * 65536 + k / 65536 * 256 + 0x6d)
 }

@@ -1,12 +1,12 @@
 // The functions of a generated image, its main program, and the handler of an interrupt.
 ghost use Rattle.std.specs.Prelude.{◌≡◌, ◌≤◌, ◌<◌, ◌+◌, ◌*◌, ◌++◌, OnOk, IfOk, ◌-◌, ◌/◌};
-ghost use Rattle.tcd_report.specs.Generated.{generated_function_at, call_if_below, function_code, generated_functions, main_code, generated_handler, zero_padded_bytes};
+ghost use Rattle.tcd_report.specs.Generated.{generated_function_at, call_if_below, function_code, generated_functions, main_code, generated_handler};
 
 use crate::generating::appending::{append_call, append_segment_bytes, append_zeros};
 use std::alloc::Global;
 use tcd_base::NoMemory;
 
-/// The bytes of all functions.
+/// The bytes of all functions, each but the last with zeros up to the next one.
 pub(crate) fn generated_functions(alloc: Global, n: u32) -> Result<Vec<u8>, NoMemory>
     requires some { 1 ≤ n }
     requires few { n ≤ 500 }
@@ -14,7 +14,10 @@ pub(crate) fn generated_functions(alloc: Global, n: u32) -> Result<Vec<u8>, NoMe
 {
     let mut out = Vec::new(alloc);
     for i in 0..n - 1 {
-        append_filled_function(&mut out, n, i)?;
+        let start = out.len();
+        append_function(&mut out, n, i)?;
+        let zeros = 32 - (out.len() - start);
+        append_zeros(&mut out, zeros)?;
     }
     append_function(&mut out, n, n - 1)?;
     Ok(out)
@@ -59,33 +62,6 @@ pub(crate) fn append_handler(out: &mut Vec<u8>, n: u32, p: u8) -> Result<(), NoM
         generated_function_at(n - 1),
     )?;
     append_segment_bytes(out, &[0x0d, 0x00, 0x40, 0x02, 0x00, 0x80])
-}
-
-/// Appends to a generated image the handler of interrupt p, which calls the last function, and
-/// zeros up to the next handler.
-#[tactic(auto, using(crate::proofs::ImageLemmas::Lengths::handler_filled))]
-pub(crate) fn append_filled_handler(out: &mut Vec<u8>, n: u32, p: u8) -> Result<(), NoMemory>
-    requires some { 1 ≤ n }
-    requires few { n ≤ 500 }
-    ensures { OnOk result (out.new.items ≡ out.old.items
-        ++ zero_padded_bytes 320 (generated_handler n p)) }
-{
-    append_handler(out, n, p)?;
-    append_zeros(out, 308)
-}
-
-// Appends function i, and zeros up to the next function.
-#[tactic(auto, using(crate::proofs::ImageLemmas::Lengths::function_short))]
-fn append_filled_function(out: &mut Vec<u8>, n: u32, i: u32) -> Result<(), NoMemory>
-    requires few { n ≤ 500 }
-    requires within { i < n }
-    ensures { OnOk result (out.new.items ≡ out.old.items
-        ++ zero_padded_bytes 32 (function_code n i)) }
-{
-    let start = out.len();
-    append_function(out, n, i)?;
-    let zeros = 32 - (out.len() - start);
-    append_zeros(out, zeros)
 }
 
 // Appends function i of n. It reserves eight bytes of stack, stores a word there, and calls the

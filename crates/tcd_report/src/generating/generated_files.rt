@@ -7,7 +7,7 @@ ghost use Rattle.tcd_report.specs.Generated.{generated_image};
 ghost use Rattle.tcd_report.specs.Generated.Planned.{generated_plan, generated_text};
 
 use crate::generating::functions::{generated_functions, main_code};
-use crate::generating::program_segments::{generated_table, generated_vectors, system_code};
+use crate::generating::program_segments::{generated_table, generated_vectors};
 use elf_image::{Image, Segment, read_segments};
 use std::alloc::Global;
 use tcd_base::NoMemory;
@@ -48,13 +48,14 @@ pub fn generate(alloc: Global, n: u32) -> Result<Generated, NoMemory>
 
 /// Returns the image of n functions that is generated with its plan: all segments, from the main
 /// program to the functions.
+#[tactic(auto, using(crate::proofs::ImageLemmas::Instructions::system_bytes))]
 fn image_of_functions(alloc: Global, n: u32) -> Result<Image, NoMemory>
     requires some { 1 ≤ n }
     requires few { n ≤ 500 }
     ensures { IfOk result (λ i. i ≡ generated_image n) }
 {
     let main = Vec::from_slice(alloc, &main_code())?;
-    let system = Vec::from_slice(alloc, &system_code())?;
+    let system = Vec::from_slice(alloc, &[0x00, 0x80])?; // rfe16
     let table = generated_table(alloc, n)?;
     let vectors = generated_vectors(alloc, n)?;
     let functions = generated_functions(alloc, n)?;

@@ -1,22 +1,14 @@
-// The table, the vectors, and the handler of system calls of a generated image.
+// The table and the vectors of a generated image.
 ghost use Rattle.std.specs.Prelude.{◌≡◌, ◌≤◌, ◌<◌, ◌+◌, ◌*◌, IfOk};
-ghost use Rattle.tcd_report.specs.Generated.{generated_handler, generated_vectors, system_code, generated_function_at, generated_table};
+ghost use Rattle.tcd_report.specs.Generated.{generated_handler, generated_vectors, generated_function_at, generated_table};
 
-use crate::generating::functions::{append_filled_handler, append_handler, generated_function_at};
+use crate::generating::appending::append_zeros;
+use crate::generating::functions::{append_handler, generated_function_at};
 use std::alloc::Global;
 use tcd_base::{NoMemory, put_u32};
 
-/// Returns the bytes of the segment of a generated image that has the handler of system calls:
-/// `rfe16`.
-#[tactic(auto, using(crate::proofs::ImageLemmas::Instructions::system_bytes))]
-pub(crate) fn system_code() -> [u8; 2]
-    ensures { result ≡ system_code }
-{
-    [0x00, 0x80]
-}
-
 /// Returns the bytes of the segment of a generated image that has the handlers of the interrupts
-/// 10, 20 .. 160.
+/// 10, 20 .. 160, and zeros up to the next handler.
 pub(crate) fn generated_vectors(alloc: Global, n: u32) -> Result<Vec<u8>, NoMemory>
     requires some { 1 ≤ n }
     requires few { n ≤ 500 }
@@ -24,7 +16,8 @@ pub(crate) fn generated_vectors(alloc: Global, n: u32) -> Result<Vec<u8>, NoMemo
 {
     let mut out = Vec::new(alloc);
     for j in 0..15 {
-        append_filled_handler(&mut out, n, 10 * j + 10)?;
+        append_handler(&mut out, n, 10 * j + 10)?;
+        append_zeros(&mut out, 308)?;
     }
     append_handler(&mut out, n, 160)?;
     Ok(out)

@@ -1,7 +1,7 @@
 // The lines of a point in the graph.
 ghost use Rattle.std.specs.Prelude.{◌≡◌, ◌<◌, ◌++◌, ◌∷◌, [], OnOk, codes, string_bytes};
 ghost use Rattle.tcd_text.specs.HexNumbers.{hex_word};
-ghost use Rattle.tcd_report.specs.Graphs.{line_end_to, key_front, lines_to, ways_text, leaving_text};
+ghost use Rattle.tcd_report.specs.Graphs.{key_front, lines_to, ways_text, leaving_text};
 ghost use Rattle.std.specs.Str.{IsAscii};
 
 use crate::graphs::edges::Edges;
@@ -75,25 +75,17 @@ pub(crate) fn append_leaving(text: &mut String, front: &str, shape: Shape) -> Re
     }
 }
 
-// Appends one line for each of the addresses.
+// Appends one line for each of the addresses, which ends with the word and the address.
 fn append_lines(text: &mut String, front: &str, word: &str, targets: &[u32]) -> Result<(), NoMemory>
     ensures { OnOk result (string_bytes text.new
         ≡ string_bytes text.old ++ lines_to front.now word.now targets.now) }
 {
     for to in targets {
-        append_line(text, front, word, *to)?;
+        extend_text(text, front)?;
+        extend_text(text, word)?;
+        append_target(text, *to)?;
     }
     Ok(())
-}
-
-// Appends a line that ends with a word and an address.
-fn append_line(text: &mut String, front: &str, word: &str, to: u32) -> Result<(), NoMemory>
-    ensures { OnOk result (string_bytes text.new
-        ≡ string_bytes text.old ++ (front.now ++ line_end_to word.now to)) }
-{
-    extend_text(text, front)?;
-    extend_text(text, word)?;
-    append_target(text, to)
 }
 
 // Appends the address that a line ends with, and a line feed.

@@ -12,10 +12,9 @@ ghost use Rattle.cfg_recover.specs.LocalFaults.{IsFaultless};
 ghost use Rattle.depth_cert.specs.Points.{point_of};
 
 use crate::judged::Judged;
-use crate::reports::call_chains::longest_chain_from;
 use cfg_recover::{KnownCodes, entered_key, targets};
 use depth_cert::{CALL, Key};
-use packed_cert::{Cert, PointWalk};
+use packed_cert::{Cert, Node, PointWalk};
 use std::alloc::Global;
 use std::collections::HashMap;
 use tc_isa::{Shape, Target};
@@ -51,8 +50,32 @@ pub(crate) fn heights(alloc: Global, judged: &Judged) -> Result<HashMap<Key, u32
     Ok(heights)
 }
 
+// The length of the longest call chain that begins in a node.
+fn longest_chain_from<'a>(
+    judged: &Judged,
+    heights: &HashMap<Key, u32>,
+    codes: &mut KnownCodes,
+    node: &Node<'a>,
+    walk: &mut PointWalk<'a>,
+) -> u32
+    requires judged { IsJudged judged.now }
+    requires low { AreHeightsLow heights.now }
+    requires stands { Contains judged.now.cert.now.nodes node.now }
+    ensures { let j = judged.now in
+        IsGreatestHeightOf (HasCalleeHeightAt j.image.now j.plan.now j.cert.now heights.now
+        node.now.key)
+        node.now.points result }
+{
+    let mut most = 0;
+    node.walk(walk);
+    while let Some(addr) = walk.step() {
+        most = height_at_point(judged, heights, codes, &node.key, addr, walk.state()).max(most);
+    }
+    most
+}
+
 // The length of the longest call chain that begins with the instruction at a point.
-pub(crate) fn height_at_point(
+fn height_at_point(
     judged: &Judged,
     heights: &HashMap<Key, u32>,
     codes: &mut KnownCodes,
@@ -91,8 +114,9 @@ fn height_ranks(alloc: Global, cert: &Cert) -> Result<Vec<(u16, Key)>, NoMemory>
     Ok(ranks)
 }
 
-// The length of the longest call chain that begins with a call. A function of its own, as it has
-// room for a list of functions.
+// The length of the longest call chain that begins with a call: the greatest height of a function
+// that it may enter, plus 1, or 0 if none has a height. A function of its own, as it has room for a
+// list of functions.
 #[inline(never)]
 fn height_of_call(
     plan: &Plan,
@@ -109,19 +133,8 @@ fn height_of_call(
         (unwrap_or (targets_of plan.now s.now addr to) []) result }
 {
     let functions = targets(plan, s, addr, to);
-    height_of_calls(heights, key, functions.as_slice())
-}
-
-/// Returns the length of the longest call chain that begins with a call of one of these functions:
-/// the greatest of their heights, plus 1, or 0 if none has a height.
-fn height_of_calls(heights: &HashMap<Key, u32>, key: &Key, targets: &[u32]) -> u32
-    requires { AreHeightsLow heights.now }
-    ensures { IsGreatestHeightOf
-        (λ t. HasCalleeHeight heights.now (entries.entered_key key.now call_kind t))
-        targets.now result }
-{
     let mut most = 0;
-    for target in targets {
+    for target in functions.as_slice() {
         most = height_of_callee(heights, key, *target).max(most);
     }
     most

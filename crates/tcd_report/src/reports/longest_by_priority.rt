@@ -3,15 +3,12 @@ ghost use Rattle.std.specs.Prelude.{◌≡◌, ◌++◌, ℕ, Some, Contains, On
 ghost use Rattle.std.specs.HashMap.{get};
 ghost use Rattle.std.specs.Option.{option_copied};
 ghost use Rattle.depth_cert.specs.Nodes.{NodeData};
-ghost use Rattle.tcd_report.specs.Reports.Longest.{IsLongestIfAny, priorities, AtPrio, longest_with, row_of};
+ghost use Rattle.tcd_report.specs.Reports.Longest.{IsLongestIfAny, AtPrio, longest_with, row_of};
 ghost use Rattle.depth_cert.specs.Keys.{key_eq};
 ghost use Rattle.tcd_report.specs.Reports.Longest as spec;
-ghost use Rattle.serde_json.specs.View.{view};
-ghost use Rattle.tcd_report.specs.Reports.{row_data};
 
 use depth_cert::Key;
 use packed_cert::Cert;
-use serde_json::{Value, json};
 use std::alloc::Global;
 use std::collections::HashMap;
 use tcd_base::NoMemory;
@@ -50,14 +47,6 @@ pub(crate) fn longest_by_priority(
     Ok(rows)
 }
 
-/// The number of priorities.
-#[tactic(auto, unfolding(crate::specs::Reports::Longest::priorities))]
-pub(crate) fn priority_count() -> u16
-    ensures { result ≡ priorities }
-{
-    256
-}
-
 /// The longest call chains of the priorities below a number, by ascending priority.
 pub(crate) fn rows_below(
     alloc: Global,
@@ -71,14 +60,6 @@ pub(crate) fn rows_below(
         push_row(&mut rows, prio, known.get(&prio))?;
     }
     Ok(rows)
-}
-
-// A priority, and its longest call chain.
-pub(crate) fn row_value(alloc: Global, row: &LongestCalls) -> Result<Value, NoMemory>
-    ensures { IfOk result (λ v. view v ≡ row_data row.now) }
-{
-    let value = json!(in alloc; {"longest": row.longest, "prio": row.prio})?;
-    Ok(value)
 }
 
 // The greater of a number, if there is one, and another number.

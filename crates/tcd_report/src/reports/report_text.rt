@@ -1,11 +1,10 @@
 // The report of a certificate as text.
-ghost use Rattle.std.specs.Prelude.{◌≡◌, OnOk, IfOk};
-ghost use Rattle.serde_json.specs.Data.{put as with_member};
-ghost use Rattle.serde_json.specs.View.{view, members_view};
+ghost use Rattle.std.specs.Prelude.{◌≡◌, IfOk};
+ghost use Rattle.serde_json.specs.View.{view};
 ghost use Rattle.cfg_recover.specs.RulesHoldOrFail.{certified_need};
-ghost use Rattle.tcd_report.specs.Reports.{reported_count, reported_node, nodes_data, rows_data, whole_data};
+ghost use Rattle.tcd_report.specs.Reports.{reported_node, nodes_data, rows_data, whole_data};
 
-use crate::reports::longest_by_priority::{LongestCalls, row_value};
+use crate::reports::longest_by_priority::LongestCalls;
 use crate::texts::append_key;
 use cfg_recover::start_key;
 use elf_image::Image;
@@ -38,11 +37,11 @@ pub(crate) fn whole_value(
         ≡ whole_data plan.now.areas (view calls) certified (view nodes) plan.now.reserve) }
 {
     let mut members = Map::new(alloc);
-    put_report_count(&mut members, alloc, "areas", plan.areas)?;
-    put_report_value(&mut members, alloc, "calls", calls)?;
-    put_report_count(&mut members, alloc, "certified", certified)?;
-    put_report_value(&mut members, alloc, "nodes", nodes)?;
-    put_report_count(&mut members, alloc, "reserve", plan.reserve)?;
+    put(&mut members, alloc, "areas", Value::from(plan.areas))?;
+    put(&mut members, alloc, "calls", calls)?;
+    put(&mut members, alloc, "certified", Value::from(certified))?;
+    put(&mut members, alloc, "nodes", nodes)?;
+    put(&mut members, alloc, "reserve", Value::from(plan.reserve))?;
     Ok(Value::Object(members))
 }
 
@@ -67,37 +66,10 @@ pub(crate) fn rows_value(alloc: Global, rows: &[LongestCalls]) -> Result<Value, 
 {
     let mut values = Vec::new(alloc);
     for row in rows {
-        let value = row_value(alloc, row)?;
+        let value = json!(in alloc; {"longest": row.longest, "prio": row.prio})?;
         values.push(value)?;
     }
     Ok(Value::Array(values))
-}
-
-// Puts a member that is a number into an object.
-fn put_report_count(
-    members: &mut Map<String, Value>,
-    alloc: Global,
-    name: &str,
-    n: u32,
-) -> Result<(), NoMemory>
-    ensures { OnOk result (members_view members.new.entries
-        ≡ with_member name.now (reported_count n) (members_view members.old.entries)) }
-{
-    put_report_value(members, alloc, name, Value::from(n))
-}
-
-// Puts a member into an object.
-fn put_report_value(
-    members: &mut Map<String, Value>,
-    alloc: Global,
-    name: &str,
-    value: Value,
-) -> Result<(), NoMemory>
-    ensures { OnOk result (members_view members.new.entries
-        ≡ with_member name.now (view value) (members_view members.old.entries)) }
-{
-    put(members, alloc, name, value)?;
-    Ok(())
 }
 
 /// Returns a node as the text of the report has it: an object with its key, its need, and the

@@ -1,9 +1,8 @@
-use Rattle.std.proofs.Common.{◌≡◌, ◌∙◌, ◌++◌, ℕ, false, List, [], ◌∷◌, Option, ap, subst}
+use Rattle.std.proofs.Common.{◌≡◌, ◌∙◌, ◌++◌, ℕ, false, List, [], ◌∷◌, Option, ap}
 use Rattle.std.specs.Prelude.{nat_eq}
 use Rattle.std.specs.HashMap.{get}
 use Rattle.serde_json.specs.View.{view}
 use Rattle.serde_json.specs.Written.{compact_text, has_float}
-use Rattle.depth_cert.specs.Nodes.{NodeData}
 use Rattle.depth_cert.specs.Certs.{CertData, IsCert}
 use Rattle.cfg_recover.specs.RulesHoldOrFail.{certified_need}
 use Rattle.tcd_report.specs.Reports.Longest.{priorities, AtPrio, rows_below, IsLongestIfAny}
@@ -14,6 +13,7 @@ use Rattle.tcd_report.proofs.ReportLemmas.ReportTexts.{report_plain}
 use Rattle.tcd_report.proofs.reports.report.Goals as goal
 
 pub returns : goal.returns
+unfolding priorities
 returns c =
     let image = c.args.image.now in
     let plan = c.args.plan.now in
@@ -23,7 +23,7 @@ returns c =
     let row : ℕ → Option ℕ = get nat_eq c.in_ok-known.known in
     let rows : List LongestCalls = rows_below row priorities in
     let greatest : (p : ℕ) → IsLongestIfAny (AtPrio heights cert.nodes p) (row p) = c.in_ok-known.ensures in
-    let rows_are : c.in_ok-rows.rows.items ≡ rows = c.in_ok-rows.ensures ∙ ap (rows_below row) c.priority_count.ensures in
+    let rows_are : c.in_ok-rows.rows.items ≡ rows = c.in_ok-rows.ensures in
     let calls_are : view c.in_ok-calls.calls ≡ rows_data rows = c.in_ok-calls.ensures ∙ ap rows_data (c.deref.ensures.value ∙ rows_are) in
     let nodes_are : view c.in_ok-nodes.nodes ≡ nodes_data cert.nodes = c.in_ok-nodes.ensures in
     let value_is : view c.in_ok-value.value ≡ report_data image plan cert rows =

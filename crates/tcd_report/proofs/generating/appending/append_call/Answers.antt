@@ -6,4 +6,4 @@ use Rattle.tcd_report.proofs.generating.appending.append_call.Goals as goal
 pub returns : goal.returns
 returns c =
     subst (λ (bs : List ℕ). OnOk c.put_u32.result (c.put_u32.new.out.items ≡ c.args.out.now.items ++ bs))
-    (call_bytes c.args.at c.args.to c.call_word.result (omega arith) c.call_word.ensures) c.put_u32.ensures.ok
+    (call_bytes c.args.at c.args.to (omega arith)) c.put_u32.ensures.ok

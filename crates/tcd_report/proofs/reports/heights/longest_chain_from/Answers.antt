@@ -1,4 +1,4 @@
-use Rattle.std.proofs.Common.{◌≡◌, ◌∙◌, ◌++◌, ◌∷◌, [], List, Contains, ap, sym, subst}
+use Rattle.std.proofs.Common.{◌++◌, ◌∷◌, [], List, Contains, ap, sym, subst}
 use Rattle.value_domain.specs.declared.states.State.{State}
 use Rattle.depth_cert.specs.declared.keys.Key.{Key}
 use Rattle.depth_cert.specs.declared.points.Point.{Point}
@@ -9,7 +9,7 @@ use Rattle.depth_cert.specs.Points.{point_of}
 use Rattle.tcd_report.proofs.ReportLemmas.MostLaws.{most_with}
 use Rattle.tcd_report.proofs.JudgedPoints.{point_faultless}
 use Rattle.packed_cert.proofs.WalkedPoints.{split_more, walked, walked_all}
-use Rattle.tcd_report.proofs.reports.call_chains.longest_chain_from.Goals as goal
+use Rattle.tcd_report.proofs.reports.heights.longest_chain_from.Goals as goal
 
 pub height_at_point-requires-clause-faultless : goal.height_at_point-requires-clause-faultless
 height_at_point-requires-clause-faultless c =

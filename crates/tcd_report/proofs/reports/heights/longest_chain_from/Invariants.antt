@@ -1,7 +1,7 @@
 use Rattle.std.proofs.Common.{◌≡◌, ◌++◌, List, length}
 use Rattle.depth_cert.specs.declared.points.Point.{Point}
 use Rattle.tcd_report.specs.Reports.Heights.{IsGreatestHeightOf, HasCalleeHeightAt}
-use Rattle.tcd_report.proofs.reports.call_chains.longest_chain_from.Given as goal
+use Rattle.tcd_report.proofs.reports.heights.longest_chain_from.Given as goal
 
 abbrev pub invariant-loop-addr : goal.invariant-loop-addr
 invariant-loop-addr l = record {
