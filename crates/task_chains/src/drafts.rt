@@ -5,7 +5,7 @@ ghost use Rattle.tcd_text.specs.Lines.{text_lines};
 ghost use Rattle.task_chains.specs.declared.task_lists.TasksErr.TheVariants.{BadLine};
 ghost use Rattle.task_chains.specs.TaskListText.{FirstBadTaskLine, IsTasksDraft, TakesTaskLine, IsLineBad};
 
-use crate::lines::{Places, switch_places_in, task_in};
+use crate::lines::{Places, switch_places_in, task_pair_in_line};
 use crate::{Task, TasksErr};
 use arrayvec::ArrayVec;
 use tcd_text::cut_line;
@@ -61,16 +61,16 @@ fn add_line(draft: &mut TasksDraft, number: u32, line: &[u8]) -> Result<(), Task
     }
 }
 
-/// Adds the task of a later line that isn't empty.
+/// Adds the task of a later line that isn't empty: `task ENTRY SP`.
 fn add_other(draft: &mut TasksDraft, number: u32, line: &[u8]) -> Result<(), TasksErr>
     requires places { IsSome draft.old.places }
     requires some { 0 < length line.now }
     ensures ok { OnOk result (TakesTaskLine draft.old number line.now draft.new) }
     ensures err { IfErr result (IsLineBad draft.old number line.now) }
 {
-    match task_in(line) {
-        Some(task) => {
-            add_task(draft, number, task);
+    match task_pair_in_line(b"task".as_slice(), line) {
+        Some((entry, sp)) => {
+            add_task(draft, number, Task { entry, sp });
             Ok(())
         }
         None => Err(TasksErr::BadLine(number)),

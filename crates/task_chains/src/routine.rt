@@ -2,12 +2,11 @@
 ghost use Rattle.std.specs.Prelude.{◌≡◌, ◌≤◌, ◌<◌, ◌+◌, ◌*◌, ◌/◌, ◌%◌, ◌^◌, ◌↔◌, IsTrue, IfNone, IfSome, slice_index, ◌-◌, ℕ};
 ghost use Rattle.std.specs.List.{flat_map};
 ghost use Rattle.tcd_base.specs.Bytes.{four_bytes};
-ghost use Rattle.task_chains.specs.SwitchRoutine.{routine_of, bytes_of_routine, routine_bytes, HasRoutineByte, HasRoutine, IsRoutineFault, view_routine_of, view_routine_bytes, switch_key};
+ghost use Rattle.task_chains.specs.SwitchRoutine.{routine_of, bytes_of_routine, routine_bytes, HasRoutineByte, HasRoutine, IsRoutineFault, view_routine_of, view_routine_bytes};
 ghost use Rattle.tcd_base.specs.Ranges.{IsInOneRange};
 
 use crate::Tasks;
 use arrayvec::ArrayVec;
-use depth_cert::{CALL, Key};
 use elf_image::Image;
 use tc_isa::{lower_half, upper_half};
 use tcd_base::is_in_any_range;
@@ -86,12 +85,7 @@ pub(crate) fn view_routine(tasks: &Tasks) -> [u8; 72]
 fn routine_word_bytes(w: u32) -> [u8; 4]
     ensures { result ≡ four_bytes w }
 {
-    [
-        (w % 0x100) as u8,
-        (w / 0x100 % 0x100) as u8,
-        (w / 0x1_0000 % 0x100) as u8,
-        (w / 0x100_0000) as u8,
-    ]
+    w.to_le_bytes()
 }
 
 /// Returns the words of the routine of `n` tasks whose block is at `b`.
@@ -174,16 +168,4 @@ fn view_routine_words(n: u32, b: u32) -> [u32; 18]
         0x0240_000D, // rslcx
         0x0180_000D, // ret
     ]
-}
-
-/// Returns the key of the switch routine's own frame.
-pub(crate) fn key_of_switch(tasks: &Tasks) -> Key
-    ensures { result ≡ switch_key tasks.now }
-{
-    Key {
-        kind: CALL,
-        entry: tasks.switch,
-        prio: 0,
-        is: false,
-    }
 }

@@ -8,9 +8,9 @@ ghost use Rattle.value_domain.specs.Values.{IsWell};
 ghost use Rattle.store_ranges.specs.Accesses.{IsAccessSize};
 
 use crate::Tasks;
-use crate::routine::{ROUTINE_BYTES, is_routine_step, key_of_switch};
+use crate::routine::{ROUTINE_BYTES, is_routine_step};
 use cfg_recover::KnownCodes;
-use depth_cert::Key;
+use depth_cert::{CALL, Key};
 use elf_image::Image;
 use tc_isa::{FCX, LCX, PCXI, Shape};
 use tcd_plan::Plan;
@@ -131,7 +131,13 @@ fn is_between(x: u32, low: u32, high: u32) -> bool
 fn is_place_apart(tasks: &Tasks, key: &Key, addr: u32) -> bool
     ensures { IsTrue result ↔ IsPlaceApart tasks.now key.now addr }
 {
-    if *key == key_of_switch(tasks) {
+    let switch = Key {
+        kind: CALL,
+        entry: tasks.switch,
+        prio: 0,
+        is: false,
+    };
+    if *key == switch {
         is_routine_step(tasks, addr)
     } else {
         addr < tasks.switch || ROUTINE_BYTES <= addr - tasks.switch
