@@ -5,11 +5,11 @@
     tools/rows.py --check    says which of them differ, and changes nothing
 
 The tables: the rows as a definition (tc_isa/specs/Rows.antt), the fields that each row names (tc_isa/src/row_uses.rt), the
-index by codes (tc_encode/src/index.rt), the operands of each row (tc_stmt/src/row_wants.rt), and the index by names
-(tc_stmt/src/row_index.rt). The number of rows is written to ROW_COUNT (tc_isa/src/table.rt), which all else cites. What a
-row does is written by hand, in tc_isa/specs/Meanings.antt and tc_isa/src/row_meanings.rt. Both ways of calling it print too
-which rows the table of operands in docs/formats.md lacks, or has and shouldn't: that one is written by hand.
-Nothing here is trusted: the checks of tc_isa, tc_encode and tc_stmt prove that each table is that of the rows.
+index by codes (tc_encode/src/index.rt), the operands of each row (tc_stmt/src/row_wants.rt), the index by names
+(tc_stmt/src/row_index.rt), and the list for engineers (docs/instructions.md). The number of rows is written to ROW_COUNT
+(tc_isa/src/table.rt), which all else cites. What a row does is written by hand, in tc_isa/specs/Meanings.antt and
+tc_isa/src/row_meanings.rt; the list says it from there.
+Nothing here is trusted: the checks of tc_isa, tc_encode and tc_stmt prove that each table except the list is that of the rows.
 """
 import os
 import re
@@ -109,19 +109,72 @@ def index_of_names(all_rows):
 
 def replace_item(text, name, new):
     """The text with the item of this name written anew."""
-    end = r"\n    \[\]\n" if name == "listed =" else r";\n" if "COUNT" in name else r"\n\];\n"
+    end = r"\n    \[\]\n" if name == "listed =" else r";\n" if "COUNT" in name else r"\n\];\n" if "static" in name else r"\Z"
     found = re.search(rf"^{re.escape(name)}.*?{end}", text, flags=re.M | re.S)
     if not found:
         sys.exit(f"no {name}")
     return text[: found.start()] + new + text[found.end() :]
 
 
-def documented_rows():
-    """The rows of the table of operands in docs/formats.md: names and operands."""
-    text = read("../docs/formats.md")
-    lines = text[text.index("| Operands | Rows |") :].split("\n\n")[0].splitlines()[2:]
-    cells = [[cell.strip() for cell in line.split("|")[1:3]] for line in lines]
-    return [(name, "" if words == "none" else words.strip("`")) for words, names in cells for name in re.findall("`([^`]+)`", names)]
+# how many bits the constant of a form has
+BITS = {"Rlc": 16, "Rc": 9, "Bol": 16, "Bo": 10, "Brr": 15, "Brc": 15, "B": 24, "Abs": 18, "Sc": 8, "Sb": 8, "Sbr": 4, "Src": 4}
+
+# what an operation or a comparison gives
+RESULTS = {
+    "Second": "{1}", "Add": "{0} + {1}", "Sub": "{0} - {1}", "And": "{0} & {1}", "Nand": "~({0} & {1})", "Or": "{0} | {1}",
+    "Nor": "~({0} | {1})", "Xor": "{0} ^ {1}", "Xnor": "~({0} ^ {1})", "Andn": "{0} & ~{1}", "Orn": "{0} | ~{1}",
+    "Eq": "{0} == {1}", "Ne": "{0} != {1}", "Lt": "{0} < {1}", "LtU": "{0} < {1} unsigned", "Ge": "{0} >= {1}",
+    "GeU": "{0} >= {1} unsigned", "Sh": "{0} shifted by {1}", "Sha": "{0} shifted by {1}, sign kept",
+}  # fmt: skip
+SHAPES = {
+    "Nothing": "nothing", "Enable": "interrupts on", "Disable": "interrupts off", "Svlcx": "save the lower context",
+    "Rslcx": "restore the lower context", "Ret": "return from a call: restore the upper context",
+    "Rfe": "return from a handler: restore the upper context, IE, CCPN",
+}  # fmt: skip
+
+
+def shown_operands(row):
+    """The operands of a row, with the number of bits of each constant."""
+    return re.sub(r"\b(sk|uk|T|U)\b", lambda m: m[1][0] + str(BITS[row[2]]), row[1].replace("k4", "4"))
+
+
+class Words(dict):
+    """The vocabulary of tc_isa/src/meaning.rt as texts, for a row with this constant."""
+
+    def __init__(self, constant):
+        units = {1: "byte", 2: "halfword", 4: "word"}
+        place = lambda base, by, after: base if after or by == "0" else f"{base} + {by}"
+        then = lambda base, by, after: f"; {base} {by}" if after else ""
+        super().__init__(
+            true=True, false=False, Zero="0", High=f"{constant} * 65536", SignedS2="s4", UnsignedS2="u4", D15="d15", A10="a10",
+            At=str, Of=str, In=str, By=lambda by: constant, Calls="call {}".format, Jumps="jump to {}".format,
+            Computes=lambda op, to, x, y: f"{to} = {RESULTS[op].format(x, y)}",
+            Scales="{} = {} + {} * 2^n".format,
+            Loads=lambda to, base, by, size, signed, after:
+                f"{to} = {'signed ' * signed}{units[size]} at {place(base, by, after)}{then(base, '+= ' + by, after)}",
+            Stores=lambda of, base, by, size, after: f"{units[size]} at {place(base, by, after)} = {of}{then(base, '+= ' + by, after)}",
+            Branches=lambda test, x, y, by, lowers: f"jump if {RESULTS[test].format(x, y)}{then(x, '-= 1', lowers)}",
+            Masks=f"save the lower context; CCPN = {constant} modulo 256; interrupts on",
+            Traps=f"trap of class 6, d15 = {constant} modulo 256",
+            ReadsCore=lambda to: f"{to} = core register {constant}", WritesCore=lambda of: f"core register {constant} = {of}",
+            Always=SHAPES.get,
+        )  # fmt: skip
+        self.update(dict.fromkeys(["Signed4", "Signed9", "Signed10", "Signed16", "Unsigned", "Address", "Code"], constant))
+
+    def __missing__(self, name):
+        return name
+
+
+def listed_by_name(all_rows):
+    """The list of docs/instructions.md: a line for each row, by name."""
+    meanings = re.findall(r"^    (\w+.*), // ", read("tc_isa/src/row_meanings.rt"), flags=re.M)
+    lines = [f"    {len(all_rows)} encodings of {len({row[0] for row in all_rows})} names"]
+    for row, meaning in sorted(zip(all_rows, meanings), key=lambda it: it[0][0]):
+        operands = shown_operands(row)
+        constant = (re.findall(r"\b[suTU]\d+", operands) or [""])[-1]
+        does = eval(re.sub(r"\w+::", "", meaning), {}, Words(constant))
+        lines.append(f"    {row[0]:9}  {operands:17}  {does}")
+    return "\n".join(lines) + "\n"
 
 
 def main():
@@ -138,6 +191,7 @@ def main():
         "tc_encode/src/index.rt": index(all_rows),
         "tc_stmt/src/row_wants.rt": {"pub static WANTS": by_rows("pub static WANTS", "&[Want]", all_rows, wants)},
         "tc_stmt/src/row_index.rt": index_of_names(all_rows),
+        "../docs/instructions.md": {f"    {len(all_rows)} encodings": listed_by_name(all_rows)},
     }
     old, touched = {}, set()
     for path, parts in tables.items():
@@ -148,15 +202,13 @@ def main():
             with open(f"{CRATES}/{path}", "w", encoding="utf-8") as out:
                 out.write(text)
             touched.add(path)
-    for crate in {p.split("/")[0] for p in touched}:
+    for crate in {p.split("/")[0] for p in touched if p[0] != "."}:
         subprocess.run(["rt", "fmt"], cwd=f"{CRATES}/{crate}", stdout=subprocess.DEVNULL, check=False)
     differ = sorted(p for p in touched if read(p) != old[p])
     if "--check" in sys.argv:
         for path in touched:
             with open(f"{CRATES}/{path}", "w", encoding="utf-8") as out:
                 out.write(old[path])
-    undocumented = {r[:2] for r in all_rows} ^ set(documented_rows())
-    differ += [f"docs/formats.md: {name} {words}".strip() for name, words in sorted(undocumented)]
     print("\n".join(differ) or f"{len(all_rows)} rows: each table is theirs")
     return 1 if differ and "--check" in sys.argv else 0
 
