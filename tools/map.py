@@ -1,28 +1,18 @@
 #!/usr/bin/env python3
-"""Writes docs/files.md: one table a crate, one line a file.
+"""Prints which file of a crate holds what: one table a crate, one line a file.
 
-    tools/map.py            writes the page
-    tools/map.py --check    says whether it is that of the files
+    tools/map.py [CRATE ..]        of these crates alone, by name
 
 What a file holds is the first sentence of the comment at its top, or its part before a colon if it
-is long. A file of src/ and a file of
-specs/ with the same name share a line.
+is long. A file of src/ and a file of specs/ with the same name share a line.
 
-Ends with 0, with 1 if --check finds another page, with 2 if a file can't be read or written, and
-with 5 if the words are wrong.
+Ends with 0, with 2 if a file can't be read, and with 5 if there is no such crate.
 """
-import argparse
 import pathlib
 import re
 import sys
 
 TOP = pathlib.Path(__file__).resolve().parent.parent
-PAGE = TOP / "docs" / "files.md"
-BEGINNING = """# The files of each crate
-
-`tools/map.py` writes this page from the first comment of each file. `crates.md` is the map of
-crates.
-"""
 #: What a table has of a comment, in characters, if it can be parted at a colon.
 MOST = 120
 
@@ -59,34 +49,20 @@ def table_of(crate):
     return "\n".join(lines)
 
 
-def page_of(top):
-    """The page that the files have now."""
-    crates = [it for it in sorted((top / "crates").iterdir()) if (it / "src").is_dir()]
-    return "\n".join([BEGINNING, *(table_of(it) + "\n" for it in crates)])
-
-
-class Words(argparse.ArgumentParser):
-    """Words that are wrong end with one line and status 5."""
-
-    def error(self, message):
-        print(f"map.py: {message}", file=sys.stderr)
-        sys.exit(5)
-
-
 def main(words):
-    parser = Words(description=__doc__, formatter_class=argparse.RawDescriptionHelpFormatter)
-    parser.add_argument("--check", action="store_true", help="writes nothing")
-    check = parser.parse_args(words).check
+    if words in (["-h"], ["--help"]):
+        print(__doc__)
+        return 0
+    crates = {it.name: it for it in sorted((TOP / "crates").iterdir()) if (it / "src").is_dir()}
+    if unknown := [word for word in words if word not in crates]:
+        print(f"map.py: {unknown[0]}: no such crate", file=sys.stderr)
+        return 5
     try:
-        page = page_of(TOP)
-        if not check:
-            PAGE.write_text(page, encoding="utf-8")
-        is_wrong = PAGE.read_text(encoding="utf-8") != page
+        print("\n\n".join(table_of(crates[name]) for name in words or crates))
     except OSError as fault:
         print(f"map.py: {fault.filename}: {fault.strerror}", file=sys.stderr)
         return 2
-    print("docs/files.md: " + ("another page" if is_wrong else "the page is that of the files"))
-    return 1 if is_wrong else 0
+    return 0
 
 
 if __name__ == "__main__":

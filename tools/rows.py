@@ -128,8 +128,8 @@ RESULTS = {
 }  # fmt: skip
 SHAPES = {
     "Nothing": "nothing", "Enable": "interrupts on", "Disable": "interrupts off", "Svlcx": "save the lower context",
-    "Rslcx": "restore the lower context", "Ret": "return from a call: restore the upper context",
-    "Rfe": "return from a handler: restore the upper context, IE, CCPN",
+    "Rslcx": "restore the lower context", "Ret": "return: restore the upper context",
+    "Rfe": "return: restore the upper context, IE, CCPN",
 }  # fmt: skip
 
 

@@ -42,9 +42,6 @@ class Tables(unittest.TestCase):
         path.write_text("// What it holds: " + "and more " * 20 + "\n", encoding="utf-8")
         self.assertEqual(crate_map.first_sentence(path), "What it holds")
 
-    def test_the_page_has_all_tables(self):
-        self.assertEqual(crate_map.page_of(self.top), crate_map.BEGINNING + "\n" + TABLE + "\n")
-
 
 if __name__ == "__main__":
     unittest.main()
