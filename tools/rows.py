@@ -1,15 +1,16 @@
 #!/usr/bin/env python3
 """What follows from the rows of the instruction table, written into the files that hold it.
 
-    tools/rows.py            writes each table below anew from ROWS of crates/tc_isa/src/table.rt
+    tools/rows.py            writes each table below from ROWS of crates/tc_isa/src/table.rt
     tools/rows.py --check    says which of them differ, and changes nothing
 
-The tables: the rows as a definition (tc_isa/specs/Rows.antt), the fields that each row names (tc_isa/src/row_uses.rt), the
-index by codes (tc_encode/src/index.rt), the operands of each row (tc_stmt/src/row_wants.rt), the index by names
-(tc_stmt/src/row_index.rt), and the list for engineers (docs/instructions.md). The number of rows is written to ROW_COUNT
-(tc_isa/src/table.rt), which all else cites. What a row does is written by hand, in tc_isa/specs/Meanings.antt and
-tc_isa/src/row_meanings.rt; the list says it from there.
-Nothing here is trusted: the checks of tc_isa, tc_encode and tc_stmt prove that each table except the list is that of the rows.
+The tables: the rows as a definition (tc_isa/specs/Rows.antt), the fields that each row names
+(tc_isa/src/row_uses.rt), the index by codes (tc_encode/src/index.rt), the operands of each row
+(tc_stmt/src/row_wants.rt), the index by names (tc_stmt/src/row_index.rt), and the list for engineers
+(docs/instructions.md). The number of rows is written to ROW_COUNT (tc_isa/src/table.rt). What a row
+does is written by hand, in tc_isa/specs/Meanings.antt and tc_isa/src/row_meanings.rt; the list has
+it from there. Nothing here is trusted: the checks of tc_isa, tc_encode and tc_stmt prove that each
+table except the list is that of the rows.
 """
 import os
 import re
@@ -117,49 +118,64 @@ def replace_item(text, name, new):
 
 
 # how many bits the constant of a form has
-BITS = {"Rlc": 16, "Rc": 9, "Bol": 16, "Bo": 10, "Brr": 15, "Brc": 15, "B": 24, "Abs": 18, "Sc": 8, "Sb": 8, "Sbr": 4, "Src": 4}
+BITS = {
+    "Rlc": 16, "Rc": 9, "Bol": 16, "Bo": 10, "Brr": 15, "Brc": 15, "B": 24, "Abs": 18, "Sc": 8, "Sb": 8,
+    "Sbr": 4, "Src": 4,
+}  # fmt: skip
 
-# what an operation or a comparison gives
+# what the operations, comparisons and shapes of tc_isa/src/row_meanings.rt do
 RESULTS = {
-    "Second": "{1}", "Add": "{0} + {1}", "Sub": "{0} - {1}", "And": "{0} & {1}", "Nand": "~({0} & {1})", "Or": "{0} | {1}",
-    "Nor": "~({0} | {1})", "Xor": "{0} ^ {1}", "Xnor": "~({0} ^ {1})", "Andn": "{0} & ~{1}", "Orn": "{0} | ~{1}",
-    "Eq": "{0} == {1}", "Ne": "{0} != {1}", "Lt": "{0} < {1}", "LtU": "{0} < {1} unsigned", "Ge": "{0} >= {1}",
-    "GeU": "{0} >= {1} unsigned", "Sh": "{0} shifted by {1}", "Sha": "{0} shifted by {1}, sign kept",
+    "Second": "{1}", "Add": "{0} + {1}", "Sub": "{0} - {1}", "And": "{0} & {1}", "Or": "{0} | {1}",
+    "Nand": "~({0} & {1})", "Nor": "~({0} | {1})", "Xor": "{0} ^ {1}", "Xnor": "~({0} ^ {1})",
+    "Andn": "{0} & ~{1}", "Orn": "{0} | ~{1}", "Eq": "{0} == {1}", "Ne": "{0} != {1}",
+    "Lt": "{0} < {1}", "LtU": "{0} < {1} unsigned", "Ge": "{0} >= {1}", "GeU": "{0} >= {1} unsigned",
+    "Sh": "{0} shifted by {1}", "Sha": "{0} shifted by {1}, sign kept",
 }  # fmt: skip
 SHAPES = {
-    "Nothing": "nothing", "Enable": "interrupts on", "Disable": "interrupts off", "Svlcx": "save the lower context",
-    "Rslcx": "restore the lower context", "Ret": "return: restore the upper context",
-    "Rfe": "return: restore the upper context, IE, CCPN",
+    "Nothing": "nothing", "Enable": "interrupts on", "Disable": "interrupts off",
+    "Svlcx": "save the lower context", "Rslcx": "restore the lower context",
+    "Ret": "return: restore the upper context", "Rfe": "return: restore the upper context, IE, CCPN",
 }  # fmt: skip
 
 
 def shown_operands(row):
     """The operands of a row, with the number of bits of each constant."""
-    return re.sub(r"\b(sk|uk|T|U)\b", lambda m: m[1][0] + str(BITS[row[2]]), row[1].replace("k4", "4"))
+    shown = lambda found: found[1][0] + str(BITS[row[2]])
+    return re.sub(r"\b(sk|uk|T|U)\b", shown, row[1].replace("k4", "4"))
+
+
+def access(size, base, by, after, sign=""):
+    """What a load or a store accesses, and how its base changes."""
+    unit = {1: "byte", 2: "halfword", 4: "word"}[size]
+    place = base if after or by == "0" else f"{base} + {by}"
+    return f"{sign}{unit} at {place}", f"; {base} += {by}" if after else ""
 
 
 class Words(dict):
-    """The vocabulary of tc_isa/src/meaning.rt as texts, for a row with this constant."""
+    """The names of tc_isa/src/meaning.rt as texts, for a row with this constant."""
 
     def __init__(self, constant):
-        units = {1: "byte", 2: "halfword", 4: "word"}
-        place = lambda base, by, after: base if after or by == "0" else f"{base} + {by}"
-        then = lambda base, by, after: f"; {base} {by}" if after else ""
-        super().__init__(
-            true=True, false=False, Zero="0", High=f"{constant} * 65536", SignedS2="s4", UnsignedS2="u4", D15="d15", A10="a10",
-            At=str, Of=str, In=str, By=lambda by: constant, Calls="call {}".format, Jumps="jump to {}".format,
+        names = "Signed4 Signed9 Signed10 Signed16 Unsigned Address Code"
+        super().__init__(dict.fromkeys(names.split(), constant))
+        self.update(true=True, false=False, Zero="0", High=f"{constant} * 65536")
+        self.update(SignedS2="s4", UnsignedS2="u4", D15="d15", A10="a10", At=str, Of=str, In=str)
+        self.update(By=lambda by: constant, Calls="call {}".format, Jumps="jump to {}".format)
+        self.update(
             Computes=lambda op, to, x, y: f"{to} = {RESULTS[op].format(x, y)}",
             Scales="{} = {} + {} * 2^n".format,
-            Loads=lambda to, base, by, size, signed, after:
-                f"{to} = {'signed ' * signed}{units[size]} at {place(base, by, after)}{then(base, '+= ' + by, after)}",
-            Stores=lambda of, base, by, size, after: f"{units[size]} at {place(base, by, after)} = {of}{then(base, '+= ' + by, after)}",
-            Branches=lambda test, x, y, by, lowers: f"jump if {RESULTS[test].format(x, y)}{then(x, '-= 1', lowers)}",
+            Loads=lambda to, base, by, size, signed, after: " = ".join(
+                [to, "".join(access(size, base, by, after, "signed " * signed))]
+            ),
+            Stores=lambda of, *rest: f" = {of}".join(access(rest[2], *rest[:2], rest[3])),
+            Branches=lambda test, x, y, by, lowers: (
+                f"jump if {RESULTS[test].format(x, y)}" + f"; {x} -= 1" * lowers
+            ),
             Masks=f"save the lower context; CCPN = {constant} modulo 256; interrupts on",
             Traps=f"trap of class 6, d15 = {constant} modulo 256",
-            ReadsCore=lambda to: f"{to} = core register {constant}", WritesCore=lambda of: f"core register {constant} = {of}",
+            ReadsCore=f"{{}} = core register {constant}".format,
+            WritesCore=f"core register {constant} = {{}}".format,
             Always=SHAPES.get,
-        )  # fmt: skip
-        self.update(dict.fromkeys(["Signed4", "Signed9", "Signed10", "Signed16", "Unsigned", "Address", "Code"], constant))
+        )
 
     def __missing__(self, name):
         return name
