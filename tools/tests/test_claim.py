@@ -12,6 +12,7 @@ import unittest
 from unittest import mock
 
 sys.path.insert(0, str(pathlib.Path(__file__).resolve().parents[1]))
+import beside  # noqa: E402
 import claim  # noqa: E402 (the script is beside the tests' folder)
 
 SMALL = """-- What is tried here.
@@ -102,6 +103,10 @@ def run(*words):
         except SystemExit as end:
             status = end.code
     return status, out.getvalue(), err.getvalue()
+
+
+def document(name):
+    return (claim.TOP / "docs" / name).read_text(encoding="utf-8")
 
 
 class SmallSources(unittest.TestCase):
@@ -244,6 +249,26 @@ class Repository(unittest.TestCase):
     def test_a_done_means_at_most_1000_lines(self):
         self.assertLessEqual(self.parts[0][1].lines, 1000)
 
+    def test_the_blocks_of_machine_md(self):
+        def words(text):
+            return re.sub(r"\b(?:pub|abbrev)\b|: Type 0 (?=where)", "", text).split()
+
+        blocks = re.findall(r"(?:^    .*\n)+", document("machine.md").partition("\n### Safe")[2], re.M)
+        names = [re.match(r" *(?:record )?(\w+)", block)[1] for block in blocks]
+        self.assertIn("Safe", names)
+        items = [it for _, part in self.parts for it in part.items]
+        for name, block in zip(names, blocks):
+            with self.subTest(definition=name):
+                found = [words("\n".join(it.text)) for it in items if it.name == name]
+                self.assertIn(words(block), found)
+
+    def test_the_counts_of_safety_md(self):
+        text = " ".join(document("safety.md").split())
+        (_, first), (_, second) = self.parts
+        for part in (first, second):
+            self.assertIn(f"{len(part.items)} definitions in {part.lines:,} lines", text)
+        self.assertIn(f"with {len(first.kit)} and {len(second.kit)} names of the kit", text)
+
     def test_pages(self):
         with tempfile.TemporaryDirectory() as folder:
             for end, begin in (("md", "# What is claimed: Headline"), ("html", "<!doctype html>")):
@@ -268,6 +293,16 @@ class Repository(unittest.TestCase):
                 found, _, err = run(*words)
                 self.assertEqual(found, status)
                 self.assertEqual(err.count("\n"), 0 if status == 0 else 1)
+
+
+@beside.needs_program
+class NoInterrupts(beside.InFolder):
+    def test_the_line_of_safety_md(self):
+        self.linked(self.example("nested_interrupts"))
+        plan = (self.folder / "board.json").read_text().replace("[10, 20, 30]", "[]")
+        line = self.tcd("cert", "firmware.elf", self.put("board.json", plan), "firmware.cert")
+        self.assertIn(line, document("safety.md"))
+        self.assertTrue(line.startswith("certified "))
 
 
 if __name__ == "__main__":
