@@ -27,7 +27,6 @@ TOOLS = scratch.TOP / "tools"
 PARTS = {
     "units": ["-m", "unittest", "discover", "-s", "tests"],
     "examples": ["try_examples.py", "P"],
-    "refusals": ["try_refusals.py", "P"],
     "names": ["try_names.py"],
     "pages": ["try_pages.py", "P"],
     "schema": ["try_schema.py", "P"],

@@ -1,4 +1,4 @@
-"""Unit tests of the scripts that try the rest: test.py, schema.py, try_pages.py, try_page.py."""
+"""Unit tests of the scripts that try the rest: test.py, schema.py and tools/try_*.py."""
 import pathlib
 import sys
 import unittest
@@ -8,6 +8,7 @@ sys.path.insert(0, str(TOOLS))
 
 import schema
 import test as whole
+import try_names
 import try_page
 import try_pages
 
@@ -73,18 +74,75 @@ of two lines.
 `main.s` of `examples/one_call`:
 
     main: j .+0
+
+Fenced:
+
+```sh
+# a comment
+
+tcd dis firmware.elf
+```
 """
 
     def test_blocks(self):
-        first, second = try_pages.blocks(self.TEXT)
+        first, second, third = try_pages.blocks(self.TEXT)
         copy = "cp -rT examples/one_call /tmp/one && cd /tmp/one"
         lines = [copy, "tcd asm main.s main.o  # object 203 bytes", "tcd dis firmware.elf"]
-        self.assertEqual(first, ("Some text of two lines.", lines))
-        self.assertEqual(second, ("`main.s` of `examples/one_call`:", ["main: j .+0"]))
+        self.assertEqual(first, ("Some text of two lines.", lines, None))
+        self.assertEqual(second, ("`main.s` of `examples/one_call`:", ["main: j .+0"], None))
+        self.assertEqual(third, ("Fenced:", ["# a comment", "tcd dis firmware.elf"], "sh"))
 
     def test_comments_are_no_statements(self):
         lines = ["# a", "mov  d0, 1 # b", "", "j .+0"]
         self.assertEqual(try_pages.code(lines), ["mov d0, 1", "j .+0"])
+
+    def test_a_changed_plan(self):
+        change = try_pages.changed_plan
+        self.assertNotIn('"sp"', change('without "sp"'))
+        self.assertIn('"sp": 4', change('"sp": 4'))
+        self.assertEqual(change("[]"), "[]")
+
+    def test_shells(self):
+        plain = ["cp a b  # a copy", "tcd asm \\", "  a.s a.o  # object 1 bytes"]
+        found = [("cp a b", ""), ("tcd asm a.s a.o", "object 1 bytes")]
+        self.assertEqual([*try_pages.shells(plain)], found)
+        session = ["$ tcd asm a.s a.o; echo $?", "object 1 bytes", "0", "$ rm a.o"]
+        found = [("tcd asm a.s a.o; echo $?", "object 1 bytes\n0"), ("rm a.o", "")]
+        self.assertEqual([*try_pages.shells(session)], found)
+
+    def test_what_is_not_run(self):
+        for line in ("(cd crates/tcd && rt run -- check)", "rt ci", "python3 tools/test.py tcd"):
+            self.assertTrue(try_pages.NOT_RUN.search(line), line)
+        for line in ("tcd dis start.elf", "python3 tools/known.py firmware.elf"):
+            self.assertFalse(try_pages.NOT_RUN.search(line), line)
+
+
+class Names(unittest.TestCase):
+    def test_headings(self):
+        text = "# A page\n\n## K6: `ret`, or a `call`\n\n```sh\n# no heading\n```\n"
+        self.assertEqual(try_names.headings(text), {"a-page", "k6-ret-or-a-call"})
+
+    def test_links(self):
+        page = try_names.TOP / "README.md"
+        for link in ("README.md#build", "docs/faq.md", "#build"):
+            self.assertTrue(try_names.leads(link, page), link)
+        for link in ("none.md", "README.md#none", "#none"):
+            self.assertFalse(try_names.leads(link, page), link)
+
+    def test_names(self):
+        page = try_names.TOP / "docs" / "rules.md"
+        for name in ("tools/view.py", "view.py", "examples/*/board.json", "crates/tcd/out/x"):
+            self.assertTrue(try_names.is_there(name, page), name)
+        for name in ("tools/none.py", "none.md"):
+            self.assertFalse(try_names.is_there(name, page), name)
+
+    def test_form(self):
+        page = try_names.TOP / "docs" / "rules.md"
+        good = "# A\n\nFor users.\n\n## B\n" + "| a " * 60 + "|\n"
+        self.assertEqual([*try_names.form_faults(page, good)], [])
+        for text in ("x" * 101, f"| {'x' * 201} |", "word " * 10 + "\n" + "word\n" * 1500):
+            self.assertTrue([*try_names.form_faults(page, good + text)], text[:20])
+        self.assertTrue([*try_names.form_faults(page, good.replace("For", "To"))])
 
 
 class Pages(unittest.TestCase):
