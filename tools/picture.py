@@ -3,7 +3,7 @@
 
 PROGRAM is the built tcd (crates/tcd/out/tcd). docs/chain.svg is what the page on
 examples/nested_interrupts shows first: the areas by priority, and the longest chain.
-tools/try_pages.py tries whether the picture is today's.
+tools/try_pages.py tries whether the picture is today's, and trees of frames that documents show.
 
 Exit status: 0 written, 2 there is no such program, 5 wrong words.
 """
@@ -21,6 +21,7 @@ EXAMPLE, PICTURE = "nested_interrupts", "docs/chain.svg"
 ROW = re.compile(r"<tr class=(p\d)><td><b>(\d+)</b><td>(.*?)<td>(.*?)<td>(.*)")
 PART = re.compile(r"<span class=(p\d) style=\"flex:(\d+)\" title=\"(.*?): \d+\">")
 COLOUR = re.compile(r"\.(p\d) \{ --c: (#\w+) \}")
+START = re.compile(r">([^<>]*) \(start\)<")
 HEADS = ("in use", "enters", "by", "from")
 COLUMNS = (20, 90, 240, 370)
 WIDTH, LINE, BAR, TOP = 640, 25, 36, 130
@@ -63,15 +64,40 @@ def svg(page):
     return "\n".join([*out, "</svg>", ""])
 
 
-def drawn(program):
-    """The picture."""
+def tree(page):
+    """The longest chain as lines: each frame, the areas that it holds, its need; and their sum."""
+    frames = [[f"start {START.search(page)[1]}", 0, []]]
+    for _, _, into, how, _ in ROW.findall(page):
+        into, how = plain(into), plain(how)
+        if into == "its lower context":
+            frames[-1][2].append(how)
+        else:
+            name = into.replace("interrupt", "irq") if how == "interrupt" else f"{how} {into}"
+            frames.append([name, 1, []])
+    needed = total = sum(entry + len(saved) for _, entry, saved in frames)
+    lines = ["frame areas need"]
+    for name, entry, saved in frames:
+        needed -= entry
+        saves = f" ({', '.join(saved)})" if saved else ""
+        lines.append(f"{name}{saves} {entry + len(saved)} {needed}")
+        needed -= len(saved)
+    return [*lines, f"in all {total}"]
+
+
+def page_on(program, example):
+    """The page of view.py on an example."""
     with tempfile.TemporaryDirectory() as name:
         folder = pathlib.Path(name)
-        scratch.built(program, EXAMPLE, folder)
+        scratch.built(program, example, folder)
         files = [str(folder / each) for each in ("firmware.elf", "board.json", "firmware.cert")]
-        sources = [str(folder / each) for each in scratch.sources_of(EXAMPLE)]
+        sources = [str(folder / each) for each in scratch.sources_of(example)]
         page = View(program, *files, [str(folder / "board.layout"), *sources]).text()
-        return svg(page.replace(f"{folder}/", ""))
+        return page.replace(f"{folder}/", "")
+
+
+def drawn(program):
+    """The picture."""
+    return svg(page_on(program, EXAMPLE))
 
 
 def main(words):

@@ -28,7 +28,7 @@ LINK = re.compile(r"\]\(([^)\s]+)\)")
 FENCED = re.compile(r"^```.*?^```$", re.M | re.S)
 HEADING = re.compile(r"^#+ (.*)$", re.M)
 #: where a name without a folder is looked for, too
-SEARCHED = ("docs", "tools", "bench")
+SEARCHED = ("docs", "tools", "tools/tests", "bench")
 COLUMNS, CELL, WORDS = 100, 200, 1500
 
 

@@ -7,11 +7,10 @@ Commands  A block of lines `COMMAND  # LINE`, or of `$ COMMAND` before what each
           by line, or as a whole if it is fenced as `sh`. What is printed has to be as shown,
           blanks aside; `..` at the end stands for the rest. What isn't shown to print anything has
           to end with status 0. A folder is kept from one block of a page to the next; the first one
-          holds examples/nested_interrupts, built, and so does that of an `sh` block whose sources
-          aren't in the page's folder. `cp -rT examples/..` begins at the top of the repository,
-          /tmp is a scratch folder, and $TOOLS is tools/. What follows `#` is printed only after
-          commands of tcd. Commands of the kit (`rt`) and tools that write or try the repository
-          aren't run.
+          holds examples/nested_interrupts, built. `cp -rT examples/..` begins at the top of the
+          repository, /tmp is a scratch folder, and $TOOLS is tools/. What follows `#` is printed
+          only after commands of tcd. Commands of the kit (`rt`) and tools that write or try the
+          repository aren't run.
 Files     A block after "`NAME` of `examples/EXAMPLE`:" has to be that file, comments aside.
 Pairs     A block that begins with two comments, `# LINE  # LINE`, has a broken and a mended program
           side by side. `cert`, or else `asm` or `link`, has to print the line above each.
@@ -21,7 +20,8 @@ Rows      In a row of a table, the text before `bad ..` or `events ..` has to gi
           is a change of the plan of the pairs (`without KEY`, or else a whole document), a turn
           script, a layout, or a source. Before `certified ..` it is a change of the plan that the
           page shows.
-Picture   docs/chain.svg has to be what tools/picture.py draws.
+Trees     A block that begins `frame areas need` has to be the longest chain of lower_context or
+          nested_interrupts, and docs/chain.svg what tools/picture.py draws.
 
 Exit status: 0 all is as shown, 1 something differs, 2 there is no such program, 5 wrong words.
 """
@@ -42,6 +42,7 @@ COMMAND = re.compile(r"(?:\$ |tcd |python3 |cp )")
 NOT_RUN = re.compile(r"^\W*(?:cd \S+ && )?rt |bench/|tools/(test|hostile|try_|rows|map|gate)", re.M)
 SHOWN_FILE = re.compile(r"`([\w.]+)` of `(examples/\w+)`:$")
 PAIR = re.compile(r"(# (?:refused|bad) .*?\S) {2,}(# .*)")
+TREE_HEAD, TREES = ["frame", "areas", "need"], ("lower_context", "nested_interrupts")
 #: the board of the pairs, as docs/code.md describes it
 LAYOUT = """entry main
 place t 80000000 00000200
@@ -191,12 +192,6 @@ class Page:
         status = done.returncode if not wanted else 0
         self.compare(shell, (status, printed), (0, wanted or printed))
 
-    def script(self, text):
-        """A whole script, in a folder that has its sources."""
-        if not all((self.folder / name).exists() for name in re.findall(r"\w+\.s\b", text)):
-            self.folder = self.scratch / "first"
-        self.command(text, "")
-
     def pair(self, found, lines):
         """A block of two programs side by side."""
         split = found.start(2)
@@ -234,10 +229,14 @@ class Page:
                 self.pair(found, lines[1:])
             elif lines[0].startswith("dispatch:"):
                 self.tail = "".join(f"{line}\n" for line in lines)
+            elif lines[0].split() == TREE_HEAD:
+                shown = [" ".join(line.replace("└", "").split()) for line in lines]
+                trees = (picture.page_on(self.program, name) for name in TREES)
+                self.compare(shown[1], shown in map(picture.tree, trees), True)
             elif NOT_RUN.search("\n".join(lines)):
                 continue
             elif fence == "sh":
-                self.script("\n".join(lines))
+                self.command("\n".join(lines), "")
             elif any(map(COMMAND.match, lines)):
                 for shell, wanted in shells(lines):
                     self.command(shell, wanted)
