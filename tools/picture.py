@@ -15,12 +15,13 @@ import tempfile
 
 import program as programs
 import scratch
-from view import View
 
 EXAMPLE, PICTURE = "nested_interrupts", "docs/chain.svg"
+#: what view.py is given after the program, before the sources
+FILES = ("firmware.elf", "board.json", "firmware.cert", "page.html", "board.layout")
 ROW = re.compile(r"<tr class=(p\d)><td><b>(\d+)</b><td>(.*?)<td>(.*?)<td>(.*)")
 PART = re.compile(r"<span class=(p\d) style=\"flex:(\d+)\" title=\"(.*?): \d+\">")
-COLOUR = re.compile(r"\.(p\d) \{ --c: (#\w+) \}")
+COLOURS = {"p0": "#64768a", "p1": "#1f66b0", "p2": "#9a5200", "p3": "#a8233c"}
 START = re.compile(r">([^<>]*) \(start\)<")
 HEADS = ("in use", "enters", "by", "from")
 COLUMNS = (20, 90, 240, 370)
@@ -34,7 +35,6 @@ def plain(piece):
 
 def svg(page):
     """The number, the bar and the chain of a page of view.py."""
-    colours = dict(COLOUR.findall(page))
     number = plain(re.search("<p class=head>(.*?)</p>", page)[1])
     rows, parts = ROW.findall(page), PART.findall(page)
     height = TOP + LINE * len(rows)
@@ -49,7 +49,7 @@ def svg(page):
         wide = int(count) * unit
         out.append(
             f'<rect x="{left:.0f}" y="48" width="{wide - 2:.0f}" height="{BAR}" '
-            f'fill="{colours[look]}"/><text x="{left + 8:.0f}" y="71" font-size="13" '
+            f'fill="{COLOURS[look]}"/><text x="{left + 8:.0f}" y="71" font-size="13" '
             f'fill="#fff">{plain(who)}: {count}</text>'
         )
         left += wide
@@ -57,7 +57,7 @@ def svg(page):
         out.append(f'<text x="{x}" y="{TOP - 18}" fill="#5b6670">{head}</text>')
     for place, (look, *cells) in enumerate(rows):
         y = TOP + LINE * place + 8
-        out.append(f'<rect x="20" y="{y - 15}" width="34" height="20" fill="{colours[look]}"/>')
+        out.append(f'<rect x="20" y="{y - 15}" width="34" height="20" fill="{COLOURS[look]}"/>')
         for column, (x, cell) in enumerate(zip(COLUMNS, cells)):
             look = ' fill="#fff" dx="9"' if column == 0 else ""
             out.append(f'<text x="{x}" y="{y}"{look}>{plain(cell)}</text>')
@@ -89,10 +89,9 @@ def page_on(program, example):
     with tempfile.TemporaryDirectory() as name:
         folder = pathlib.Path(name)
         scratch.built(program, example, folder)
-        files = [str(folder / each) for each in ("firmware.elf", "board.json", "firmware.cert")]
-        sources = [str(folder / each) for each in scratch.sources_of(example)]
-        page = View(program, *files, [str(folder / "board.layout"), *sources]).text()
-        return page.replace(f"{folder}/", "")
+        words = [sys.executable, str(scratch.TOP / "tools" / "view.py"), program, *FILES]
+        scratch.run([*words, *scratch.sources_of(example)], folder)
+        return (folder / "page.html").read_text()
 
 
 def drawn(program):
