@@ -21,7 +21,7 @@ EXAMPLE, PICTURE = "nested_interrupts", "docs/chain.svg"
 FILES = ("firmware.elf", "board.json", "firmware.cert", "page.html", "board.layout")
 ROW = re.compile(r"<tr class=(p\d)><td><b>(\d+)</b><td>(.*?)<td>(.*?)<td>(.*)")
 PART = re.compile(r"<span class=(p\d) style=\"flex:(\d+)\" title=\"(.*?): \d+\">")
-COLOURS = {"p0": "#64768a", "p1": "#1f66b0", "p2": "#9a5200", "p3": "#a8233c"}
+COLOURS = {"p0": "#4b5a6b", "p1": "#1f66b0", "p2": "#9a5200", "p3": "#a8233c"}
 START = re.compile(r">([^<>]*) \(start\)<")
 HEADS = ("in use", "enters", "by", "from")
 COLUMNS = (20, 90, 240, 370)
