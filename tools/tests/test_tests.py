@@ -6,6 +6,7 @@ import unittest
 TOOLS = pathlib.Path(__file__).resolve().parent.parent
 sys.path.insert(0, str(TOOLS))
 
+import picture
 import schema
 import test as whole
 import try_names
@@ -143,6 +144,23 @@ class Names(unittest.TestCase):
         for text in ("x" * 101, f"| {'x' * 201} |", "word " * 10 + "\n" + "word\n" * 1500):
             self.assertTrue([*try_names.form_faults(page, good + text)], text[:20])
         self.assertTrue([*try_names.form_faults(page, good.replace("For", "To"))])
+
+
+class Pictures(unittest.TestCase):
+    PAGE = """<p class=head><b>2</b> of 4 areas</p>
+<span class=p1 style="flex:2" title="interrupt 10: 2">2</span>
+<tr class=p1><td><b>1</b><td><a href=#f1>interrupt 10</a><td>interrupt<td>main <small>a.s:3</small>
+<tr class=p1><td><b>2</b><td><small>its lower context</small><td><code>svlcx</code><td>vector_10
+<a href=#f0>main (start)</a>"""
+
+    def test_a_tree(self):
+        lines = ["frame areas need", "start main 0 2", "irq 10 (svlcx) 2 1", "in all 2"]
+        self.assertEqual(picture.tree(self.PAGE), lines)
+
+    def test_a_drawing(self):
+        drawn = picture.svg(self.PAGE)
+        for text in ("2 of 4 areas", "interrupt 10: 2", "main a.s:3", "its lower context"):
+            self.assertIn(f">{text}</text>", drawn)
 
 
 class Pages(unittest.TestCase):
