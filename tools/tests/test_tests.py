@@ -1,11 +1,13 @@
 """Unit tests of the scripts that try the rest: test.py, schema.py and tools/try_*.py."""
 import pathlib
+import re
 import sys
 import unittest
 
 TOOLS = pathlib.Path(__file__).resolve().parent.parent
 sys.path.insert(0, str(TOOLS))
 
+import meanings
 import picture
 import schema
 import test as whole
@@ -144,6 +146,31 @@ class Names(unittest.TestCase):
         for text in ("x" * 101, f"| {'x' * 201} |", "word " * 10 + "\n" + "word\n" * 1500):
             self.assertTrue([*try_names.form_faults(page, good + text)], text[:20])
         self.assertTrue([*try_names.form_faults(page, good.replace("For", "To"))])
+
+
+class Errors(unittest.TestCase):
+    """docs/errors.md has each number that meanings.py has; 0 is said once, for all files."""
+
+    PARTS = {"bad link": "LINKING", "bad plan": "PLANS", "bad elf": "EXECUTABLES"}
+    PARTS |= {"bad cert": "BINARIES", "bad script": "SCRIPTS", "bad layout": "LAYOUTS"}
+    PARTS |= {"bad cells": "CELLS", "bad tasks": "TASKS", "refused boot": "BOOTS", "dead": "DEATHS"}
+
+    def setUp(self):
+        text = (TOOLS.parent / "docs" / "errors.md").read_text()
+        self.parts = re.findall(r"^## (.*?)\n(.*?)(?=^## |\Z)", text, re.M | re.S)
+
+    def test_headings(self):
+        heads = {head.partition(":")[0] for head, _ in self.parts}
+        wanted = {f"K{rule}" for rule in meanings.RULES}
+        wanted |= {f"bad source {rule}" for rule in meanings.SOURCES if rule != "0"}
+        self.assertEqual(wanted - heads, set())
+
+    def test_numbers(self):
+        for start, name in self.PARTS.items():
+            text = next(text for head, text in self.parts if head.startswith(start))
+            for number in getattr(meanings, name):
+                row = rf"^(?:\| |- \*\*)`?{number}\b"
+                self.assertTrue(number == "0" or re.search(row, text, re.M), (start, number))
 
 
 class Pictures(unittest.TestCase):
