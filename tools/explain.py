@@ -4,9 +4,10 @@
     explain.py [LAYOUT SOURCE..] [--json] -- tcd cert firmware.elf board.json firmware.cert
     explain.py --elf OTHER.elf [--json] -- tcd cert OTHER.elf board.json OTHER.cert
 
-LAYOUT and the SOURCEs are those of the executable, in the order in which they were linked; for
-`ship` they are taken from its own words. --elf reads the symbols of an executable that another
-linker wrote. Without any of these, addresses stay addresses.
+LAYOUT and the SOURCEs are those of the executable, in the order in which they were linked. If they
+don't link to it, no name is printed, and the status is 2. For `ship` they are taken from its own
+words. --elf reads the symbols of an executable that another linker wrote. Without any of these,
+addresses stay addresses.
 
 What the command printed comes first, as it is. If it refused, named a fault of a file, or printed
 a run that died, standard error gets a line `FILE:LINE: error: ..`, as editors and build logs read
@@ -18,15 +19,16 @@ With --json, standard output is one JSON object instead: command, status, printe
 which is null or has rule, file, line, text, address, function, frame, message, change, needed (the
 areas that would be enough) and notes (address, file, line, function and message of each).
 
-Exit status: that of the command; 2 if there is no such program, 5 if explain.py gets wrong words.
+Exit status: that of the command; 2 if there is no such program, if LAYOUT and SOURCEs aren't those
+of its executable, or if a file that it writes is one that is read; 5 wrong arguments.
 """
 import json
-import os
 import pathlib
 import re
 import sys
 import tempfile
 
+import arguments
 import causes
 import meanings
 import names
@@ -235,13 +237,7 @@ class Explainer:
         """The executable that was judged. `ship` writes none if it refuses: it is linked again."""
         if self.name != "ship":
             return self.word("ELF")
-        objects = []
-        for number, source in enumerate(self.words("SOURCE")):
-            objects.append(f"{folder}/{number}.o")
-            tcd.printed(self.command[0], "asm", source, objects[-1])
-        elf = f"{folder}/firmware.elf"
-        tcd.printed(self.command[0], "link", self.word("LAYOUT"), elf, *objects)
-        return elf
+        return names.linked(self.command[0], self.word("LAYOUT"), self.words("SOURCE"), folder)
 
     def boot(self, number, address):
         """A sequence of `bootgen` that isn't there."""
@@ -421,76 +417,106 @@ SHAPES = (
 )
 
 
-def names_of(words, command):
+def of_command(command, roles):
+    """The words of a command in these roles."""
+    explainer = Explainer(command, names.Map())
+    return [word for role in roles for word in explainer.words(role)]
+
+
+def demand_apart(given, command):
+    """Raises Unusable if a file that the command writes is one that it or explain.py reads."""
+    outputs = meanings.WRITTEN.get(command[1] if len(command) > 1 else "", ())
+    read = [role for role in meanings.READ if role not in outputs]
+    arguments.demand_apart(of_command(command, outputs), given + of_command(command, read))
+
+
+def demand_sources(given, command):
+    """Raises Unusable if LAYOUT and SOURCE.. aren't those of the command's executable or objects."""
+    layout, *paths = given
+    objects, elf = of_command(command, ["OBJECT"]), of_command(command, ["ELF"])
+    if command[1] == "link" and len(objects) == len(paths):
+        names.demand_objects(command[0], objects, paths)
+    elif command[1] not in ("asm", "link", "ship") and elf and pathlib.Path(elf[0]).exists():
+        names.demand(command[0], elf[0], layout, paths)
+
+
+def names_of(given, command):
     """The map and the sources that the words before `--` name, or those of `ship`."""
-    if words[:1] == ["--elf"]:
-        return names.read_elf(words[1]), []
-    if not words and command[1:2] == ["ship"] and len(command) > 6:
-        words = [command[3], *command[6:]]
-    if words:
-        return names.read(words[0], words[1:]), words[1:]
+    if given[:1] == ["--elf"]:
+        return names.read_elf(given[1]), []
+    if not given and command[1:2] == ["ship"] and len(command) > 6:
+        given = [command[3], *command[6:]]
+    if given:
+        return names.read(given[0], given[1:]), given[1:]
     return names.Map(), []
 
 
-def parsed(words):
-    """The words before `--` but --json, whether that is there, and the command; None if wrong."""
-    if "--" not in words or words.index("--") == len(words) - 1:
+def parsed(given):
+    """The words before `--` except --json, whether that is there, and the command; None if wrong."""
+    if "--" not in given or given.index("--") == len(given) - 1:
         return None
-    command, words = words[words.index("--") + 1 :], words[: words.index("--")]
-    rest = [word for word in words if word != "--json"]
+    command, own = given[given.index("--") + 1 :], given[: given.index("--")]
+    rest = [word for word in own if word != "--json"]
     is_elf = rest[:1] == ["--elf"]
     if (is_elf and len(rest) != 2) or (not is_elf and any(word[:1] == "-" for word in rest)):
         return None
-    return rest, "--json" in words, command
+    return (rest, "--json" in own, command) if len(rest) != 1 else None
 
 
-def explained(words, command):
-    """Runs the command: how it ended, the finding or None, and why there are no names or None."""
+def ran(given, command):
+    """Runs the command: how it ended."""
+    demand_apart(given, command)
+    return tcd.run(command[0], *command[1:])
+
+
+def found_of(given, command, done):
+    """The finding of a command that was run, or None, and why there are no names, or None."""
+    if given and given[0] != "--elf" and len(command) > 1:
+        demand_sources(given, command)
     known, paths, no_names = names.Map(), [], None
     try:
-        known, paths = names_of(words, command)
+        known, paths = names_of(given, command)
     except Unusable as e:
         no_names = str(e)
-        paths = words[1:] if words[:1] != ["--elf"] else []
-    done = tcd.run(command[0], *command[1:])
+        paths = given[1:] if given[:1] != ["--elf"] else []
     explainer = Explainer(command, known, paths)
-    return done, explainer.find(done.stdout.strip(), done.returncode), no_names
+    return explainer.find(done.stdout.strip(), done.returncode), no_names
 
 
-def main(words):
+def explained(given, command):
+    """Runs the command: how it ended, the finding or None, and why there are no names or None."""
+    done = ran(given, command)
+    return done, *found_of(given, command, done)
+
+
+def status_of(done):
+    """The exit status of a command, as a shell has it."""
+    return done.returncode if done.returncode >= 0 else 128 - done.returncode
+
+
+def main(given):
     """Reads the words, runs the command, and gives the exit status."""
-    before = words[: words.index("--")] if "--" in words else words
-    if "--help" in before or "-h" in before:
-        print(__doc__)
-        return 0
-    given = parsed(words)
+    given = parsed(given)
     if not given:
-        print("explain.py: needed are `--` and a command; see --help", file=sys.stderr)
-        return tcd.BAD_WORDS
-    words, is_json, command = given
-    try:
-        command = [tcd.found(command[0]), *command[1:]]
-        done, found, no_names = explained(words, command)
-    except Unusable as e:
-        print(e, file=sys.stderr)
-        return tcd.BAD_FILE
-    status = done.returncode if done.returncode >= 0 else 128 - done.returncode
+        raise arguments.WrongArguments("needed are `--` and a command, before it LAYOUT SOURCE.. or nothing")
+    own, is_json, command = given
+    command = [tcd.found(command[0]), *command[1:]]
+    done = ran(own, command)
     if is_json:
-        result = {"command": command, "status": status, "printed": done.stdout.strip()}
+        found, _ = found_of(own, command, done)
+        result = {"command": command, "status": status_of(done), "printed": done.stdout.strip()}
         print(json.dumps({**result, "finding": found}))
-        return status
+        return status_of(done)
     sys.stdout.write(done.stdout)
     sys.stdout.flush()
     sys.stderr.write(done.stderr)
+    found, no_names = found_of(own, command, done)
     if no_names and found and found["address"]:
         print(f"explain.py: no names: {no_names}", file=sys.stderr)
     for line in lines_of(found) if found else []:
         print(line, file=sys.stderr)
-    return status
+    return status_of(done)
 
 
 if __name__ == "__main__":
-    try:
-        sys.exit(main(sys.argv[1:]))
-    except BrokenPipeError:  # the reader, such as `head`, has seen enough
-        os._exit(0)
+    arguments.ended(__doc__, main)

@@ -1,23 +1,25 @@
 #!/usr/bin/env python3
 """Names of functions and lines of sources by address, which `tcd link` doesn't write into a file.
 
-    names.py LAYOUT SOURCE..                      prints the map, a line for each label:
+    names.py ELF LAYOUT SOURCE.. [--tcd PROGRAM]  prints the map, a line for each label:
                                                   ADDRESS NAME FILE:LINE
-    names.py LAYOUT SOURCE.. --at 80000034 ..     prints what is at each address:
-                                                  ADDRESS NAME+OFFSET FILE:LINE
-    names.py --elf FIRMWARE.ELF [--at ADDRESS ..] the same from the symbols (.symtab) of an
+    names.py ELF                                  the same from the symbols (.symtab) of an
                                                   executable that another linker wrote
+    names.py .. --at 80000034 ..                  prints what is at each address:
+                                                  ADDRESS NAME+OFFSET FILE:LINE
 
-Name the sources in the order in which their objects were linked. A section that begins without a
-label, as vectors mostly do, is called by its own name. A source that `asm` refuses has no
-addresses.
+Name all sources, in the order in which their objects were linked. tcd links them again in a scratch
+folder: if that doesn't give ELF, no name is printed. A section that begins without a label, as
+vectors mostly do, is called by its own name.
 
-Exit status: 0 done, 2 a file that can't be used, 5 wrong words.
+Exit status: 0 done, 2 a file or a program that can't be used, 5 wrong arguments.
 """
 import bisect
 import re
-import sys
+import tempfile
 
+import arguments
+import program as tcd
 import sources
 from sources import Unusable, shown
 
@@ -27,6 +29,7 @@ ELF_HEADER, SECTION_HEADER, SYMBOL = 52, 40, 16
 SYMBOL_TABLE, FIRST_RESERVED, ABSOLUTE = 2, 0xFF00, 0xFFF1
 NO_TYPE, OBJECT, FUNCTION = 0, 1, 2
 GLOBAL = 1
+NO_PROGRAM = "only tcd can show that these are the executable's sources; name it with --tcd"
 
 
 class Map:
@@ -100,6 +103,64 @@ def read(layout, paths):
     return Map(labels + [row for row in unnamed if row[0] not in known], rows)
 
 
+def made(program, *command):
+    """Runs a command of tcd that writes a file."""
+    done = tcd.run(program, *command)
+    if done.returncode:
+        why = tcd.why(done, command)
+        raise Unusable(f"{shown(command[1])}: no names, as `{command[0]}` prints: {why}")
+
+
+def assembled(program, paths, folder):
+    """Assembles sources in a folder: the paths of their objects."""
+    objects = [f"{folder}/{number}.o" for number in range(len(paths))]
+    for path, to in zip(paths, objects):
+        made(program, "asm", path, to)
+    return objects
+
+
+def linked(program, layout, paths, folder):
+    """Links sources in a folder: the path of the executable."""
+    elf = f"{folder}/linked.elf"
+    made(program, "link", layout, elf, *assembled(program, paths, folder))
+    return elf
+
+
+def demand(program, elf, layout, paths):
+    """Raises Unusable unless the layout and the sources link to an executable."""
+    with tempfile.TemporaryDirectory() as folder:
+        again = linked(program, layout, paths, folder)
+        is_same = sources.bytes_of(again) == sources.bytes_of(elf)
+    if not is_same:
+        listed = shown(" ".join(map(str, paths)))
+        raise Unusable(
+            f"{shown(elf)}: {shown(layout)} and {listed} don't link to it, so names would be "
+            "wrong: name all sources in linked order, or build it again"
+        )
+
+
+def demand_objects(program, objects, paths):
+    """Raises Unusable unless sources assemble to these objects."""
+    with tempfile.TemporaryDirectory() as folder:
+        again = [sources.bytes_of(path) for path in assembled(program, paths, folder)]
+    if again != [sources.bytes_of(path) for path in objects]:
+        raise Unusable(
+            f"{shown(' '.join(paths))}: these aren't the sources of {shown(' '.join(objects))} in "
+            "their order, so lines would be wrong"
+        )
+
+
+def of(program, elf, names_from):
+    """The names of an executable: from LAYOUT SOURCE.. that link to it, or from its symbols."""
+    if names_from:
+        demand(program, elf, names_from[0], names_from[1:])
+        return read(names_from[0], names_from[1:])
+    try:
+        return read_elf(elf)
+    except Unusable:
+        return Map()
+
+
 def number(data, at, size):
     """A little-endian number of a file's bytes."""
     return int.from_bytes(data[at : at + size], "little")
@@ -158,12 +219,6 @@ def read_elf(path):
     return Map((address, text, "", 0) for address, _, text in sorted(found))
 
 
-def wrong_words(text):
-    """Prints why the words can't be used."""
-    print(f"names.py: {text}; see --help", file=sys.stderr)
-    return 5
-
-
 def print_map(known, asked):
     """The whole map, or what is at the addresses that were asked for."""
     rows = [(at, label, source, line) for at, label, source, line in known.labels]
@@ -174,32 +229,27 @@ def print_map(known, asked):
         print(f"{at:08X} {shown(label)}{place}")
 
 
-def main(words):
-    """Reads the words, prints what is asked for, and gives the exit status."""
-    if words in (["--help"], ["-h"]):
-        print(__doc__)
-        return 0
-    asked = []
-    if "--at" in words:
-        words, asked = words[: words.index("--at")], words[words.index("--at") + 1 :]
-        if not asked or not all(re.fullmatch("(0x)?[0-9A-Fa-f]{1,8}", word) for word in asked):
-            return wrong_words("--at needs hexadecimal addresses after it")
-    is_elf = words[:1] == ["--elf"]
-    if is_elf and len(words) != 2:
-        return wrong_words("--elf needs one executable after it")
-    if not is_elf and (len(words) < 2 or words[0].startswith("-")):
-        return wrong_words("needed are a layout and sources, or --elf and an executable")
-    try:
-        known = read_elf(words[1]) if is_elf else read(words[0], words[1:])
-    except Unusable as e:
-        print(e, file=sys.stderr)
-        return 2
-    print_map(known, [int(word, 16) for word in asked])
-    return 0
+def address(word):
+    """An address of the words."""
+    if not re.fullmatch("(0x)?[0-9A-Fa-f]{1,8}", word):
+        raise ValueError(word)
+    return int(word, 16)
+
+
+def main(given):
+    """Prints what is asked for, and gives the exit status."""
+    parser = arguments.Parser("elf")
+    parser.add_names()
+    parser.add_argument("--at", nargs="+", type=address)
+    parser.add_argument("--tcd", default="tcd")
+    given = parser.parsed(given)
+    if given.names:
+        known = of(tcd.found(given.tcd, NO_PROGRAM), given.elf, given.names)
+    else:
+        known = read_elf(given.elf)
+    print_map(known, given.at)
+    return tcd.DONE
 
 
 if __name__ == "__main__":
-    try:
-        sys.exit(main(sys.argv[1:]))
-    except BrokenPipeError:  # the reader, such as `head`, has seen enough
-        sys.exit(0)
+    arguments.ended(__doc__, main)

@@ -9,11 +9,11 @@ from sources import Unusable, shown
 DONE, REFUSED, BAD_FILE, NO_FILE, NO_MEMORY, BAD_WORDS = range(6)
 
 
-def found(name):
+def found(name, more="README.md says how tcd is built"):
     """The path of a program."""
     path = shutil.which(name)
     if not path:
-        raise Unusable(f"{shown(name)}: no such program; README.md says how tcd is built")
+        raise Unusable(f"{shown(name)}: no such program; {more}")
     return path
 
 

@@ -18,24 +18,31 @@ FILES = "firmware.elf board.json firmware.cert --tcd P"
 #: for each script and status the words that end with it
 CASES = {
     "names.py": {
-        5: ["", "board.layout", "--at 80000000", "board.layout main.s --at xyz", "--elf"],
+        5: ["", "firmware.elf board.layout", "--at 80000000", "firmware.elf --at xyz"],
         2: [
-            "none.layout main.s",
-            "board.layout none.s",
-            "--elf none.elf",
-            "--elf firmware.elf",
-            "--elf cut.elf",
+            "firmware.elf none.layout main.s sum.s --tcd P",
+            "firmware.elf board.layout none.s --tcd P",
+            "firmware.elf board.layout sum.s main.s --tcd P",
+            "firmware.elf board.layout main.s sum.s --tcd none",
+            "none.elf",
+            "firmware.elf",
+            "cut.elf",
         ],
     },
     "explain.py": {
         5: ["", "board.layout main.s", "board.layout main.s --"],
-        2: ["board.layout main.s -- none cert firmware.elf board.json x.cert"],
+        2: [
+            "board.layout main.s -- none cert firmware.elf board.json x.cert",
+            "-- P cert firmware.elf board.json firmware.elf",
+        ],
     },
     "view.py": {
         5: ["", "P firmware.elf"],
         2: [
             "none firmware.elf board.json firmware.cert page.html",
             "P none.elf board.json firmware.cert page.html",
+            "P firmware.elf board.json firmware.cert page.html board.layout sum.s main.s",
+            "P firmware.elf board.json firmware.cert firmware.cert",
         ],
     },
     "worst_run.py": {
@@ -52,7 +59,9 @@ CASES = {
             f"{FILES} --cells none.cells",
             f"{FILES} --cells board.layout",
             f"{FILES} --names none.layout main.s",
-            f"{FILES} -o none/turns.script",
+            f"{FILES} --names board.layout sum.s main.s",
+            f"{FILES} -o none/worst.script",
+            f"{FILES} -o board.json",
         ],
     },
     "known.py": {

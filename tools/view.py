@@ -7,7 +7,7 @@ PROGRAM is tcd (`tcd` if it is on the path). PAGE is an HTML file that needs no 
 how many areas each priority takes, the chain of entries that takes the most, the frames by
 priority, the ways of each frame, and the listing. Names of functions and lines of sources come
 from LAYOUT and the SOURCEs, in the order in which they were linked, or from the symbols of an
-executable that another linker wrote. If Graphviz (`dot`) is installed, frames are drawn: all of
+executable that another linker wrote. Sources that don't link to ELF are refused. If Graphviz (`dot`) is installed, frames are drawn: all of
 them, or those of the longest chain if there are more than 100.
 
 If the certificate is refused or isn't there, `cert` is asked again: the page says what stands
@@ -16,12 +16,12 @@ chain that needs more areas than there are.
 
 The page is a picture and proves nothing: `check` of the certificate does.
 Exit status: 0 written, also if it shows a refusal; 2 a file or a program that can't be used, 5
-wrong words.
+wrong arguments.
 """
 import pathlib
-import sys
 import tempfile
 
+import arguments
 import explain
 import names
 import plans
@@ -33,24 +33,14 @@ from sources import Unusable, shown
 HERE = pathlib.Path(__file__).resolve().parent
 
 
-def map_of(elf, layout, paths):
-    """The names of an executable: from its sources, or else from its symbols, or none."""
-    if layout:
-        return names.read(layout, paths)
-    try:
-        return names.read_elf(elf)
-    except Unusable:
-        return names.Map()
-
-
 class View:
     """The page of one executable, from the files of the command."""
 
     def __init__(self, program, elf, plan, cert, names_from):
         self.program, self.elf, self.plan, self.cert = program, elf, plan, cert
-        layout, self.paths = (names_from[0], names_from[1:]) if names_from else (None, [])
+        self.paths = names_from[1:]
         listing = Listing(tcd.printed(program, "dis", elf)[0])
-        self.page = Page(map_of(elf, layout, self.paths), listing)
+        self.page = Page(names.of(program, elf, names_from), listing)
 
     def body(self):
         """The parts of the page, and the ids and names of those that the top links to."""
@@ -135,27 +125,16 @@ class View:
         )
 
 
-def main(words):
+def main(given):
     """Reads the words, writes the page, and gives the exit status."""
-    if "--help" in words or "-h" in words:
-        print(__doc__)
-        return 0
-    if len(words) < 5 or len(words) == 6 or any(word.startswith("-") for word in words):
-        told = "view.py: needed are PROGRAM ELF PLAN CERT PAGE, and then LAYOUT SOURCE.. or nothing"
-        print(f"{told}; see --help", file=sys.stderr)
-        return tcd.BAD_WORDS
-    name, elf, plan, cert, to, *names_from = words
-    try:
-        text = View(tcd.found(name), elf, plan, cert, names_from).text()
-        pathlib.Path(to).write_text(text, encoding="utf-8", errors="backslashreplace")
-    except Unusable as e:
-        print(e, file=sys.stderr)
-        return tcd.BAD_FILE
-    except OSError as e:
-        print(f"{shown(e.filename)}: {e.strerror}", file=sys.stderr)
-        return tcd.BAD_FILE
-    return 0
+    parser = arguments.Parser("program", "elf", "plan", "cert", "page")
+    parser.add_names()
+    given = parser.parsed(given)
+    files = given.elf, given.plan, given.cert
+    arguments.demand_apart([given.page], [*files, *given.names])
+    arguments.written(given.page, View(tcd.found(given.program), *files, given.names).text())
+    return tcd.DONE
 
 
 if __name__ == "__main__":
-    sys.exit(main(sys.argv[1:]))
+    arguments.ended(__doc__, main)

@@ -1,7 +1,7 @@
 #!/usr/bin/env python3
 """Looks for a run that takes as many context save areas as the certificate says.
 
-    worst_run.py ELF PLAN CERT [-o turns.script] [--seconds 60] [--seed 1] [--tcd PROGRAM]
+    worst_run.py ELF PLAN CERT [-o worst.script] [--seconds 60] [--seed 1] [--tcd PROGRAM]
                  [--in DEVICE LO HI ..] [--cells FILE | --tasks FILE TASK]
                  [--names LAYOUT SOURCE ..]
 
@@ -16,105 +16,45 @@ here has to be trusted: what counts is the line that `tcd run` prints.
     --cells FILE          the certificate is one of `cellcert`, for these cells
     --tasks FILE TASK     the certificate is that of a task, from 0, of `taskcert`; it is played
                           alone, in its view: each word of ram may hold anything when it is read
-    --names LAYOUT ..     the layout and the sources, for names in what is printed
-    --seed N              another choice of what is tried; times differ much
+    --names LAYOUT ..     the layout and the sources, for names in what is printed; sources that
+                          don't link to ELF are refused
+    --seed N              another choice of what is tried; times differ much. One seed gives one
+                          script, if N is reached in the time
 
 The search is random: it fires interrupts where an entry can still lead to N, others for what their
 handlers change, and lets the devices answer what the code compares with. What needs several words
 in a row from a device, exact words from it at several places, or long counting, may not be found in
 a minute. A script has 100,000 turns, so a longer start hides all after it.
 
-Exit status: 0 reached N, 1 not reached, 2 a file or program that can't be used, 5 wrong words.
+Exit status: 0 reached N, 1 not reached, 2 a file or program that can't be used, 5 wrong arguments.
 """
-import argparse
 import json
-import pathlib
 import re
-import shutil
-import subprocess
 import sys
 import tempfile
 import time
 
-import hostile_readers as readers
+import arguments
+import judged
 import names
+import program as tcd
 import worst_graph
 import worst_machine
 import worst_search
+from sources import Unusable, shown
 
-NO_FILE = 3
 MOST_POINTS = 8
 
 
-class Unusable(Exception):
-    """A file or a program that can't be used, and why."""
-
-
-class Firmware:
-    """What is certified, and what `tcd run` plays. They differ where cells are devices."""
-
-    def __init__(self, given, folder):
-        self.program, self.folder = shutil.which(given.tcd), pathlib.Path(folder)
-        if not self.program:
-            raise Unusable(f"{given.tcd}: no such program; name it with --tcd")
-        self.elf, self.plan, self.certified_plan = given.elf, given.plan, given.plan
-        self.image = read(given.elf, readers.elf)
-        self.board = read(given.plan, readers.plan)
-        if given.cells:
-            found = read(given.cells, lambda data: readers.cells(data, self.board))
-            self.certified_plan = self.put("plan", readers.with_cells(self.board, found))
-        elif given.tasks:
-            self.view(*given.tasks)
-
-    def put(self, name, board):
-        path = self.folder / f"{name}.json"
-        path.write_text(json.dumps(board))
-        return str(path)
-
-    def view(self, file, task):
-        """Takes the view of a task in place of the whole."""
-        found = read(file, lambda data: readers.tasks(data, self.board))
-        if task not in [str(u) for u in range(len(found[2]))]:
-            raise Unusable(f"--tasks {file} {task}: it has the tasks 0 to {len(found[2]) - 1}")
-        fault = readers.routine_fault(self.image, self.board, found)
-        if fault is not None:
-            raise Unusable(f"{self.elf}: the switch routine isn't there, see {fault:08X}")
-        elf = readers.view_image(self.image, found, int(task))
-        self.board = readers.view_plan(self.board, found, int(task))
-        self.image, self.elf = readers.elf(elf), str(self.folder / "view.elf")
-        pathlib.Path(self.elf).write_bytes(elf)
-        self.plan = self.certified_plan = self.put("view", self.board)
-
-    def printed(self, *words):
-        """What a command of tcd prints, which has to end with status 0."""
-        settings = {"capture_output": True, "text": True, "errors": "replace"}
-        done = subprocess.run([self.program, *words], **settings)
-        if done.returncode:
-            missing = [word for word in words[1:] if not pathlib.Path(word).exists()]
-            why = done.stdout.strip() or done.stderr.strip() or f"status {done.returncode}"
-            if done.returncode == NO_FILE and missing:
-                why = f"not there: {', '.join(missing)}"
-            raise Unusable(f"{' '.join(words)}: {why}")
-        return done.stdout
-
-    def graph(self, cert, name_at):
-        """The graph of the certificate."""
-        report = self.printed("report", self.elf, self.certified_plan, cert)
-        cfg = self.printed("cfg", self.elf, self.certified_plan)
-        try:
-            return worst_graph.Graph(json.loads(report), cfg, self.board, name_at)
-        except (worst_graph.Unreadable, ValueError, KeyError) as e:
-            raise Unusable(f"{cert}: `report` and `cfg` don't fit: {e}") from None
-
-
-def read(path, reader):
-    """A file by its reader."""
+def graph_of(firmware, cert, name_at):
+    """The graph of the certificate."""
+    report, is_refused = firmware.report(cert)
+    if is_refused:
+        raise Unusable(f"{shown(cert)}: {report.strip()}")
     try:
-        return reader(pathlib.Path(path).read_bytes())
-    except OSError as e:
-        raise Unusable(f"{path}: {e.strerror}") from None
-    except readers.Bad as e:
-        raise Unusable(f"{path}: bad {e} (docs/refusals.md says what it means)") from None
+        return worst_graph.Graph(json.loads(report), firmware.edges(), firmware.board(), name_at)
+    except (worst_graph.Unreadable, ValueError, KeyError) as e:
+        raise Unusable(f"{shown(cert)}: `report` and `cfg` don't fit: {e}") from None
 
 
 def fixed_answers(given, board):
@@ -148,27 +88,11 @@ def script_of(best, board, devices_read):
     return "\n".join(lines) + "\n"
 
 
-def written(path, text):
-    try:
-        pathlib.Path(path).write_text(text)
-    except OSError as e:
-        raise Unusable(f"{path}: {e.strerror}") from None
-
-
 # What no run has done
 
 
-def name_of(given):
+def name_of(known):
     """A function that names an address."""
-    known = None
-    try:
-        if given.names:
-            known = names.read(given.names[0], given.names[1:])
-        else:
-            known = names.read_elf(given.elf)
-    except names.Unusable as e:
-        if given.names:
-            raise Unusable(str(e)) from None
     return lambda at: f"{known.name(at)} ({at:08X})" if known else f"{at:08X}"
 
 
@@ -230,42 +154,32 @@ def why_not(search, name):
     yield "More time (--seconds), another --seed or what a device answers (--in) may find a run."
 
 
-# The words
+# The arguments
 
 
-def parsed(words):
-    parser = argparse.ArgumentParser(add_help=False, usage=argparse.SUPPRESS)
-    for name in ("elf", "plan", "cert"):
-        parser.add_argument(name)
-    parser.add_argument("-o", "--out", default="turns.script")
+def parsed(given):
+    parser = arguments.Parser("elf", "plan", "cert")
+    parser.add_argument("-o", "--out", default="worst.script")
     parser.add_argument("--seconds", type=float, default=60)
     parser.add_argument("--seed", type=int, default=1)
     parser.add_argument("--in", dest="answers", nargs=3, type=int, action="append", default=[])
-    parser.add_argument("--names", nargs="+", default=[])
+    parser.add_names("--names")
     parser.add_argument("--tcd", default="tcd")
-    views = parser.add_mutually_exclusive_group()
-    views.add_argument("--cells")
-    views.add_argument("--tasks", nargs=2)
-    parser.error = wrong_words
-    return parser.parse_args(words)
+    judged.add_to(parser)
+    return parser.parsed(given)
 
 
-def wrong_words(text):
-    print(f"worst_run.py: {text}; see --help", file=sys.stderr)
-    sys.exit(5)
-
-
-def searched(given, folder):
+def searched(given, firmware, known):
     """Searches, writes the script, plays it, and prints what was reached. Gives the status."""
-    began, firmware = time.monotonic(), Firmware(given, folder)
-    name, fixed = name_of(given), fixed_answers(given, firmware.board)
-    world = worst_machine.World(firmware.image, firmware.board)
-    world.graph = graph = firmware.graph(given.cert, world.name_at)
+    began, board = time.monotonic(), firmware.board()
+    fixed = fixed_answers(given, board)
+    world = worst_machine.World(firmware.image(), board)
+    world.graph = graph = graph_of(firmware, given.cert, world.name_at)
     search = worst_search.Search(world, given.seconds, given.seed, fixed)
     search.go()
-    nothing = 1, None, tuple((d["lo"], d["lo"]) for d in firmware.board["devices"])
-    written(given.out, script_of(world.best or nothing, firmware.board, world.learned.read))
-    line = firmware.printed("run", firmware.elf, firmware.plan, given.out).strip()
+    nothing = 1, None, tuple((d["lo"], d["lo"]) for d in board["devices"])
+    arguments.written(given.out, script_of(world.best or nothing, board, world.learned.read))
+    line = tcd.printed(firmware.program, "run", firmware.elf, firmware.played, given.out)[0].strip()
     peak = int(re.search(r"peak (\d+)", line)[1])
     print(f"reached {peak} of {graph.areas}")
     took = time.monotonic() - began
@@ -273,22 +187,20 @@ def searched(given, folder):
     if peak != world.peak:
         print(f"Its own machine counted {world.peak}: a fault of worst_run.py", file=sys.stderr)
     if peak < graph.areas:
-        print("\n".join(why_not(search, name)), file=sys.stderr)
-    return 0 if peak >= graph.areas else 1
+        print("\n".join(why_not(search, name_of(known))), file=sys.stderr)
+    return tcd.DONE if peak >= graph.areas else tcd.REFUSED
 
 
-def main(words):
-    if words in (["--help"], ["-h"]):
-        print(__doc__)
-        return 0
-    given = parsed(words)
-    try:
-        with tempfile.TemporaryDirectory() as folder:
-            return searched(given, folder)
-    except Unusable as e:
-        print(e, file=sys.stderr)
-        return 2
+def main(given):
+    given = parsed(given)
+    files = [given.elf, given.plan, given.cert, given.cells, *(given.tasks or [])[:1]]
+    arguments.demand_apart([given.out], [*files, *given.names])
+    program = tcd.found(given.tcd, "name it with --tcd")
+    known = names.of(program, given.elf, given.names)
+    with tempfile.TemporaryDirectory() as folder:
+        firmware = judged.Judged(program, *files[:2], folder, given.cells, given.tasks)
+        return searched(given, firmware, known)
 
 
 if __name__ == "__main__":
-    sys.exit(main(sys.argv[1:]))
+    arguments.ended(__doc__, main)

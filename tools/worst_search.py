@@ -21,8 +21,9 @@ MOST_KEPT, MOST_AT_PLACE, MOST_IN_GROUP = 1500, 300, 8
 MOST_GROUPS, MOST_CONTENTS = 1000, 20000
 #: events that a fired interrupt is followed for, and a handler that is fired for what it changes
 FOLLOWED, RETURNS = 600, 5000
-#: trials that go on side by side
+#: trials that go on side by side, and the events of a slice of one: some tenths of a second
 MOST_TRIALS = 24
+SLICE, FIRST_SLICE = 40000, 60000
 
 
 class Kept:
@@ -405,10 +406,10 @@ class Search:
         return trial
 
     def slice(self, trial):
-        """Works on a trial for some tenths of a second."""
+        """Works on a trial for some events: by the clock, a seed would give other scripts."""
         trial.slices += 1
         covered = len(trial.covered)
-        until = time.monotonic() + (0.2 if trial.slices > 3 else 0.3)
-        while time.monotonic() < until:
+        until = self.steps + (SLICE if trial.slices > 3 else FIRST_SLICE)
+        while self.steps < until:
             self.tried(trial, trial.walk)
         trial.rate = 0.7 * trial.rate + 0.3 * (len(trial.covered) - covered)

@@ -52,29 +52,96 @@ class Read(beside.InFolder):
         path = self.put("s.s", ".section t\nzeta:\nalpha: nop\n")
         self.assertEqual(names.read("l", [path]).name(0x80000004), "zeta+4")
 
-    def test_the_script(self):
-        done = self.script("names.py", "l", "one.s", "two.s", "--at", "80000004", "0x8000000a")
-        self.assertEqual(done.stdout, "80000004 main+4 one.s:3\n8000000A f+2 two.s:2\n")
-        done = self.script("names.py", "l", "one.s", "two.s")
-        self.assertEqual(done.stdout.splitlines()[0], "80000000 main one.s:2")
-
     def test_faults_of_the_script(self):
         for words, status in (
             (["--help"], 0),
             ([], 5),
-            (["l"], 5),
-            (["l", "one.s", "--at"], 5),
-            (["l", "one.s", "--at", "main"], 5),
-            (["--elf"], 5),
-            (["--elf", "l"], 2),
-            (["--elf", "none"], 2),
-            (["none", "one.s"], 2),
-            (["l", "none.s"], 2),
-            ([".", "one.s"], 2),
+            (["f.elf", "l"], 5),
+            (["f.elf", "--at"], 5),
+            (["f.elf", "--at", "main"], 5),
+            (["f.elf", "--wrong"], 5),
+            (["l"], 2),
+            (["none"], 2),
+            (["f.elf", "l", "one.s", "--tcd", "./none"], 2),
         ):
             done = self.script("names.py", *words)
             self.assertEqual(done.returncode, status, words)
             self.assertEqual(len(done.stderr.splitlines()), int(status != 0), words)
+
+
+@beside.needs_program
+class OfTheExecutable(beside.InFolder):
+    """Names come only from the sources that link to the executable."""
+
+    files = ("firmware.elf", "board.json", "firmware.cert")
+
+    def setUp(self):
+        super().setUp()
+        self.sources = self.example("nested_interrupts")
+        self.linked(self.sources)
+        self.tcd("cert", "firmware.elf", "board.json", "firmware.cert")
+        self.names_from = ["board.layout", *self.sources]
+        self.put("other.s", ".section text\nf: nop nop\n")
+
+    def printed(self, *names_from, at=("80000034", "0x8000000a")):
+        words = ["firmware.elf", *names_from, "--tcd", beside.program()]
+        return self.script("names.py", *words, *(["--at", *at] if at else []))
+
+    def test_the_script(self):
+        found = self.printed(*self.names_from).stdout
+        self.assertEqual(found, "80000034 count handlers.s:35\n8000000A work+2 main.s:10\n")
+        first = self.printed(*self.names_from, at=()).stdout.splitlines()[0]
+        self.assertEqual(first, "80000000 main main.s:6")
+
+    def test_other_sources(self):
+        layout, *paths = self.names_from
+        for words, told in (
+            ([layout, *reversed(paths)], "don't link to it"),
+            ([layout, paths[0]], "don't link to it"),
+            ([layout, *paths, paths[0]], "`link` prints: bad link 1 name main"),
+            ([layout, "other.s"], "other.s: no names, as `asm` prints: bad source 3 at 0 2"),
+            ([layout, "none.s"], "none.s: no names"),
+            (["none.layout", *paths], "none.layout: no names"),
+            ([".", *paths], ".: no names"),
+        ):
+            done = self.printed(*words)
+            self.assertEqual((done.returncode, done.stdout), (2, ""), words)
+            self.assertIn(told, done.stderr)
+            self.assertEqual(len(done.stderr.splitlines()), 1, words)
+
+    def test_each_script_asks_the_same(self):
+        swapped, files = ["board.layout", *reversed(self.sources)], self.files
+        for script, words in (
+            ("explain.py", [*swapped, "--", beside.program(), "check", *files]),
+            ("view.py", [beside.program(), *files, "page.html", *swapped]),
+            ("worst_run.py", [*files, "--tcd", beside.program(), "--names", *swapped]),
+        ):
+            done = self.script(script, *words)
+            self.assertEqual(done.returncode, 2, script)
+            self.assertIn("don't link to it", done.stderr)
+            self.assertEqual(len(done.stderr.splitlines()), 1, script)
+            self.assertFalse((self.folder / "page.html").exists())
+            self.assertFalse((self.folder / "worst.script").exists())
+
+    def test_objects_of_other_sources(self):
+        objects = [f"{path[:-2]}.o" for path in self.sources]
+        link = ["--", beside.program(), "link", "board.layout", "f.elf"]
+        for words, status in ((objects, 0), (objects[::-1], 2)):
+            done = self.script("explain.py", *self.names_from, *link, *words)
+            self.assertEqual((done.returncode, bool(done.stderr)), (status, status != 0), words)
+
+    def test_an_output_that_is_an_input(self):
+        for script, words in (
+            ("view.py", [beside.program(), *self.files, "./board.json"]),
+            ("view.py", [beside.program(), *self.files, "main.s", *self.names_from]),
+            ("worst_run.py", [*self.files, "--tcd", beside.program(), "-o", "firmware.cert"]),
+            ("explain.py", ["--", beside.program(), "asm", "main.s", "main.s"]),
+            ("explain.py", ["--", beside.program(), "cert", *self.files[:2], "board.json"]),
+        ):
+            done = self.script(script, *words)
+            self.assertEqual((done.returncode, done.stdout), (2, ""), words)
+            self.assertIn("the output is also an input", done.stderr)
+            self.assertEqual(len(done.stderr.splitlines()), 1, words)
 
 
 def elf_with(symbols):

@@ -128,7 +128,7 @@ class Pages(beside.InFolder):
 
     def page(self, known=None, elf=ELF):
         """The page of what the commands print, read and looked at."""
-        with mock.patch("view.map_of", return_value=known or names.Map()):
+        with mock.patch("names.of", return_value=known or names.Map()):
             return self.looked_at(view.View(PROGRAM, elf, PLAN, CERT, []).text())
 
     def looked_at(self, text):
