@@ -11,6 +11,7 @@ import pathlib
 import re
 import tempfile
 
+import origins
 import plans
 import program as tcd
 from frames import TARGET, WORD, Key, Listing, Step, built_addresses, hex8, key_of
@@ -62,6 +63,44 @@ class Tables:
                 break
             found.append(hex8(word & ~1))
         return list(dict.fromkeys(found))
+
+    def entries(self, at, devices):
+        """The addresses and the words of the table of an indirect call, as far as its index goes.
+
+        The index may be bounded by an `and` before the call or by a device from which it is loaded.
+        If neither is found, the table goes on to the next address that code builds.
+        """
+        section, place = self.where[at]
+        kind, address = self.value(self.listing.texts[at].split(" ")[-1], section, place)
+        bound = self.bound(section, place, devices) or TABLE
+        for number in range(bound if kind == "table" else 0):
+            word = self.word(address + 4 * number)
+            if word is None or (number and bound == TABLE and address + 4 * number in self.begins):
+                return
+            yield address + 4 * number, word
+
+    def bound(self, section, place, devices):
+        """How many words the index before an indirect call may name, or None."""
+        lines = self.listing.sections[section][1]
+        scaled = next(
+            (back for back in range(place - 1, max(-1, place - 1 - LOOK_BACK), -1)
+             if lines[back].text.startswith("addsc.a")), None,
+        )  # fmt: skip
+        if scaled is None:
+            return 1
+        index = origins.parts(lines[scaled].text)[1][2]
+        writer = origins.last_writer(self.listing, lines, scaled, index)
+        if writer is None:
+            return None
+        word, operands = origins.parts(lines[writer].text)
+        if word == "and" and operands[-1].isdecimal():
+            return int(operands[-1]) + 1
+        if word.startswith("ld.w") and (base := MEMORY.search(operands[-1])):
+            kind, address = self.value(base[1], section, writer)
+            for device in devices if kind == "address" else ():
+                if plans.number(device["at"]) == address + int(base[2] or 0) & WORD:
+                    return plans.number(device["hi"]) + 1
+        return None
 
     def value(self, register, section, place):
         """What a register holds before an instruction: an address, or a word of a table there."""
@@ -238,6 +277,30 @@ class Walk:
         return min(lowers, default=None)
 
 
+#: a call that may enter an address, and the word of its table that is this address, or None
+Caller = collections.namedtuple("Caller", "point entry")
+
+
+def callers(listing, plan, entry, key):
+    """The calls of a frame's priority that may enter it by the listing; no `call` twice."""
+    try:
+        walk = Walk(listing, plan, entry)
+    except (KeyError, ValueError, TypeError, AttributeError):
+        return []
+    found = {}
+    for frame, point in walk.states:
+        if frame.prio != key.prio or listing.word(point) not in CALLS:
+            continue
+        if listing.word(point) != "calli":
+            if listing.target(point) == key.entry:
+                found[point] = None
+            continue
+        for at, word in walk.tables.entries(point, plan["devices"]):
+            if hex8(word & ~1) == key.entry:
+                found.setdefault(point, at)
+    return [Caller(*each) for each in sorted(found.items())]
+
+
 #: the steps by which a frame leads back to itself, and the point that lowers a priority, or None
 Ring = collections.namedtuple("Ring", "steps lowering", defaults=((), None))
 
@@ -256,6 +319,12 @@ def ring(listing, plan, entry, key, address):
 def entry_of(elf):
     """The entry of an executable, as an address."""
     return hex8(int.from_bytes(bytes_of(elf)[24:28], "little"))
+
+
+def callers_of(program, elf, plan, key):
+    """The calls that may enter a frame, from the files of the command."""
+    listing = Listing(tcd.printed(program, "dis", elf)[0])
+    return callers(listing, plans.read(plan), entry_of(elf), key)
 
 
 def ring_of(program, elf, plan, key, address):

@@ -36,7 +36,7 @@ import origins
 import plans
 import program as tcd
 import sources
-from frames import Listing, key_of
+from frames import Listing, hex8, key_of
 from sources import Unusable, shown
 
 #: the commands that judge a certificate which is given, and what may be wrong with it
@@ -163,6 +163,7 @@ class Explainer:
         meaning, more = meanings.BY_FRAME.get((rule, key.kind), meaning), {}
         if rule == "3" and address == key.entry and key.kind in meanings.NO_CODE_AT_ENTRY:
             meaning = meanings.NO_CODE_AT_ENTRY[key.kind]
+            more = self.callers(key) if key.kind == "call" else {}
         if rule == "14" and not task:
             meaning, more = self.no_areas(address, key)
         if rule in ON_ADDRESSES:
@@ -175,7 +176,8 @@ class Explainer:
         if self.name in GIVEN and meaning.change and AGAIN not in meaning.change:
             meaning = meanings.Meaning(meaning.means, meaning.change + OLDER)
         frame = frame_name(key, self.known)
-        return finding(f"K{rule}", meaning, message, frame=frame, **self.at(address), **more)
+        place = {**self.at(address), **more}
+        return finding(f"K{rule}", meaning, message, frame=frame, **place)
 
     def no_areas(self, address, key):
         """Which of the causes of rule 14 it is, with the ring or the number of areas."""
@@ -194,6 +196,29 @@ class Explainer:
             message = "the handler lowers the priority below its own"
             notes.append(self.note(self.ring.lowering, message))
         return meaning, {"notes": notes}
+
+    def callers(self, key):
+        """Notes on the calls that may enter a frame without code; the fault is at the first."""
+        notes = []
+        for point, entry in self.by_listing(causes.callers_of, key) or []:
+            message = "this address is called"
+            if entry is not None:
+                word = f"the word at {self.known.name(entry)} ({hex8(entry)})"
+                message = f"`calli` may take {word} of its table, which is {key.entry}"
+            notes.append(self.note(point, message))
+        if not notes:
+            return {}
+        return {"notes": notes, "file": notes[0]["file"], "line": notes[0]["line"]}
+
+    def by_listing(self, search, *more):
+        """What a search of causes.py finds in the executable, or None if it can't be read."""
+        if self.name not in (*JUDGES, "cellcert", "cells"):
+            return None
+        with tempfile.TemporaryDirectory() as folder:
+            try:
+                return search(self.command[0], self.executable(folder), self.word("PLAN"), *more)
+            except Unusable:
+                return None  # the command that refused could read its files: they changed since
 
     def usable(self):
         """How many areas the plan has without the reserve."""
@@ -222,16 +247,10 @@ class Explainer:
         """Looks for the ring, or for the number of areas that would be enough."""
         if self.name not in JUDGES:
             return
-        with tempfile.TemporaryDirectory() as folder:
-            try:
-                elf = self.executable(folder)
-                if key.kind == "start":
-                    self.roomy = causes.needed(self.command[0], elf, self.word("PLAN"))
-                else:
-                    files = self.command[0], elf, self.word("PLAN")
-                    self.ring = causes.ring_of(*files, str(key), address)
-            except Unusable:
-                pass  # the command that refused could read its files: they changed since
+        if key.kind == "start":
+            self.roomy = self.by_listing(causes.needed)
+        else:
+            self.ring = self.by_listing(causes.ring_of, str(key), address) or self.ring
 
     def executable(self, folder):
         """The executable that was judged. `ship` writes none if it refuses: it is linked again."""
@@ -259,6 +278,12 @@ class Explainer:
         paths = self.words("SOURCE")
         path = paths[int(file)] if int(file) < len(paths) else None
         meaning = meanings.SOURCES.get(number, UNKNOWN)
+        if number == "1" and line:
+            code = sources.raw_line(path, int(line)).split("#")[0]
+            meaning = next((each for mark, each in meanings.SEEN.items() if mark in code), meaning)
+            bad = code[meanings.SOURCE_CHARACTERS.match(code).end() :][:1]
+            if bad and meaning is meanings.SOURCES["1"]:
+                meaning = meanings.Meaning(f"`{bad}` in a line, which no line may have")
         return finding(f"source {number}", meaning, file=path, line=int(line) if line else None)
 
     def lined(self, kind, number, line):
@@ -272,6 +297,8 @@ class Explainer:
         meaning, file = table.get(number, UNKNOWN), self.word(role)
         if kind == "layout" and number == "1" and self.is_after_last(file, int(line or 0)):
             meaning = meanings.NO_ENTRY
+        elif number == "1" and sources.raw_line(file, int(line or 0)).endswith("\r"):
+            meaning = meanings.CARRIAGE_RETURN
         return finding(f"{kind} {number}", meaning, file=file, line=int(line) if line else None)
 
     @staticmethod

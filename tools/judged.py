@@ -5,13 +5,12 @@ which each cell is a device, for one of `taskcert` the executable and the plan o
 """
 import json
 import pathlib
+import tempfile
 
 import hostile_readers as readers
 import program as tcd
 from frames import Graph, Listing
 from sources import Unusable, bytes_of, shown
-
-NO_CELLS_OR_TASKS = {"cells": None, "tasks": None}
 
 
 def add_to(parser):
@@ -79,11 +78,24 @@ class Judged:
         return read(self.played, readers.plan)
 
     def told(self, cert):
-        """What the certificate's own command says, and whether it refuses; None for one task."""
-        if self.tasks:
+        """The line of `cells` on a certificate, and whether it refuses; None without cells."""
+        if not self.cells:
             return None, False
-        words = ["cells", *self.given, self.cells] if self.cells else ["check", *self.given]
-        return tcd.printed(self.program, *words, cert)
+        line, is_refused = tcd.printed(self.program, "cells", *self.given, self.cells, cert)
+        return line.strip(), is_refused
+
+    def made_again(self, cert):
+        """The command that makes the certificate, its line in a scratch folder, whether it refuses."""
+        command, certs = ["cert", *self.given], [cert]
+        if self.cells:
+            command = ["cellcert", *self.given, self.cells]
+        elif self.tasks:
+            command = ["taskcert", *self.given, self.tasks[0]]
+            certs = [f"{task}.cert" for task in range(self.tasks[2])]
+        with tempfile.TemporaryDirectory() as folder:
+            scratch = [f"{folder}/{number}" for number in range(len(certs))]
+            line, is_refused = tcd.printed(self.program, *command, *scratch)
+        return [self.program, *command, *certs], line.strip(), is_refused
 
     def report(self, cert):
         """What `report` prints of a certificate, and whether it refuses."""

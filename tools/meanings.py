@@ -4,6 +4,7 @@ Each table is keyed by the number or the word of the printed line. tools/tests c
 with the printed forms of docs/formats.md; docs/refusals.md says more, with an example of each.
 """
 import collections
+import re
 
 #: what a line means, and what people change (None if the meaning says it)
 Meaning = collections.namedtuple("Meaning", "means change", defaults=(None,))
@@ -223,6 +224,19 @@ SOURCES = {
         "`.global` of a name that this source never defines", "define it, or drop the line"
     ),
 }
+
+CARRIAGE_RETURN = Meaning(
+    "the line ends with a carriage return", r"end lines with a line feed alone: `tr -d '\r'`"
+)
+#: `bad source 1`, by what is seen in the line
+SEEN = {
+    "\r": CARRIAGE_RETURN,
+    "%": Meaning("`%` in a line", "write registers without `%`"),
+    ";": Meaning("`;` in a line", "begin comments with `#`"),
+    "//": Meaning("`//` in a line", "begin comments with `#`"),
+}
+#: what a line of a source may have outside of comments
+SOURCE_CHARACTERS = re.compile(r"[A-Za-z0-9_.$:,+\[\]\- \t]*")
 
 #: `bad link N ..`
 LINKING = {

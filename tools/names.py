@@ -27,6 +27,8 @@ from sources import Unusable, shown
 NEAR = 1 << 20
 ELF_HEADER, SECTION_HEADER, SYMBOL = 52, 40, 16
 SYMBOL_TABLE, FIRST_RESERVED, ABSOLUTE = 2, 0xFF00, 0xFFF1
+#: a section of the file's bytes, and flags: it is in memory, and it is code
+PROGRAM_BITS, CODE_FLAGS = 1, 2 | 4
 NO_TYPE, OBJECT, FUNCTION = 0, 1, 2
 GLOBAL = 1
 NO_PROGRAM = "only tcd can show that these are the executable's sources; name it with --tcd"
@@ -191,14 +193,31 @@ def symbol_tables(headers, data):
             yield range(at, at + length - SYMBOL + 1, size), texts
 
 
+def code_sections(path):
+    """The address and the name of each section of an executable that has code, as vectors have."""
+    data = sources.bytes_of(path)
+    headers, last = section_headers(path, data), number(data, 50, 2)
+    if last >= len(headers):
+        return []
+    texts = data[headers[last][4] : headers[last][4] + headers[last][5]]
+    code = [h for h in headers if h[1] == PROGRAM_BITS and h[2] & CODE_FLAGS == CODE_FLAGS]
+    named = [(h[3], text_at(texts, h[0])) for h in code]
+    return [(at, name) for at, name in named if name]
+
+
+def text_at(texts, at):
+    """The text that begins there in a string table."""
+    end = texts.find(b"\0", at)
+    return texts[at : end if end >= 0 else None].decode("utf-8", "replace")
+
+
 def symbol(data, at, texts):
     """The address, the rank and the name of a symbol, or None if it names no place.
 
     If several symbols have one address, functions come first, then global names.
     """
     name, section, info = number(data, at, 4), number(data, at + 14, 2), data[at + 12]
-    end = texts.find(b"\0", name)
-    text = texts[name : end if end >= 0 else None].decode("utf-8", "replace")
+    text = text_at(texts, name)
     is_placed = section and (section < FIRST_RESERVED or section == ABSOLUTE)
     if not text or not is_placed or info & 15 not in (NO_TYPE, OBJECT, FUNCTION):
         return None
@@ -206,7 +225,10 @@ def symbol(data, at, texts):
 
 
 def read_elf(path):
-    """The map from the symbols of a little-endian ELF32 file; it has no lines."""
+    """The map from the symbols of a little-endian ELF32 file; it has no lines.
+
+    A section of code that begins without a symbol, as vectors mostly do, is called by its own name.
+    """
     data = sources.bytes_of(path)
     found = set()
     for entries, texts in symbol_tables(section_headers(path, data), data):
@@ -216,7 +238,10 @@ def read_elf(path):
             f"{shown(path)}: it has no symbols: link it without -s, "
             "or give the layout and the sources"
         )
-    return Map((address, text, "", 0) for address, _, text in sorted(found))
+    named = {address for address, _, _ in found}
+    rows = [(address, text) for address, _, text in sorted(found)]
+    rows += [row for row in code_sections(path) if row[0] not in named]
+    return Map((address, text, "", 0) for address, text in rows)
 
 
 def print_map(known, asked):

@@ -18,15 +18,10 @@ COLOURS = 8
 #: how near a label has to be to name an address that code builds
 NEAR = 256
 BEFORE, AFTER = 8, 4
-#: the width of a bar of all areas, in em
-BAR = 9
 CODE_WIDTH = 26
 #: the least share of the bar that a digit needs
 DIGIT = 0.027
-PROOF = (
-    "This page is a picture: what is proved is what <code>tcd check</code> prints, for what the "
-    "plan states."
-)
+PROOF = "This page is a picture: what is proved is what `tcd {}` prints, for what the plan states."
 EACH_HEAD = (
     "<h2 id=each>Each frame</h2><p class=note>The points of each frame, with where they go on if "
     "that isn't the next line, and the interrupts that may come, at the lines where they change."
@@ -58,6 +53,8 @@ class Page:
         self.marked, self.colours = set(), {}
         #: whether the page has the part "Each frame", to which names of frames link
         self.has_frames = False
+        #: what the areas are that the longest chain doesn't take
+        self.rest = "never used"
 
     # Names and links
 
@@ -119,13 +116,14 @@ class Page:
 
     # The number and the longest chain
 
-    def headline(self):
-        """The number of a certificate."""
+    def headline(self, command="check", by=""):
+        """The number of a certificate, the command that proves it, and whose areas these are."""
         graph = self.graph
+        number = f"<b>{graph.certified}</b> of {graph.usable} areas are in use at most {esc(by)}"
+        reserve = f"{graph.areas} areas, {graph.reserve} of them the reserve."
         return [
-            f"<p class=head><b>{graph.certified}</b> of {graph.usable} areas are in use at "
-            "most</p>",
-            f"<p class=note>{graph.areas} areas, {graph.reserve} of them the reserve. {PROOF}</p>",
+            f"<p class=head>{number.strip()}</p>",
+            self.note(f"{reserve} {PROOF.format(command)}"),
         ]
 
     def chain(self):
@@ -181,7 +179,7 @@ class Page:
         out = [f'<div class=stack role=img aria-label="{label}">']
         parts = [(who, f"p{self.colours[who]}", n) for who, n in shares.items()]
         if self.graph.usable > used:
-            parts.append(("never used", "free", self.graph.usable - used))
+            parts.append((self.rest, "free", self.graph.usable - used))
         for who, look, n in parts:
             number = n if n / usable >= DIGIT * len(str(n)) else ""
             title = f'title="{esc(who)}: {n}"'
@@ -234,15 +232,15 @@ class Page:
         longest = {row["prio"]: row["longest"] for row in self.graph.report.get("calls", [])}
         look = f" class=p{self.colours[who]}" if who in self.colours else ""
         frames_are = f"{len(group)} frame" + "s" * (len(group) > 1)
-        caption = f"<b>{who.capitalize()}</b> {frames_are}, the longest call chain "
-        caption += str(longest.get(prio, 0))
+        caption = f"<b>{who.capitalize()}</b> {frames_are}, the longest call "
+        caption += f"chain&nbsp;{longest.get(prio, 0)}"
         head = table_head("frame", "areas from here on", "points")
         out = [f"<table class=frames><caption>{caption}</caption>{head}"]
         for frame in sorted(group, key=lambda frame: (-frame.need, frame.key.entry)):
-            width = frame.need / max(self.graph.certified, 1) * BAR
+            share = frame.need / max(self.graph.certified, 1)
             out.append(
                 f"<tr><td>{self.to_frame(frame)} <small>{frame.key.kind} {frame.key.entry}"
-                f"</small><td><i{look} style='width:{width:.1f}em'></i>{frame.need}"
+                f"</small><td><i{look} style='--share:{share:.3f}'></i>{frame.need}"
                 f"<td>{frame.points}"
             )
         return [*out, "</table>"]
@@ -335,6 +333,10 @@ class Page:
 
     # A refusal
 
+    def note(self, text):
+        """A paragraph, in which what is between backquotes is code."""
+        return f"<p class=note>{self.prose(text)}</p>"
+
     def refusal(self, line, found, note):
         """What stands against a certificate, and what people change."""
         out = [f"<p class='head bad'>{self.bad_headline(found)}</p>"]
@@ -347,11 +349,11 @@ class Page:
             out.append(f"<p>At <b>{esc(place)}</b>{file}{frame}: {what}.</p>")
             if found["change"]:
                 out.append(f"<p><b>What people change:</b> {self.prose(found['change'])}.</p>")
-        return [*out, f"<p class=note>{note}</p>"]
+        return [*out, self.note(note)]
 
     def origins(self, notes):
         """The instructions from which the address of an access or a call comes."""
-        out = ["<p>Where the address comes from, backwards:</p><ul>"]
+        out = ["<p>Where the address comes from:</p><ul>"]
         for note in notes:
             message = self.prose(note["message"])
             out.append(f"<li>{message}, at {self.where(note['address'])}</li>")

@@ -83,13 +83,18 @@ def lines_of(path):
     return bytes_of(path).decode("latin-1").split("\n")
 
 
-def line_of(path, number):
-    """Line `number` of a file, from 1, or an empty text if there is none."""
+def raw_line(path, number):
+    """Line `number` of a file, from 1, as it is, or an empty text if there is none."""
     try:
         lines = lines_of(path)
-    except Unusable:
+    except (Unusable, TypeError):
         return ""
-    return lines[number - 1].strip() if 1 <= number <= len(lines) else ""
+    return lines[number - 1] if 1 <= number <= len(lines) else ""
+
+
+def line_of(path, number):
+    """Line `number` of a file without blanks around it, or an empty text if there is none."""
+    return raw_line(path, number).strip()
 
 
 def statement_of(path, number):

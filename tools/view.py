@@ -1,7 +1,7 @@
 #!/usr/bin/env python3
 """One page on an executable and its certificate.
 
-    view.py PROGRAM ELF PLAN CERT PAGE [LAYOUT SOURCE..]
+    view.py PROGRAM ELF PLAN CERT PAGE [LAYOUT SOURCE..] [--cells FILE | --tasks FILE TASK]
 
 PROGRAM is tcd (`tcd` if it is on the path). PAGE is an HTML file that needs no network. It shows
 how many areas each priority takes, the chain of entries that takes the most, the frames by
@@ -9,6 +9,9 @@ priority, the ways of each frame, and the listing. Names of functions and lines 
 from LAYOUT and the SOURCEs, in the order in which they were linked, or from the symbols of an
 executable that another linker wrote. Sources that don't link to ELF are refused. If Graphviz (`dot`) is installed, frames are drawn: all of
 them, or those of the longest chain if there are more than 100.
+
+With --cells the certificate is one of `cellcert`, with --tasks that of one task, from 0, of
+`taskcert`. What `report` can't say of these is left out, and the page says what that is.
 
 If the certificate is refused or isn't there, `cert` is asked again: the page says what stands
 against a certificate now, with the code around it, and for rule 14 the ring of frames, or the
@@ -23,72 +26,91 @@ import tempfile
 
 import arguments
 import explain
+import judged
 import names
 import plans
 import program as tcd
-from frames import Graph, Listing
+from frames import Graph
 from page import Page, esc
 from sources import Unusable, shown
 
 HERE = pathlib.Path(__file__).resolve().parent
 
 
-class View:
-    """The page of one executable, from the files of the command."""
+NOT_OF_CELLS = (
+    "`report` knows no cells, so this page shows the plan in which each cell is a peripheral with "
+    "the cell's bounds. It doesn't show the stores by which `cells` judged these bounds (rule 16)."
+)
+NOT_OF_TASKS = (
+    "This page shows task {} alone, in its view: each word of RAM may hold anything when it is read, "
+    "and the listing has other instructions in the switch routine. The areas of all {} tasks "
+    "together, the routine's bytes and rule 17 aren't on it: `tasks` judges them."
+)
+MAYBE_OF_OTHERS = (
+    " If that is a certificate of `cellcert` or `taskcert`, add `--cells FILE` or `--tasks FILE TASK`."
+)
 
-    def __init__(self, program, elf, plan, cert, names_from):
-        self.program, self.elf, self.plan, self.cert = program, elf, plan, cert
-        self.paths = names_from[1:]
-        listing = Listing(tcd.printed(program, "dis", elf)[0])
-        self.page = Page(names.of(program, elf, names_from), listing)
+
+class View:
+    """The page of one executable, from the files of the command. `judged` names them."""
+
+    def __init__(self, judged, cert, names_from):
+        self.judged, self.cert, self.paths = judged, cert, names_from[1:]
+        known = names.of(judged.program, judged.given[0], names_from)
+        self.page = Page(known, judged.listing())
 
     def body(self):
         """The parts of the page, and the ids and names of those that the top links to."""
-        is_given = pathlib.Path(self.cert).exists()
-        report, is_refused = "", True
-        if is_given:
-            report, is_refused = tcd.printed(self.program, "report", self.elf, self.plan, self.cert)
+        if not pathlib.Path(self.cert).exists():
+            return self.refused(None)
+        line, is_refused = self.judged.told(self.cert)
         if is_refused:
-            return self.refused(report.strip() if is_given else None)
-        self.read(report, tcd.printed(self.program, "cfg", self.elf, self.plan)[0])
-        return self.certified()
+            return self.refused(line)
+        report, is_refused = self.judged.report(self.cert)
+        if is_refused:
+            return self.refused(report.strip())
+        self.page.graph = Graph(report, self.judged.edges(), self.page.listing)
+        return self.certified(line)
 
-    def read(self, report, edges):
-        """Gives the page its frames."""
-        self.page.graph = Graph(report, edges, self.page.listing)
-
-    def certified(self):
-        """The parts of a page on a certificate."""
-        page = self.page
+    def certified(self, line):
+        """The parts of a page on a certificate, of which its own command printed a line."""
+        page, task = self.page, self.judged.tasks
         page.has_frames = True
+        if task:
+            page.rest = "not used by this task"
+            head = page.headline("tasks", f"by task {task[1]}")
+            head.append(page.note(NOT_OF_TASKS.format(*task[1:])))
+        elif self.judged.cells:
+            head = page.headline("cells")
+            head.append(page.note(f"It prints `{line}`. {NOT_OF_CELLS}"))
+        else:
+            head = page.headline()
         chain, frames = page.chain()
         parts = {"chain": "Longest chain", "frames": "Frames", "each": "Each frame"}
-        return page.headline() + chain + page.tables() + page.each(frames), parts
+        return head + chain + page.tables() + page.each(frames), parts
 
     def refused(self, older):
-        """The parts of a page on a refusal. `older` is what `check` says of the certificate."""
-        with tempfile.TemporaryDirectory() as folder:
-            cert = f"{folder}/firmware.cert"
-            line, still = tcd.printed(self.program, "cert", self.elf, self.plan, cert)
-        line = line.strip()
+        """The parts of a page on a refusal. `older` is the refusal of the certificate."""
+        command, line, still = self.judged.made_again(self.cert)
         if not still and older is None:
-            words = shown(f"tcd cert {self.elf} {self.plan} {self.cert}")
+            words = shown(" ".join(["tcd", *command[1:]]))
             raise Unusable(f"{shown(self.cert)}: not there; `{words}` makes it")
         if not still:
             return [self.of_others(line, older)], {}
         note = "There is no older certificate."
         if older is not None:
-            note = f"<code>check</code> prints <code>{esc(older)}</code> of the one that was given."
-        return self.explained(line, note)
+            is_plain = not self.judged.cells and not self.judged.tasks
+            note = f"The certificate that was given is refused: `{older}`."
+            note += MAYBE_OF_OTHERS if is_plain else ""
+        return self.explained(command, line, note)
 
-    def explained(self, line, note):
-        """The refusal of `cert` in words, with its code, the ring, or the chain too long."""
-        page, command = self.page, [self.program, "cert", self.elf, self.plan, self.cert]
-        explainer = explain.Explainer(command, page.known, self.paths)
+    def explained(self, command, line, note):
+        """The refusal of a command in words, with its code, the ring, or the chain too long."""
+        page, explainer = self.page, explain.Explainer(command, self.page.known, self.paths)
         found = explainer.find(line, tcd.REFUSED)
         if explainer.roomy:
-            self.read(*explainer.roomy)
-            page.graph.areas, page.graph.reserve = plans.areas_of(self.plan)
+            page.graph = Graph(*explainer.roomy, page.listing)
+            page.graph.areas, page.graph.reserve = plans.areas_of(self.judged.plan)
             return page.refusal(line, found, note) + page.chain()[0], {"chain": "Longest chain"}
         body = page.refusal(line, found, note)
         if found and found["address"]:
@@ -99,20 +121,20 @@ class View:
             body += page.origins(found["notes"])
         return body, {}
 
-    @staticmethod
-    def of_others(line, older):
+    def of_others(self, line, older):
         """A page on a certificate that isn't one of this executable and plan."""
         return (
             "<p class='head bad'>The certificate isn't this executable's</p>"
-            f"<p><code>check</code> prints <code>{esc(older)}</code>. <code>tcd cert</code> can "
-            f"make one that it accepts: <code>{esc(line)}</code>. The one that was given is of "
-            "other files, or one of cells or tasks, for which there is no page.</p>"
+            + self.page.note(
+                f"It is refused: `{older}`. A new one would be accepted: `{line}`. The one that was "
+                f"given is of other files.{MAYBE_OF_OTHERS}"
+            )
         )
 
     def text(self):
         """The page."""
         body, parts = self.body()
-        title = esc(pathlib.Path(self.elf).name)
+        title = esc(pathlib.Path(self.judged.given[0]).name)
         parts = {**parts, "listing": "Listing"}
         nav = "".join(f"<a href=#{place}>{name}</a>" for place, name in parts.items())
         style = (HERE / "view.css").read_text(encoding="utf-8")
@@ -129,10 +151,14 @@ def main(given):
     """Reads the words, writes the page, and gives the exit status."""
     parser = arguments.Parser("program", "elf", "plan", "cert", "page")
     parser.add_names()
+    judged.add_to(parser)
     given = parser.parsed(given)
-    files = given.elf, given.plan, given.cert
-    arguments.demand_apart([given.page], [*files, *given.names])
-    arguments.written(given.page, View(tcd.found(given.program), *files, given.names).text())
+    more = [given.cells, *(given.tasks or [])[:1], *given.names]
+    arguments.demand_apart([given.page], [given.elf, given.plan, given.cert, *more])
+    with tempfile.TemporaryDirectory() as folder:
+        program = tcd.found(given.program)
+        asked = judged.Judged(program, given.elf, given.plan, folder, given.cells, given.tasks)
+        arguments.written(given.page, View(asked, given.cert, given.names).text())
     return tcd.DONE
 
 

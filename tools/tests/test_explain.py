@@ -191,6 +191,20 @@ class Files(beside.InFolder):
             self.assertEqual((told["file"], told["line"]), (file, number), line)
             self.assertIn(words, told["message"])
 
+    def test_what_is_seen_in_a_line(self):
+        for line, words in (
+            ("mov d0, 1\r", "carriage return"),
+            ("mov %d0, 1 # %", "write registers without `%`"),
+            ("mov d0, 1 ; one", "begin comments with `#`"),
+            ("mov d0, @1", "`@` in a line"),
+            ("mov d0, 1 # \r", "64 words and signs"),
+        ):
+            self.put("main.s", f".section t\n{line}\n")
+            told = found("bad source 1 at 0 2", SHIP, 2)
+            self.assertIn(words, f"{told['message']} {told['change']}", line)
+        self.put("turns.script", "step 5\r\n")
+        self.assertIn("carriage return", found("bad script 1 at 1", RUN, 2)["message"])
+
     def test_the_text_of_a_line(self):
         self.assertEqual(self.finding("bad link 2 name g")["text"], "j g")
 
@@ -389,6 +403,22 @@ class WithProgram(beside.InFolder):
         told = self.explained(sources, "check", *words)
         self.assertEqual(told["rule"], "K14")
         self.assertEqual(told["message"], meanings.NO_AREAS["certificate"].means)
+
+    def test_calls_that_take_a_zero_of_a_table(self):
+        self.example("device_table")
+        call = "addsc.a a14, a14, {}, 2\n ld.a a14, [a14]0\n calli a14"
+        text = "movh.a a14, hi:{}\n lea.l a14, [a14]lo:{}\n"
+        lines = [".section text", ".global main", "main:", "movh.a a12, 0xF020", "ld.w d15, [a12]0"]
+        lines += [text.format("six", "six"), call.format("d15"), "mov d0, 7", "and d0, d0, 1"]
+        lines += [text.format("two", "two"), call.format("d0"), "j main", "f: ret16", "ret16"]
+        lines += ["six: .word f, f, 0, f, f, 0", "two: .word f, f, 0", ""]
+        self.put("main.s", "\n".join(lines))
+        self.linked(["main.s"])
+        words = ("cert", "firmware.elf", "board.json", "firmware.cert")
+        told = self.explained(["main.s"], *words)
+        self.assertEqual((told["rule"], told["file"], told["text"]), ("K3", "main.s", "calli a14"))
+        self.assertEqual(len(told["notes"]), 1)  # the index of the second goes up to 1
+        self.assertIn("the word at six+8", told["notes"][0]["message"])
 
     def test_other_variants(self):
         for example, variant, rule, file, words in (

@@ -181,6 +181,13 @@ class ReadElf(beside.InFolder):
         self.assertEqual(known.name(0xF0000004), "device+4")
         self.assertEqual(known.place(0x80000000), "")
 
+    @beside.needs_program
+    def test_vectors_are_called_by_their_sections(self):
+        self.example("gnu_ld")
+        known = names.read_elf("firmware.elf")
+        self.assertEqual(known.name(0x80002280), ".vector_20")
+        self.assertEqual(known.at[0x80000000], ["main"])
+
     def test_cut_files(self):
         whole = elf_with([(b"main", 0x80000000, FUNCTION, 1)])
         for length in range(len(whole)):

@@ -11,6 +11,7 @@ from unittest import mock
 import beside
 import generated
 import frames
+import judged
 import names
 import view
 
@@ -129,7 +130,7 @@ class Pages(beside.InFolder):
     def page(self, known=None, elf=ELF):
         """The page of what the commands print, read and looked at."""
         with mock.patch("names.of", return_value=known or names.Map()):
-            return self.looked_at(view.View(PROGRAM, elf, PLAN, CERT, []).text())
+            return self.looked_at(view.View(judged.Judged(PROGRAM, elf, PLAN, "."), CERT, []).text())
 
     def looked_at(self, text):
         """Reads a page and looks at its form."""
@@ -300,10 +301,10 @@ class WithProgram(Pages):
 
     FILES = ("firmware.elf", "board.json", "firmware.cert")
 
-    def made(self, paths, *files):
+    def made(self, paths, *files, more=()):
         """Runs the script: the page as it was read."""
-        files = files or self.FILES
-        done = self.script("view.py", beside.program(), *files, "p.html", "board.layout", *paths)
+        words = [*(files or self.FILES), "p.html", "board.layout", *paths, *more]
+        done = self.script("view.py", beside.program(), *words)
         self.assertEqual((done.returncode, done.stderr), (0, ""))
         return self.looked_at((self.folder / "p.html").read_text())
 
@@ -343,6 +344,33 @@ class WithProgram(Pages):
         page = self.made(paths, "firmware.elf", "few.json", "none.cert")
         self.assertIn("11 areas are needed, there are 7", page.text)
         self.assertIn("From here on no area is left.", page.text)
+
+    def test_cells(self):
+        paths = self.example("cells")
+        self.linked(paths)
+        words = ("--cells", "modes.cells")
+        self.tcd("cellcert", *self.FILES[:2], "modes.cells", "firmware.cert")
+        page = self.made(paths, more=words)
+        self.assertIn("5 of 6 areas are in use at most", page.text)
+        self.assertIn("It prints certified 5 of 6 areas with 1 cells.", page.text)
+        self.assertIn("add --cells FILE", self.made(paths).text)
+        self.put("modes.cells", "cell D0008000 00000000 00000002\n")
+        page = self.made(paths, more=words)
+        self.assertIn("a store may write a part of a cell", page.text)
+        self.assertIn("key.s:", page.text)
+
+    def test_tasks(self):
+        paths = self.example("two_tasks")
+        self.linked(paths)
+        certs = ("measure.cert", "show.cert")
+        self.tcd("taskcert", *self.FILES[:2], "board.tasks", *certs)
+        for task, number in ((0, 5), (1, 3)):
+            words = ("--tasks", "board.tasks", str(task))
+            page = self.made(paths, *self.FILES[:2], certs[task], more=words)
+            self.assertIn(f"{number} of 8 areas are in use at most by task {task}", page.text)
+            self.assertIn("not used by this task", page.text)
+        done = self.script("view.py", beside.program(), *self.FILES, "p.html", *words[:2], "2")
+        self.assertEqual((done.returncode, done.stderr.count("\n")), (2, 1))
 
     def test_faults_of_files(self):
         paths = self.example("one_call")
