@@ -1,6 +1,7 @@
-"""How the scripts for users read their arguments and how they end: one line for a fault, and a status.
+"""How the scripts for users read their arguments, and how they end.
 
-Statuses: 0 done, 1 refused or not reached, 2 a file or a program that can't be used, 5 wrong arguments.
+A fault is one line. Statuses: 0 done, 1 refused or not reached, 2 a file or a program that can't be
+used, 5 wrong arguments.
 """
 import argparse
 import os
@@ -20,7 +21,7 @@ class WrongArguments(Exception):
 
 
 class Parser(argparse.ArgumentParser):
-    """The arguments of a script. A fault of them is one line, and --help is the script's docstring."""
+    """The arguments of a script. --help prints the script's docstring."""
 
     def __init__(self, *positional):
         super().__init__(add_help=False, usage=argparse.SUPPRESS, allow_abbrev=False)

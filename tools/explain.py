@@ -458,7 +458,7 @@ def demand_apart(given, command):
 
 
 def demand_sources(given, command):
-    """Raises Unusable if LAYOUT and SOURCE.. aren't those of the command's executable or objects."""
+    """Raises Unusable if LAYOUT SOURCE.. aren't those of the command's executable or objects."""
     layout, *paths = given
     objects, elf = of_command(command, ["OBJECT"]), of_command(command, ["ELF"])
     if command[1] == "link" and len(objects) == len(paths):
@@ -479,7 +479,7 @@ def names_of(given, command):
 
 
 def parsed(given):
-    """The words before `--` except --json, whether that is there, and the command; None if wrong."""
+    """The words before `--`, whether --json is one, and the command; None if wrong."""
     if "--" not in given or given.index("--") == len(given) - 1:
         return None
     command, own = given[given.index("--") + 1 :], given[: given.index("--")]
@@ -525,7 +525,7 @@ def main(given):
     """Reads the words, runs the command, and gives the exit status."""
     given = parsed(given)
     if not given:
-        raise arguments.WrongArguments("needed are `--` and a command, before it LAYOUT SOURCE.. or nothing")
+        raise arguments.WrongArguments("needed are LAYOUT SOURCE.. or nothing, `--`, a command")
     own, is_json, command = given
     command = [tcd.found(command[0]), *command[1:]]
     done = ran(own, command)

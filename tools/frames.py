@@ -188,13 +188,13 @@ class Graph:
                 if way in ENTRIES and (into := self.entered(frame, way, to)):
                     yield Step(frame, point, frame.saved.get(point, 0), way, into)
 
+    def saved_after(self, frame, point):
+        """The most lower contexts that a frame holds at a point, before it or after."""
+        return frame.saved[point] + max(SAVES.get(self.listing.word(point), 0), 0)
+
     def most_saved(self, frame):
         """The most lower contexts that a frame holds at once."""
-        held = [
-            saved + max(SAVES.get(self.listing.word(point), 0), 0)
-            for point, saved in frame.saved.items()
-        ]
-        return max(held, default=0)
+        return max((self.saved_after(frame, point) for point in frame.saved), default=0)
 
     def deepest(self):
         """The chain of entries that takes the most areas.
@@ -211,3 +211,13 @@ class Graph:
             chain.append(step)
             frame = step.into
         return chain, frame, self.most_saved(frame)
+
+    def shares(self):
+        """How many areas of the longest chain each priority takes."""
+        chain, last, held = self.deepest()
+        shares = collections.Counter()
+        for step in chain:
+            shares[step.frame.who] += step.saved
+            shares[step.into.who] += 1
+        shares[last.who] += held
+        return {who: count for who, count in shares.items() if count}

@@ -39,6 +39,8 @@ class Judged:
         self.program, self.given = program, (elf, plan)
         self.elf, self.plan, self.played = elf, plan, plan
         self.folder, self.cells, self.tasks = pathlib.Path(folder), cells, None
+        #: what `cells` printed of a certificate
+        self.line = None
         if cells:
             board = read(plan, readers.plan)
             found = read(cells, lambda data: readers.cells(data, board))
@@ -57,7 +59,8 @@ class Judged:
         image, board = self.image(), self.board()
         found = read(file, lambda data: readers.tasks(data, board))
         if task not in [str(u) for u in range(len(found[2]))]:
-            raise Unusable(f"--tasks {shown(file)} {shown(task)}: tasks are 0 to {len(found[2]) - 1}")
+            last = len(found[2]) - 1
+            raise Unusable(f"--tasks {shown(file)} {shown(task)}: tasks are 0 to {last}")
         fault = readers.routine_fault(image, board, found)
         if fault is not None:
             raise Unusable(f"{shown(self.elf)}: the switch routine isn't there, see {fault:08X}")
@@ -77,15 +80,8 @@ class Judged:
         """The plan that `run` gets, as numbers."""
         return read(self.played, readers.plan)
 
-    def told(self, cert):
-        """The line of `cells` on a certificate, and whether it refuses; None without cells."""
-        if not self.cells:
-            return None, False
-        line, is_refused = tcd.printed(self.program, "cells", *self.given, self.cells, cert)
-        return line.strip(), is_refused
-
     def made_again(self, cert):
-        """The command that makes the certificate, its line in a scratch folder, whether it refuses."""
+        """The command that makes a certificate, its line, and whether it refuses."""
         command, certs = ["cert", *self.given], [cert]
         if self.cells:
             command = ["cellcert", *self.given, self.cells]
@@ -98,7 +94,12 @@ class Judged:
         return [self.program, *command, *certs], line.strip(), is_refused
 
     def report(self, cert):
-        """What `report` prints of a certificate, and whether it refuses."""
+        """What `report` prints, and whether it is refused. With cells, `cells` judges first."""
+        if self.cells:
+            line, is_refused = tcd.printed(self.program, "cells", *self.given, self.cells, cert)
+            self.line = line.strip()
+            if is_refused:
+                return line, True
         return tcd.printed(self.program, "report", self.elf, self.plan, cert)
 
     def edges(self):

@@ -19,6 +19,21 @@ def read(path):
     return plan
 
 
+def demand_single_keys(path):
+    """Raises Unusable if an object of a plan has a key twice: tcd silently takes the last."""
+
+    def pairs(items):
+        keys = [key for key, _ in items]
+        if twice := sorted({key for key in keys if keys.count(key) > 1}):
+            raise Unusable(f"{shown(path)}: a key is there twice: {shown(', '.join(twice))}")
+        return dict(items)
+
+    try:
+        json.loads(bytes_of(path), object_pairs_hook=pairs)
+    except (ValueError, RecursionError) as e:
+        raise Unusable(f"{shown(path)}: not JSON: {e}") from None
+
+
 def number(value):
     """A number of a plan."""
     return int(value, 16) if isinstance(value, str) else int(value)

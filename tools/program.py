@@ -32,10 +32,11 @@ def of_words(words, doc):
         sys.exit(BAD_FILE)
 
 
-def run(program, *words):
-    """Runs a command to its end: its status, standard output and standard error."""
+def run(program, *words, folder=None):
+    """Runs a command, in a folder, to its end: its status, standard output and standard error."""
+    settings = {"capture_output": True, "text": True, "errors": "replace", "cwd": folder}
     try:
-        return subprocess.run([program, *words], capture_output=True, text=True, errors="replace")
+        return subprocess.run([program, *words], **settings)
     except OSError as e:
         raise Unusable(f"{shown(program)}: {e.strerror}") from None
     except ValueError:  # a word with a zero byte

@@ -15,6 +15,7 @@ import scratch
 
 #: words that worst_run.py can use; P is the program
 FILES = "firmware.elf board.json firmware.cert --tcd P"
+BUILD = "P firmware.elf board.json firmware.cert"
 #: for each script and status the words that end with it
 CASES = {
     "names.py": {
@@ -62,6 +63,20 @@ CASES = {
             f"{FILES} --names board.layout sum.s main.s",
             f"{FILES} -o none/worst.script",
             f"{FILES} -o board.json",
+        ],
+    },
+    "growth.py": {
+        5: ["", BUILD, f"{BUILD} --most x", f"{BUILD} --save a --against b", f"{BUILD} l --most 9"],
+        2: [
+            f"{BUILD} --against none.json",
+            f"{BUILD} --against board.json",
+            f"{BUILD} --against cut.json",
+            f"{BUILD} --save firmware.cert",
+            f"{BUILD} --save none/needs.json",
+            f"{BUILD} board.layout sum.s main.s --most 9",
+            f"{BUILD} --most 9 --tasks board.layout 0",
+            "none firmware.elf board.json firmware.cert --most 9",
+            "P firmware.elf board.json cut.cert --most 9",
         ],
     },
     "known.py": {

@@ -7,8 +7,9 @@ PROGRAM is tcd (`tcd` if it is on the path). PAGE is an HTML file that needs no 
 how many areas each priority takes, the chain of entries that takes the most, the frames by
 priority, the ways of each frame, and the listing. Names of functions and lines of sources come
 from LAYOUT and the SOURCEs, in the order in which they were linked, or from the symbols of an
-executable that another linker wrote. Sources that don't link to ELF are refused. If Graphviz (`dot`) is installed, frames are drawn: all of
-them, or those of the longest chain if there are more than 100.
+executable that another linker wrote. Sources that don't link to ELF are refused. If Graphviz
+(`dot`) is installed, frames are drawn: all of them, or those of the longest chain if there are more
+than 100.
 
 With --cells the certificate is one of `cellcert`, with --tasks that of one task, from 0, of
 `taskcert`. What `report` can't say of these is left out, and the page says what that is.
@@ -42,12 +43,13 @@ NOT_OF_CELLS = (
     "the cell's bounds. It doesn't show the stores by which `cells` judged these bounds (rule 16)."
 )
 NOT_OF_TASKS = (
-    "This page shows task {} alone, in its view: each word of RAM may hold anything when it is read, "
-    "and the listing has other instructions in the switch routine. The areas of all {} tasks "
+    "This page shows task {} alone, in its view: each word of RAM may hold anything when it is "
+    "read, and the listing has other instructions in the switch routine. The areas of all {} tasks "
     "together, the routine's bytes and rule 17 aren't on it: `tasks` judges them."
 )
 MAYBE_OF_OTHERS = (
-    " If that is a certificate of `cellcert` or `taskcert`, add `--cells FILE` or `--tasks FILE TASK`."
+    " If that is a certificate of `cellcert` or `taskcert`, add `--cells FILE` or "
+    "`--tasks FILE TASK`."
 )
 
 
@@ -63,17 +65,14 @@ class View:
         """The parts of the page, and the ids and names of those that the top links to."""
         if not pathlib.Path(self.cert).exists():
             return self.refused(None)
-        line, is_refused = self.judged.told(self.cert)
-        if is_refused:
-            return self.refused(line)
         report, is_refused = self.judged.report(self.cert)
         if is_refused:
             return self.refused(report.strip())
         self.page.graph = Graph(report, self.judged.edges(), self.page.listing)
-        return self.certified(line)
+        return self.certified()
 
-    def certified(self, line):
-        """The parts of a page on a certificate, of which its own command printed a line."""
+    def certified(self):
+        """The parts of a page on a certificate."""
         page, task = self.page, self.judged.tasks
         page.has_frames = True
         if task:
@@ -82,7 +81,7 @@ class View:
             head.append(page.note(NOT_OF_TASKS.format(*task[1:])))
         elif self.judged.cells:
             head = page.headline("cells")
-            head.append(page.note(f"It prints `{line}`. {NOT_OF_CELLS}"))
+            head.append(page.note(f"It prints `{self.judged.line}`. {NOT_OF_CELLS}"))
         else:
             head = page.headline()
         chain, frames = page.chain()
@@ -126,8 +125,8 @@ class View:
         return (
             "<p class='head bad'>The certificate isn't this executable's</p>"
             + self.page.note(
-                f"It is refused: `{older}`. A new one would be accepted: `{line}`. The one that was "
-                f"given is of other files.{MAYBE_OF_OTHERS}"
+                f"It is refused: `{older}`. A new one would be accepted: `{line}`. The one that "
+                f"was given is of other files.{MAYBE_OF_OTHERS}"
             )
         )
 

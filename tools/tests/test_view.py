@@ -130,7 +130,8 @@ class Pages(beside.InFolder):
     def page(self, known=None, elf=ELF):
         """The page of what the commands print, read and looked at."""
         with mock.patch("names.of", return_value=known or names.Map()):
-            return self.looked_at(view.View(judged.Judged(PROGRAM, elf, PLAN, "."), CERT, []).text())
+            asked = judged.Judged(PROGRAM, elf, PLAN, ".")
+            return self.looked_at(view.View(asked, CERT, []).text())
 
     def looked_at(self, text):
         """Reads a page and looks at its form."""
