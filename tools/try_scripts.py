@@ -65,6 +65,17 @@ CASES = {
             f"{FILES} -o board.json",
         ],
     },
+    "evidence.py": {
+        5: ["", "P case firmware.elf", "--again P case firmware.elf", "P case a b c --boot 0 --cells c"],
+        2: [
+            "none case firmware.elf board.json firmware.cert",
+            "P case none.elf board.json firmware.cert",
+            "P case firmware.elf cut.json firmware.cert",
+            "P case firmware.elf board.json firmware.cert --cells none.cells",
+            "--again P none",
+            "--again P .",
+        ],
+    },
     "growth.py": {
         5: ["", BUILD, f"{BUILD} --most x", f"{BUILD} --save a --against b", f"{BUILD} l --most 9"],
         2: [
