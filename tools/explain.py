@@ -426,7 +426,7 @@ class Explainer:
         return finding(f"status {status}", meaning, meaning.means + more)
 
 
-UNKNOWN = meanings.Meaning("a fault that explain.py doesn't know; see docs/refusals.md")
+UNKNOWN = meanings.Meaning("a fault that explain.py doesn't know; see docs/errors.md")
 KEY_TEXT = r"(\w+ [0-9A-F]{8} prio \d+ is [01])"
 #: the printed lines of docs/formats.md, and what explains each
 SHAPES = (

@@ -13,18 +13,17 @@ Apart from the counts, what isn't known is listed by name. **The names, and wher
 are from memory of the manual** (tools/known_rows.py) and were not compared with it.
 
 That all instructions are known makes no certificate: `tcd cert` also asks for known targets,
-bounded stores and no recursion (docs/guide.md).
+bounded stores and no recursion (docs/code.md).
 
 Exit status: 0 all instructions reached are known, 1 some aren't, 2 a file that can't be used, 5
-wrong words.
+wrong arguments.
 """
-import argparse
 import collections
 import json
-import pathlib
-import sys
 
+import arguments
 import hostile_readers as readers
+import judged
 import known_rows
 import machine
 import names
@@ -34,10 +33,6 @@ SECTION_SYMBOLS, FUNCTION = 2, 2
 #: what a word of data may name: an address after one of these
 LEAVES = ("ret", "rfe", "j", "ji", "ja")
 FROM_MEMORY = "from memory of the manual, not compared with it"
-
-
-class Unusable(Exception):
-    """A file that can't be used, and why."""
 
 
 class Found:
@@ -265,56 +260,31 @@ def as_json(image, every):
     return 1 if reached.unknown else 0
 
 
-# The words
-
-
-def read(path, reader):
-    """A file by its reader."""
-    try:
-        return reader(pathlib.Path(path).read_bytes())
-    except OSError as e:
-        raise Unusable(f"{path}: {e.strerror}") from None
-    except readers.Bad as e:
-        raise Unusable(f"{path}: bad {e} (docs/refusals.md says what it means)") from None
+# The arguments
 
 
 def name_of(path):
     """A function that names an address by the executable's symbols."""
-    try:
-        known = names.read_elf(path)
-    except names.Unusable:
-        return lambda at: f"{at:08X}"
-    return lambda at: f"{at:08X} {known.name(at)}"
+    known = names.of(None, path, [])
+    return lambda at: f"{at:08X} {known.name(at)}" if known else f"{at:08X}"
 
 
-def wrong_words(text):
-    print(f"known.py: {text}; see --help", file=sys.stderr)
-    sys.exit(5)
-
-
-def parsed(words):
-    parser = argparse.ArgumentParser(add_help=False, usage=argparse.SUPPRESS)
-    parser.add_argument("elf")
+def parsed(given):
+    """The arguments."""
+    parser = arguments.Parser("elf")
     parser.add_argument("plan", nargs="?")
     parser.add_argument("--vectors", nargs=2, type=lambda text: int(text, 16))
     parser.add_argument("--all", action="store_true")
     parser.add_argument("--json", action="store_true")
-    parser.error = wrong_words
-    return parser.parse_args(words)
+    return parser.parsed(given)
 
 
-def main(words):
-    if words in (["--help"], ["-h"]):
-        print(__doc__)
-        return 0
-    given = parsed(words)
-    try:
-        entry, segments = read(given.elf, readers.elf)
-        board = read(given.plan, readers.plan) if given.plan else None
-        symbols = read(given.elf, functions)
-    except Unusable as e:
-        print(e, file=sys.stderr)
-        return 2
+def main(given):
+    """Counts, prints, and gives the exit status."""
+    given = parsed(given)
+    entry, segments = judged.read(given.elf, readers.elf)
+    board = judged.read(given.plan, readers.plan) if given.plan else None
+    symbols = judged.read(given.elf, functions)
     image = Image(segments)
     starts = {entry, *vectors(image, board, given.vectors)}
     starts |= {at for at in symbols if image.bytes(at, 2)}
@@ -325,7 +295,4 @@ def main(words):
 
 
 if __name__ == "__main__":
-    try:
-        sys.exit(main(sys.argv[1:]))
-    except BrokenPipeError:  # the reader, `head` say, has seen enough
-        sys.exit(0)
+    arguments.ended(__doc__, main)

@@ -1,7 +1,7 @@
 """What each printed line of tcd means and what people change, as explain.py and view.py say it.
 
 Each table is keyed by the number or the word of the printed line. tools/tests compares the keys
-with the printed forms of docs/formats.md; docs/refusals.md says more, with an example of each.
+with the printed forms of docs/formats.md; docs/errors.md says more, with an example of each.
 """
 import collections
 import re
@@ -183,12 +183,12 @@ SOURCES = {
     ),
     "2": Meaning(
         "no such instruction or directive",
-        "write it with instructions of the table (docs/guide.md lists them); there are no macros, "
+        "write it with instructions of the table (docs/instructions.md lists them); there are no macros, "
         "no `.text`, `.align` or `.equ`",
     ),
     "3": Meaning(
         "the operands have another form",
-        "docs/formats.md lists the operands of each instruction; write numbers without `#`, which "
+        "docs/instructions.md lists the operands of each one; write numbers without `#`, which "
         "begins a comment",
     ),
     "4": Meaning(

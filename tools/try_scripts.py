@@ -66,7 +66,7 @@ CASES = {
         ],
     },
     "evidence.py": {
-        5: ["", "P case firmware.elf", "--again P case firmware.elf", "P case a b c --boot 0 --cells c"],
+        5: ["", "P case a", "--again P case a", "P case a b c --boot 0 --cells c"],
         2: [
             "none case firmware.elf board.json firmware.cert",
             "P case none.elf board.json firmware.cert",

@@ -40,7 +40,7 @@ def ring(found, key, address, plan=PLAN):
 
 
 class Rings(unittest.TestCase):
-    """The examples of rule 14 in docs/refusals.md, and rings that are harder to see."""
+    """The examples of rule 14 in docs/errors.md, and rings that are harder to see."""
 
     def test_a_function_that_calls_itself(self):
         found = listing((0x80000000, "call .+8", "j .+0", "call .+0", "ret16"))

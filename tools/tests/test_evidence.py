@@ -82,7 +82,8 @@ class Premises(WithPage):
         page = evidence.premises("C5", "boot 77 events certified 3 of 6 areas")
         self.assertIn("| A1 | **The plan is true.** Show it by a review (plan.md). |  |\n", page)
         self.assertIn("| A14 | **A reset.** |  |\n", page)
-        self.assertIn("| Trap class | What excludes it | What it needs here |\n|---|---|---|\n", page)
+        head = "| Trap class | What excludes it | What it needs here |\n|---|---|---|\n"
+        self.assertIn(head, page)
         self.assertIn("| 0, MMU | premise |  |\n", page)
         for absent in ("A3", "A15", "A99"):
             self.assertNotIn(f"| {absent} |", page)
