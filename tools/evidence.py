@@ -354,6 +354,8 @@ def again(program, folder):
     plans.demand_single_keys(folder / record["files"][1])
     if checksum(program) != record.get("program"):
         print("another program than the recorded one: its lines count", file=sys.stderr)
+    if names_from := [folder / name for name in record["names"]]:
+        names.demand(program, folder / record["files"][0], names_from[0], names_from[1:])
     with tempfile.TemporaryDirectory() as scratch:
         if fault := fault_of_making(program, folder, record, pathlib.Path(scratch)):
             raise Unusable(f"{shown(folder)}: {shown(fault)}")

@@ -5,10 +5,9 @@ A frame's kind is (kind, entry, priority, stack), as in the lines of `tcd cfg`: 
 """
 
 import collections
-import re
 
-KEY = re.compile(r"(start|call|irq|sys|aln) ([0-9A-F]{8}) prio (\d+) is ([01])")
-EDGE = re.compile(r"(.*): ([0-9A-F]{8}) (to|call|back|sys|aln|irq|ret|rfe)(?: ([0-9A-F]{8}))?$")
+from frames import EDGE, KEY
+
 #: how the areas that a frame saved itself change
 SAVES = {"svlcx": 1, "bisr": 1, "rslcx": -1}
 

@@ -182,8 +182,8 @@ class WithProgram(WithPage):
         self.assertFalse((self.folder / "case").exists())
 
     def test_tampered_folders(self):
-        self.certified("one_call")
-        self.made(*FILES)
+        names_from = ["board.layout", *self.certified("one_call")]
+        self.made(*FILES, "--names", *names_from)
         shutil.copytree("case", "whole")
         case = self.folder / "case"
         bit = lambda data: data[:20] + bytes([data[20] ^ 1]) + data[21:]
@@ -192,10 +192,11 @@ class WithProgram(WithPage):
         for name, change, has_sums, told in (
             ("files/firmware.cert", bit, False, "files/firmware.cert: SHA256SUMS has another"),
             ("files/firmware.cert", bit, True, "refused now: |check: bad cert"),
-            ("files/board.json", replaced(b'"areas": 4', b'"areas": 5'), True, "record.json: made"),
+            ("files/board.json", replaced(b'areas": 4', b'areas": 5'), True, "record.json: made"),
             ("report.json", more, True, "report.json: made again it is another one"),
             ("listing.txt", None, True, "listing.txt: made again it is another one"),
             ("controls/fewer.json", more, True, "fewer.json: made again it is another one"),
+            ("files/sum.s", replaced(b"ret16", b"rfe16"), True, "don't link to it"),
             ("record.json", replaced(b"1 of 2", b"1 of 9"), True, "record.json: made again"),
             ("record.json", replaced(b"files/firmware.elf", b"../firmware.elf"), True, "not a rec"),
             ("record.json", lambda data: b"[]", True, "not a record"),

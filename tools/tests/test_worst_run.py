@@ -1,19 +1,20 @@
 """Unit tests of worst_run.py and its modules."""
-import pathlib
+import contextlib
+import itertools
 import random
-import sys
 import unittest
+from unittest import mock
 
-TOOLS = pathlib.Path(__file__).resolve().parent.parent
-sys.path.insert(0, str(TOOLS))
-
+import beside
 import hostile_readers as readers
+import judged
 import machine
 import worst_graph
 import worst_machine
 import worst_run
+import worst_search
 
-PLAN = (TOOLS.parent / "examples" / "core_16" / "board.json").read_bytes()
+PLAN = (beside.EXAMPLES / "core_16" / "board.json").read_bytes()
 RAM = 0xD0008000
 CODE = 0x80000000
 
@@ -117,6 +118,31 @@ class Scripts(unittest.TestCase):
         steps = ["in 0 4 5", "step 2", "irq 20", "irq 30", "step 3"]
         steps += ["aln 1", "step 1", "aln 0", "step 1"]
         self.assertEqual(text.splitlines(), steps)
+
+
+@beside.needs_program
+class Seeds(beside.InFolder):
+    """One seed gives one search, however fast the clock is."""
+
+    def searched(self, tick):
+        """What a search of some events comes to, with a clock that gives these ticks."""
+        program = beside.program()
+        firmware = judged.Judged(program, "firmware.elf", "board.json", self.folder)
+        world = worst_machine.World(firmware.image(), firmware.board())
+        world.graph = worst_run.graph_of(firmware, "firmware.cert", world.name_at)
+        with mock.patch("time.monotonic", itertools.count(0, tick).__next__):
+            search = worst_search.Search(world, 1e9, 1, {})
+            search.in_time = lambda: self.assertLess(search.steps, 150000)
+            with contextlib.suppress(AssertionError):
+                search.go()
+        return search.steps, search.draw.random(), world.best
+
+    def test_two_clocks(self):
+        self.linked(self.example("protocol"))
+        self.tcd("cert", "firmware.elf", "board.json", "firmware.cert")
+        slow, fast = self.searched(1e-6), self.searched(0.05)
+        self.assertEqual(slow, fast)
+        self.assertGreater(slow[0], 100000)
 
 
 class Graphs(unittest.TestCase):
