@@ -72,6 +72,9 @@ def ended(doc, work):
         sys.stdout.flush()
     except BrokenPipeError:  # the reader, such as `head`, has seen enough
         os._exit(tcd.DONE)
+    except OSError as e:
+        print(f"{shown(e.filename)}: {e.strerror}", file=sys.stderr)
+        status = tcd.BAD_FILE
     except Refused as e:
         print(e)
         status = tcd.REFUSED

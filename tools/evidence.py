@@ -43,7 +43,7 @@ import plans
 import program as tcd
 import view
 from arguments import Refused
-from sources import Unusable, bytes_of, lines_of, shown
+from sources import Unusable, bytes_of, shown
 
 DOCUMENT = view.HERE.parent / "docs" / "safety.md"
 #: what docs/safety.md calls the claim of each command, in its table of claims
@@ -54,8 +54,6 @@ PREMISE = re.compile(r"- \*\*(A\d+)\. ")
 #: a part of what a claim rests on: `A1 to A13`, `A16` or `without A3`
 RESTS_ON = re.compile(r"(without )?A(\d+)(?: to A(\d+))?")
 LINK = re.compile(r"\[([^]]*)\]\([^)]*\)")
-#: the record's keys that another program or another maker changes
-OF_THE_MAKER = ("program", "tool")
 SUMS, PREMISES, RECORD = "SHA256SUMS", "premises.md", "record.json"
 
 
@@ -106,7 +104,7 @@ def premises_in(lines):
 
 def premises(claim, line):
     """The page of premises for a command's line, with a column for the evidence."""
-    lines = lines_of(DOCUMENT)
+    lines = bytes_of(DOCUMENT).decode().split("\n")
     found, needed = premises_in(lines), rests_on(lines, claim)
     if missing := [name for name in needed if name not in found]:
         raise Unusable(f"{shown(DOCUMENT)}: it has no premise {missing[0]}")
@@ -337,7 +335,7 @@ def fault_of_making(program, folder, record, scratch):
     except Refused as e:
         return f"refused now: {e}"
     again = json.loads(bytes_of(scratch / RECORD))
-    if any(record.get(key) != again[key] for key in again if key not in OF_THE_MAKER):
+    if any(record.get(key) != again[key] for key in again if key != "program"):
         return f"{RECORD}: made again it says other lines"
     for name in sorted({*files_in(folder), *files_in(scratch)} - {RECORD}):
         if not is_same(folder / name, scratch / name) and not name.startswith("page"):

@@ -468,11 +468,11 @@ def demand_sources(given, command):
 
 
 def names_of(given, command):
-    """The map and the sources that the words before `--` name, or those of `ship`."""
-    if given[:1] == ["--elf"]:
-        return names.read_elf(given[1]), []
-    if not given and command[1:2] == ["ship"] and len(command) > 6:
+    """The map and the sources that the words before `--` name; `ship` names its own."""
+    if command[1:2] == ["ship"] and len(command) > 6:
         given = [command[3], *command[6:]]
+    elif given[:1] == ["--elf"]:
+        return names.read_elf(given[1]), []
     if given:
         return names.read(given[0], given[1:]), given[1:]
     return names.Map(), []

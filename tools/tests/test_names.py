@@ -123,6 +123,15 @@ class OfTheExecutable(beside.InFolder):
             self.assertFalse((self.folder / "page.html").exists())
             self.assertFalse((self.folder / "worst.script").exists())
 
+    def test_ship_names_its_own_sources(self):
+        plan = (self.folder / "board.json").read_text()
+        self.put("few.json", plan.replace('"areas": 12', '"areas": 5'))
+        swapped = ["board.layout", *reversed(self.sources)]
+        ship = [beside.program(), "ship", "few.json", "board.layout", "f.elf", "f.cert"]
+        done = self.script("explain.py", *swapped, "--", *ship, *self.sources)
+        self.assertEqual(done.returncode, 1)
+        self.assertIn("main.s:7: error: K14 at main", done.stderr)
+
     def test_objects_of_other_sources(self):
         objects = [f"{path[:-2]}.o" for path in self.sources]
         link = ["--", beside.program(), "link", "board.layout", "f.elf"]
