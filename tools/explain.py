@@ -12,7 +12,7 @@ addresses stay addresses.
 What the command printed comes first, as it is. If it refused, named a fault of a file, or printed
 a run that died, standard error gets a line `FILE:LINE: error: ..`, as editors and build logs read
 it, the line of the source, and what people change. Lines `FILE:LINE: note: ..` behind it are, for
-rule 14, the entries of the ring of frames, and for rules on addresses, the instructions before the
+rule 14, the entries of the loop of frames, and for rules on addresses, the instructions before the
 place from which the address comes. tcd names the first fault only, so there is one error at most.
 
 With --json, standard output is one JSON object instead: command, status, printed, and finding,

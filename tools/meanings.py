@@ -169,7 +169,7 @@ NO_AREAS = {
     "interrupt": Meaning(
         "an interrupt here leads back to this frame, so no number of areas suffices",
         "write `bisr` with the handler's own priority or a higher one; look at each handler of "
-        "the ring",
+        "the loop of frames",
     ),
 }
 
@@ -183,8 +183,8 @@ SOURCES = {
     ),
     "2": Meaning(
         "no such instruction or directive",
-        "write it with instructions of the table (docs/instructions.md lists them); there are no macros, "
-        "no `.text`, `.align` or `.equ`",
+        "write it with instructions of the table (docs/instructions.md lists them); there are no "
+        "macros, no `.text`, `.align` or `.equ`",
     ),
     "3": Meaning(
         "the operands have another form",

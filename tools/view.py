@@ -15,7 +15,7 @@ With --cells the certificate is one of `cellcert`, with --tasks that of one task
 `taskcert`. What `report` can't say of these is left out, and the page says what that is.
 
 If the certificate is refused or isn't there, `cert` is asked again: the page says what stands
-against a certificate now, with the code around it, and for rule 14 the ring of frames, or the
+against a certificate now, with the code around it, and for rule 14 the loop of frames, or the
 chain that needs more areas than there are.
 
 The page is a picture and proves nothing: `check` of the certificate does.
@@ -115,7 +115,7 @@ class View:
         if found and found["address"]:
             body.append(page.refused_code(found["address"]))
         if explainer.ring.steps:
-            return body + page.ring(explainer.ring), {"ring": "The ring"}
+            return body + page.ring(explainer.ring), {"ring": "The loop"}
         if found and found["notes"]:
             body += page.origins(found["notes"])
         return body, {}

@@ -270,7 +270,7 @@ class Refused(Pages):
         self.put(ELF, b"\0" * 24 + bytes.fromhex("00000080") + b"\0" * 24)
         self.put(PLAN, json.dumps(generated.plan([])))
         page = self.page(names.Map([(0x80000008, "f", "", 0)]))
-        self.assertIn("The ring", page.text)
+        self.assertIn("The loop of frames", page.text)
         self.assertIn("f calls f", page.text)
 
 
