@@ -314,6 +314,8 @@ def record_of(folder):
         inside = [*record["files"], *record["names"]]
         inside += [record["more"]] if record["command"] in OF_VIEWS else []
         is_one = record["command"] in CLAIMS and len(record["files"]) > 2
+        kind = type(None) if record["command"] == "check" else str
+        is_one = is_one and isinstance(record["more"], kind)
         if not is_one or not all(re.fullmatch(r"files/[^/]+", name) for name in inside):
             raise ValueError(RECORD)
     except (ValueError, KeyError, TypeError, RecursionError):

@@ -23,6 +23,7 @@ Exit status: that of the command; 2 if there is no such program, if LAYOUT and S
 of its executable, or if a file that it writes is one that is read; 5 wrong arguments.
 """
 import json
+import os
 import pathlib
 import re
 import sys
@@ -460,11 +461,13 @@ def demand_apart(given, command):
 def demand_sources(given, command):
     """Raises Unusable if LAYOUT SOURCE.. aren't those of the command's executable or objects."""
     layout, *paths = given
-    objects, elf = of_command(command, ["OBJECT"]), of_command(command, ["ELF"])
-    if command[1] == "link" and len(objects) == len(paths):
-        names.demand_objects(command[0], objects, paths)
-    elif command[1] not in ("asm", "link", "ship") and elf and pathlib.Path(elf[0]).exists():
-        names.demand(command[0], elf[0], layout, paths)
+    judged = of_command(command, ["OBJECT" if command[1] == "link" else "ELF"])
+    if command[1] in ("asm", "ship") or not judged or not all(map(os.path.exists, judged)):
+        return  # it prints no address, names its own sources, or can't read its files
+    if command[1] == "link":
+        names.demand_objects(command[0], judged, paths)
+    else:
+        names.demand(command[0], judged[0], layout, paths)
 
 
 def names_of(given, command):

@@ -200,6 +200,8 @@ class WithProgram(WithPage):
             ("record.json", replaced(b"1 of 2", b"1 of 9"), True, "record.json: made again"),
             ("record.json", replaced(b"files/firmware.elf", b"../firmware.elf"), True, "not a rec"),
             ("record.json", lambda data: b"[]", True, "not a record"),
+            ("record.json", replaced(b'"check",', b'"boot",'), True, "not a record"),
+            ("record.json", replaced(b'more": null', b'more": 7'), True, "not a record"),
             ("page.html", None, False, "page.html: not there"),
             ("more.txt", more, False, "more.txt: SHA256SUMS doesn't have it"),
             ("premises.md", replaced(b"| A2 |", b"| A4 |"), False, "its premises aren't those"),

@@ -135,7 +135,7 @@ class OfTheExecutable(beside.InFolder):
     def test_objects_of_other_sources(self):
         objects = [f"{path[:-2]}.o" for path in self.sources]
         link = ["--", beside.program(), "link", "board.layout", "f.elf"]
-        for words, status in ((objects, 0), (objects[::-1], 2)):
+        for words, status in ((objects, 0), (objects[::-1], 2), (objects[:1], 2)):
             done = self.script("explain.py", *self.names_from, *link, *words)
             self.assertEqual((done.returncode, bool(done.stderr)), (status, status != 0), words)
 
