@@ -35,6 +35,7 @@ PARTS = {
     "builds": ["try_builds.py", "P"],
     "worst": ["try_worst.py", "P", "nested_interrupts", "misaligned", "start_up"],
     "hostile": ["hostile.py", "--quick", "P"],
+    "largest": ["try_largest.py", "P"],
 }
 #: the line with which a script ends, and what unittest prints
 COUNTED = re.compile(

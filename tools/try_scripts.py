@@ -99,6 +99,7 @@ CASES = {
     "try_schema.py": {5: ["", "P P"], 2: ["none"]},
     "try_page.py": {5: ["", "P P"], 2: ["none"]},
     "try_builds.py": {5: ["", "P P"], 2: ["none"]},
+    "try_largest.py": {5: ["", "P P"], 2: ["none"]},
     "test.py": {5: [""], 2: ["none"]},
 }
 
