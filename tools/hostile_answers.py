@@ -367,3 +367,8 @@ def answer(words, files):
         if files.get(name, b"") is FAULT:
             return 3, "", dict(list(written.items())[:n])
     return status, text, written
+
+
+def fits(want, status, text):
+    """Whether a status and a text are those of an answer."""
+    return want[1](status, text) if callable(want[1]) else (status, text) == (want[0], want[1].encode())

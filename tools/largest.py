@@ -155,7 +155,7 @@ class Firmware:
         for frame in (self.main, *self.leaves, *self.chain, *self.others):
             parts.setdefault(frame.section, (frame.entry, []))[1].extend(frame.held)
         found = {name: (at, b"".join(held)) for name, (at, held) in parts.items()}
-        words = b"".join(leaf.entry.to_bytes(4, "little") for leaf in self.leaves)
+        words = readers.le32(*(leaf.entry for leaf in self.leaves))
         return {**found, "table": (TABLE, words)} if self.others else found
 
     def sources(self):
@@ -227,16 +227,15 @@ def task(number, tasks):
 
 def elf(entry, segments):
     """An executable of 64 segments and 16,777,216 bytes, its program headers last."""
-    le = lambda *values: b"".join(value.to_bytes(4, "little") for value in values)
     few = SEGMENTS - len(segments) - 1
     segments = segments + [(0x90000000 + 64 * n, b"\x90\0\0") for n in range(few)]
     rest = FILE - 52 - 32 * SEGMENTS - sum(len(held) for _, held in segments)
     segments.append((0xA0000000, bytes(rest)))
     head = bytearray(readers.elf_bytes(entry, [])[:52])
-    head[28:32], head[44:46] = le(FILE - 32 * SEGMENTS), SEGMENTS.to_bytes(2, "little")
+    head[28:32], head[44:46] = readers.le32(FILE - 32 * SEGMENTS), readers.le(SEGMENTS, 2)
     headers, at = [], 52
     for address, held in segments:
-        headers.append(le(1, at, 0, address, len(held), len(held), 5, 1))
+        headers.append(readers.le32(1, at, 0, address, len(held), len(held), 5, 1))
         at += len(held)
     return bytes(head) + b"".join(held for _, held in segments) + b"".join(headers)
 

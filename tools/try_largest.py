@@ -215,9 +215,8 @@ def objects(room):
     places = [f"place s{n} {at[n]:08X} {most[n]:08X}" for n in range(SEGMENTS)]
     room.put(SRC=lines(*source), LAYOUT=lines(*places, f"entry {first[0]}"), EACH=each)
     room.put(DATA=readers.object_bytes([(b"s0", data)], [], []))
-    word = lambda value: value.to_bytes(4, "little")
-    held = [b"".join(word(a + 4 * i) for i in range(len(p))) for a, p in zip(at, parts)]
-    held[0], held[-1] = held[0] + data, held[-1] + word(at[0]) * others
+    held = [readers.le32(*range(a, a + 4 * len(part), 4)) for a, part in zip(at, parts)]
+    held[0], held[-1] = held[0] + data, held[-1] + readers.le32(at[0]) * others
     room.written["IMAGE"] = readers.elf_bytes(at[0], list(zip(at, held)))
     alone(room)
 
