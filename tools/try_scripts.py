@@ -90,6 +90,17 @@ CASES = {
             "P firmware.elf board.json cut.cert --most 9",
         ],
     },
+    "first_plan.py": {
+        5: ["", "firmware.elf --bogus", "firmware.elf board.layout x"],
+        2: ["none.elf", "cut.elf", "firmware.elf main.s", "firmware.elf -o board.json"],
+    },
+    "sarif.py": {
+        5: ["", "board.layout main.s", "--json -- P cert firmware.elf board.json x.cert"],
+        2: [
+            "-- none cert firmware.elf board.json x.cert",
+            "-- P cert firmware.elf board.json board.json",
+        ],
+    },
     "known.py": {
         5: ["", "firmware.elf --bogus", "firmware.elf --vectors x y"],
         2: ["none.elf", "cut.elf", "firmware.elf none.json", "firmware.elf cut.json", "board.json"],
