@@ -6,7 +6,7 @@
 For each part a line is printed with what was tried and the seconds it took, before it what was
 wrong; with names of parts those alone are done. The last line is `N passed, M failed`. It needs
 Python 3.9 or newer and its standard library alone; what else isn't installed (Make, CMake) isn't
-tried, which is printed. On four idle processors it takes some two minutes.
+tried, which is printed. On four idle processors it takes some three minutes.
 
 Exit status: 0 nothing failed, 1 something did, 2 no such program, 5 wrong words.
 """
