@@ -1,4 +1,4 @@
-"""The reference machine in Python, written from docs/machine.md, docs/formats.md and docs/guide.md alone.
+"""The reference machine in Python, written from docs/machine.md, docs/formats.md and docs/plan.md alone.
 
 Used by tools/hostile.py, bench/boots.py and bench/tasks.py beside the program's own machine. It shares nothing with the product
 but the table of instructions, which tools/hostile_readers.py reads.
