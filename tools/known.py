@@ -226,7 +226,7 @@ def report(given, image, starts, guessed, name):
         hint = "" if given.all else "; --all guesses them here"
         count = len(reached.through)
         print(f"  {count} calls and jumps go through registers, the first at {first}:")
-        print(f"  tcd has to find their targets in tables (rule 5){hint}")
+        print(f"  tcd has to find their targets in tables (K5){hint}")
     if reached.lost:
         first = f"{min(reached.lost):08X}"
         print(f"  {len(reached.lost)} targets are outside of the executable, the first at {first}")

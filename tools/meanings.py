@@ -243,7 +243,7 @@ LINKING = {
     "1": Meaning("the name is global in two objects", "make one of them local or rename it"),
     "2": Meaning(
         "the name is used, and no object defines it as global",
-        "add `.global` in the source that defines it; name its object among the words",
+        "add `.global` in the source that defines it; name its object among the arguments",
     ),
     "3": Meaning("the section has no place in the layout", "add a line `place`"),
     "4": Meaning(
