@@ -102,10 +102,10 @@ def jumps(count, places):
 
 
 def loads(count, addresses):
-    """Loads of words of 60 sections."""
+    """Loads of zeros of 60 sections."""
     lines = MAIN + ANSWER + entry() + ["ld.w.l d1, [a14]0"] * int(count) + END
     lines += table(PLACES[i % 60] + 4 * (i // 60) for i in range(addresses))
-    return lines + [line for i in range(60) for line in table((i, i + 60, i + 120), f"r{i}")]
+    return lines + [line for i in range(60) for line in table((0, 0, 0), f"r{i}")]
 
 
 def stores(count):
