@@ -11,8 +11,8 @@ addresses stay addresses.
 
 What the command printed comes first, as it is. If it refused, named a fault of a file, or printed
 a run that died, standard error gets a line `FILE:LINE: error: ..`, as editors and build logs read
-it, the line of the source, and what people change. Lines `FILE:LINE: note: ..` behind it are, for
-rule 14, the entries of the loop of frames, and for rules on addresses, the instructions before the
+it, the line of the source, and what people change. Lines `FILE:LINE: note: ..` after it are, for
+K14, the entries of the loop of frames, and for rules on addresses, the instructions before the
 place from which the address comes. tcd names the first fault only, so there is one error at most.
 
 With --json, standard output is one JSON object instead: command, status, printed, and finding,
@@ -115,7 +115,7 @@ class Explainer:
     def __init__(self, command, known, paths=()):
         self.command, self.known, self.paths = command, known, list(paths)
         self.name = command[1] if len(command) > 1 else ""
-        #: if the finding is one of rule 14: the ring of frames, which may have no steps
+        #: if the finding is one of K14: the ring of frames, which may have no steps
         self.ring = causes.Ring()
         #: what `report` and `cfg` print of the executable with areas enough, if that is the cause
         self.roomy = None
@@ -181,7 +181,7 @@ class Explainer:
         return finding(f"K{rule}", meaning, message, frame=frame, **place)
 
     def no_areas(self, address, key):
-        """Which of the causes of rule 14 it is, with the ring or the number of areas."""
+        """Which of the causes of K14 it is, with the ring or the number of areas."""
         self.judge_areas(address, key)
         needed = json.loads(self.roomy[0])["certified"] if self.roomy else None
         is_enough = needed is not None and needed <= self.usable()

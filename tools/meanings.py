@@ -153,7 +153,7 @@ NO_CODE_AT_ENTRY = {
     ),
 }
 
-#: the causes of rule 14
+#: the causes of K14
 NO_AREAS = {
     "areas": Meaning(
         "the start needs more areas than there are without the reserve",
@@ -411,7 +411,7 @@ TASK_REFUSALS = {
 #: `.. dead CAUSE at PC` of `run`
 DEATHS = {
     "fcd": Meaning(
-        "an entry or a save took the first area of the reserve: the free list is used up (rule 14)"
+        "an entry or a save took the first area of the reserve: the free list is used up (K14)"
     ),
     "fcu": Meaning("an entry found no free area at all (rule 13)"),
     "csu": Meaning("a return or `rslcx` with nothing left to restore (rules 6, 7, 8)"),

@@ -5,7 +5,7 @@
     sarif.py --elf OTHER.elf -- tcd cert OTHER.elf board.json OTHER.cert > tcd.sarif
 
 The arguments are those of explain.py, which finds the place. tcd names the first fault only, so
-there is at most one result. The ring of rule 14, or the instructions from which an address comes,
+there is at most one result. The loop of K14, or the instructions from which an address comes,
 is its code flow. Its fingerprint has no addresses and no lines. Paths stay as they are given: run
 sarif.py where the review expects them.
 

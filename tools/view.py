@@ -15,7 +15,7 @@ With --cells the certificate is one of `cellcert`, with --tasks that of one task
 `taskcert`. What `report` can't say of these is left out, and the page says what that is.
 
 If the certificate is refused or isn't there, `cert` is asked again: the page says what stands
-against a certificate now, with the code around it, and for rule 14 the loop of frames, or the
+against a certificate now, with the code around it, and for K14 the loop of frames, or the
 chain that needs more areas than there are.
 
 The page is a picture and proves nothing: `check` of the certificate does.
