@@ -31,10 +31,10 @@ ordered_if : (test : Bool) (said : Statement) → (test ≡ true → HasOrderedB
 ordered_if true said h = h refl
 ordered_if false said h = tt
 
-three_ordered : (verb : List ℕ) (device lo hi : ℕ) → IsOrderedIf (statement_of_three_numbers verb device lo hi)
+pub three_ordered : (verb : List ℕ) (device lo hi : ℕ) → IsOrderedIf (statement_of_three_numbers verb device lo hi)
 three_ordered verb device lo hi = cond_both (bytes_eq verb (codes "in")) (statement_if (nat_le lo hi) (In device lo hi)) None IsOrderedIf (λ _. ordered_if (nat_le lo hi) (In device lo hi) (λ is. leb-true lo hi is)) (λ _. tt)
 
-one_ordered : (verb : List ℕ) (n : ℕ) → IsOrderedIf (statement_of_one_number verb n)
+pub one_ordered : (verb : List ℕ) (n : ℕ) → IsOrderedIf (statement_of_one_number verb n)
 one_ordered verb n =
     cond_both (bytes_eq verb (codes "step")) _ _ IsOrderedIf (λ _. ordered_if (nat_le 1 n && nat_le n 100000) (Step n) (λ _. tt))
     (λ _. cond_both (bytes_eq verb (codes "irq")) _ _ IsOrderedIf (λ _. ordered_if (nat_le n 255) (Irq n) (λ _. tt))

@@ -1,12 +1,12 @@
 // Counts the save areas in use, event by event.
 // A recount of the chain is needed only if the effect of an event isn't known.
-ghost use Rattle.std.specs.Prelude.{◌≡◌, ◌<◌, ◌^◌, ◌+◌, ◌*◌, true, false, IfOk, unwrap_or};
+ghost use Rattle.std.specs.Prelude.{◌≡◌, ◌<◌, ◌^◌, ◌+◌, ◌*◌, true, false, IfOk};
 ghost use Rattle.tc_isa.specs.InBounds.{IsShape, IsShapeAccessSize};
 ghost use Rattle.tc_encode.specs.Decoding.{decoded_of};
 ghost use Rattle.tc_machine.specs.declared.state.Machine.{Machine};
 ghost use Rattle.tc_machine.specs.Fetching.{mapped_bytes, fetched_shape};
 ghost use Rattle.tc_machine.specs.Instructions.{is_trapping_access};
-ghost use Rattle.tc_machine.specs.Stepping.{step, used_area_count, is_taken};
+ghost use Rattle.tc_machine.specs.Stepping.{step, is_taken};
 ghost use Rattle.tc_script.specs.AreasInSequence.{IsCounted, HasSaved, HasRestored, HasStored, HasStayed, AreaEffectHolds, IsAreaEffectOf};
 
 use csa_chain::address_of;
@@ -36,7 +36,7 @@ pub(crate) enum Effect {
 pub(crate) fn count_areas(m: &Machine) -> AreasUsed
     ensures { IsCounted result m.now }
 {
-    let count = areas_used_or_zero(m);
+    let count = m.used().unwrap_or(0);
     AreasUsed {
         count,
         in_row: m.pcxi % 0x10_0000 == 0,
@@ -44,7 +44,8 @@ pub(crate) fn count_areas(m: &Machine) -> AreasUsed
     }
 }
 
-/// Returns the effect of an event on the areas in use. The machine runs before it and after it.
+/// Returns the effect of an event on the areas in use, which is known of more events if they are
+/// consecutive. The machine runs before it and after it.
 pub(crate) fn effect_of_event(
     m: &Machine,
     event: &Event,
@@ -59,56 +60,36 @@ pub(crate) fn effect_of_event(
         → AreaEffectHolds result used (step m.now event.now) }
 {
     let in_row = used.in_row;
-    if in_row {
-        return effect_in_row(m, event, found, used);
+    if !in_row {
+        if m.keeps_areas(event, found) {
+            return Effect::Stays;
+        }
+        return Effect::Unknown;
     }
-    if m.keeps_areas(event, found) {
-        Effect::Stays
-    } else {
-        Effect::Unknown
-    }
-}
-
-/// Updates the script's count of areas in use after an event that has this effect if the machine
-/// still runs. If it is dead, they are counted again.
-pub(crate) fn used_after(m: &Machine, used: &mut AreasUsed, effect: Effect)
-    requires { m.now.end ≡ End.Running → AreaEffectHolds effect used.old m.now }
-    ensures { IsCounted used.new m.now }
-{
-    match m.end {
-        End::Running => used_by_effect(m, used, effect),
-        End::Dead(_) => *used = count_areas(m),
-    }
-}
-
-/// Returns the number of areas in use, or 0 if it isn't known.
-fn areas_used_or_zero(m: &Machine) -> u32
-    ensures { result ≡ unwrap_or (used_area_count m.now) 0 }
-{
-    m.used().unwrap_or(0)
-}
-
-/// Returns the effect of an event on the count of the areas in use, if these are consecutive.
-fn effect_in_row(
-    m: &Machine,
-    event: &Event,
-    found: &Result<(Shape, u32), Cause>,
-    used: AreasUsed,
-) -> Effect
-    requires running { m.now.end ≡ End.Running }
-    requires found { found.now ≡ fetched_shape (decoded_of (mapped_bytes 4 m.now.mem m.now.pc)) }
-    requires bounded { IfOk found.now (λ it. IsShape it.0) }
-    requires counted { IsCounted used m.now }
-    requires row { used.in_row ≡ true }
-    ensures { (step m.now event.now).end ≡ End.Running
-        → AreaEffectHolds result used (step m.now event.now) }
-{
     if is_event_irq_taken(m, event) {
         return area_effect_of_save(m, used);
     }
     match found {
         Ok((shape, _)) => area_effect_of_shape(m, event, *shape, used),
         Err(_) => Effect::Unknown,
+    }
+}
+
+/// Updates the script's count of areas in use after an event that has this effect if the machine
+/// still runs. If it is dead, or the effect isn't known, they are counted again.
+pub(crate) fn used_after(m: &Machine, used: &mut AreasUsed, effect: Effect)
+    requires { m.now.end ≡ End.Running → AreaEffectHolds effect used.old m.now }
+    ensures { IsCounted used.new m.now }
+{
+    let End::Running = m.end else {
+        *used = count_areas(m);
+        return;
+    };
+    match effect {
+        Effect::Stays => {}
+        Effect::Saves => used.count += 1,
+        Effect::Restores => used.count -= 1,
+        Effect::Unknown => *used = count_areas(m),
     }
 }
 
@@ -279,18 +260,4 @@ fn area_effect_of_restore(m: &Machine, used: AreasUsed) -> Effect
         return Effect::Unknown;
     }
     Effect::Restores
-}
-
-/// Updates the script's count of areas after an event with this effect. If the effect isn't known,
-/// the areas are counted again.
-fn used_by_effect(m: &Machine, used: &mut AreasUsed, effect: Effect)
-    requires { AreaEffectHolds effect used.old m.now }
-    ensures { IsCounted used.new m.now }
-{
-    match effect {
-        Effect::Stays => {}
-        Effect::Saves => used.count += 1,
-        Effect::Restores => used.count -= 1,
-        Effect::Unknown => *used = count_areas(m),
-    }
 }

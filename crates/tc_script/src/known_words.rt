@@ -29,30 +29,24 @@ fn known_word_place(word: u32) -> usize
     (word.wrapping_mul(0x9E37_79B9) / 0x40_0000) as usize
 }
 
-/// Returns an entry without a word, for the cache of known words that a script's run keeps. It is
-/// all zeros, so that a table of them is filled at once.
-fn no_known_word() -> KnownWord
-    ensures { IsKnownWord result }
-{
-    let shape = Shape::Compute {
-        op: Op::Second,
-        dst: 0,
-        x: Arg::Reg(0),
-        y: Arg::Reg(0),
-    };
-    KnownWord {
-        word: None,
-        found: Ok((shape, 0)),
-    }
-}
-
 impl KnownWords {
     /// Returns a cache without words.
     pub(crate) fn new() -> KnownWords
         ensures { All IsKnownWord result.words }
     {
+        // All zeros, so that the table is filled at once.
+        let shape = Shape::Compute {
+            op: Op::Second,
+            dst: 0,
+            x: Arg::Reg(0),
+            y: Arg::Reg(0),
+        };
+        let none = KnownWord {
+            word: None,
+            found: Ok((shape, 0)),
+        };
         KnownWords {
-            words: [no_known_word(); 1024],
+            words: [none; 1024],
         }
     }
 

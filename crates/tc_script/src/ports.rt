@@ -1,5 +1,5 @@
 // The answers of devices: the ports that a run is driven with.
-ghost use Rattle.std.specs.Prelude.{◌≡◌, ◌<◌, ◌≤◌, Some, IfSome, length};
+ghost use Rattle.std.specs.Prelude.{◌≡◌, ◌<◌, ◌≤◌, IfSome, length};
 ghost use Rattle.tcd_base.specs.Ranges.{is_within_range};
 ghost use Rattle.std.specs.List.{list_any};
 ghost use Rattle.tc_script.specs.Ports.{ArePortsAskable, ArePortsBounded, device_answer, device_answer_at};
@@ -64,7 +64,8 @@ impl<F: Fn(u32, u32) -> u32> Ports<F> {
     }
 }
 
-/// Returns the input of an event, 0 if it loads nothing.
+/// Returns the input of an event: the closure's answer if the load is wholly inside one device
+/// range, else 0.
 pub(crate) fn port_input<F: Fn(u32, u32) -> u32>(
     ports: &Ports<F>,
     load: Option<(u32, u8)>,
@@ -74,9 +75,13 @@ pub(crate) fn port_input<F: Fn(u32, u32) -> u32>(
     requires askable { ArePortsAskable (F.pre ports.now.answer) ports.now.devices }
     ensures { IsDrivenInput ports.now.devices (F.post ports.now.answer) t load result }
 {
-    match load {
-        Some((addr, size)) => port_input_at(ports, addr, size, t),
-        None => 0,
+    let Some((addr, size)) = load else {
+        return 0;
+    };
+    if ports.holds(addr, size) {
+        ports.ask(addr, t)
+    } else {
+        0
     }
 }
 
@@ -88,21 +93,6 @@ pub(crate) fn device_answer(bounds: AnswerRange, at: u32) -> u32
 {
     let count = u64::from(bounds.hi - bounds.lo) + 1;
     (u64::from(bounds.lo) + u64::from(at) % count) as u32
-}
-
-/// Returns the input of an event with this load: the closure's answer if the load is wholly inside
-/// one device range, else 0.
-fn port_input_at<F: Fn(u32, u32) -> u32>(ports: &Ports<F>, addr: u32, size: u8, t: u32) -> u32
-    requires some { 1 ≤ size }
-    requires askable { ArePortsAskable (F.pre ports.now.answer) ports.now.devices }
-    ensures { IsDrivenInput ports.now.devices (F.post ports.now.answer) t
-        (Some (addr, size)) result }
-{
-    if ports.holds(addr, size) {
-        ports.ask(addr, t)
-    } else {
-        0
-    }
 }
 
 /// Returns the answer of the port at an address at an event: that of the device there, by the

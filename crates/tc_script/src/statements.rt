@@ -1,5 +1,5 @@
 // Reads the statement of a line.
-ghost use Rattle.std.specs.Prelude.{◌≡◌, [], ◌∷◌, IfSome};
+ghost use Rattle.std.specs.Prelude.{◌≡◌, IfSome};
 ghost use Rattle.tcd_text.specs.Lines.{line_words};
 ghost use Rattle.tc_script.specs.Statements.{statement_of_one_number, statement_of_three_numbers, script_statement_of, HasOrderedBounds};
 
@@ -19,60 +19,32 @@ pub(crate) enum Statement {
 }
 
 /// Returns the statement of a script's line.
-#[tactic(auto, using(crate::proofs::Inside::more_words_say_nothing), unfolding(crate::specs::Statements::script_statement_of))]
+#[tactic(auto, using(crate::proofs::Inside::more_words_say_nothing, crate::proofs::Inside::one_ordered, crate::proofs::Inside::three_ordered), unfolding(crate::specs::Statements::script_statement_of))]
 pub(crate) fn script_statement_in(line: &[u8]) -> Option<Statement>
     ensures said { result ≡ script_statement_of (line_words line.now) }
     ensures ordered { IfSome result HasOrderedBounds }
 {
     match words_in(line) {
-        Words::One(word) => statement_of_one_word(word),
-        Words::Two(verb, word) => statement_of_two_words(verb, word),
+        Words::One(word) => {
+            if word.is_empty() {
+                Some(Statement::Blank)
+            } else {
+                None
+            }
+        }
+        Words::Two(verb, word) => {
+            let n = script_number(word)?;
+            statement_of_one_number(verb, n)
+        }
         Words::Three(_, _, _) => None,
-        Words::Four(verb, first, second, third) => statement_of_four_words(
-            verb, first, second, third,
-        ),
+        Words::Four(verb, first, second, third) => {
+            let device = script_number(first)?;
+            let lo = script_number(second)?;
+            let hi = script_number(third)?;
+            statement_of_three_numbers(verb, device, lo, hi)
+        }
         Words::More => None,
     }
-}
-
-/// Returns the statement of a script's line of one word: the blank one if the word is empty, else
-/// none.
-#[tactic(auto, unfolding(crate::specs::Statements::script_statement_of))]
-fn statement_of_one_word(word: &[u8]) -> Option<Statement>
-    ensures { result ≡ script_statement_of (word.now ∷ []) }
-{
-    if word.is_empty() {
-        Some(Statement::Blank)
-    } else {
-        None
-    }
-}
-
-/// Returns the statement of a script's line of two words: a verb and a number.
-#[tactic(auto, unfolding(crate::specs::Statements::script_statement_of))]
-fn statement_of_two_words(verb: &[u8], word: &[u8]) -> Option<Statement>
-    ensures { result ≡ script_statement_of (verb.now ∷ word.now ∷ []) }
-{
-    match script_number(word) {
-        Some(n) => statement_of_one_number(verb, n),
-        None => None,
-    }
-}
-
-/// Returns the statement of a script's line of four words: a verb and three numbers.
-#[tactic(auto, unfolding(crate::specs::Statements::script_statement_of))]
-fn statement_of_four_words(
-    verb: &[u8],
-    first: &[u8],
-    second: &[u8],
-    third: &[u8],
-) -> Option<Statement>
-    ensures { result ≡ script_statement_of (verb.now ∷ first.now ∷ second.now ∷ third.now ∷ []) }
-{
-    let device = script_number(first)?;
-    let lo = script_number(second)?;
-    let hi = script_number(third)?;
-    statement_of_three_numbers(verb, device, lo, hi)
 }
 
 /// Returns a script's statement `step N`, `irq P`, `aln 0` or `aln 1`, if its number is within its

@@ -3,4 +3,4 @@ use Rattle.tc_script.specs.KnownWords.{IsKnownWord}
 use Rattle.tc_script.proofs.known_words.KnownWords.new.Goals as goal
 
 pub returns : goal.returns
-returns c = All-replicate IsKnownWord 1024 _ c.no_known_word.ensures
+returns c = All-replicate IsKnownWord 1024 _ tt

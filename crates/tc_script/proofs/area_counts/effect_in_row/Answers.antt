@@ -1,9 +1,0 @@
-use Rattle.std.proofs.Common.{sym, ◌∙◌}
-use Rattle.tc_script.proofs.AreaLaws.{told_interrupt, told_found}
-use Rattle.tc_script.proofs.area_counts.effect_in_row.Goals as goal
-
-pub returns-then-is_event_irq_taken : goal.returns-then-is_event_irq_taken
-returns-then-is_event_irq_taken c = told_interrupt _ c.args.used c.args.m.now c.args.event.now c.requires.running (sym c.is_event_irq_taken.ensures ∙ c.if-is_event_irq_taken.true) c.area_effect_of_save.ensures
-
-pub returns-in-Ok : goal.returns-in-Ok
-returns-in-Ok c = told_found _ c.args.used c.args.m.now c.args.event.now c.in-Ok.shape c.in-Ok.field-0-1 c.requires.running (sym c.is_event_irq_taken.ensures ∙ c.if-is_event_irq_taken.false) (sym c.in-Ok.is ∙ c.requires.found) (c.area_effect_of_shape.ensures c.in-Ok.field-0-1)
