@@ -94,10 +94,16 @@ fn draft_with_known_symbols<'a>(draft: Draft<'a>, known: bool, symbols: Symbols<
     ensures { result
         ≡ (if known then record draft.entry { symbols = symbols.entry } else draft.entry) }
 {
-    if known {
-        return draft_with_symbols(draft, symbols);
+    if !known {
+        return draft;
     }
-    draft
+    Draft {
+        section: draft.section,
+        parts: draft.parts,
+        symbols,
+        total: draft.total,
+        count: draft.count,
+    }
 }
 
 /// Adds items in the first of the two passes over a source, as far as symbols depend on them.
@@ -166,17 +172,4 @@ fn first_items<'p, 'a>(items: &'p [Item<'a>], count: u8) -> &'p [Item<'a>]
     ensures { result.now ≡ take count items.now }
 {
     &items[..usize::from(count).min(items.len())]
-}
-
-/// The draft of a second pass over a source, with these symbols of the first pass.
-fn draft_with_symbols<'a>(draft: Draft<'a>, symbols: Symbols<'a>) -> Draft<'a>
-    ensures { result ≡ record draft.entry { symbols = symbols.entry } }
-{
-    Draft {
-        section: draft.section,
-        parts: draft.parts,
-        symbols,
-        total: draft.total,
-        count: draft.count,
-    }
 }

@@ -1,9 +1,8 @@
 // Turns a draft into an object.
 ghost use Rattle.std.specs.Prelude.{◌≡◌, ◌<◌, ◌++◌, ◌+◌, ◌^◌, map, length, All, IfOk, OnOk, is_some, true, string_bytes, ◌≤◌};
 ghost use Rattle.tc_object.specs.Names.{object_name_of as name_in};
-ghost use Rattle.tc_stmt.specs.Items.{reference_of};
 ghost use Rattle.tc_asm.specs.DraftViews.{use_of, part_of};
-ghost use Rattle.tc_asm.specs.Objects.{section_of, symbol_of, assembled_addend, reloc_of, object_of, relocs_from};
+ghost use Rattle.tc_asm.specs.Objects.{section_of, symbol_of, reloc_of, object_of, relocs_from};
 ghost use Rattle.tc_asm.specs.Symbols.{symbol as known_as};
 ghost use Rattle.tc_asm.specs.DraftInvariants.{IsDraft, IsSmallLabelPlace};
 
@@ -14,7 +13,6 @@ use std::alloc::{AllocError, Global};
 use tc_object::{
     GLOBAL_SYMBOL, LOCAL_SYMBOL, Object, Reloc, Section, Symbol, UNDEFINED_SYMBOL, object_name_of,
 };
-use tc_stmt::Reference;
 
 /// The symbols of the object, in the order of the draft.
 pub(crate) fn emit_symbols(alloc: Global, known: &Symbols) -> Result<Vec<Symbol>, AllocError>
@@ -118,31 +116,25 @@ fn emit_name(alloc: Global, name: &[u8]) -> Result<String, AllocError>
     String::from_str(alloc, object_name_of(name).unwrap())
 }
 
-/// The relocation for a use of a symbol in the section of this number.
+/// The relocation for a use of a symbol in the section of this number. Its addend is the number that
+/// the source adds to the symbol, modulo 2^32.
 fn emit_reloc(known: &Symbols, section: usize, u: Use<'_>) -> Reloc
     requires symbols { length known.now < 2 ^ 16 }
     requires section { section < 2 ^ 16 }
     requires offset { u.offset < 2 ^ 32 }
     ensures { result ≡ reloc_of known.now section (use_of u.entry) }
 {
+    let r = u.reference;
     Reloc {
         section: section as u16,
         offset: u.offset as u32,
-        kind: u.reference.kind,
-        symbol: known.number(u.reference.name) as u16,
-        addend: assembled_addend(u.reference),
-    }
-}
-
-/// Returns the addend of a relocation of the finished object: the number that the source adds to
-/// the symbol, modulo 2^32.
-fn assembled_addend(r: Reference<'_>) -> u32
-    ensures { result ≡ assembled_addend (reference_of r.entry) }
-{
-    if r.minus {
-        r.size.wrapping_neg()
-    } else {
-        r.size
+        kind: r.kind,
+        symbol: known.number(r.name) as u16,
+        addend: if r.minus {
+            r.size.wrapping_neg()
+        } else {
+            r.size
+        },
     }
 }
 
@@ -153,20 +145,12 @@ fn emit_sections(alloc: Global, parts: &[Part]) -> Result<Vec<Section>, AllocErr
 {
     let mut out = Vec::new(alloc);
     for i in 0..parts.len() {
-        let made = emit_section(alloc, &parts[i])?;
-        out.push(made)?;
+        let part = &parts[i];
+        let name = emit_name(alloc, part.name)?;
+        let bytes = emit_part_bytes(alloc, part)?;
+        out.push(Section { name, bytes })?;
     }
     Ok(out)
-}
-
-/// A section of the draft as one of the object.
-fn emit_section(alloc: Global, part: &Part) -> Result<Section, AllocError>
-    requires { is_some (name_in part.now.name.now) ≡ true }
-    ensures { IfOk result (λ s. s ≡ section_of (part_of part.now)) }
-{
-    let name = emit_name(alloc, part.name)?;
-    let bytes = emit_part_bytes(alloc, part)?;
-    Ok(Section { name, bytes })
 }
 
 /// The bytes that the object gets from a section of the draft, with the zeros that are only

@@ -1,6 +1,6 @@
 // A table of symbols by name, in the order of first use.
 ghost use Rattle.std.specs.Prelude.{◌≡◌};
-ghost use Rattle.tc_asm.specs.Symbols.{labelled_at, with_label_at};
+ghost use Rattle.tc_asm.specs.Symbols.{with_label_at};
 
 use indexmap::IndexMap;
 use std::alloc::{AllocError, Global};
@@ -29,16 +29,6 @@ const UNSEEN: Entry = Entry {
     place: None,
     is_global: false,
 };
-
-// The entry of a new name whose label is at this place.
-fn label_entry(place: Place) -> Entry
-    ensures { result ≡ labelled_at place }
-{
-    Entry {
-        place: Some(place),
-        is_global: false,
-    }
-}
 
 /// The entry of a known name in the assembler's table of symbols after a label at this place. An
 /// earlier label keeps its place.
@@ -145,7 +135,11 @@ impl<'a> Symbols<'a> {
         ensures symbols { OnOk result (self.new ≡ labelled self.old name.entry.now place) }
         ensures before { IfOk result (λ old. old ≡ place_in self.old name.entry.now) }
     {
-        match self.put(name, label_entry(place))? {
+        let new = Entry {
+            place: Some(place),
+            is_global: false,
+        };
+        match self.put(name, new)? {
             None => Ok(None),
             Some(old) => {
                 self.put(name, with_label(old, place))?;

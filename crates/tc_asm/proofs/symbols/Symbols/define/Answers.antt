@@ -7,7 +7,7 @@ use Rattle.tc_asm.proofs.symbols.Symbols.define.Goals as goal
 pub returns-in-None-clause-symbols : goal.returns-in-None-clause-symbols
 returns-in-None-clause-symbols c =
     labelled_new c.args.self.now _ c.args.name.now c.args.place _ c.in_ok-put.ensures.old c.in-None.is
-    (c.in_ok-put.ensures.put ∙ ap (put_entry c.args.self.now c.args.name.now) c.label_entry.ensures)
+    c.in_ok-put.ensures.put
 
 pub returns-in-None-clause-before : goal.returns-in-None-clause-before
 returns-in-None-clause-before c = ap (λ o. (unwrap_or o unseen).place) (sym c.in-None.is ∙ c.in_ok-put.ensures.old)
@@ -15,7 +15,7 @@ returns-in-None-clause-before c = ap (λ o. (unwrap_or o unseen).place) (sym c.i
 pub returns-in_ok-put-in-Some-clause-symbols : goal.returns-in_ok-put-in-Some-clause-symbols
 returns-in_ok-put-in-Some-clause-symbols c =
     labelled_known c.args.self.now c.put.new.self _ c.args.name.now c.args.place _ c.in-Some.old c.in_ok-put.ensures.old c.in-Some.is
-    (c.in_ok-put.ensures.put ∙ ap (put_entry c.args.self.now c.args.name.now) c.label_entry.ensures)
+    c.in_ok-put.ensures.put
     (c.in_ok-put-in-Some.ensures.put ∙ ap (put_entry c.put.new.self c.args.name.now) c.with_label.ensures)
 
 pub returns-in_ok-put-in-Some-clause-before : goal.returns-in_ok-put-in-Some-clause-before
