@@ -10,18 +10,17 @@ use Rattle.tc_isa.specs.declared.shapes.Arg.{Arg}
 use Rattle.tc_isa.specs.declared.shapes.Cond.{Cond}
 use Rattle.tc_isa.specs.declared.shapes.Target.{Target}
 use Rattle.tc_isa.specs.declared.shapes.Shape.{Shape}
-use Rattle.tc_isa.specs.declared.shapes.Shape.TheVariants.{Load, Store, Branch, Jump, Call, Ret, Rfe, Syscall, Mtcr}
+use Rattle.tc_isa.specs.declared.shapes.Shape.TheVariants.{Branch, Jump, Call, Ret, Rfe, Syscall, Mtcr}
 use Rattle.tc_machine.specs.Instructions.{machine_address_ahead}
 use Rattle.value_domain.specs.declared.states.State.{State}
 use Rattle.value_domain.specs.Limits.{Limits}
-use Rattle.vd_transfer.specs.EffectsOnStates.{transfer_of, address_of}
+use Rattle.vd_transfer.specs.EffectsOnStates.{transfer_of}
 use Rattle.vd_transfer.specs.Branches.{refine_of}
 use Rattle.depth_cert.specs.declared.keys.Key.{Key}
 use Rattle.depth_cert.specs.Exits.{exit_of}
 use Rattle.cfg_recover.specs.Entries.{call_key, irq_key, sys_key, aln_key, call_entry, irq_entry, sys_entry, aln_entry, irqs_of}
 use Rattle.cfg_recover.specs.LocalRules.{targets_of}
-use Rattle.store_ranges.specs.Accesses.{are_aligned}
-use Rattle.cfg_recover.specs.Duties.{Owed, owed, jump, enter, resume, leave, loaded_for_duties, jump_on, next_of, successors_of, entered_and_back, entries_of, misaligned_at, misaligned_of, interrupts_of, leavings_of, duties_of}
+use Rattle.cfg_recover.specs.Duties.{Owed, owed, jump, enter, resume, leave, loaded_for_duties, jump_on, next_of, successors_of, entered_and_back, entries_of, may_be_misaligned, misaligned_of, interrupts_of, leavings_of, duties_of}
 use Rattle.cfg_recover.proofs.Members.{contained_map, contained_flat, contains_first, contains_map, contains_flat, contains_jump, only_one, owes_successor, owes_entry, owes_misaligned, owes_interrupt, owes_leaving}
 
 pub data DutyAt (b : Limits) (image : ImageData) (plan : PlanData) (key : Key) (p : ℕ) (s : State) (n : ℕ) : Shape → Owed → Type 0 where
@@ -37,9 +36,7 @@ pub data DutyAt (b : Limits) (image : ImageData) (plan : PlanData) (key : Key) (
   called_back : (to : Target) (q : ℕ) → Contains (unwrap_or (targets_of plan s p to) []) q → DutyAt b image plan key p s n (Call to) (owed 4 (resume (call_key key q) (machine_address_ahead p n)))
   system : (tin : ℕ) → DutyAt b image plan key p s n (Syscall tin) (owed 12 (enter (sys_key plan key) (sys_entry plan key s tin)))
   system_back : (tin : ℕ) → DutyAt b image plan key p s n (Syscall tin) (owed 4 (resume (sys_key plan key) (machine_address_ahead p n)))
-  misaligned :
-      (shape : Shape) (size : ℕ) → ((t : State) → misaligned_of b plan key t shape ≡ misaligned_at plan key t (address_of b plan shape t) size) → are_aligned (address_of b plan shape s) size ≡ false
-      → DutyAt b image plan key p s n shape (owed 10 (enter (aln_key plan key) (aln_entry plan key s)))
+  misaligned : (shape : Shape) → may_be_misaligned b plan s shape ≡ true → DutyAt b image plan key p s n shape (owed 10 (enter (aln_key plan key) (aln_entry plan key s)))
   interrupt : (shape : Shape) (q : ℕ) → Contains (irqs_of plan s) q → DutyAt b image plan key p s n shape (owed 11 (enter (irq_key plan q) (irq_entry plan key s q)))
   returns : DutyAt b image plan key p s n Ret (owed 6 (leave (exit_of s)))
   resumes : key.kind ≡ 3 → DutyAt b image plan key p s n Rfe (owed 7 (leave (exit_of s)))
@@ -88,17 +85,8 @@ module _ (b : Limits) (image : ImageData) (plan : PlanData) (key : Key) (p : ℕ
       both_at (Syscall tin) (owed 12 (enter (sys_key plan key) (sys_entry plan key s tin)) ∷ []) (owed 4 (resume (sys_key plan key) (machine_address_ahead p n)) ∷ []) (one_at (Syscall tin) _ (system tin)) (one_at (Syscall tin) _ (system_back tin))
   entries_at shape = none_at shape
 
-  access_at : (shape : Shape) (size : ℕ) → ((t : State) → misaligned_of b plan key t shape ≡ misaligned_at plan key t (address_of b plan shape t) size) → AreAt shape (misaligned_at plan key s (address_of b plan shape s) size)
-  access_at shape size e =
-      elim (cases_Bool (are_aligned (address_of b plan shape s) size)) [
-        | inl t ↦ rw t (none_at shape)
-        | inr f ↦ rw f (one_at shape _ (misaligned shape size e f))
-      ]
-
   accesses_at : (shape : Shape) → AreAt shape (misaligned_of b plan key s shape)
-  accesses_at (Load dst base offset size signed after) = access_at (Load dst base offset size signed after) size (λ t. refl)
-  accesses_at (Store src base offset size after) = access_at (Store src base offset size after) size (λ t. refl)
-  accesses_at shape = none_at shape
+  accesses_at shape = elim (cases_Bool (may_be_misaligned b plan s shape)) [ inl t ↦ rw t (one_at shape _ (misaligned shape t)) | inr f ↦ rw f (none_at shape) ]
 
   interrupts_at : (shape : Shape) → AreAt shape (interrupts_of plan key s)
   unfolding AreAt
@@ -136,7 +124,7 @@ module _ (b : Limits) (image : ImageData) (plan : PlanData) (key : Key) (p : ℕ
       (contains_flat (λ q. entered_and_back 5 (call_key key q) (call_entry s) (machine_address_ahead p n)) d q _ c (Contains-append_right (owed 5 (enter (call_key key q) (call_entry s)) ∷ []) (d ∷ []) d (contains_first d [])))
   duty_listed _ d (system tin) = owes_entry b image plan key p s (Syscall tin) n d (contains_first d (owed 4 (resume (sys_key plan key) (machine_address_ahead p n)) ∷ []))
   duty_listed _ d (system_back tin) = owes_entry b image plan key p s (Syscall tin) n d (Contains-append_right (owed 12 (enter (sys_key plan key) (sys_entry plan key s tin)) ∷ []) (d ∷ []) d (contains_first d []))
-  duty_listed _ d (misaligned shape size e f) = owes_misaligned b image plan key p s shape n d (rw (e s, f) (contains_first d []))
+  duty_listed _ d (misaligned shape e) = owes_misaligned b image plan key p s shape n d (rw e (contains_first d []))
   duty_listed _ d (interrupt shape q c) = owes_interrupt b image plan key p s shape n d (contains_map (λ q. owed 11 (enter (irq_key plan q) (irq_entry plan key s q))) (irqs_of plan s) q c)
   duty_listed _ d returns = owes_leaving b image plan key p s Ret n d (contains_first d [])
   duty_listed _ d (resumes e) = owes_leaving b image plan key p s Rfe n d (rw e (contains_first d []))

@@ -14,6 +14,7 @@ pub mod HeldLaws
 pub mod AccessGrowth
 pub mod FirstFault
 pub mod KnownPlaces
+pub mod DutyLists
 pub mod DutyRules
 pub mod FaultLaws
 pub mod FlowDuties

@@ -12,14 +12,14 @@ use Rattle.tc_isa.specs.declared.shapes.Op.TheVariants.{Add}
 use Rattle.tc_isa.specs.declared.shapes.Target.{Target}
 use Rattle.tc_isa.specs.declared.shapes.Target.TheVariants as target
 use Rattle.tc_isa.specs.declared.shapes.Shape.{Shape}
-use Rattle.tc_isa.specs.declared.shapes.Shape.TheVariants.{Compute, Scaled, Load, Store, Branch, Jump, Call, Enable, Disable, Syscall, Mfcr, Nothing}
+use Rattle.tc_isa.specs.declared.shapes.Shape.TheVariants.{Compute, Scaled, Load, Store, Branch, Jump, Enable, Disable, Mfcr, Nothing}
 use Rattle.tc_isa.specs.Arithmetic.{taken_of}
 use Rattle.tc_isa.specs.InBounds.{IsArg, IsTarget}
 use Rattle.tc_machine.specs.declared.events.Event.{Event}
 use Rattle.tc_machine.specs.declared.events.End.TheVariants.{Running}
 use Rattle.tc_machine.specs.declared.state.Machine.{Machine}
 use Rattle.tc_machine.specs.Machine.{reg, a11, IsMachine, core_register}
-use Rattle.tc_machine.specs.Instructions.{machine_address_ahead, does, access_address, is_trapping_access, target_of, is_trapping_instruction}
+use Rattle.tc_machine.specs.Instructions.{machine_address_ahead, does, access_address, is_trapping_access, target_of}
 use Rattle.tc_machine.specs.Fetching.{fetched}
 use Rattle.tc_machine.specs.Stepping.{is_taken, load_in, store_in, where_running, stored, step}
 use Rattle.tcd_plan.specs.MappedAddresses.{IsInAreas, AnswersLoad, IsStoreInRange}
@@ -58,7 +58,7 @@ use Rattle.cfg_recover.proofs.Members.{contains_first, contains_among, contains_
 use Rattle.cfg_recover.proofs.Went.{reg_in, address-is, Went, does-compute, does-scaled, does-mfcr, does-enable, does-disable, does-nop, does-goto, does-load, does-store, does-branch}
 use Rattle.cfg_recover.proofs.Keeps.{KeepsLower, GoesOn, IsKept, keeps_lower, keeps_valueless, keeps_locals, keeps_branch}
 use Rattle.cfg_recover.proofs.Writes.{store_keeps_areas, store_keeps_rom, store_keeps_mapped}
-use Rattle.cfg_recover.proofs.DutyView.{DutyAt, next, straight, taken as branch_taken, target as jump_target, called, called_back, system, system_back, misaligned, interrupt, duty_listed}
+use Rattle.cfg_recover.proofs.DutyView.{next, straight, taken as branch_taken, target as jump_target, called, called_back, system, system_back, misaligned, interrupt, duty_listed}
 use Rattle.tc_mem.specs.PlanMemory.{HoldsRom, IsPlanMemory}
 
 -- ---- one step
@@ -265,21 +265,21 @@ moves_in_frame b image plan key m e s _ n at fits none stays quiet = absurd stay
 
 -- ---- traps
 -- if an access traps at a member, not all members are aligned
-unaligned : (b : Limits) (v : Val) (x size : ℕ) (aln : Bool) → IsValue b v → IsMember x v → (aln && not (eqb (x % size) 0)) ≡ true → are_aligned v size ≡ false
+unaligned : (b : Limits) (v : Val) (x size : ℕ) (aln : Bool) → IsValue b v → IsMember x v → (aln && not (eqb (x % size) 0)) ≡ true → not (are_aligned v size) ≡ true
 unaligned b v x size aln value m traps =
     elim (cases_Bool (are_aligned v size)) [
       | inl all ↦
           absurd
           (both_ways (eqb (x % size) 0) (not-true _ (and_parts aln (not (eqb (x % size) 0)) traps).1)
           (passes_each (λ x. eqb (x % size) 0) x (members v) all (among_member v x (has_step v value.well) m)))
-      | inr some ↦ some
+      | inr some ↦ ap not some
     ]
 
 pub traps_owed : TrapsOwed
 traps_owed b image plan key m e s (Load dst base offset size signed after) n at t =
-    duty_listed b image plan key m.pc s n _ _ (misaligned (Load dst base offset size signed after) size (λ u. refl) (unaligned b (address_of b plan (Load dst base offset size signed after) s) (access_address m base offset after) size e.aln (load_value base offset size after dst signed at) (load_member base offset size after dst signed at) t))
+    duty_listed b image plan key m.pc s n _ _ (misaligned (Load dst base offset size signed after) (unaligned b (address_of b plan (Load dst base offset size signed after) s) (access_address m base offset after) size e.aln (load_value base offset size after dst signed at) (load_member base offset size after dst signed at) t))
 traps_owed b image plan key m e s (Store src base offset size after) n at t =
-    duty_listed b image plan key m.pc s n _ _ (misaligned (Store src base offset size after) size (λ u. refl) (unaligned b (address_of b plan (Store src base offset size after) s) (access_address m base offset after) size e.aln (store_value base offset size after src at) (store_member base offset size after src at) t))
+    duty_listed b image plan key m.pc s n _ _ (misaligned (Store src base offset size after) (unaligned b (address_of b plan (Store src base offset size after) s) (access_address m base offset after) size e.aln (store_value base offset size after src at) (store_member base offset size after src at) t))
 traps_owed b image plan key m e s shape n at t = absurd (false≢true t)
 
 -- ---- calls

@@ -1,6 +1,6 @@
 -- What a point owes: the points, entries and exits that a certificate must have, because the
 -- machine may come there from this point, and the states that they must cover.
-use Rattle.std.specs.Prelude.{◌==◌, ℕ, true, false, if◌then◌else◌, List, ◌∷◌, ◌++◌, map, Option, Some, None, unwrap_or, []}
+use Rattle.std.specs.Prelude.{◌==◌, ℕ, Bool, true, false, not, if◌then◌else◌, List, ◌∷◌, ◌++◌, map, Option, Some, None, unwrap_or, []}
 use Rattle.std.specs.List.{flat_map}
 use Rattle.depth_cert.specs.Keys.{sys_kind}
 use Rattle.elf_image.specs.Images.{ImageData}
@@ -92,17 +92,17 @@ entries_of plan key p s _ n = []
 abbrev pub misaligned_entry : PlanData → Key → State → Owed
 misaligned_entry plan key s = owed 10 (enter (aln_key plan key) (aln_entry plan key s))
 
--- what a point owes by an access to these addresses: the entry of the handler of misaligned
--- accesses, if some address is no multiple of the size
-abbrev pub misaligned_at : PlanData → Key → State → Val → ℕ → List Owed
-misaligned_at plan key s at size = if are_aligned at size then [] else misaligned_entry plan key s ∷ []
+-- whether the access of an instruction may be misaligned: some address is no multiple of the size.
+-- Only loads and stores have an address.
+abbrev pub may_be_misaligned : Limits → PlanData → State → Shape → Bool
+may_be_misaligned b plan s (Load dst base offset size signed after) = not (are_aligned (address_of b plan (Load dst base offset size signed after) s) size)
+may_be_misaligned b plan s (Store src base offset size after) = not (are_aligned (address_of b plan (Store src base offset size after) s) size)
+may_be_misaligned b plan s _ = false
 
--- that entry for an instruction: only loads and stores have an address
+-- what a point owes by its access: the entry of the handler of misaligned accesses, if the access
+-- may be misaligned
 abbrev pub misaligned_of : Limits → PlanData → Key → State → Shape → List Owed
-misaligned_of b plan key s (Load dst base offset size signed after) =
-    misaligned_at plan key s (address_of b plan (Load dst base offset size signed after) s) size
-misaligned_of b plan key s (Store src base offset size after) = misaligned_at plan key s (address_of b plan (Store src base offset size after) s) size
-misaligned_of b plan key s _ = []
+misaligned_of b plan key s shape = if may_be_misaligned b plan s shape then misaligned_entry plan key s ∷ [] else []
 
 -- what a point owes by interrupts: the duties to enter the handlers of those that may be taken,
 -- which rule 11 asks for
@@ -127,3 +127,7 @@ duties_of b image plan key p s shape n =
 abbrev pub keys_entered_by_duty : Duty → List Key
 keys_entered_by_duty (enter k t) = k ∷ []
 keys_entered_by_duty _ = []
+
+-- the keys of the frames that these duties enter, in the order of the duties
+abbrev pub entered_in : List Owed → List Key
+entered_in ds = flat_map (λ d. keys_entered_by_duty d.duty) ds

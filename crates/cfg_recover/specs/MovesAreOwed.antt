@@ -25,7 +25,6 @@ use Rattle.cfg_recover.specs.Entries.{irq_key, aln_key, irq_entry, aln_entry, ca
 use Rattle.cfg_recover.specs.LocalRules.{LocalRule}
 use Rattle.cfg_recover.specs.Duties.{owed, jump, enter, resume, duties_of}
 use Rattle.tc_mem.specs.PlanMemory.{HoldsRom, IsPlanMemory}
-use Rattle.cfg_recover.specs.StepEdges.{to}
 use Rattle.tc_isa.specs.declared.shapes.Target.{Target}
 
 -- where a machine's move from a point begins or ends: the state there holds the machine's

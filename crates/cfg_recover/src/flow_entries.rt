@@ -1,24 +1,22 @@
 // The frames that an instruction itself may enter, and how it leaves its own.
 ghost use Rattle.std.specs.Prelude.{◌≡◌, Some};
 ghost use Rattle.tc_isa.specs.Meanings.{shape_of};
-ghost use Rattle.value_domain.specs.Values.{IsValue};
 ghost use Rattle.value_domain.specs.State.{AreValues};
-ghost use Rattle.store_ranges.specs.Accesses.{IsAccessSize, are_aligned};
-ghost use Rattle.cfg_recover.specs.Duties.{entries_of, misaligned_at, misaligned_of, leavings_of};
+ghost use Rattle.cfg_recover.specs.Duties.{entries_of, misaligned_of, leavings_of};
 ghost use Rattle.cfg_recover.specs.FlowStates.{EntersWithValues};
 ghost use Rattle.cfg_recover.specs.FlowDuties.{told_entry, rule_of_entry, told_leaving, flow_leave_of};
 
 use crate::decoded_inst::InstAt;
+use crate::entered::may_be_misaligned;
 use crate::entry_changes::{call_change, misaligned_change, system_change};
 use crate::flow_targets::{one_target, targets};
 use crate::keys::{ALN_VECTOR, SYS_VECTOR};
 use crate::{Enter, Leave};
 use depth_cert::{ALN, CALL, Key, SYS};
-use store_ranges::aligned;
 use tc_isa::{Inst, Shape, shape};
 use tcd_plan::Plan;
-use value_domain::{Bounds, State, Val};
-use vd_transfer::{address, state_after_change};
+use value_domain::{Bounds, State};
+use vd_transfer::state_after_change;
 
 /// The entries by a call or a system call.
 pub(crate) fn call_flow_entry(
@@ -65,25 +63,15 @@ pub(crate) fn misaligned_flow_entry(
         ≡ misaligned_of b.now plan.now key.now s.now (shape_of inst.now) }
     ensures values { EntersWithValues b.now result }
 {
-    match shape(inst) {
-        Shape::Load { size, .. } => {
-            misaligned_flow_entry_at(b, plan, key, s, &address(b, plan, inst, s), size)
-        }
-        Shape::Store { size, .. } => {
-            misaligned_flow_entry_at(b, plan, key, s, &address(b, plan, inst, s), size)
-        }
-        _ => None,
+    if !may_be_misaligned(b, plan, s, shape(inst)) {
+        return None;
     }
-}
-
-/// Returns true if each address is a multiple of the size.
-pub fn is_flow_access_aligned(b: &Bounds, at: &Val, size: u8) -> bool
-    requires at { IsValue b.now at.now }
-    requires size { IsAccessSize size }
-    ensures { result ≡ are_aligned at.now size }
-{
-    let _most_words = b.most_words();
-    aligned(at, size)
+    Some(Enter {
+        kind: ALN,
+        targets: one_target(plan.btv | ALN_VECTOR),
+        state: state_after_change(s, &misaligned_change(b, plan, key, s)),
+        resume: None,
+    })
 }
 
 /// Returns how an instruction leaves its own frame, which a Flow has beside the entries of other
@@ -99,32 +87,4 @@ pub(crate) fn flow_leave(key: &Key, s: &State, inst: &Inst) -> Leave
         Shape::Rfe => Leave::Rfe,
         _ => Leave::Stays,
     }
-}
-
-/// The entry of the handler of misaligned accesses, unless all these addresses are multiples of the
-/// size.
-fn misaligned_flow_entry_at(
-    b: &Bounds,
-    plan: &Plan,
-    key: &Key,
-    s: &State,
-    at: &Val,
-    size: u8,
-) -> Option<Enter>
-    requires values { AreValues b.now s.now.regs }
-    requires at { IsValue b.now at.now }
-    requires size { IsAccessSize size }
-    ensures entry { told_entry 10 key.now result
-        ≡ misaligned_at plan.now key.now s.now at.now size }
-    ensures values { EntersWithValues b.now result }
-{
-    if is_flow_access_aligned(b, at, size) {
-        return None;
-    }
-    Some(Enter {
-        kind: ALN,
-        targets: one_target(plan.btv | ALN_VECTOR),
-        state: state_after_change(s, &misaligned_change(b, plan, key, s)),
-        resume: None,
-    })
 }

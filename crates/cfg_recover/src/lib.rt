@@ -4,6 +4,7 @@
 mod after_return;
 mod code_cache;
 mod decoded_inst;
+mod entered;
 mod entry_changes;
 mod flow_entries;
 mod flow_interrupts;
@@ -20,8 +21,8 @@ mod start;
 
 pub use after_return::after;
 pub use code_cache::KnownCodes;
+pub use entered::{may_be_misaligned, push_entered_keys};
 pub use entry_changes::{call_change, handler_change, misaligned_change, system_change};
-pub use flow_entries::is_flow_access_aligned;
 pub use flow_interrupts::interrupts;
 pub use flow_point::flow;
 pub use flow_successors::successor_change;

@@ -45,7 +45,7 @@ locals_read version ls few =
     seq u8_at _ (length ls ∷ []) (map cert_flag_byte ls) (length ls) ls (byte (length ls))
     (λ start. seq (λ p. checked_cert_field 5 (leb (length ls) (most_locals_of version)) start (length ls, p)) _ [] (map cert_flag_byte ls) (length ls) ls (test 5 (leb (length ls) (most_locals_of version)) start (length ls) (le-leb _ _ few)) (λ p0. flags_read ls))
 
-state_read : (version : ℕ) (s : State) → IsState version s → IsRead (state_at version) (bytes_of_state s) s
+pub state_read : (version : ℕ) (s : State) → IsState version s → IsRead (state_at version) (bytes_of_state s) s
 unfolding state_at bytes_of_state
 state_read version s h =
     let regs : List ℕ = flat_map bytes_of_value s.regs in
@@ -98,7 +98,7 @@ key_read last k good above =
     (λ p5. seq (λ p. checked_cert_field 4 (leb (cert_flag_byte k.is) 1) p4 (cert_flag_byte k.is, p)) _ [] [] (cert_flag_byte k.is) k (test 4 (leb (cert_flag_byte k.is) 1) p4 (cert_flag_byte k.is) (le-leb _ _ bit.0))
     (λ p6. subst (λ (x : Key). IsRead (λ p. Ok (made, p)) [] x) same (done made))))))))
 
-exit_read : (version : ℕ) (x : Exit) → IsExit version x → IsRead (exit_at version) (cert_flag_byte x.ie ∷ x.ccpn ∷ flat_map bytes_of_value x.lower) x
+pub exit_read : (version : ℕ) (x : Exit) → IsExit version x → IsRead (exit_at version) (cert_flag_byte x.ie ∷ x.ccpn ∷ flat_map bytes_of_value x.lower) x
 unfolding exit_at
 exit_read version x good =
     at_end (exit_at version) (cert_flag_byte x.ie ∷ x.ccpn ∷ []) (flat_map bytes_of_value x.lower) x

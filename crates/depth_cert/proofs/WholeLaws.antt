@@ -33,7 +33,7 @@ none_bytes : 0 ∷ [] ≡ bytes_of_exit None
 unfolding bytes_of_exit
 none_bytes = refl
 
-exit_passed : (version : ℕ) (front rest : List ℕ) (x : Exit) (q : Place) → AreBytes rest → exit_at version (place_between front rest) ≡ Ok (x, q)
+pub exit_passed : (version : ℕ) (front rest : List ℕ) (x : Exit) (q : Place) → AreBytes rest → exit_at version (place_between front rest) ≡ Ok (x, q)
     → Passed (cert_flag_byte x.ie ∷ x.ccpn ∷ flat_map bytes_of_value x.lower) front rest q × IsExit version x
 unfolding exit_at
 exit_passed version front rest x q bytes e =

@@ -7,7 +7,6 @@ use Rattle.depth_cert.specs.declared.points.Exit.{Exit}
 use Rattle.depth_cert.specs.declared.points.Point.{Point}
 use Rattle.depth_cert.specs.Points.{ArePoints, IsPoint}
 use Rattle.depth_cert.specs.Exits.{IsExit}
-use Rattle.value_domain.specs.State.{AreWell}
 
 -- a node, with its points as a list
 pub record NodeData : Type 0 where
@@ -41,8 +40,3 @@ key_numbers ns = map (λ n. number_of_key n.key) ns
 -- the first of these nodes that has this key, if there is one
 abbrev pub find_node : Key → List NodeData → Option NodeData
 find_node k ns = find (λ n. number_of_key n.key == number_of_key k) ns
-
--- a node whose values, those of its points and of its exit, are well-formed
-pub record IsWellNode (node : NodeData) : Type 0 where
-  pub points : All (λ p. AreWell (p.state).regs) node.points
-  pub exit : IfSome node.exit (λ x. AreWell x.lower)

@@ -1,9 +1,9 @@
 // Reads the head of a certificate, and its nodes.
-ghost use Rattle.std.specs.Prelude.{◌≡◌, ◌≤◌, ◌^◌, ◌-◌, ◌⊎◌, length, Ok, Err, IfOk};
+ghost use Rattle.std.specs.Prelude.{◌≡◌, ◌⊎◌, Ok, Err, IfOk};
 ghost use Rattle.tcd_base.specs.FieldReaders.{ReadsField};
 ghost use Rattle.depth_cert.specs.Grammar.{magic_at, version_at, node_count_at};
 
-use tcd_base::{ABOVE_LIMIT, BAD_MAGIC, Cursor, FormErr, form_err_at, read_u16, read_u32};
+use tcd_base::{ABOVE_LIMIT, BAD_MAGIC, FileCursor, FormErr, form_err_at, read_u16, read_u32};
 
 /// The magic bytes 54 43 44 43, as a little-endian word.
 pub(crate) const MAGIC: u32 = 0x4344_4354;
@@ -13,10 +13,8 @@ const MOST_NODES: u16 = 2048;
 
 /// Reads the magic bytes 54 43 44 43.
 #[tactic(auto, unfolding(crate::specs::Grammar::magic_at))]
-pub fn read_magic(c: &mut Cursor<'_>) -> Result<u32, FormErr>
-    requires { length c.old.bytes ≤ 2 ^ 30 }
-    ensures read { ReadsField result c.new (magic_at c.old) }
-    ensures bytes { c.new.bytes ≡ c.old.bytes }
+pub fn read_magic(c: &mut FileCursor<'_>) -> Result<u32, FormErr>
+    ensures { ReadsField result c.old c.new magic_at }
 {
     let start = c.place();
     let magic = read_u32(c)?;
@@ -28,11 +26,9 @@ pub fn read_magic(c: &mut Cursor<'_>) -> Result<u32, FormErr>
 
 /// Reads the version, 1 or 2.
 #[tactic(auto, unfolding(crate::specs::Grammar::version_at))]
-pub fn read_version(c: &mut Cursor<'_>) -> Result<u8, FormErr>
-    requires { length c.old.bytes ≤ 2 ^ 30 }
-    ensures read { ReadsField result c.new (version_at c.old) }
+pub fn read_version(c: &mut FileCursor<'_>) -> Result<u8, FormErr>
+    ensures read { ReadsField result c.old c.new version_at }
     ensures known { IfOk result (λ v. (v ≡ 1) ⊎ (v ≡ 2)) }
-    ensures bytes { c.new.bytes ≡ c.old.bytes }
 {
     let start = c.place();
     let version = read_u16(c)?;
@@ -45,10 +41,8 @@ pub fn read_version(c: &mut Cursor<'_>) -> Result<u8, FormErr>
 
 /// Reads the number of nodes, at most 2,048.
 #[tactic(auto, unfolding(crate::specs::Grammar::node_count_at))]
-pub fn read_node_count(c: &mut Cursor<'_>) -> Result<u16, FormErr>
-    requires { length c.old.bytes ≤ 2 ^ 30 }
-    ensures read { ReadsField result c.new (node_count_at c.old) }
-    ensures bytes { c.new.bytes ≡ c.old.bytes }
+pub fn read_node_count(c: &mut FileCursor<'_>) -> Result<u16, FormErr>
+    ensures { ReadsField result c.old c.new node_count_at }
 {
     let start = c.place();
     let count = read_u16(c)?;

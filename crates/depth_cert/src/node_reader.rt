@@ -1,5 +1,5 @@
 // Reads the fields of nodes.
-ghost use Rattle.std.specs.Prelude.{◌≡◌, ◌≤◌, ◌<◌, ◌+◌, ◌^◌, ◌-◌, length, Ok, Err, OnOk, IfOk, IfErr};
+ghost use Rattle.std.specs.Prelude.{◌≡◌, ◌≤◌, ◌<◌, ◌+◌, ◌^◌, Ok, Err, OnOk, IfOk, IfErr};
 ghost use Rattle.tcd_base.specs.FieldReaders.{ReadsField};
 ghost use Rattle.depth_cert.specs.Grammar.{is_above_last_read, key_after, need_at, has_exit_at, exit_at, point_count_at};
 
@@ -9,16 +9,15 @@ use crate::value_reader::{read_flag, read_values};
 use crate::{ALN, CALL, Exit, Key, SYS};
 use std::marker::Model;
 use tcd_base::{
-    ABOVE_LIMIT, BAD_ORDER, BAD_VALUE, Cursor, FormErr, form_err_at, read_u8, read_u16, read_u32,
+    ABOVE_LIMIT, BAD_ORDER, BAD_VALUE, FileCursor, FormErr, form_err_at, read_u8, read_u16,
+    read_u32,
 };
 
 /// Reads the key of a node. `last` is the number of the node before, if there is one.
 #[tactic(auto, unfolding(crate::specs::Grammar::key_after))]
 #[inline]
-pub fn read_key(c: &mut Cursor<'_>, last: Option<u64>) -> Result<Key, FormErr>
-    requires { length c.old.bytes ≤ 2 ^ 30 }
-    ensures read { ReadsField result c.new (key_after last c.old) }
-    ensures bytes { c.new.bytes ≡ c.old.bytes }
+pub fn read_key(c: &mut FileCursor<'_>, last: Option<u64>) -> Result<Key, FormErr>
+    ensures { ReadsField result c.old c.new (key_after last) }
 {
     let start = c.place();
     let kind = read_u8(c)?;
@@ -59,10 +58,8 @@ const MOST_NEED: u16 = 4096;
 
 /// Reads the need of a node, at most 4,096 areas.
 #[tactic(auto, unfolding(crate::specs::Grammar::need_at))]
-pub fn read_need(c: &mut Cursor<'_>) -> Result<u16, FormErr>
-    requires { length c.old.bytes ≤ 2 ^ 30 }
-    ensures read { ReadsField result c.new (need_at c.old) }
-    ensures bytes { c.new.bytes ≡ c.old.bytes }
+pub fn read_need(c: &mut FileCursor<'_>) -> Result<u16, FormErr>
+    ensures { ReadsField result c.old c.new need_at }
 {
     let start = c.place();
     let need = read_u16(c)?;
@@ -74,10 +71,8 @@ pub fn read_need(c: &mut Cursor<'_>) -> Result<u16, FormErr>
 
 /// Reads whether a node of a kind has an exit. Only calls and system calls can have one.
 #[tactic(auto, unfolding(crate::specs::Grammar::has_exit_at))]
-pub fn read_has_exit(c: &mut Cursor<'_>, kind: u8) -> Result<bool, FormErr>
-    requires { length c.old.bytes ≤ 2 ^ 30 }
-    ensures read { ReadsField result c.new (has_exit_at kind c.old) }
-    ensures bytes { c.new.bytes ≡ c.old.bytes }
+pub fn read_has_exit(c: &mut FileCursor<'_>, kind: u8) -> Result<bool, FormErr>
+    ensures { ReadsField result c.old c.new (has_exit_at kind) }
 {
     let start = c.place();
     let exit = read_flag(c)?;
@@ -89,8 +84,7 @@ pub fn read_has_exit(c: &mut Cursor<'_>, kind: u8) -> Result<bool, FormErr>
 
 /// Reads an exit in place: IE, CCPN, and the values of the lower registers.
 #[tactic(auto, unfolding(crate::specs::Grammar::exit_at))]
-pub fn read_exit(c: &mut Cursor<'_>, version: u8, out: &mut Exit) -> Result<(), FormErr>
-    requires { length c.old.bytes ≤ 2 ^ 30 }
+pub fn read_exit(c: &mut FileCursor<'_>, version: u8, out: &mut Exit) -> Result<(), FormErr>
     ensures ok { OnOk result (exit_at version c.old ≡ Ok (out.new, c.new)) }
     ensures err { IfErr result (λ e. exit_at version c.old ≡ Err e) }
     ensures bytes { c.new.bytes ≡ c.old.bytes }
@@ -104,12 +98,10 @@ pub fn read_exit(c: &mut Cursor<'_>, version: u8, out: &mut Exit) -> Result<(), 
 /// Reads the number of a node's points. The nodes before have `used`; all together are at most
 /// 65,536.
 #[tactic(auto, unfolding(crate::specs::Grammar::point_count_at))]
-pub fn read_point_count(c: &mut Cursor<'_>, used: usize) -> Result<u32, FormErr>
-    requires short { length c.old.bytes ≤ 2 ^ 30 }
+pub fn read_point_count(c: &mut FileCursor<'_>, used: usize) -> Result<u32, FormErr>
     requires used { used ≤ 2 ^ 16 }
-    ensures read { ReadsField result c.new (point_count_at used c.old) }
+    ensures read { ReadsField result c.old c.new (point_count_at used) }
     ensures few { IfOk result (λ n. used + n ≤ 2 ^ 16) }
-    ensures bytes { c.new.bytes ≡ c.old.bytes }
 {
     let start = c.place();
     let count = read_u32(c)?;

@@ -1,16 +1,15 @@
 // Reads the fields of points.
-ghost use Rattle.std.specs.Prelude.{◌≡◌, ◌≤◌, ◌^◌, ◌-◌, [], length, true, Ok, Err, IfOk, IfErr};
+ghost use Rattle.std.specs.Prelude.{◌≡◌, ◌≤◌, [], true, Ok, Err, IfOk, IfErr};
 ghost use Rattle.tcd_base.specs.FieldReaders.{ReadsField, many_fields_at};
 ghost use Rattle.depth_cert.specs.Grammar.{flag_at, locals_at, address_after, is_above_last_read};
 
 use crate::value_reader::read_flag;
 use arrayvec::ArrayVec;
-use tcd_base::{ABOVE_LIMIT, BAD_ORDER, Cursor, FormErr, form_err_at, read_u8, read_u32};
+use tcd_base::{ABOVE_LIMIT, BAD_ORDER, FileCursor, FormErr, form_err_at, read_u8, read_u32};
 
 /// Reads a list of flags: their number, at most 4 in version 1 and 8 in version 2, and each flag.
 #[tactic(auto, unfolding(crate::specs::Grammar::locals_at))]
-pub fn read_locals(c: &mut Cursor<'_>, version: u8) -> Result<ArrayVec<bool, 8>, FormErr>
-    requires { length c.old.bytes ≤ 2 ^ 30 }
+pub fn read_locals(c: &mut FileCursor<'_>, version: u8) -> Result<ArrayVec<bool, 8>, FormErr>
     ensures ok { IfOk result (λ l. locals_at version c.old ≡ Ok (l.items, c.new)) }
     ensures err { IfErr result (λ e. locals_at version c.old ≡ Err e) }
     ensures bytes { c.new.bytes ≡ c.old.bytes }
@@ -27,11 +26,9 @@ pub fn read_locals(c: &mut Cursor<'_>, version: u8) -> Result<ArrayVec<bool, 8>,
 /// Reads the address of a point. `last` is the address of the point before, if there is one.
 #[tactic(auto, unfolding(crate::specs::Grammar::address_after))]
 #[inline]
-pub fn read_address(c: &mut Cursor<'_>, last: Option<u32>) -> Result<u32, FormErr>
-    requires { length c.old.bytes ≤ 2 ^ 30 }
-    ensures read { ReadsField result c.new (address_after last c.old) }
+pub fn read_address(c: &mut FileCursor<'_>, last: Option<u32>) -> Result<u32, FormErr>
+    ensures read { ReadsField result c.old c.new (address_after last) }
     ensures next { IfOk result (λ addr. is_above_last_read last addr ≡ true) }
-    ensures bytes { c.new.bytes ≡ c.old.bytes }
 {
     let start = c.place();
     let addr = read_u32(c)?;
@@ -43,8 +40,7 @@ pub fn read_address(c: &mut Cursor<'_>, last: Option<u32>) -> Result<u32, FormEr
 
 /// Reads `count` flags of a state's local areas.
 #[tactic(auto, unfolding(tcd_base::specs::FieldReaders::many_fields_at))]
-fn read_flags(c: &mut Cursor<'_>, count: u8) -> Result<ArrayVec<bool, 8>, FormErr>
-    requires short { length c.old.bytes ≤ 2 ^ 30 }
+fn read_flags(c: &mut FileCursor<'_>, count: u8) -> Result<ArrayVec<bool, 8>, FormErr>
     requires few { count ≤ 8 }
     ensures ok { IfOk result
         (λ l. many_fields_at (λ before. flag_at) count [] c.old ≡ Ok (l.items, c.new)) }

@@ -1,12 +1,12 @@
 // Reads the fields of values.
-ghost use Rattle.std.specs.Prelude.{◌≡◌, ◌≤◌, ◌<◌, ◌^◌, ◌-◌, ◌∷◌, [], IsTrue, ℕ, length, Ok, Err, OnOk, IfOk, IfErr, true};
+ghost use Rattle.std.specs.Prelude.{◌≡◌, ◌≤◌, ◌<◌, ◌^◌, ◌-◌, length, Ok, Err, OnOk, IfOk, IfErr, true};
 ghost use Rattle.tcd_base.specs.FieldReaders.{ReadsField};
 ghost use Rattle.value_domain.specs.declared.values.Val.TheVariants.{Set, Span};
 ghost use Rattle.std.specs.List.Sorted.{IsStrictlyIncreasing};
 ghost use Rattle.depth_cert.specs.Grammar.{flag_at, set_word_after, set_at, span_at, value_at, values_at, is_above_last_read, is_cert_span, last_number_read};
 
 use arrayvec::ArrayVec;
-use tcd_base::{BAD_VALUE, Cursor, FormErr, form_err_at, read_u8, read_u32};
+use tcd_base::{BAD_VALUE, FileCursor, FormErr, form_err_at, read_u8, read_u32};
 use value_domain::{Val, count_of, set_span, set_words, write_any};
 
 /// The first byte of a Span is this plus its step.
@@ -20,10 +20,8 @@ const FEW_WORDS: u8 = 8;
 
 /// Reads a truth value of a certificate: a byte 0 or 1. Any other byte is a `BAD_VALUE`.
 #[tactic(auto, unfolding(crate::specs::Grammar::flag_at))]
-pub fn read_flag(c: &mut Cursor<'_>) -> Result<bool, FormErr>
-    requires { length c.old.bytes ≤ 2 ^ 30 }
-    ensures read { ReadsField result c.new (flag_at c.old) }
-    ensures bytes { c.new.bytes ≡ c.old.bytes }
+pub fn read_flag(c: &mut FileCursor<'_>) -> Result<bool, FormErr>
+    ensures { ReadsField result c.old c.new flag_at }
 {
     let at = c.place();
     let byte = read_u8(c)?;
@@ -36,8 +34,7 @@ pub fn read_flag(c: &mut Cursor<'_>) -> Result<bool, FormErr>
 /// Reads a Set of `n` words, at most `N`, in place.
 #[tactic(auto, unfolding(crate::specs::Grammar::set_at))]
 #[inline(never)]
-fn read_set<const N: usize>(c: &mut Cursor<'_>, n: usize, out: &mut Val) -> Result<(), FormErr>
-    requires short { length c.old.bytes ≤ 2 ^ 30 }
+fn read_set<const N: usize>(c: &mut FileCursor<'_>, n: usize, out: &mut Val) -> Result<(), FormErr>
     requires some { 1 ≤ n }
     requires few { n ≤ N }
     requires small { N ≤ 128 }
@@ -56,8 +53,7 @@ fn read_set<const N: usize>(c: &mut Cursor<'_>, n: usize, out: &mut Val) -> Resu
 
 /// Reads a value of a version in place, or returns its first fault.
 #[tactic(auto, unfolding(crate::specs::Grammar::value_at))]
-pub fn read_value(c: &mut Cursor<'_>, version: u8, out: &mut Val) -> Result<(), FormErr>
-    requires { length c.old.bytes ≤ 2 ^ 30 }
+pub fn read_value(c: &mut FileCursor<'_>, version: u8, out: &mut Val) -> Result<(), FormErr>
     ensures ok { OnOk result (value_at version c.old ≡ Ok (out.new, c.new)) }
     ensures err { IfErr result (λ e. value_at version c.old ≡ Err e) }
     ensures bytes { c.new.bytes ≡ c.old.bytes }
@@ -83,8 +79,7 @@ pub fn read_value(c: &mut Cursor<'_>, version: u8, out: &mut Val) -> Result<(), 
 
 /// Reads a value into each place of `out`, or returns the first fault.
 #[tactic(auto, unfolding(crate::specs::Grammar::values_at))]
-pub fn read_values(c: &mut Cursor<'_>, version: u8, out: &mut [Val]) -> Result<(), FormErr>
-    requires { length c.old.bytes ≤ 2 ^ 30 }
+pub fn read_values(c: &mut FileCursor<'_>, version: u8, out: &mut [Val]) -> Result<(), FormErr>
     ensures ok { OnOk result (values_at version (length out.old) c.old ≡ Ok (out.new, c.new)) }
     ensures err { IfErr result (λ e. values_at version (length out.old) c.old ≡ Err e) }
     ensures bytes { c.new.bytes ≡ c.old.bytes }
@@ -97,11 +92,9 @@ pub fn read_values(c: &mut Cursor<'_>, version: u8, out: &mut [Val]) -> Result<(
 
 /// Reads a word of a Set, which is above those before it.
 #[tactic(auto, unfolding(crate::specs::Grammar::set_word_after))]
-fn read_set_word(c: &mut Cursor<'_>, before: &[u32]) -> Result<u32, FormErr>
-    requires { length c.old.bytes ≤ 2 ^ 30 }
-    ensures read { ReadsField result c.new (set_word_after before.now c.old) }
+fn read_set_word(c: &mut FileCursor<'_>, before: &[u32]) -> Result<u32, FormErr>
+    ensures read { ReadsField result c.old c.new (set_word_after before.now) }
     ensures next { IfOk result (λ w. is_above_last_read (last_number_read before.now) w ≡ true) }
-    ensures bytes { c.new.bytes ≡ c.old.bytes }
 {
     let at = c.place();
     let word = read_u32(c)?;
@@ -131,15 +124,14 @@ fn is_next_set_word(before: &[u32], x: u32) -> bool
 /// Reads the ends of a Span, whose first byte was read at `start`, in place.
 #[tactic(auto, unfolding(crate::specs::Grammar::span_at))]
 fn read_span(
-    c: &mut Cursor<'_>,
+    c: &mut FileCursor<'_>,
     version: u8,
     step: u8,
     start: usize,
     out: &mut Val,
 ) -> Result<(), FormErr>
-    requires short { length c.old.bytes ≤ 2 ^ 30 }
     requires step { step ≤ 2 }
-    requires start { start ≤ length c.old.bytes }
+    requires start { start ≤ 2 ^ 30 }
     ensures ok { OnOk result
         (span_at version step (record { bytes = c.old.bytes; place = start }) c.old
         ≡ Ok (out.new, c.new)) }

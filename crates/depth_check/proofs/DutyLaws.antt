@@ -1,5 +1,5 @@
 -- The least rule that duties break, from the least rules that parts of their list break.
-use Rattle.std.proofs.Common.{◌≡◌, ℕ, ◌≤◌, ◌<◌, ◌+◌, Bool, true, false, List, [], ◌∷◌, ◌++◌, length, take, get_or, map, Option, Some, None, inl, inr, arith, refl, subst, sym, ◌∙◌, ap, eq-eqb, ◌==◌}
+use Rattle.std.proofs.Common.{◌≡◌, ℕ, ◌≤◌, ◌<◌, ◌+◌, Bool, false, List, [], ◌∷◌, ◌++◌, length, take, get_or, map, Option, Some, None, inl, inr, arith, refl, subst, sym, ◌∙◌, ap, eq-eqb, ◌==◌}
 use Rattle.std.specs.Prelude.{IsTrue, ◌↔◌, All}
 use Rattle.std.specs.List.{flat_map}
 use Rattle.std.proofs.lemmas.Bool.{cases_Bool, eqb-true}
@@ -9,8 +9,7 @@ use Rattle.std.proofs.lemmas.List.Elements.{All-nil, All-cons, All-head, All-tai
 use Rattle.tcd_plan.specs.PlanData.{PlanData}
 use Rattle.elf_image.specs.Images.{ImageData}
 use Rattle.tc_isa.specs.declared.shapes.Shape.{Shape}
-use Rattle.tc_isa.specs.declared.shapes.Shape.TheVariants.{Compute, Load, Store}
-use Rattle.value_domain.specs.declared.values.Val.{Val}
+use Rattle.tc_isa.specs.declared.shapes.Shape.TheVariants.{Compute}
 use Rattle.value_domain.specs.declared.states.State.{State}
 use Rattle.value_domain.specs.Limits.{Limits}
 use Rattle.depth_cert.specs.declared.keys.Key.{Key}
@@ -19,16 +18,15 @@ use Rattle.depth_cert.specs.Certs.{CertData}
 use Rattle.cfg_recover.specs.declared.flow_types.Enter.{Enter}
 use Rattle.cfg_recover.specs.declared.flow_types.Leave.{Leave}
 use Rattle.cfg_recover.specs.declared.flow_types.Leave.TheVariants.{Stays, Ret, Rfe}
-use Rattle.vd_transfer.specs.EffectsOnStates.{EffectHasRoom, address_of}
+use Rattle.vd_transfer.specs.EffectsOnStates.{EffectHasRoom}
 use Rattle.cfg_recover.specs.declared.local_rules.Located.{Located}
 use Rattle.cfg_recover.specs.LocalFaults.{StandsFaultless}
-use Rattle.cfg_recover.specs.Entries.{irq_key, irq_entry, aln_key, aln_entry, irqs_of, entered_key}
+use Rattle.cfg_recover.specs.Entries.{irq_key, irq_entry, irqs_of, entered_key}
 use Rattle.depth_cert.specs.Exits.{exit_of}
-use Rattle.cfg_recover.specs.LocalRules.{MayAccess}
-use Rattle.store_ranges.specs.Accesses.{are_aligned}
-use Rattle.cfg_recover.specs.Duties.{Owed, owed, jump, enter, resume, leave, jumps_to, successors_of, entries_of, misaligned_at, misaligned_of, interrupts_of, leavings_of, duties_of}
+use Rattle.cfg_recover.specs.Duties.{Owed, owed, jump, enter, resume, leave, jumps_to, successors_of, entries_of, misaligned_of, interrupts_of, leavings_of, duties_of}
 use Rattle.cfg_recover.specs.FlowDuties.{told_flow_return, told_irqs, told_leaving, flow_leave_of}
 use Rattle.cfg_recover.specs.RulesHoldOrFail.{HasPoint}
+use Rattle.cfg_recover.proofs.AccessDuties.{owes_no_access}
 use Rattle.depth_check.specs.LeastBroken.{FindsLeastBroken, lesser_broken_rule, broken_rule_unless}
 use Rattle.depth_check.specs.DutiesHold.{DutyHolds, DutiesHold, HasPoints, GoesOn, HasExit, LeavingHolds}
 use Rattle.depth_check.proofs.LeastLaws.{found_by, found_both, found_same}
@@ -250,20 +248,6 @@ interrupts_none plan key s (p ∷ ps) e len = absurd (omega arith)
 pub disabled_none : (plan : PlanData) (key : Key) (s : State) → s.ie ≡ false → [] ≡ interrupts_of plan key s
 disabled_none plan key s e = rw e refl
 
--- addresses that are all multiples of the size, and others that aren't
-pub aligned_none : (plan : PlanData) (key : Key) (s : State) (at : Val) (size : ℕ) → are_aligned at size ≡ true → [] ≡ misaligned_at plan key s at size
-aligned_none plan key s at size e = rw e refl
-
--- if the plan doesn't state the trap, rule 10 has each address aligned
-access_none : (b : Limits) (plan : PlanData) (key : Key) (s : State) (shape : Shape) → plan.aln ≡ false → MayAccess b plan s shape → [] ≡ misaligned_of b plan key s shape
-access_none b plan key s (Load dst base offset size signed after) off may =
-    elim may [ inl a ↦ aligned_none plan key s (address_of b plan (Load dst base offset size signed after) s) size a | inr on ↦ absurd (let f : false ≡ true = sym off ∙ on in cc) ]
-access_none b plan key s (Store src base offset size after) off may =
-    elim may [ inl a ↦ aligned_none plan key s (address_of b plan (Store src base offset size after) s) size a | inr on ↦ absurd (let f : false ≡ true = sym off ∙ on in cc) ]
-access_none b plan key s _ off may = refl
-
+-- without its trap in the plan no access owes an entry
 pub untrapped_none : (b : Limits) (image : ImageData) (plan : PlanData) (key : Key) (p : ℕ) (s : State) (found : Located) → StandsFaultless b image plan key p s found → plan.aln ≡ false → [] ≡ misaligned_of b plan key s found.shape
-untrapped_none b image plan key p s found f off = access_none b plan key s found.shape off (((f.faultless 10).own found.shape found.size f.code).accesses refl)
-
-pub misaligned_one : (plan : PlanData) (key : Key) (s : State) (at : Val) (size : ℕ) → are_aligned at size ≡ false → owed 10 (enter (aln_key plan key) (aln_entry plan key s)) ∷ [] ≡ misaligned_at plan key s at size
-misaligned_one plan key s at size e = rw e refl
+untrapped_none b image plan key p s found f off = sym (owes_no_access b plan key s found.shape (((f.faultless 10).own found.shape found.size f.code).accesses refl) off)

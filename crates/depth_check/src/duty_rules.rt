@@ -6,12 +6,11 @@ ghost use Rattle.depth_check.specs.DutiesHold.{GoesOn, LeavingHolds};
 ghost use Rattle.depth_cert.specs.Keys.{call_kind};
 ghost use Rattle.value_domain.specs.State.{AreWell};
 ghost use Rattle.vd_transfer.specs.Changes.{state_after};
-ghost use Rattle.tc_isa.specs.InBounds.{IsShape, IsShapeAccessSize, IsTarget};
-ghost use Rattle.vd_transfer.specs.EffectsOnStates.{address_of};
+ghost use Rattle.tc_isa.specs.InBounds.{IsShape, IsTarget};
 ghost use Rattle.cfg_recover.specs.LocalFaults.{StandsFaultless};
 ghost use Rattle.cfg_recover.specs.Entries.{call_key, irqs_of};
 ghost use Rattle.cfg_recover.specs.LocalRules.{targets_of};
-ghost use Rattle.cfg_recover.specs.Duties.{owed, enter, entered_and_back, entries_of, misaligned_at, misaligned_of, interrupts_of, duties_of};
+ghost use Rattle.cfg_recover.specs.Duties.{owed, enter, entered_and_back, entries_of, misaligned_of, interrupts_of, duties_of};
 ghost use Rattle.cfg_recover.specs.FlowDuties.{told_flow_return, told_irqs};
 ghost use Rattle.cfg_recover.specs.SetOperations.{HoldsCachedResults};
 ghost use Rattle.depth_check.specs.CheckedRegisters.{IsHeldCall, RegisterCallsHoldAt, RegistersHoldAt};
@@ -27,13 +26,13 @@ use crate::rules::{
 use crate::successor_rules::broken_by_successors;
 use cfg_recover::{
     Located, aln_key, call_change, direct_target, entered_key, handler_change, interrupts, irq_key,
-    is_flow_access_aligned, misaligned_change, rule_unless, sys_key, system_change, targets,
+    may_be_misaligned, misaligned_change, rule_unless, sys_key, system_change, targets,
 };
 use depth_cert::{CALL, Key, SYS};
 use packed_cert::Node;
 use tc_isa::{Shape, Target};
 use value_domain::State;
-use vd_transfer::{Change, address_by};
+use vd_transfer::Change;
 
 /// Returns the least rule that the duties of a point break: what it enters, its interrupts, how it
 /// leaves the node, or its successors. The instruction breaks no rule by itself.
@@ -139,11 +138,10 @@ fn broken_by_access(at: &PointCheck<'_, '_>, found: &Located) -> Option<u8>
     if !plan.aln {
         return None;
     }
-    match found.shape {
-        Shape::Load { size, .. } => broken_by_misaligned(at, found.shape, size),
-        Shape::Store { size, .. } => broken_by_misaligned(at, found.shape, size),
-        _ => None,
+    if !may_be_misaligned(at.bounds, at.plan, at.point.state, found.shape) {
+        return None;
     }
+    broken_by_trap(at)
 }
 
 /// Returns the least rule that a point's duty to leave its node breaks: by RET, or by RFE in the
@@ -361,23 +359,6 @@ fn has_point_after_entry(
         Some(at) => has_point_after_return(node, at, s, entered, kind),
         None => true,
     }
-}
-
-/// Returns the least rule that the trap of a misaligned access of this size breaks, if it may be
-/// taken. The address is computed here, so that other instructions need no room for a value.
-#[inline(never)]
-fn broken_by_misaligned(at: &PointCheck<'_, '_>, shape: Shape, size: u8) -> Option<u8>
-    requires shape { IsShape shape }
-    requires size { IsShapeAccessSize size }
-    ensures { LeastBrokenByDuties at.now
-        (misaligned_at at.now.plan at.now.node.key at.now.point.state
-        (address_of at.now.bounds at.now.plan shape at.now.point.state) size) result }
-{
-    let accessed = address_by(at.bounds, at.plan, shape, at.point.state);
-    if is_flow_access_aligned(at.bounds, &accessed, size) {
-        return None;
-    }
-    broken_by_trap(at)
 }
 
 /// The least rule that the entry of the handler of misaligned accesses breaks.

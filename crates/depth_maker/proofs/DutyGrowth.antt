@@ -1,5 +1,5 @@
 -- What a point owes grows with its state.
-use Rattle.std.proofs.Common.{◌≡◌, ℕ, ◌+◌, ◌-◌, ◌<◌, ◌≤◌, inl, inr, Bool, true, false, cond, IsTrue, List, [], length, get_or, take, drop, replicate, refl, sym, ◌∙◌, arith, Some, Contains, eqb, ltb, leb, length-take-le, get_or-take, get_or-drop, ◌&&◌, if◌then◌else◌}
+use Rattle.std.proofs.Common.{◌≡◌, ℕ, ◌+◌, ◌-◌, ◌<◌, ◌≤◌, inl, inr, Bool, true, false, not, cond, IsTrue, List, [], length, get_or, take, drop, replicate, refl, ◌∙◌, arith, Some, Contains, eqb, ltb, leb, length-take-le, get_or-take, get_or-drop, ◌&&◌, if◌then◌else◌}
 use Rattle.std.specs.Prelude.{filter}
 use Rattle.std.proofs.lemmas.Bool.{cases_Bool, cases_lt, ltb-true, lt-ltb, le-ltb, leb-true, and_parts, or_cases}
 use Rattle.std.proofs.lemmas.List.{length-replicate, get_or_append_left, get_or-append_right}
@@ -8,7 +8,7 @@ use Rattle.tcd_plan.specs.PlanData.{PlanData}
 use Rattle.tc_isa.specs.declared.shapes.Arg.{Arg}
 use Rattle.tc_isa.specs.declared.shapes.Cond.{Cond}
 use Rattle.tc_isa.specs.declared.shapes.Shape.{Shape}
-use Rattle.tc_isa.specs.declared.shapes.Shape.TheVariants.{Compute, Load, Branch, Jump, Call, Ret, Rfe, Syscall}
+use Rattle.tc_isa.specs.declared.shapes.Shape.TheVariants.{Compute, Load, Store, Branch, Jump, Call, Ret, Rfe, Syscall}
 use Rattle.tc_isa.specs.InBounds.{IsShape}
 use Rattle.tc_machine.specs.Instructions.{machine_address_ahead}
 use Rattle.value_domain.specs.declared.values.Val.{Val}
@@ -28,7 +28,7 @@ use Rattle.cfg_recover.specs.Entries.{entry_stack_of, entry_state_with, call_ent
 use Rattle.depth_cert.specs.Exits.{lower_values, exit_of, with_lower_from, ExitCovers}
 use Rattle.store_ranges.specs.Accesses.{are_aligned}
 use Rattle.cfg_recover.specs.LocalFaults.{IsFaultless}
-use Rattle.cfg_recover.specs.Duties.{jump, Owed, owed, loaded_for_duties, duties_of}
+use Rattle.cfg_recover.specs.Duties.{jump, Owed, owed, loaded_for_duties, may_be_misaligned, duties_of}
 use Rattle.cfg_recover.proofs.CodeLaws.{IsCode-bounded}
 use Rattle.cfg_recover.proofs.EntryLaws.{lower_length, entry_length}
 use Rattle.depth_cert.proofs.ExitValues.{after-at, with_lower_length}
@@ -39,6 +39,12 @@ use Rattle.depth_maker.specs.DutiesMonotone.{IsDutyBelow, IsOwedBelow, DutiesMon
 use Rattle.depth_maker.proofs.StateGrowth.{reg_grows, set_covers}
 use Rattle.depth_maker.proofs.EffectGrowth.{transfer_covers, address_grows, address_value, branch_grows}
 use Rattle.depth_maker.proofs.OwnGrowth.{targets_within, aligned_falls, setting_of}
+
+-- what isn't aligned below isn't aligned above
+not_falls : (a b : Bool) → (b ≡ true → a ≡ true) → not a ≡ true → not b ≡ true
+not_falls true true h e = e
+not_falls false true h e = h refl
+not_falls a false h e = refl
 
 -- ---- the values of the lower registers
 lower-d : (regs : List Val) (r : ℕ) → length regs ≡ 27 → r < 8 → get_or (lower_values regs) r any_val ≡ get_or regs r any_val
@@ -152,14 +158,14 @@ module _ (b : Limits) (image : ImageData) (plan : PlanData) (key : Key) (p : ℕ
         let k = (branch_grows b plan s t test x y by lowers side low high c is u e).1 in
         above (Branch test x y by lowers) (owed 4 (jump q u)) (owed 4 (jump q k.0)) (at k.0 k.1) refl (refl, k.3)
 
-    not_aligned : (shape : Shape) (size : ℕ) → IsShape shape → are_aligned (address_of b plan shape s) size ≡ false → are_aligned (address_of b plan shape t) size ≡ false
-    not_aligned shape size is f =
-        elim (cases_Bool (are_aligned (address_of b plan shape t) size)) [
-          | inl g ↦
-              let k = aligned_falls b plan s t low high c (address_of b plan shape s) (address_of b plan shape t) size (address_value b plan shape s low is) (address_value b plan shape t high is) (address_grows b plan s t low high c shape is) g in
-              absurd (let h : true ≡ false = sym k ∙ f in cc)
-          | inr g ↦ g
-        ]
+    not_aligned : (shape : Shape) (size : ℕ) → IsShape shape → not (are_aligned (address_of b plan shape s) size) ≡ true → not (are_aligned (address_of b plan shape t) size) ≡ true
+    not_aligned shape size is =
+        not_falls _ _ (aligned_falls b plan s t low high c (address_of b plan shape s) (address_of b plan shape t) size (address_value b plan shape s low is) (address_value b plan shape t high is) (address_grows b plan s t low high c shape is))
+
+    misaligned_grows : (shape : Shape) → IsShape shape → may_be_misaligned b plan s shape ≡ true → may_be_misaligned b plan t shape ≡ true
+    misaligned_grows (Load dst base offset size signed after) is e = not_aligned (Load dst base offset size signed after) size is e
+    misaligned_grows (Store src base offset size after) is e = not_aligned (Store src base offset size after) size is e
+    misaligned_grows _ is e = e
 
     above_by : (shape : Shape) (d : Owed) → IsCode image plan p shape n → DutyAt b image plan key p s n shape d → Above shape d
     above_by _ d code (next shape e) =
@@ -172,7 +178,7 @@ module _ (b : Limits) (image : ImageData) (plan : PlanData) (key : Key) (p : ℕ
     above_by _ d code (called_back to q i) = above (Call to) d d (called_back to q (targets_within b plan s t low high c p to (((faultless 5).own (Call to) n code).targets refl) q i)) refl (refl, refl)
     above_by _ d code (system tin) = above (Syscall tin) d _ (system tin) refl (refl, sys_covers tin)
     above_by _ d code (system_back tin) = above (Syscall tin) d d (system_back tin) refl (refl, refl)
-    above_by _ d code (misaligned shape size e f) = above shape d _ (misaligned shape size e (not_aligned shape size (IsCode-bounded image plan p shape n code) f)) refl (refl, aln_covers)
+    above_by _ d code (misaligned shape e) = above shape d _ (misaligned shape (misaligned_grows shape (IsCode-bounded image plan p shape n code) e)) refl (refl, aln_covers)
     above_by _ d code (interrupt shape q i) =
         above shape d _ (interrupt shape q (irqs_at s.ie t.ie q c.context.0 i)) refl (refl, entry_covers (entry_stack_of plan key s) (entry_stack_of plan key t) false q q true stack_grows (omega arith))
     above_by _ d code returns = above Ret d _ returns refl (exit_covers s t low.regs high.regs c)

@@ -7,11 +7,10 @@ use Rattle.std.proofs.lemmas.List.Elements.{Contains-append_right, Contains-push
 use Rattle.tcd_plan.specs.PlanData.{PlanData}
 use Rattle.value_domain.specs.declared.states.State.{State}
 use Rattle.depth_cert.specs.declared.keys.Key.{Key}
-use Rattle.cfg_recover.specs.Duties.{interrupts_of}
+use Rattle.cfg_recover.specs.Duties.{interrupts_of, entered_in}
 use Rattle.cfg_recover.specs.Entries.{irqs_of, irq_key}
 use Rattle.cfg_recover.proofs.Members.{contains_first, contains_map}
 use Rattle.frame_places.specs.Numbers.{frame_number_in}
-use Rattle.depth_maker.specs.EnteredFrames.{entered_in}
 use Rattle.depth_maker.specs.InterruptHandlers.{AreHandlers, nodes_above, nodes_taken}
 use Rattle.depth_maker.specs.declared.interrupt_handlers.Handler.{Handler}
 use Rattle.depth_maker.proofs.EnteredLemmas.{entered_irqs}

@@ -83,7 +83,7 @@ module _ (b : Limits) (image : ImageData) (plan : PlanData) (key : Key) (p : ℕ
   key_by _ n _ is (called_back to q c) = call_is q (target_small to is q c)
   key_by _ n _ is (system tin) = sys_is
   key_by _ n _ is (system_back tin) = sys_is
-  key_by _ n _ is (misaligned shape size e f) = aln_is
+  key_by _ n _ is (misaligned shape e) = aln_is
   key_by _ n _ is (interrupt shape q c) = irq_is q (irq_small plan.irqs q (set.plan).irqs.each (irqs_among plan s s.ie q c))
   key_by _ n _ is _ = tt
 

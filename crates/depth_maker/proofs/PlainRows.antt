@@ -13,7 +13,7 @@ use Rattle.value_domain.specs.Limits.{Limits}
 use Rattle.value_domain.specs.declared.states.State.{State}
 use Rattle.depth_cert.specs.declared.keys.Key.{Key}
 use Rattle.depth_cert.specs.Known.{Known, state}
-use Rattle.cfg_recover.specs.Duties.{duties_of, entries_of, interrupts_of, leavings_of, misaligned_of, successors_of}
+use Rattle.cfg_recover.specs.Duties.{duties_of, interrupts_of, misaligned_of, entered_in}
 use Rattle.cfg_recover.specs.LocalFaults.{StandsFaultless, IsFaultless}
 use Rattle.cfg_recover.specs.declared.local_rules.Located.{Located}
 use Rattle.frame_places.specs.Marks.{value_for}
@@ -26,7 +26,7 @@ use Rattle.frame_places.specs.declared.places.Spot.TheVariants.{Point}
 use Rattle.small_states.specs.CompactForms.{IsOutline}
 use Rattle.small_states.specs.declared.known.Outline.{Outline}
 use Rattle.frame_places.specs.declared.needs.row.NeedRow.{NeedRow}
-use Rattle.depth_maker.specs.EnteredFrames.{EntersNoFrame, IsPlainAt, entered_in}
+use Rattle.depth_maker.specs.EnteredFrames.{EntersNoFrame, IsPlainAt}
 use Rattle.depth_maker.specs.InterruptHandlers.{nodes_taken}
 use Rattle.depth_maker.proofs.HandlerLaws.{nodes_taken-is}
 use Rattle.depth_maker.specs.SpotsAsPlaces.{place_of_spot}
@@ -34,7 +34,8 @@ use Rattle.depth_maker.specs.Rows.{IsPlainRow, IsPointRow, IsRowSource}
 use Rattle.depth_maker.specs.TableView.{seen}
 use Rattle.depth_maker.specs.declared.inputs_and_limits.Ground.{Ground}
 use Rattle.depth_maker.specs.declared.rows.Source.{Source}
-use Rattle.depth_maker.proofs.EnteredLemmas.{aligned_owes_none, entered_leavings, entered_parts, entered_successors}
+use Rattle.cfg_recover.proofs.AccessDuties.{owes_no_access}
+use Rattle.depth_maker.proofs.EnteredLemmas.{entered_whole}
 use Rattle.depth_maker.proofs.RowLaws.{enters_of, entered_frame}
 use Rattle.depth_maker.proofs.RowSteps.{done_state}
 
@@ -45,25 +46,23 @@ off_of false e = refl
 pub load_enters_none : (plan : PlanData) (shape : Shape) → plan.aln ≡ false → (dst : ℕ) (base : Arg) (offset size : ℕ) (signed after : Bool) → shape ≡ Load dst base offset size signed after → EntersNoFrame plan shape
 load_enters_none plan shape off dst base offset size signed after is = subst (EntersNoFrame plan) (sym is) at where
   at : EntersNoFrame plan (Load dst base offset size signed after)
-  at b k p u n rule = (refl, ap entered_in (aligned_owes_none b plan k u (Load dst base offset size signed after) (rule.accesses refl) off))
+  at b k p u n rule = (refl, ap entered_in (owes_no_access b plan k u (Load dst base offset size signed after) (rule.accesses refl) off))
 
 pub store_enters_none : (plan : PlanData) (shape : Shape) → plan.aln ≡ false → (src : ℕ) (base : Arg) (offset size : ℕ) (after : Bool) → shape ≡ Store src base offset size after → EntersNoFrame plan shape
 store_enters_none plan shape off src base offset size after is = subst (EntersNoFrame plan) (sym is) at where
   at : EntersNoFrame plan (Store src base offset size after)
-  at b k p u n rule = (refl, ap entered_in (aligned_owes_none b plan k u (Store src base offset size after) (rule.accesses refl) off))
+  at b k p u n rule = (refl, ap entered_in (owes_no_access b plan k u (Store src base offset size after) (rule.accesses refl) off))
 
 -- only interrupts enter a frame if the instruction enters none
 pub entered_plain : (b : Limits) (image : ImageData) (plan : PlanData) (k : Key) (p : ℕ) (u : State) → IsFaultless b image plan k p u → (at : IsPlainAt image plan p)
     → entered_in (duties_of b image plan k p u at.shape at.size) ≡ entered_in (interrupts_of plan k u)
-unfolding duties_of
 entered_plain b image plan k p u faultless at =
     let shape = at.shape in
     let n = at.size in
     let entered = at.enters b k p u n ((faultless 10).own shape n at.code) in
     let ds = entered_in (misaligned_of b plan k u shape) in
     let es = entered_in (interrupts_of plan k u) in
-    entered_parts (successors_of b image plan p u shape n) (entries_of plan k p u shape n) (misaligned_of b plan k u shape) (interrupts_of plan k u) (leavings_of k u shape)
-    (entered_successors b image plan p u shape n) (entered_leavings k u shape)
+    entered_whole b image plan k p u shape n
     ∙ ap (λ (l : List Key). (l ++ ds) ++ es) entered.0
     ∙ ap (λ (l : List Key). l ++ es) entered.1
 

@@ -11,7 +11,7 @@ use Rattle.value_domain.specs.Limits.{Limits}
 use Rattle.depth_cert.specs.declared.keys.Key.{Key}
 use Rattle.depth_cert.specs.Keys.{IsKey, number_of_key}
 use Rattle.depth_cert.proofs.KeyLaws.{one_number}
-use Rattle.cfg_recover.specs.Duties.{duties_of}
+use Rattle.cfg_recover.specs.Duties.{duties_of, entered_in}
 use Rattle.cfg_recover.specs.Entries.{start_key}
 use Rattle.cfg_recover.specs.Assignments.{Place, point, Assignment, Closed, EntersInAssignment}
 use Rattle.depth_cert.specs.Known.{state}
@@ -19,7 +19,6 @@ use Rattle.cfg_recover.specs.CertRefusals.{Reaches, here, by_entry, Recurs, refu
 use Rattle.cfg_recover.proofs.CodeLaws.{IsCode-one}
 use Rattle.cfg_recover.proofs.Members.{contains_map}
 use Rattle.depth_maker.specs.AssignmentCounts.{AreCounted}
-use Rattle.depth_maker.specs.EnteredFrames.{entered_in}
 use Rattle.frame_places.specs.Numbers.{frame_number_in}
 use Rattle.frame_places.specs.NodeGraph as graph
 use Rattle.frame_places.specs.NodeGraph.{edge_to, AreEdges, LeadsAlongEdges, along, IsRecurring, AreReaching, AreEdgesBetween, IsNodeMarked}

@@ -12,7 +12,7 @@ use Rattle.value_domain.specs.Limits.{Limits, AreLimits}
 use Rattle.depth_cert.specs.declared.keys.Key.{Key}
 use Rattle.cfg_recover.specs.declared.local_rules.Located.{Located}
 use Rattle.cfg_recover.specs.LocalFaults.{StandsFaultless}
-use Rattle.cfg_recover.specs.Duties.{enter, duties_of}
+use Rattle.cfg_recover.specs.Duties.{enter, duties_of, entered_in}
 use Rattle.cfg_recover.specs.Entries.{start_key}
 use Rattle.cfg_recover.specs.Assignments.{Place, point, Assignment, frame_of_place, Closed, Derived, AllFaultless, EntersInAssignment}
 use Rattle.depth_cert.specs.Known.{Known, state}
@@ -21,7 +21,6 @@ use Rattle.depth_maker.specs.LeastCertMade.{AreLeastNeeds}
 use Rattle.cfg_recover.proofs.CodeLaws.{IsCode-one}
 use Rattle.cfg_recover.proofs.Members.{contains_map}
 use Rattle.depth_maker.specs.AssignmentCounts.{AreCounted}
-use Rattle.depth_maker.specs.EnteredFrames.{entered_in}
 use Rattle.frame_places.specs.Numbers.{frame_number_in}
 use Rattle.depth_maker.specs.WellFormedAssignments.{AllWellFormed}
 use Rattle.depth_maker.specs.MakerLaws.{AreMakerLaws}

@@ -192,7 +192,7 @@ module _ (b : Limits) (image : ImageData) (plan : PlanData) (key : Key) (p : ℕ
   well_formed_by _ n _ is room (called_back to q c) = tt
   well_formed_by _ n _ is room (system tin) = sys_well_formed tin is
   well_formed_by _ n _ is room (system_back tin) = tt
-  well_formed_by _ n _ is room (misaligned shape size e f) = aln_well_formed
+  well_formed_by _ n _ is room (misaligned shape e) = aln_well_formed
   well_formed_by _ n _ is room (interrupt shape q c) = handler_well_formed q
   well_formed_by _ n _ is room _ = exit_well_formed b s well_formed
 

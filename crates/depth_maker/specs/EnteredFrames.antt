@@ -1,6 +1,5 @@
 -- The frames that duties enter.
-use Rattle.std.specs.Prelude.{◌≡◌, ℕ, List, ◌∷◌, []}
-use Rattle.std.specs.List.{flat_map}
+use Rattle.std.specs.Prelude.{◌≡◌, ℕ, []}
 use Rattle.tcd_plan.specs.PlanData.{PlanData}
 use Rattle.tc_isa.specs.declared.shapes.Shape.{Shape}
 use Rattle.value_domain.specs.Limits.{Limits}
@@ -12,19 +11,7 @@ use Rattle.elf_image.specs.Images.{ImageData}
 use Rattle.tc_isa.specs.InBounds.{IsShape}
 use Rattle.frame_places.specs.declared.places.Spot.{Spot}
 use Rattle.frame_places.specs.declared.places.Spot.TheVariants.{Point, Exit}
-use Rattle.cfg_recover.specs.Duties.{Duty, jump, enter, resume, leave, Owed, entries_of, misaligned_of}
-
--- the frame that a duty of the maker's visited point enters, as a list of entered frames: one or
--- none
-abbrev pub entered_by : Duty → List Key
-entered_by (jump q t) = []
-entered_by (enter k t) = k ∷ []
-entered_by (resume k q) = []
-entered_by (leave x) = []
-
--- the frames that these duties enter, in the order of the duties
-abbrev pub entered_in : List Owed → List Key
-entered_in ds = flat_map (λ d. entered_by d.duty) ds
+use Rattle.cfg_recover.specs.Duties.{entries_of, misaligned_of, entered_in}
 
 -- an instruction of this shape enters no frame by itself if none of its accesses breaks rule 10;
 -- interrupts may be taken

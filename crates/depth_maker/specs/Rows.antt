@@ -9,7 +9,6 @@ use Rattle.cfg_recover.specs.Assignments.{point, Assignment}
 use Rattle.depth_cert.specs.Known.{Known, state}
 use Rattle.small_states.specs.CompactForms.{IsOutline}
 use Rattle.small_states.specs.declared.known.Outline.{Outline}
-use Rattle.depth_maker.specs.EnteredFrames.{entered_in}
 use Rattle.depth_maker.specs.InterruptHandlers.{AreHandlers, nodes_taken}
 use Rattle.frame_places.specs.Numbers.{AreFrameNumbers, frame_number_in}
 use Rattle.frame_places.specs.Spots.{spot_eq}
@@ -30,7 +29,7 @@ use Rattle.elf_image.specs.Images.{ImageData}
 use Rattle.tcd_plan.specs.PlanData.{PlanData}
 use Rattle.value_domain.specs.Limits.{Limits}
 use Rattle.cfg_recover.specs.LocalFaults.{StandsFaultless}
-use Rattle.cfg_recover.specs.Duties.{duties_of}
+use Rattle.cfg_recover.specs.Duties.{duties_of, entered_in}
 
 -- the row of the point p of frame k with the state u; frames go by their numbers
 pub record IsRowAt (b : Limits) (image : ImageData) (plan : PlanData) (frames : List Key) (k : Key) (p : ℕ) (u : State) (row : NeedRow) : Type 0 where

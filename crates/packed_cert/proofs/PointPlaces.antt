@@ -8,13 +8,11 @@ use Rattle.value_domain.specs.declared.values.Val.{Val}
 use Rattle.value_domain.specs.declared.states.State.{State}
 use Rattle.depth_cert.specs.declared.points.Point.{Point}
 use Rattle.depth_cert.specs.Points.{addresses}
-use Rattle.depth_cert.specs.Grammar.{flag_at, values_at, state_at, last_number_read, address_after, point_after}
-use Rattle.tcd_base.specs.FieldReaders.{u8_at}
-use Rattle.tcd_base.proofs.FieldReads.{bind_ok, u8_at_ok}
+use Rattle.depth_cert.specs.Grammar.{values_at, state_at, last_number_read, address_after, point_after}
 use Rattle.depth_cert.proofs.PointReads.{point_reads}
 use Rattle.packed_cert.specs.declared.places.PointPlace.{PointPlace}
 use Rattle.packed_cert.specs.ValuesInBytes.{ValuesStandBetween, place_in_bytes}
-use Rattle.packed_cert.specs.PointsInBytes.{state_in, HasState, point_in, points_in}
+use Rattle.packed_cert.specs.PointsInBytes.{state_in, point_in, points_in}
 use Rattle.packed_cert.proofs.SameBytes.{Small, values_stand}
 
 -- the values that were read stand where they were read
@@ -40,15 +38,6 @@ point_more version bytes ps item c q r s there a e =
 
 pub points_push : (version : ℕ) (bytes : List ℕ) (ps : List PointPlace) (p : PointPlace) → points_in version bytes (ps ++ p ∷ []) ≡ points_in version bytes ps ++ point_in version bytes p ∷ []
 points_push version bytes ps p = map-append (point_in version bytes) ps (p ∷ [])
-
--- where a state stands, bytes are
-pub state_inside : (version : ℕ) (bytes : List ℕ) (x : ℕ) → HasState version bytes x → x ≤ length bytes
-unfolding state_at flag_at
-state_inside version bytes x h =
-    let f = bind_ok (flag_at (place_in_bytes bytes x)) _ _ h.1 in
-    let b = bind_ok (u8_at (place_in_bytes bytes x)) _ _ f.1 in
-    let k = u8_at_ok (place_in_bytes bytes x) b.0.0 b.0.1 b.1 in
-    omega (arith, k.0.within)
 
 pub took : {A : Type 0} (r : Option A) (P : Type 0) (n len : ℕ) → (IsSome r ↔ (0 + n ≤ len)) → OnSome r P → n ≤ len → P
 took (Some x) P n len there moved h = moved

@@ -18,7 +18,7 @@ use Rattle.depth_cert.specs.Spelling.{bytes_of_value}
 use Rattle.tcd_base.proofs.PassedLaws.{AreBytes, bytes_from, Passed, ok_pair}
 use Rattle.depth_cert.proofs.GrammarLaws.{value_passed}
 use Rattle.depth_cert.proofs.WrittenLaws.{IsRead, value_cases}
-use Rattle.packed_cert.specs.RepeatedBytes.{SameBytesAtPlaces}
+use Rattle.packed_cert.specs.RepeatedBytes.{SameBytesAtPlaces, MovesOverRepeated}
 use Rattle.packed_cert.specs.ValuesInBytes.{ValuesStandBetween, value_length_by_tag, place_after_value, place_in_bytes}
 
 -- all bytes are below 256
@@ -30,7 +30,7 @@ split bytes x h =
     let len : x ≡ length (take x bytes) = omega (arith, length-take x bytes) in
     ap (λ (l : List ℕ). place_in_bytes l x) (sym (take-append-drop x bytes)) ∙ ap (λ (n : ℕ). place_in_bytes (take x bytes ++ drop x bytes) n) len
 
-small_rest : (bytes : List ℕ) (x : ℕ) → Small bytes → AreBytes (drop x bytes)
+pub small_rest : (bytes : List ℕ) (x : ℕ) → Small bytes → AreBytes (drop x bytes)
 small_rest bytes x h = bytes_from (drop x bytes) (λ k. rw (get_or-drop x bytes k 0) (h (x + k)))
 
 -- what was passed over at one place is read at another where the same bytes stand
@@ -48,6 +48,44 @@ moved {A} read part v bytes x y q good h room same =
     ∙ good.at front rest
     ∙ ap (λ (l : List ℕ). let r : Result (A × Place) FormErr = Ok (v, place_in_bytes l (length (front ++ part))) in r) whole
     ∙ ap (λ (n : ℕ). let r : Result (A × Place) FormErr = Ok (v, place_in_bytes bytes n) in r) len
+
+-- what stands from x to e: it is read wherever its bytes stand
+pub record StandsFrom {A : Type 0} (read : Place → Result (A × Place) FormErr) (bytes : List ℕ) (x e : ℕ) (v : A) : Type 0 where
+  pub order : x ≤ e
+  pub within : e ≤ length bytes
+  pub same : (y n : ℕ) → x + n ≡ e → y + n ≤ length bytes → take n (drop x bytes) ≡ take n (drop y bytes) → read (place_in_bytes bytes y) ≡ Ok (v, place_in_bytes bytes (y + n))
+
+pub stands_from : {A : Type 0} (read : Place → Result (A × Place) FormErr) (part : List ℕ) (v : A) (bytes : List ℕ) (x e : ℕ)
+    → x ≤ length bytes → IsRead read part v → Passed part (take x bytes) (drop x bytes) (place_in_bytes bytes e) → StandsFrom read bytes x e v
+stands_from read part v bytes x e h good p =
+    let front : List ℕ = take x bytes in
+    let whole : (front ++ part) ++ p.after ≡ bytes = append_assoc front part p.after ∙ ap (λ (l : List ℕ). front ++ l) (sym p.is) ∙ take-append-drop x bytes in
+    let place : e ≡ length (front ++ part) = ap (λ (q : Place). q.place) p.at in
+    record {
+      order = omega (arith, place, length-append front part, length-take x bytes);
+      within = omega (arith, place, ap length whole, length-append (front ++ part) p.after);
+      same = λ y n len room same.
+          let long : length part ≡ n = omega (arith, place, length-append front part, length-take x bytes) in
+          rw (← long) (moved read part v bytes x y (place_in_bytes bytes e) good p (omega arith) (rw long same));
+    }
+
+-- where the same bytes come again, the same is read
+pub read_again : {A : Type 0} (read : Place → Result (A × Place) FormErr) (v : A) (n : ℕ) (bytes : List ℕ) (x e : ℕ) (c d : Place)
+    → StandsFrom read bytes x e v → c.bytes ≡ bytes → x + n ≡ e → MovesOverRepeated bytes x n c d → read c ≡ Ok (v, d)
+read_again {A} read v n bytes x e c d from b len m =
+    let there : c ≡ place_in_bytes bytes c.place = ap (λ (l : List ℕ). place_in_bytes l c.place) b in
+    let after : place_in_bytes bytes (c.place + n) ≡ d = ap (λ (l : List ℕ). place_in_bytes l (c.place + n)) (sym b) ∙ sym m.0 in
+    ap read there
+    ∙ from.same c.place n len m.1 m.2
+    ∙ ap (λ (q : Place). let r : Result (A × Place) FormErr = Ok (v, q) in r) after
+
+-- what was read stands where it was read
+pub read_there : {A : Type 0} (read : Place → Result (A × Place) FormErr) (v : A) (bytes : List ℕ) (x e : ℕ) (c d : Place)
+    → c.bytes ≡ bytes → d.bytes ≡ bytes → x ≡ c.place → e ≡ d.place → read c ≡ Ok (v, d) → read (place_in_bytes bytes x) ≡ Ok (v, place_in_bytes bytes e)
+read_there {A} read v bytes x e c d b f from to r =
+    let here : place_in_bytes bytes x ≡ c = ap (λ (k : ℕ). place_in_bytes bytes k) from ∙ ap (λ (l : List ℕ). place_in_bytes l c.place) (sym b) in
+    let there : d ≡ place_in_bytes bytes e = ap (λ (l : List ℕ). place_in_bytes l d.place) f ∙ ap (λ (k : ℕ). place_in_bytes bytes k) (sym to) in
+    ap read here ∙ r ∙ ap (λ (q : Place). let s : Result (A × Place) FormErr = Ok (v, q) in s) there
 
 -- ---- how long a value is
 length_words : (ws : List ℕ) → length (flat_map bytes_of_word ws) ≡ 4 * length ws

@@ -1,5 +1,5 @@
 -- Nodes and certificates in the bytes.
-use Rattle.std.specs.Prelude.{ℕ, List, map, Option, IfSome, ◌≡◌, ◌≤◌, ◌^◌, length, Ok}
+use Rattle.std.specs.Prelude.{ℕ, List, map, Option, IfSome, ◌≡◌, ◌≤◌, ◌^◌, length, Ok, ◌+◌}
 use Rattle.std.specs.Option.{option_map}
 use Rattle.std.specs.List.{All}
 use Rattle.std.specs.List.Sorted.{IsStrictlyIncreasing}
@@ -37,10 +37,11 @@ pub record ExitStands (version : ℕ) (bytes : List ℕ) (p : ExitPlaces) : Type
   pub within : p.end ≤ length bytes
   pub read : ReadsExit version (place_in_bytes bytes p.start) (place_in_bytes bytes p.end)
 
--- what always holds of an exit in the bytes
+-- what always holds of an exit in the bytes: it is there, and its values are inside
 pub record IsExitAt (version : ℕ) (bytes : List ℕ) (place : ℕ) : Type 0 where
   pub short : length bytes ≤ 2 ^ 30
   pub exit : HasExit version bytes place
+  pub room : place + 2 ≤ length bytes
 
 -- a node as plain data
 abbrev pub node_in : ℕ → List ℕ → Key → ℕ → Option ℕ → List PointPlace → NodeData

@@ -1,5 +1,5 @@
 -- Points by their addresses and the places of their states in the bytes.
-use Rattle.std.specs.Prelude.{◌≡◌, ◌+◌, ℕ, List, map, Ok, ◌≤◌, length, ◌^◌, zero, suc, ◌∷◌, ◌==◌, Bool, slice_index, []}
+use Rattle.std.specs.Prelude.{◌≡◌, ◌+◌, ℕ, List, map, Ok, ◌≤◌, length, zero, suc, ◌∷◌, ◌==◌, Bool, slice_index, []}
 use Rattle.tcd_base.specs.Place.{Place}
 use Rattle.value_domain.specs.declared.states.State.{State}
 use Rattle.depth_cert.specs.declared.points.Point.{Point}
@@ -32,11 +32,10 @@ pub record StateStandsAtPlaces (version : ℕ) (bytes : List ℕ) (s : State) (p
   pub read : state_at version (place_in_bytes bytes p.start) ≡ Ok (s, place_in_bytes bytes p.end)
   pub values : ValuesStandFrom version bytes s.regs p.values p.end
 
--- what always holds of a state in the bytes
+-- what always holds of a state in the bytes: it is there, and its values are inside
 pub record IsStateAt (version : ℕ) (bytes : List ℕ) (place : ℕ) : Type 0 where
-  pub short : length bytes ≤ 2 ^ 30
-  pub inside : place ≤ length bytes
   pub state : HasState version bytes place
+  pub room : place + 4 + slice_index bytes (place + 3) ≤ length bytes
 
 -- n truth values that the bytes have from a place on, a byte each, as a point's state has its
 -- locals

@@ -1,5 +1,5 @@
 -- Walking over points one after another.
-use Rattle.std.specs.Prelude.{◌≡◌, ◌≤◌, ◌<◌, ◌^◌, ◌⊎◌, ℕ, slice_index_or, List, [], ◌∷◌, Option, Some, None, IsSomeAnd, length, drop, map}
+use Rattle.std.specs.Prelude.{◌≡◌, ◌≤◌, ◌<◌, ◌⊎◌, ℕ, slice_index_or, List, [], ◌∷◌, Option, Some, None, IsSomeAnd, length, drop, map}
 use Rattle.std.specs.List.{All, Contains}
 use Rattle.std.specs.List.Sorted.{IsStrictlyIncreasing}
 use Rattle.value_domain.specs.declared.values.Val.{Val}
@@ -48,7 +48,6 @@ CoversAt w addr = IsSomeAnd (find_point addr w.points) (λ p. Covers p.state w.c
 -- what always holds of a walk: states are at their places, each point shares what it says with the
 -- state before it, and the state at hand is the one before the next point
 pub record IsWalk (version : ℕ) (bytes : List ℕ) (points : List PointPlace) (next : ℕ) (read : ValueRow) (state : State) : Type 0 where
-  pub short : length bytes ≤ 2 ^ 30
   pub states : All (λ p. HasState version bytes p.place) points
   pub rising : IsStrictlyIncreasing (map (λ p. p.addr) points)
   pub moves : AreMoves version bytes points

@@ -11,7 +11,7 @@ use crate::places::NodePlaces;
 use crate::point_reader::{ExitRoom, ReadingRoom, blank_state_for_reading};
 use depth_cert::{CertErr, no_exit, read_magic, read_node_count, read_version};
 use std::alloc::Global;
-use tcd_base::{Cursor, TRAILING, form_err_at};
+use tcd_base::{FileCursor, TRAILING, form_err_at};
 
 /// Reads the version and the places of the nodes of the certificate that the bytes spell, or
 /// returns their first fault.
@@ -23,7 +23,7 @@ pub(crate) fn read_cert_parts(alloc: Global, bytes: &[u8]) -> Result<(u8, Vec<No
     ensures err { IfErr result (IsFaultOf (certificate_of bytes.now)) }
     ensures places { IfOk result (λ r. All (HasPlaces r.0 bytes.now) r.1.items) }
 {
-    let mut c = Cursor::new(bytes);
+    let mut c = FileCursor::new(bytes);
     let _magic = read_magic(&mut c)?;
     let version = read_version(&mut c)?;
     let count = read_node_count(&mut c)?;
@@ -38,12 +38,11 @@ pub(crate) fn read_cert_parts(alloc: Global, bytes: &[u8]) -> Result<(u8, Vec<No
 /// Reads the places of all nodes of a packed certificate, as many as its head says.
 fn read_nodes(
     alloc: Global,
-    c: &mut Cursor<'_>,
+    c: &mut FileCursor<'_>,
     bytes: &[u8],
     version: u8,
     count: u16,
 ) -> Result<Vec<NodePlaces>, CertErr>
-    requires short { length c.old.bytes ≤ 2 ^ 30 }
     requires same { c.old.bytes ≡ bytes.now }
     ensures ok { IfOk result (λ ns.
         many_fields_at (node_after version) count [] c.old

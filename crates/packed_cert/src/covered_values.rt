@@ -1,5 +1,5 @@
 // Are the values of a state, of a changed one, or of an exit below those in the bytes?
-ghost use Rattle.std.specs.Prelude.{◌≡◌, ◌≤◌, ◌<◌, ◌^◌, ◌↔◌, IsTrue, length, slice_index_or, ◌+◌, ◌*◌, ℕ, slice_index};
+ghost use Rattle.std.specs.Prelude.{◌≡◌, ◌≤◌, ◌<◌, ◌↔◌, IsTrue, length, slice_index_or, ◌+◌, ◌*◌, ℕ, slice_index};
 ghost use Rattle.value_domain.specs.Values.{any_val, IsBelow, IsWell};
 ghost use Rattle.value_domain.specs.State.{AreBelow, AreWell};
 ghost use Rattle.packed_cert.specs.ToCover.{values_to_cover};
@@ -38,7 +38,6 @@ pub(crate) fn are_covered_at(
     place: usize,
 ) -> bool
     requires count { length (values_to_cover values.now) ≡ n }
-    requires short { length bytes.now ≤ 2 ^ 30 }
     requires well { AreWell (values_to_cover values.now) }
     requires stand { HaveValuesInBytes version bytes.now place n }
     ensures { IsTrue result
@@ -60,8 +59,6 @@ pub(crate) fn are_covered_at(
 /// Returns true if the value at a place is below the value at another. The first is read.
 #[inline(never)]
 pub(crate) fn is_read_value_covered(low: ValuesAt<'_>, high: ValuesAt<'_>) -> bool
-    requires low_short { length low.bytes.now ≤ 2 ^ 30 }
-    requires high_short { length high.bytes.now ≤ 2 ^ 30 }
     requires low { HasValueInBytes low.version low.bytes.now low.place }
     requires high { HasValueInBytes high.version high.bytes.now high.place }
     ensures { IsTrue result
@@ -75,7 +72,6 @@ pub(crate) fn is_read_value_covered(low: ValuesAt<'_>, high: ValuesAt<'_>) -> bo
 
 /// Returns true if a value is below the span at a place.
 pub(crate) fn is_below_span_at(v: &Val, bytes: &[u8], version: u8, place: usize) -> bool
-    requires short { length bytes.now ≤ 2 ^ 30 }
     requires well { IsWell v.now }
     requires stands { HasValueInBytes version bytes.now place }
     requires span { 128 < slice_index bytes.now place }
@@ -114,7 +110,6 @@ pub(crate) fn are_words_covered_at(own: &[u32], bytes: &[u8], place: usize, n: u
 // A function of its own, so that the others have no room of a value to fill.
 #[inline(never)]
 pub(crate) fn is_covered_by_read(v: &Val, bytes: &[u8], version: u8, place: usize) -> bool
-    requires short { length bytes.now ≤ 2 ^ 30 }
     requires well { IsWell v.now }
     requires stands { HasValueInBytes version bytes.now place }
     ensures { IsTrue result ↔ IsBelow v.now (value_in version bytes.now place) }

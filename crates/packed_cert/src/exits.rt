@@ -14,7 +14,7 @@ use crate::restored_values::ValuesAt;
 use crate::values_at_places::are_values_at;
 use depth_cert::{Exit, no_exit, read_exit, read_has_exit};
 use std::marker::Model;
-use tcd_base::{Cursor, FormErr};
+use tcd_base::{FileCursor, FormErr};
 use value_domain::{Bounds, State};
 
 /// An exit that stays in the bytes of its certificate.
@@ -70,7 +70,6 @@ impl<'a> ExitAt<'a> {
 
     /// Returns the place of the values of its lower registers.
     pub(crate) fn lower(&self) -> ValuesAt<'a>
-        ensures short { length result.bytes.now ≤ 2 ^ 30 }
         ensures have { HaveValuesInBytes result.version result.bytes.now result.place 14 }
         ensures values { self.now.lower
             ≡ values_in result.version result.bytes.now result.place 14 }
@@ -117,7 +116,7 @@ impl<'a> ExitAt<'a> {
     pub fn read(&self) -> Exit
         ensures { result ≡ self.now }
     {
-        let mut c = Cursor::new(self.bytes);
+        let mut c = FileCursor::new(self.bytes);
         let _front = c.take(self.place);
         let mut exit = no_exit();
         let _read = read_exit(&mut c, self.version, &mut exit);
@@ -129,13 +128,12 @@ impl<'a> ExitAt<'a> {
 /// for an `ExitAt`.
 #[tactic(auto, unfolding(depth_cert::specs::Grammar::optional_exit_at))]
 pub(crate) fn read_exit_place(
-    c: &mut Cursor<'_>,
+    c: &mut FileCursor<'_>,
     bytes: &[u8],
     version: u8,
     kind: u8,
     room: &mut ExitRoom,
 ) -> Result<Option<u32>, FormErr>
-    requires short { length c.old.bytes ≤ 2 ^ 30 }
     requires same { c.old.bytes ≡ bytes.now }
     requires last { IfSome room.old.last (ExitStands version bytes.now) }
     ensures ok { IfOk result (λ e.
@@ -155,12 +153,11 @@ pub(crate) fn read_exit_place(
 /// Reads an exit into its room, and returns its place. If the bytes of the last one come again,
 /// they are passed over, and its place is that of the last one.
 pub(crate) fn read_exit_like(
-    c: &mut Cursor<'_>,
+    c: &mut FileCursor<'_>,
     bytes: &[u8],
     version: u8,
     room: &mut ExitRoom,
 ) -> Result<u32, FormErr>
-    requires short { length c.old.bytes ≤ 2 ^ 30 }
     requires same { c.old.bytes ≡ bytes.now }
     requires last { IfSome room.old.last (ExitStands version bytes.now) }
     ensures ok { IfOk result (λ p.
@@ -170,12 +167,12 @@ pub(crate) fn read_exit_like(
     ensures last { OnOk result (IfSome room.new.last (ExitStands version bytes.now)) }
     ensures bytes { c.new.bytes ≡ c.old.bytes }
 {
+    let start = c.place();
     if let Some(at) = room.last {
         if has_passed_repeated_bytes(c, bytes, at.start, at.end - at.start) {
             return Ok(at.start as u32);
         }
     }
-    let start = c.place();
     read_exit(c, version, &mut room.exit)?;
     let end = c.place();
     room.last = Some(ExitPlaces { start, end });

@@ -1,7 +1,7 @@
 // Fast path: does the state of the next point cover the one at hand, changed?
 // A point keeps the row of values outside which its state is that of the point before. So only what
 // is put, and the values of that row, are compared, and not all 27.
-ghost use Rattle.std.specs.Prelude.{◌≡◌, ◌≤◌, ◌<◌, ◌-◌, ◌^◌, ◌↔◌, ℕ, IsTrue, Some, length, slice_index_or, false};
+ghost use Rattle.std.specs.Prelude.{◌≡◌, ◌≤◌, ◌<◌, ◌-◌, ◌↔◌, ℕ, IsTrue, Some, slice_index_or, false};
 ghost use Rattle.value_domain.specs.Values.{IsBelow, any_val};
 ghost use Rattle.value_domain.specs.State.{AreBelow, AreWell, Covers};
 ghost use Rattle.vd_transfer.specs.Changes.{state_after};
@@ -46,7 +46,6 @@ pub(crate) fn is_row_below(
     version: u8,
     point: PointPlace,
 ) -> bool
-    requires short { length bytes.now ≤ 2 ^ 30 }
     requires well { AreWell (state_after s.now c.now).regs }
     requires moved { IsMoved version bytes.now s.now point }
     ensures { IsTrue result → (i : ℕ) → point.row.first ≤ i → i < point.row.behind
@@ -76,7 +75,6 @@ pub(crate) fn does_next_point_cover(
     version: u8,
     point: PointPlace,
 ) -> bool
-    requires short { length bytes.now ≤ 2 ^ 30 }
     requires base { c.now.base ≡ Same }
     requires hand { AreWell s.now.regs }
     requires well { AreWell (state_after s.now c.now).regs }

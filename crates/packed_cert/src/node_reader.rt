@@ -12,19 +12,18 @@ use crate::places::NodePlaces;
 use crate::point_reader::{ReadingRoom, read_points};
 use depth_cert::{CertErr, number_of, read_key, read_need};
 use std::alloc::Global;
-use tcd_base::Cursor;
+use tcd_base::FileCursor;
 
 /// Reads a node after those before it.
 #[tactic(auto, unfolding(depth_cert::specs::Grammar::node_after))]
 pub(crate) fn read_node(
     alloc: Global,
-    c: &mut Cursor<'_>,
+    c: &mut FileCursor<'_>,
     bytes: &[u8],
     version: u8,
     before: &[NodePlaces],
     room: &mut ReadingRoom,
 ) -> Result<NodePlaces, CertErr>
-    requires short { length c.old.bytes ≤ 2 ^ 30 }
     requires same { c.old.bytes ≡ bytes.now }
     requires places { All (HasPlaces version bytes.now) before.now }
     requires used { room.old.used ≡ count_points (nodes_of version bytes.now before.now) }
@@ -44,6 +43,7 @@ pub(crate) fn read_node(
         (IfSome room.new.last (StateStandsAtPlaces version bytes.now room.new.state)) }
     ensures bytes { c.new.bytes ≡ c.old.bytes }
 {
+    let _place = c.place(); // so that the prover knows that the bytes are few
     let key = read_key(c, last_read_node_number(before))?;
     let number = number_of(&key);
     let need = read_need(c)?;

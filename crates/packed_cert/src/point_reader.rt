@@ -3,7 +3,7 @@
 // If all come again, they are passed over, and else only the values whose bytes differ are read. In
 // bench/, a point of *functions*, whose state has 106 bytes, takes some 180 instructions if they
 // come again, and 480 more if they don't.
-ghost use Rattle.std.specs.Prelude.{◌≡◌, ◌≤◌, ◌<◌, ◌+◌, ◌-◌, ◌^◌, ℕ, List, length, map, vec_len, false, Ok, Err, OnOk, IfOk, IfErr, IfSome, IsTrue, IsFalse};
+ghost use Rattle.std.specs.Prelude.{◌≡◌, ◌≤◌, ◌<◌, ◌+◌, ◌-◌, ◌^◌, ℕ, List, map, vec_len, false, Ok, Err, OnOk, IfOk, IfErr, IfSome, IsTrue, IsFalse};
 ghost use Rattle.std.specs.List.{All};
 ghost use Rattle.depth_cert.specs.Grammar.{state_at, points_at};
 ghost use Rattle.depth_cert.specs.Answers.{IsFaultOf};
@@ -23,7 +23,7 @@ use arrayvec::ArrayVec;
 use depth_cert::{CertErr, Exit, read_address, read_flag, read_locals, read_point_count};
 use std::alloc::Global;
 use std::marker::Model;
-use tcd_base::{Cursor, FormErr, read_u8};
+use tcd_base::{FileCursor, FormErr, read_u8};
 use value_domain::{State, Val};
 
 /// What the reading of a certificate carries from node to node.
@@ -60,12 +60,11 @@ pub(crate) fn blank_state_for_reading() -> State {
 #[tactic(auto, unfolding(depth_cert::specs::Grammar::points_at))]
 pub(crate) fn read_points(
     alloc: Global,
-    c: &mut Cursor<'_>,
+    c: &mut FileCursor<'_>,
     bytes: &[u8],
     version: u8,
     room: &mut ReadingRoom,
 ) -> Result<Vec<PointPlace>, CertErr>
-    requires short { length c.old.bytes ≤ 2 ^ 30 }
     requires same { c.old.bytes ≡ bytes.now }
     requires used { room.old.used ≤ 2 ^ 16 }
     requires state { IfSome room.old.last (StateStandsAtPlaces version bytes.now room.old.state) }
@@ -82,6 +81,7 @@ pub(crate) fn read_points(
         (IfSome room.new.last (StateStandsAtPlaces version bytes.now room.new.state)) }
     ensures bytes { c.new.bytes ≡ c.old.bytes }
 {
+    let _place = c.place(); // so that the prover knows that the bytes are few
     let count = read_point_count(c, room.used)?;
     let mut points = Vec::new(alloc);
     let mut last = None;
@@ -106,13 +106,12 @@ pub(crate) fn read_points(
 /// bytes come again, they are passed over, and those places stay.
 #[inline(always)]
 pub(crate) fn read_state_like(
-    c: &mut Cursor<'_>,
+    c: &mut FileCursor<'_>,
     bytes: &[u8],
     version: u8,
     before: Option<StatePlaces>,
     out: &mut State,
 ) -> Result<ReadState, FormErr>
-    requires short { length c.old.bytes ≤ 2 ^ 30 }
     requires same { c.old.bytes ≡ bytes.now }
     requires before { IfSome before (StateStandsAtPlaces version bytes.now out.old) }
     ensures ok { OnOk result (state_at version c.old ≡ Ok (out.new, c.new)) }
@@ -144,13 +143,12 @@ pub(crate) fn read_state_like(
 /// values, and the row of those that were read.
 #[tactic(auto, unfolding(depth_cert::specs::Grammar::state_at))]
 pub(crate) fn read_state_fields(
-    c: &mut Cursor<'_>,
+    c: &mut FileCursor<'_>,
     bytes: &[u8],
     version: u8,
     before: Option<RepeatedState>,
     out: &mut State,
 ) -> Result<(usize, ValueRow), FormErr>
-    requires short { length c.old.bytes ≤ 2 ^ 30 }
     requires same { c.old.bytes ≡ bytes.now }
     requires held { IfSome before (StateComesAgain version bytes.now out.old.regs c.old.place) }
     ensures ok { OnOk result (state_at version c.old ≡ Ok (out.new, c.new)) }
@@ -175,13 +173,12 @@ pub(crate) fn read_state_fields(
 /// state come again.
 #[inline(never)]
 pub(crate) fn read_state_after(
-    c: &mut Cursor<'_>,
+    c: &mut FileCursor<'_>,
     bytes: &[u8],
     version: u8,
     before: Option<RepeatedState>,
     out: &mut State,
 ) -> Result<ReadState, FormErr>
-    requires short { length c.old.bytes ≤ 2 ^ 30 }
     requires same { c.old.bytes ≡ bytes.now }
     requires held { IfSome before (StateComesAgain version bytes.now out.old.regs c.old.place) }
     ensures ok { OnOk result (state_at version c.old ≡ Ok (out.new, c.new)) }

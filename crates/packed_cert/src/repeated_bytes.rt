@@ -1,13 +1,13 @@
 // Fast path: how many bytes are equal at two places?
 // From 1,024 bytes on they are compared as slices first. Where those differ, and below, they are
 // compared eight at a time: 64 in a turn, then 16. A turn of 64 takes some 28 instructions.
-ghost use Rattle.std.specs.Prelude.{◌≡◌, ◌≤◌, ◌<◌, ◌+◌, ◌*◌, IsTrue, length, slice_index, take, drop, ◌-◌, IsFalse, ◌^◌};
+ghost use Rattle.std.specs.Prelude.{◌≡◌, ◌≤◌, ◌<◌, ◌+◌, ◌*◌, IsTrue, length, slice_index, take, drop, ◌-◌, IsFalse};
 ghost use Rattle.tcd_base.specs.Bytes.{word_in_bytes};
 ghost use Rattle.packed_cert.specs.RepeatedBytes.{SameBytesAtPlaces, IsRepeated, MovesOverRepeated, eight_bytes_at_place};
 
 use crate::places::RepeatedState;
 use crate::value_reader::FEW_BYTES;
-use tcd_base::Cursor;
+use tcd_base::FileCursor;
 
 /// Counts the bytes that are equal at two places, up to `end` at the first.
 pub(crate) fn count_repeated_before(bytes: &[u8], x: usize, y: usize, end: usize) -> usize
@@ -141,7 +141,7 @@ fn count_repeated_from(bytes: &[u8], x: usize, y: usize, from: usize, n: usize) 
 /// Returns true if the bytes from `x` on come again at the cursor, which then moves past them.
 #[inline(always)]
 pub(crate) fn has_passed_repeated_bytes(
-    c: &mut Cursor<'_>,
+    c: &mut FileCursor<'_>,
     bytes: &[u8],
     x: usize,
     n: usize,
@@ -167,7 +167,6 @@ pub(crate) fn has_passed_repeated_bytes(
 /// bytes come again at `start`. They are compared again only if the bytes before the values differ,
 /// or are more or fewer.
 pub(crate) fn end_of_same(bytes: &[u8], state: RepeatedState, start: usize, at: usize) -> usize
-    requires short { length bytes.now ≤ 2 ^ 30 }
     requires inside { at ≤ length bytes.now }
     requires values { state.at.values ≤ length bytes.now }
     requires again { IsRepeated bytes.now start state }

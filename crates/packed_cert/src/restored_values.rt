@@ -1,6 +1,6 @@
 // Does a state in the bytes cover the one after a return?
 // That state has the lower registers' values of the exit, which stay in the bytes too.
-ghost use Rattle.std.specs.Prelude.{◌≡◌, ◌≤◌, ◌<◌, ◌^◌, ◌↔◌, if◌then◌else◌, IsTrue, length, slice_index_or};
+ghost use Rattle.std.specs.Prelude.{◌≡◌, ◌<◌, ◌↔◌, if◌then◌else◌, IsTrue, slice_index_or};
 ghost use Rattle.value_domain.specs.Values.{any_val, IsBelow};
 ghost use Rattle.value_domain.specs.State.{AreWell, AreBelow};
 ghost use Rattle.value_domain.specs.State as states;
@@ -27,8 +27,6 @@ pub(crate) struct ValuesAt<'a> {
 /// `lower` for the lower registers.
 pub(crate) fn are_restored_below(regs: &[Val; 27], lower: ValuesAt<'_>, high: ValuesAt<'_>) -> bool
     requires well { AreWell regs.now }
-    requires low_short { length lower.bytes.now ≤ 2 ^ 30 }
-    requires high_short { length high.bytes.now ≤ 2 ^ 30 }
     requires low { HaveValuesInBytes lower.version lower.bytes.now lower.place 14 }
     requires high { HaveValuesInBytes high.version high.bytes.now high.place 27 }
     ensures { IsTrue result
@@ -65,8 +63,6 @@ pub(crate) fn are_restored_below(regs: &[Val; 27], lower: ValuesAt<'_>, high: Va
 fn is_restored_below(regs: &[Val; 27], i: usize, low: ValuesAt<'_>, high: ValuesAt<'_>) -> bool
     requires place { i < 27 }
     requires well { AreWell regs.now }
-    requires low_short { length low.bytes.now ≤ 2 ^ 30 }
-    requires high_short { length high.bytes.now ≤ 2 ^ 30 }
     requires low { IsTrue (states.is_lower_slot i)
         → HasValueInBytes low.version low.bytes.now low.place }
     requires high { HasValueInBytes high.version high.bytes.now high.place }
@@ -92,8 +88,7 @@ fn is_restored_below(regs: &[Val; 27], i: usize, low: ValuesAt<'_>, high: Values
 /// Returns the place of the next lower register's value: after the one at `low` if value number `i`
 /// is a lower register's, and else `low`.
 fn next_lower(i: usize, low: ValuesAt<'_>) -> usize
-    requires short { length low.bytes.now ≤ 2 ^ 30 }
-    requires low { IsTrue (states.is_lower_slot i)
+    requires { IsTrue (states.is_lower_slot i)
         → HasValueInBytes low.version low.bytes.now low.place }
     ensures { result
         ≡ (if states.is_lower_slot i then place_after_value low.entry.bytes.now low.entry.place

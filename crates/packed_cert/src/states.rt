@@ -1,9 +1,9 @@
 // The type `StateAt`: a state that stays in the bytes of its certificate.
-ghost use Rattle.std.specs.Prelude.{◌≡◌, ◌≤◌, ◌+◌, ◌^◌, ◌↔◌, ◌==◌, if◌then◌else◌, IsTrue, length, ◌<◌, ◌-◌, false};
+ghost use Rattle.std.specs.Prelude.{◌≡◌, ◌≤◌, ◌+◌, ◌↔◌, ◌==◌, if◌then◌else◌, IsTrue, length, ◌<◌, ◌-◌, false};
 ghost use Rattle.value_domain.specs.State.{AreWell, Covers};
 ghost use Rattle.vd_transfer.specs.Changes.{state_after};
 ghost use Rattle.packed_cert.specs.ValuesInBytes.{values_in, HaveValuesInBytes};
-ghost use Rattle.packed_cert.specs.PointsInBytes.{flags_in, state_in, HasState};
+ghost use Rattle.packed_cert.specs.PointsInBytes.{flags_in, state_in, HasState, IsStateAt};
 
 use crate::covered_values::{ToCover, are_covered_at};
 use crate::exits::ExitAt;
@@ -37,8 +37,7 @@ impl<'a> Model for StateAt<'a> {
 impl<'a> StateAt<'a> {
     /// Returns the state at a place.
     pub(crate) fn at(bytes: &'a [u8], version: u8, place: usize) -> StateAt<'a>
-        requires short { length bytes.now ≤ 2 ^ 30 }
-        requires state { HasState version bytes.now place }
+        requires { HasState version bytes.now place }
         ensures { result ≡ state_in version bytes.now place }
     {
         StateAt {
@@ -168,7 +167,6 @@ fn status_after(s: &State, exit: &ExitAt<'_>, kind: u8) -> (bool, u8)
 
 /// Returns the flags of a state's local areas, which the bytes have from a place on, a byte each.
 fn state_locals_at(bytes: &[u8], place: usize, count: u8) -> ArrayVec<bool, 8>
-    requires short { length bytes.now ≤ 2 ^ 30 }
     requires within { place + count ≤ length bytes.now }
     requires few { count ≤ 8 }
     ensures { result.items ≡ flags_in bytes.now place count }
@@ -182,9 +180,7 @@ fn state_locals_at(bytes: &[u8], place: usize, count: u8) -> ArrayVec<bool, 8>
 
 /// Returns the place of the values of a state.
 fn place_of_values(bytes: &[u8], version: u8, place: usize) -> usize
-    requires short { length bytes.now ≤ 2 ^ 30 }
-    requires inside { place ≤ length bytes.now }
-    requires state { HasState version bytes.now place }
+    requires { IsStateAt version bytes.now place }
     ensures have { HaveValuesInBytes version bytes.now result 27 }
     ensures values { (state_in version bytes.now place).regs
         ≡ values_in version bytes.now result 27 }

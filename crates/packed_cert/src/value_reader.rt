@@ -1,6 +1,6 @@
 // Reads values over those of the state before.
 // Fast path: a value whose bytes come again isn't read. Bytes are compared for many values at once.
-ghost use Rattle.std.specs.Prelude.{◌≡◌, ◌≤◌, ◌<◌, ◌+◌, ◌-◌, ◌^◌, ℕ, List, length, Ok, Err, OnOk, IfOk, IfErr, IfSome};
+ghost use Rattle.std.specs.Prelude.{◌≡◌, ◌≤◌, ◌<◌, ◌+◌, ◌-◌, ℕ, List, length, Ok, Err, OnOk, IfOk, IfErr, IfSome};
 ghost use Rattle.packed_cert.specs.RepeatedBytes.{SameBytesAtPlaces, StateComesAgain};
 ghost use Rattle.packed_cert.specs.ValuesInBytes.{ValuesStandFrom, place_after_values};
 ghost use Rattle.packed_cert.specs.ChangedRows.{ChangesRow, RowBeginsAtPlace, IsWithRead};
@@ -10,7 +10,7 @@ ghost use Rattle.depth_cert.specs.Grammar.{values_at};
 use crate::places::{RepeatedState, StatePlaces, ValueRow, no_row};
 use crate::repeated_bytes::{count_repeated_before, end_of_same};
 use depth_cert::{read_value, read_values};
-use tcd_base::{Cursor, FormErr};
+use tcd_base::{FileCursor, FormErr};
 use value_domain::Val;
 
 /// The greatest number of words of a value that lists them; it is the value's first byte.
@@ -24,14 +24,13 @@ pub(crate) const FEW_BYTES: usize = 64;
 // The cursor stays until a value is read: `place` is where it would be, and the bytes from `from`
 // up to `stop` are the same there.
 pub(crate) fn read_values_after(
-    c: &mut Cursor<'_>,
+    c: &mut FileCursor<'_>,
     bytes: &[u8],
     version: u8,
     before: StatePlaces,
     stop: usize,
     out: &mut [Val],
 ) -> Result<ValueRow, FormErr>
-    requires short { length c.old.bytes ≤ 2 ^ 30 }
     requires same { c.old.bytes ≡ bytes.now }
     requires few { length out.old ≤ 27 }
     requires held { ValuesStandFrom version bytes.now out.old before.values before.end }
@@ -85,7 +84,7 @@ pub(crate) fn value_length_by_tag(tag: u8) -> usize
 
 /// Moves the reader of values on to a place, past bytes that it doesn't read.
 #[inline(always)]
-pub(crate) fn pass_unread_values_to(c: &mut Cursor<'_>, place: usize)
+pub(crate) fn pass_unread_values_to(c: &mut FileCursor<'_>, place: usize)
     requires order { c.old.place ≤ place }
     requires within { place ≤ length c.old.bytes }
     ensures { c.new ≡ record c.old { place = place } }
@@ -97,14 +96,13 @@ pub(crate) fn pass_unread_values_to(c: &mut Cursor<'_>, place: usize)
 /// Reads values of a state that begins at `start`, and returns the row of those that were read. If
 /// there is a state before, `out` holds its values already.
 pub(crate) fn read_values_like(
-    c: &mut Cursor<'_>,
+    c: &mut FileCursor<'_>,
     bytes: &[u8],
     version: u8,
     before: Option<RepeatedState>,
     start: usize,
     out: &mut [Val],
 ) -> Result<ValueRow, FormErr>
-    requires short { length c.old.bytes ≤ 2 ^ 30 }
     requires same { c.old.bytes ≡ bytes.now }
     requires few { length out.old ≤ 27 }
     requires held { IfSome before (StateComesAgain version bytes.now out.old start) }

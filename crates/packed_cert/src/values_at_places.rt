@@ -1,5 +1,5 @@
 // Values at places in the bytes: tests and readers of them.
-ghost use Rattle.std.specs.Prelude.{◌≡◌, ◌≤◌, ◌<◌, ◌+◌, ◌*◌, ◌^◌, ◌↔◌, IsTrue, length, ◌-◌};
+ghost use Rattle.std.specs.Prelude.{◌≡◌, ◌≤◌, ◌<◌, ◌+◌, ◌*◌, ◌↔◌, IsTrue, length, ◌-◌};
 ghost use Rattle.value_domain.specs.declared.values.Val.{Val};
 ghost use Rattle.value_domain.specs.declared.values.Val.TheVariants.{Set};
 ghost use Rattle.value_domain.specs.Sets.{AreWords};
@@ -15,7 +15,6 @@ use value_domain::{Bounds, Val, is_value, set_span, set_words, write_any};
 
 /// Tests the value that is at a place in the bytes: returns true if another value is below it.
 pub(crate) fn is_below_value_at(v: &Val, bytes: &[u8], version: u8, place: usize) -> bool
-    requires short { length bytes.now ≤ 2 ^ 30 }
     requires well { IsWell v.now }
     requires stands { HasValueInBytes version bytes.now place }
     ensures { IsTrue result ↔ IsBelow v.now (value_in version bytes.now place) }
@@ -38,8 +37,7 @@ pub(crate) fn is_below_value_at(v: &Val, bytes: &[u8], version: u8, place: usize
 
 /// Returns true if each of the `n` values from a place on is one of the plan and the version.
 pub(crate) fn are_values_at(b: &Bounds, bytes: &[u8], version: u8, place: usize, n: usize) -> bool
-    requires short { length bytes.now ≤ 2 ^ 30 }
-    requires stand { HaveValuesInBytes version bytes.now place n }
+    requires { HaveValuesInBytes version bytes.now place n }
     ensures { IsTrue result ↔ AreValues b.now (values_in version bytes.now place n) }
 {
     let _most_words = b.most_words();
@@ -58,8 +56,7 @@ pub(crate) fn are_values_at(b: &Bounds, bytes: &[u8], version: u8, place: usize,
 /// Reads the value at a place.
 #[inline(never)]
 pub(crate) fn value_at_place(bytes: &[u8], version: u8, place: usize) -> Val
-    requires short { length bytes.now ≤ 2 ^ 30 }
-    requires stands { HasValueInBytes version bytes.now place }
+    requires { HasValueInBytes version bytes.now place }
     ensures { result ≡ value_in version bytes.now place }
 {
     let mut out = Val::any();
@@ -70,8 +67,7 @@ pub(crate) fn value_at_place(bytes: &[u8], version: u8, place: usize) -> Val
 /// Reads the value that is at a place in the bytes, without a cursor, over `out`. Nothing is
 /// written if `out` is that set of two or more words already.
 pub(crate) fn read_value_at_place(bytes: &[u8], version: u8, place: usize, out: &mut Val)
-    requires short { length bytes.now ≤ 2 ^ 30 }
-    requires stands { HasValueInBytes version bytes.now place }
+    requires { HasValueInBytes version bytes.now place }
     ensures { out.new ≡ value_in version bytes.now place }
 {
     let tag = bytes[place];
@@ -138,8 +134,7 @@ fn has_words_at(v: &Val, bytes: &[u8], place: usize, n: usize) -> bool
 /// Returns true if the value at a place is one of the plan and the version.
 #[inline(never)]
 fn is_value_at(b: &Bounds, bytes: &[u8], version: u8, place: usize) -> bool
-    requires short { length bytes.now ≤ 2 ^ 30 }
-    requires stands { HasValueInBytes version bytes.now place }
+    requires { HasValueInBytes version bytes.now place }
     ensures { IsTrue result ↔ IsValue b.now (value_in version bytes.now place) }
 {
     is_value(b, &value_at_place(bytes, version, place))

@@ -1,5 +1,5 @@
 // The type `PointWalk`: the points of a node one after another, with room for one state.
-ghost use Rattle.std.specs.Prelude.{◌≡◌, ◌≤◌, ◌<◌, ◌-◌, ◌^◌, ◌↔◌, [], length, drop, map, IfSome, IsTrue};
+ghost use Rattle.std.specs.Prelude.{◌≡◌, ◌≤◌, ◌<◌, ◌-◌, ◌↔◌, [], drop, map, IfSome, IsTrue};
 ghost use Rattle.std.specs.List.Sorted.{IsStrictlyIncreasing};
 ghost use Rattle.packed_cert.specs.PointsInBytes.{state_in, HasState};
 ghost use Rattle.packed_cert.specs.ChangedRows.{ChangesRow};
@@ -71,7 +71,6 @@ impl<'a> PointWalk<'a> {
 
     /// Goes before the first of these points. The state at hand is room for theirs.
     pub(crate) fn go_before(&mut self, bytes: &'a [u8], version: u8, points: &'a [PointPlace])
-        requires short { length bytes.now ≤ 2 ^ 30 }
         requires states { All (λ p. HasState version bytes.now p.place) points.now }
         requires rising { IsStrictlyIncreasing (map (λ p. p.addr) points.now) }
         requires moves { AreMoves version bytes.now points.now }
@@ -168,7 +167,6 @@ impl<'a> PointWalk<'a> {
 /// Makes the state before a point that of the point: only the values of its row are read. Returns
 /// the row.
 fn walk_to_point(bytes: &[u8], version: u8, point: PointPlace, room: &mut State) -> ValueRow
-    requires short { length bytes.now ≤ 2 ^ 30 }
     requires state { HasState version bytes.now point.place }
     requires moved { IsMoved version bytes.now room.old point }
     ensures state { room.new ≡ state_in version bytes.now point.place }
@@ -189,7 +187,6 @@ fn walk_to_point(bytes: &[u8], version: u8, point: PointPlace, room: &mut State)
 
 /// Reads the row of the walk's next point into its room, over the values of the state before.
 fn read_row(bytes: &[u8], version: u8, point: PointPlace, out: &mut [Val; 27])
-    requires short { length bytes.now ≤ 2 ^ 30 }
     requires row { ChangesRow out.old (state_in version bytes.now point.place).regs point.row }
     requires few { point.row.behind ≤ 27 }
     requires have { 0 < point.row.behind

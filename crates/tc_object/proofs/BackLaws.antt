@@ -1,5 +1,5 @@
 -- Reading the spelling of an object gives the object.
-use Rattle.std.proofs.Common.{◌≡◌, ℕ, suc, ◌+◌, ◌<◌, ◌≤◌, ◌^◌, List, [], ◌∷◌, ◌++◌, length, Bool, true, not, cond, Option, Some, None, Result, Ok, Err, refl, ap, ◌∙◌, arith, append_assoc, eqb, ◌&&◌}
+use Rattle.std.proofs.Common.{◌≡◌, ℕ, suc, ◌+◌, ◌<◌, ◌≤◌, ◌^◌, List, [], ◌∷◌, ◌++◌, length, Bool, true, not, cond, Option, Some, None, Result, Ok, Err, refl, ap, ◌∙◌, arith, append_assoc, eqb}
 use Rattle.std.proofs.lemmas.List.{append-nil}
 use Rattle.std.proofs.lemmas.Bool.{le-leb, lt-ltb, and_from}
 use Rattle.std.proofs.lemmas.Bool.Decides.{nat_tests}

@@ -1,9 +1,9 @@
 // Readers of single fields of an object file.
-ghost use Rattle.std.specs.Prelude.{◌≡◌, ◌≤◌, ◌^◌, ◌&&◌, nat_le, length};
+ghost use Rattle.std.specs.Prelude.{◌≡◌, ◌&&◌, nat_le};
 ghost use Rattle.tcd_base.specs.FieldReaders.{ReadsField};
 ghost use Rattle.tc_object.specs.Grammar.{magic_at, kind_at};
 
-use tcd_base::{BAD_MAGIC, BAD_VALUE, Cursor, FormErr, form_err_at, read_u8, read_u32};
+use tcd_base::{BAD_MAGIC, BAD_VALUE, FileCursor, FormErr, form_err_at, read_u8, read_u32};
 
 /// The magic bytes 54 43 4F 31 ("TCO1") as a little-endian word.
 pub(crate) const MAGIC: u32 = 0x314f_4354;
@@ -13,10 +13,8 @@ pub(crate) const MOST_SECTIONS: u16 = 64;
 
 /// Reads a single field: the magic bytes 54 43 4F 31 ("TCO1") of an object file.
 #[tactic(auto, unfolding(crate::specs::Grammar::magic_at))]
-pub(crate) fn read_magic(c: &mut Cursor<'_>) -> Result<u32, FormErr>
-    requires { length c.old.bytes ≤ 2 ^ 30 }
-    ensures read { ReadsField result c.new (magic_at c.old) }
-    ensures bytes { c.new.bytes ≡ c.old.bytes }
+pub(crate) fn read_magic(c: &mut FileCursor<'_>) -> Result<u32, FormErr>
+    ensures { ReadsField result c.old c.new magic_at }
 {
     let start = c.place();
     let magic = read_u32(c)?;
@@ -35,10 +33,8 @@ pub(crate) fn is_kind(low: u8, high: u8, kind: u8) -> bool
 
 /// Reads the kind of a symbol or of a relocation, which must be in `low..=high`.
 #[tactic(auto, unfolding(crate::specs::Grammar::kind_at))]
-pub(crate) fn read_kind(c: &mut Cursor<'_>, low: u8, high: u8) -> Result<u8, FormErr>
-    requires { length c.old.bytes ≤ 2 ^ 30 }
-    ensures read { ReadsField result c.new (kind_at low high c.old) }
-    ensures bytes { c.new.bytes ≡ c.old.bytes }
+pub(crate) fn read_kind(c: &mut FileCursor<'_>, low: u8, high: u8) -> Result<u8, FormErr>
+    ensures { ReadsField result c.old c.new (kind_at low high) }
 {
     let start = c.place();
     let kind = read_u8(c)?;

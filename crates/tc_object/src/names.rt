@@ -1,12 +1,12 @@
 // Names of sections and symbols: which bytes are one, and readers of them.
-ghost use Rattle.std.specs.Prelude.{◌≡◌, ◌≤◌, ◌^◌, length, true, Err, IfOk, IfErr, MatchResult};
+ghost use Rattle.std.specs.Prelude.{◌≡◌, true, Err, MatchResult};
 ghost use Rattle.tcd_base.specs.FieldReaders.{ReadsField};
 ghost use Rattle.std.specs.Option.{option_copied};
 ghost use Rattle.tc_object.specs.Names.{is_object_name, object_name_of};
 ghost use Rattle.tc_object.specs.Grammar.{name_length_at, name_bytes_at};
 
 use tcd_base::{
-    BAD_VALUE, Cursor, FormErr, are_name_bytes, form_err_at, is_name_first, read_bytes, read_u8,
+    BAD_VALUE, FileCursor, FormErr, are_name_bytes, form_err_at, is_name_first, read_bytes, read_u8,
 };
 
 /// The bytes as a name: 1 to 64 letters, digits, `_`, `.` and `$`, of which the first is no digit.
@@ -22,10 +22,8 @@ pub fn object_name_of(bytes: &[u8]) -> Option<&str>
 
 /// Reads the length of a name in bytes, from 1 to 64.
 #[tactic(auto, unfolding(crate::specs::Grammar::name_length_at))]
-pub(crate) fn read_name_length(c: &mut Cursor<'_>) -> Result<u8, FormErr>
-    requires { length c.old.bytes ≤ 2 ^ 30 }
-    ensures read { ReadsField result c.new (name_length_at c.old) }
-    ensures bytes { c.new.bytes ≡ c.old.bytes }
+pub(crate) fn read_name_length(c: &mut FileCursor<'_>) -> Result<u8, FormErr>
+    ensures { ReadsField result c.old c.new name_length_at }
 {
     let start = c.place();
     let count = read_u8(c)?;
@@ -38,8 +36,7 @@ pub(crate) fn read_name_length(c: &mut Cursor<'_>) -> Result<u8, FormErr>
 
 /// Reads the bytes of a name of this length.
 #[tactic(auto, unfolding(crate::specs::Grammar::name_bytes_at))]
-pub(crate) fn read_name_bytes<'a>(c: &mut Cursor<'a>, count: u8) -> Result<&'a str, FormErr>
-    requires { length c.old.bytes ≤ 2 ^ 30 }
+pub(crate) fn read_name_bytes<'a>(c: &mut FileCursor<'a>, count: u8) -> Result<&'a str, FormErr>
     ensures read { MatchResult result (λ name. name_bytes_at count c.old ≡ Ok (name.now, c.new))
         (λ e. name_bytes_at count c.old ≡ Err e) }
     ensures bytes { c.new.bytes ≡ c.old.bytes }

@@ -9,7 +9,7 @@ use crate::section_reader::{read_section_count, read_sections};
 use crate::symbol_reader::read_symbols;
 use crate::{ObjErr, Reloc, SectionRef, SymbolRef};
 use std::alloc::Global;
-use tcd_base::{Cursor, TRAILING, form_err_at, read_u16};
+use tcd_base::{FileCursor, TRAILING, form_err_at, read_u16};
 
 /// What the bytes of an object hold, with names and bytes borrowed.
 #[derive(Drop)]
@@ -31,7 +31,7 @@ pub(crate) fn read_parts(alloc: Global, bytes: &[u8]) -> Result<Parts<'_>, ObjEr
         })) }
     ensures err { IfErr result (IsFaultOf (object_of bytes.now)) }
 {
-    let mut c = Cursor::new(bytes);
+    let mut c = FileCursor::new(bytes);
     let _magic = read_magic(&mut c)?;
     let section_count = read_section_count(&mut c)?;
     let symbol_count = read_u16(&mut c)?;

@@ -1,5 +1,5 @@
 // Readers of relocations.
-ghost use Rattle.std.specs.Prelude.{◌≡◌, ◌≤◌, ◌+◌, ◌^◌, ◌-◌, [], length, slice_index, Ok, Err, Some, None, IfOk, IfErr, MatchResult};
+ghost use Rattle.std.specs.Prelude.{◌≡◌, ◌≤◌, ◌+◌, ◌^◌, [], length, slice_index, Ok, Err, Some, None, IfOk, IfErr, MatchResult};
 ghost use Rattle.tcd_base.specs.Bytes.{half_in_bytes, word_in_bytes};
 ghost use Rattle.tcd_base.specs.FieldReaders.{ReadsField, many_fields_at};
 ghost use Rattle.tc_object.specs.Faults.{IsFaultOf, reloc_fault};
@@ -10,7 +10,7 @@ use crate::fields::{is_kind, read_kind};
 use crate::section_reader::section_size_at;
 use crate::{ObjErr, Reloc, SectionRef};
 use std::alloc::Global;
-use tcd_base::{BAD_ORDER, BAD_VALUE, Cursor, FormErr, form_err_at, read_u16, read_u32};
+use tcd_base::{BAD_ORDER, BAD_VALUE, FileCursor, FormErr, form_err_at, read_u16, read_u32};
 
 // The least kind of relocations.
 const FIRST_KIND: u8 = 1;
@@ -25,18 +25,16 @@ const RELOC_BYTES: usize = 13;
 #[inline(never)]
 pub(crate) fn read_relocs(
     alloc: Global,
-    c: &mut Cursor<'_>,
+    c: &mut FileCursor<'_>,
     sections: &[SectionRef<'_>],
     symbols: u16,
     count: u16,
 ) -> Result<Vec<Reloc>, ObjErr>
-    requires { length c.old.bytes ≤ 2 ^ 30 }
     ensures ok { IfOk result
         (λ rs. many_fields_at (reloc_after sections.now symbols) count [] c.old
         ≡ Ok (rs.items, c.new)) }
     ensures err { IfErr result
         (IsFaultOf (many_fields_at (reloc_after sections.now symbols) count [] c.old)) }
-    ensures bytes { c.new.bytes ≡ c.old.bytes }
 {
     let mut relocs = Vec::with_capacity(alloc, count as usize)?;
     for _i in 0..count {
@@ -48,14 +46,12 @@ pub(crate) fn read_relocs(
 
 /// Reads the relocation after these from its 13 bytes at once, if the file holds all of them.
 fn read_reloc(
-    c: &mut Cursor<'_>,
+    c: &mut FileCursor<'_>,
     sections: &[SectionRef<'_>],
     symbols: u16,
     before: &[Reloc],
 ) -> Result<Reloc, FormErr>
-    requires { length c.old.bytes ≤ 2 ^ 30 }
-    ensures read { ReadsField result c.new (reloc_after sections.now symbols before.now c.old) }
-    ensures bytes { c.new.bytes ≡ c.old.bytes }
+    ensures { ReadsField result c.old c.new (reloc_after sections.now symbols before.now) }
 {
     let start = c.place();
     let Some(bytes) = c.take(RELOC_BYTES) else {
@@ -71,14 +67,12 @@ fn read_reloc(
 #[inline(never)]
 #[tactic(auto, unfolding(crate::specs::Grammar::reloc_after))]
 fn read_reloc_fields(
-    c: &mut Cursor<'_>,
+    c: &mut FileCursor<'_>,
     sections: &[SectionRef<'_>],
     symbols: u16,
     before: &[Reloc],
 ) -> Result<Reloc, FormErr>
-    requires { length c.old.bytes ≤ 2 ^ 30 }
-    ensures read { ReadsField result c.new (reloc_after sections.now symbols before.now c.old) }
-    ensures bytes { c.new.bytes ≡ c.old.bytes }
+    ensures { ReadsField result c.old c.new (reloc_after sections.now symbols before.now) }
 {
     let start = c.place();
     let section = read_reloc_section(c, sections, before)?;
@@ -153,13 +147,11 @@ fn check_reloc(
 /// Reads the section of the relocation after these.
 #[tactic(auto, unfolding(crate::specs::Grammar::reloc_section_at))]
 fn read_reloc_section(
-    c: &mut Cursor<'_>,
+    c: &mut FileCursor<'_>,
     sections: &[SectionRef<'_>],
     before: &[Reloc],
 ) -> Result<u16, FormErr>
-    requires { length c.old.bytes ≤ 2 ^ 30 }
-    ensures read { ReadsField result c.new (reloc_section_at sections.now before.now c.old) }
-    ensures bytes { c.new.bytes ≡ c.old.bytes }
+    ensures { ReadsField result c.old c.new (reloc_section_at sections.now before.now) }
 {
     let start = c.place();
     let section = read_u16(c)?;
@@ -176,18 +168,16 @@ fn read_reloc_section(
 /// the byte offset of the relocation's section field.
 #[tactic(auto, unfolding(crate::specs::Grammar::reloc_offset_at))]
 fn read_reloc_offset(
-    c: &mut Cursor<'_>,
+    c: &mut FileCursor<'_>,
     sections: &[SectionRef<'_>],
     before: &[Reloc],
     section: u16,
     section_at: usize,
 ) -> Result<u32, FormErr>
-    requires short { length c.old.bytes ≤ 2 ^ 30 }
-    requires start { section_at ≤ length c.old.bytes }
-    ensures read { ReadsField result c.new
+    requires { section_at ≤ 2 ^ 30 }
+    ensures { ReadsField result c.old c.new
         (reloc_offset_at sections.now before.now section
-        (record { bytes = c.old.bytes; place = section_at }) c.old) }
-    ensures bytes { c.new.bytes ≡ c.old.bytes }
+        (record { bytes = c.old.bytes; place = section_at })) }
 {
     let start = c.place();
     let offset = read_u32(c)?;
@@ -202,10 +192,8 @@ fn read_reloc_offset(
 
 /// Reads the number of a symbol, which must be below `symbols`.
 #[tactic(auto, unfolding(crate::specs::Grammar::reloc_symbol_at))]
-fn read_reloc_symbol(c: &mut Cursor<'_>, symbols: u16) -> Result<u16, FormErr>
-    requires { length c.old.bytes ≤ 2 ^ 30 }
-    ensures read { ReadsField result c.new (reloc_symbol_at symbols c.old) }
-    ensures bytes { c.new.bytes ≡ c.old.bytes }
+fn read_reloc_symbol(c: &mut FileCursor<'_>, symbols: u16) -> Result<u16, FormErr>
+    ensures { ReadsField result c.old c.new (reloc_symbol_at symbols) }
 {
     let start = c.place();
     let symbol = read_u16(c)?;

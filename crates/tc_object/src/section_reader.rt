@@ -1,5 +1,5 @@
 // Readers of sections.
-ghost use Rattle.std.specs.Prelude.{◌≡◌, ◌≤◌, ◌^◌, ◌-◌, [], length, Ok, Err, IfOk, IfErr, MatchResult, Some, None};
+ghost use Rattle.std.specs.Prelude.{◌≡◌, [], Ok, Err, IfOk, IfErr, MatchResult, Some, None};
 ghost use Rattle.tc_object.specs.Faults.{IsFaultOf};
 ghost use Rattle.tcd_base.specs.FieldReaders.{ReadsField, many_fields_at};
 ghost use Rattle.tc_object.specs.Objects.{is_section_name, section_size_at};
@@ -10,20 +10,18 @@ use crate::names::{read_name_bytes, read_name_length};
 use crate::{ObjErr, SectionRef};
 use std::alloc::Global;
 use tcd_base::{
-    ABOVE_LIMIT, BAD_VALUE, Cursor, FormErr, form_err_at, read_bytes, read_u16, read_u32,
+    ABOVE_LIMIT, BAD_VALUE, FileCursor, FormErr, form_err_at, read_bytes, read_u16, read_u32,
 };
 
 /// Reads `count` sections.
 pub(crate) fn read_sections<'a>(
     alloc: Global,
-    c: &mut Cursor<'a>,
+    c: &mut FileCursor<'a>,
     count: u16,
 ) -> Result<Vec<SectionRef<'a>>, ObjErr>
-    requires { length c.old.bytes ≤ 2 ^ 30 }
     ensures ok { IfOk result (λ ss. many_fields_at section_after count [] c.old
         ≡ Ok (ss.items, c.new)) }
     ensures err { IfErr result (IsFaultOf (many_fields_at section_after count [] c.old)) }
-    ensures bytes { c.new.bytes ≡ c.old.bytes }
 {
     let mut sections = Vec::with_capacity(alloc, count as usize)?;
     for _i in 0..count {
@@ -35,10 +33,8 @@ pub(crate) fn read_sections<'a>(
 
 /// Reads the number of sections, at most 64.
 #[tactic(auto, unfolding(crate::specs::Grammar::section_count_at))]
-pub(crate) fn read_section_count(c: &mut Cursor<'_>) -> Result<u16, FormErr>
-    requires { length c.old.bytes ≤ 2 ^ 30 }
-    ensures read { ReadsField result c.new (section_count_at c.old) }
-    ensures bytes { c.new.bytes ≡ c.old.bytes }
+pub(crate) fn read_section_count(c: &mut FileCursor<'_>) -> Result<u16, FormErr>
+    ensures { ReadsField result c.old c.new section_count_at }
 {
     let start = c.place();
     let count = read_u16(c)?;
@@ -62,12 +58,10 @@ pub(crate) fn section_size_at(sections: &[SectionRef<'_>], number: u16) -> usize
 /// Reads the section after these.
 #[tactic(auto, unfolding(crate::specs::Grammar::section_after, crate::specs::Grammar::section_with))]
 fn read_section<'a>(
-    c: &mut Cursor<'a>,
+    c: &mut FileCursor<'a>,
     before: &[SectionRef<'_>],
 ) -> Result<SectionRef<'a>, FormErr>
-    requires { length c.old.bytes ≤ 2 ^ 30 }
-    ensures read { ReadsField result c.new (section_after before.now c.old) }
-    ensures bytes { c.new.bytes ≡ c.old.bytes }
+    ensures { ReadsField result c.old c.new (section_after before.now) }
 {
     let name = read_section_name(c, before)?;
     let size = read_u32(c)?;
@@ -77,8 +71,7 @@ fn read_section<'a>(
 
 /// Reads a name that none of these sections has.
 #[tactic(auto, unfolding(crate::specs::Grammar::new_object_name_at))]
-fn read_section_name<'a>(c: &mut Cursor<'a>, before: &[SectionRef<'_>]) -> Result<&'a str, FormErr>
-    requires { length c.old.bytes ≤ 2 ^ 30 }
+fn read_section_name<'a>(c: &mut FileCursor<'a>, before: &[SectionRef]) -> Result<&'a str, FormErr>
     ensures read { MatchResult result
         (λ name. new_object_name_at (is_section_name before.now) c.old ≡ Ok (name.now, c.new))
         (λ e. new_object_name_at (is_section_name before.now) c.old ≡ Err e) }

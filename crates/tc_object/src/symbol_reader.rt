@@ -1,5 +1,5 @@
 // Readers of symbols.
-ghost use Rattle.std.specs.Prelude.{◌≡◌, ◌≤◌, ◌+◌, ◌^◌, ◌-◌, ◌||◌, [], ℕ, List, length, slice_index, Ok, Err, Some, None, IfOk, IfErr, MatchResult};
+ghost use Rattle.std.specs.Prelude.{◌≡◌, ◌≤◌, ◌+◌, ◌^◌, ◌||◌, [], ℕ, List, length, slice_index, Ok, Err, Some, None, IfOk, IfErr, MatchResult};
 ghost use Rattle.tcd_base.specs.Bytes.{half_in_bytes, word_in_bytes};
 ghost use Rattle.std.specs.Str.{bytes_eq};
 ghost use Rattle.tcd_base.specs.FieldReaders.{ReadsField, many_fields_at};
@@ -14,7 +14,7 @@ use crate::used_names::{no_used_names, read_new_name};
 use crate::{GLOBAL_SYMBOL, ObjErr, SectionRef, SymbolRef, UNDEFINED_SYMBOL};
 use std::alloc::Global;
 use std::collections::HashMap;
-use tcd_base::{BAD_VALUE, Cursor, FormErr, form_err_at, read_u16, read_u32};
+use tcd_base::{BAD_VALUE, FileCursor, FormErr, form_err_at, read_u16, read_u32};
 
 // The size of a symbol's kind, section and offset in the file.
 const SYMBOL_BYTES: usize = 7;
@@ -23,16 +23,14 @@ const SYMBOL_BYTES: usize = 7;
 #[inline(never)]
 pub(crate) fn read_symbols<'a>(
     alloc: Global,
-    c: &mut Cursor<'a>,
+    c: &mut FileCursor<'a>,
     sections: &[SectionRef<'_>],
     count: u16,
 ) -> Result<Vec<SymbolRef<'a>>, ObjErr>
-    requires { length c.old.bytes ≤ 2 ^ 30 }
     ensures ok { IfOk result
         (λ ss. many_fields_at (symbol_after sections.now) count [] c.old ≡ Ok (ss.items, c.new)) }
     ensures err { IfErr result
         (IsFaultOf (many_fields_at (symbol_after sections.now) count [] c.old)) }
-    ensures bytes { c.new.bytes ≡ c.old.bytes }
 {
     let mut names = no_used_names(alloc, count)?;
     let mut symbols = Vec::with_capacity(alloc, count as usize)?;
@@ -46,16 +44,14 @@ pub(crate) fn read_symbols<'a>(
 /// Reads a symbol whose name isn't used yet.
 #[tactic(auto, unfolding(crate::specs::Grammar::symbol_with))]
 fn read_symbol<'a>(
-    c: &mut Cursor<'a>,
+    c: &mut FileCursor<'a>,
     sections: &[SectionRef<'_>],
     names: &mut HashMap<&'a str, ()>,
 ) -> Result<SymbolRef<'a>, ObjErr>
-    requires { length c.old.bytes ≤ 2 ^ 30 }
     ensures ok { IfOk result
         (λ s. symbol_with sections.now (is_used_name names.old) c.old ≡ Ok (s, c.new)) }
     ensures err { IfErr result
         (IsFaultOf (symbol_with sections.now (is_used_name names.old) c.old)) }
-    ensures bytes { c.new.bytes ≡ c.old.bytes }
     ensures names { IfOk result (λ s. (q : List ℕ) → is_used_name names.new q
         ≡ (bytes_eq s.name q || is_used_name names.old q)) }
 {
@@ -67,14 +63,12 @@ fn read_symbol<'a>(
 /// Reads the kind, section and offset of the symbol of this name from 7 bytes at once, if the file
 /// holds all of them.
 fn read_named<'a>(
-    c: &mut Cursor<'_>,
+    c: &mut FileCursor<'_>,
     sections: &[SectionRef<'_>],
     name: &'a str,
 ) -> Result<SymbolRef<'a>, FormErr>
-    requires { length c.old.bytes ≤ 2 ^ 30 }
-    ensures read { ReadsField result c.new (symbol_named sections.now name.now c.old) }
+    ensures read { ReadsField result c.old c.new (symbol_named sections.now name.now) }
     ensures name { IfOk result (λ s. s.name ≡ name.now) }
-    ensures bytes { c.new.bytes ≡ c.old.bytes }
 {
     let start = c.place();
     let Some(bytes) = c.take(SYMBOL_BYTES) else {
@@ -90,14 +84,12 @@ fn read_named<'a>(
 #[inline(never)]
 #[tactic(auto, unfolding(crate::specs::Grammar::symbol_named))]
 fn read_named_fields<'a>(
-    c: &mut Cursor<'_>,
+    c: &mut FileCursor<'_>,
     sections: &[SectionRef<'_>],
     name: &'a str,
 ) -> Result<SymbolRef<'a>, FormErr>
-    requires { length c.old.bytes ≤ 2 ^ 30 }
-    ensures read { ReadsField result c.new (symbol_named sections.now name.now c.old) }
+    ensures read { ReadsField result c.old c.new (symbol_named sections.now name.now) }
     ensures name { IfOk result (λ s. s.name ≡ name.now) }
-    ensures bytes { c.new.bytes ≡ c.old.bytes }
 {
     let kind = read_kind(c, UNDEFINED_SYMBOL, GLOBAL_SYMBOL)?;
     let section = read_symbol_section(c, sections, kind)?;
@@ -154,13 +146,11 @@ fn check_symbol(
 /// Reads the section number of a symbol of this kind.
 #[tactic(auto, unfolding(crate::specs::Grammar::symbol_section_at))]
 fn read_symbol_section(
-    c: &mut Cursor<'_>,
+    c: &mut FileCursor<'_>,
     sections: &[SectionRef<'_>],
     kind: u8,
 ) -> Result<u16, FormErr>
-    requires { length c.old.bytes ≤ 2 ^ 30 }
-    ensures read { ReadsField result c.new (symbol_section_at sections.now kind c.old) }
-    ensures bytes { c.new.bytes ≡ c.old.bytes }
+    ensures { ReadsField result c.old c.new (symbol_section_at sections.now kind) }
 {
     let start = c.place();
     let section = read_u16(c)?;
@@ -173,14 +163,12 @@ fn read_symbol_section(
 /// Reads the offset of a symbol of this kind in a section.
 #[tactic(auto, unfolding(crate::specs::Grammar::symbol_offset_at))]
 fn read_symbol_offset(
-    c: &mut Cursor<'_>,
+    c: &mut FileCursor<'_>,
     sections: &[SectionRef<'_>],
     kind: u8,
     section: u16,
 ) -> Result<u32, FormErr>
-    requires { length c.old.bytes ≤ 2 ^ 30 }
-    ensures read { ReadsField result c.new (symbol_offset_at sections.now kind section c.old) }
-    ensures bytes { c.new.bytes ≡ c.old.bytes }
+    ensures { ReadsField result c.old c.new (symbol_offset_at sections.now kind section) }
 {
     let start = c.place();
     let offset = read_u32(c)?;

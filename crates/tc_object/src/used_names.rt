@@ -1,5 +1,5 @@
 // Reads names that aren't used yet. A map holds the used ones, so each look-up is a few steps.
-ghost use Rattle.std.specs.Prelude.{◌≡◌, ◌≤◌, ◌^◌, ◌||◌, not, false, true, ℕ, List, length, Ok, Err, OnOk, IfOk, IfErr};
+ghost use Rattle.std.specs.Prelude.{◌≡◌, ◌||◌, not, false, ℕ, List, Ok, Err, OnOk, IfOk, IfErr};
 ghost use Rattle.std.specs.Str.{bytes_eq};
 ghost use Rattle.tc_object.specs.Faults.{IsFaultOf};
 ghost use Rattle.tc_object.specs.Grammar.{new_object_name_at};
@@ -9,7 +9,7 @@ use crate::ObjErr;
 use crate::names::{read_name_bytes, read_name_length};
 use std::alloc::{AllocError, AllocFailed, Global};
 use std::collections::HashMap;
-use tcd_base::{BAD_VALUE, Cursor, form_err_at};
+use tcd_base::{BAD_VALUE, FileCursor, form_err_at};
 
 /// A map without names, with capacity for `count` of them.
 pub(crate) fn no_used_names<'a>(
@@ -25,14 +25,12 @@ pub(crate) fn no_used_names<'a>(
 /// Reads a name that isn't used yet, and adds it to the used ones.
 #[tactic(auto, unfolding(crate::specs::Grammar::new_object_name_at))]
 pub(crate) fn read_new_name<'a>(
-    c: &mut Cursor<'a>,
+    c: &mut FileCursor<'a>,
     names: &mut HashMap<&'a str, ()>,
 ) -> Result<&'a str, ObjErr>
-    requires { length c.old.bytes ≤ 2 ^ 30 }
     ensures ok { IfOk result (λ name. new_object_name_at (is_used_name names.old) c.old
         ≡ Ok (name.now, c.new)) }
     ensures err { IfErr result (IsFaultOf (new_object_name_at (is_used_name names.old) c.old)) }
-    ensures bytes { c.new.bytes ≡ c.old.bytes }
     ensures names { IfOk result (λ name. (q : List ℕ) → is_used_name names.new q
         ≡ (bytes_eq name.now q || is_used_name names.old q)) }
 {

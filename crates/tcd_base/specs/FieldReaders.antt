@@ -39,6 +39,11 @@ many_fields_at item zero before p = Ok (before, p)
 many_fields_at item (suc n) before p = item before p >>= λ x. many_fields_at item n (before ++ x.0 ∷ []) x.1
 
 -- the answer of a reader of fields is as defined: the value and the cursor after it, or the fault
-abbrev pub ReadsField : {A : Type 0} → Result A FormErr → Place → Result (A × Place) FormErr → Type 0
-ReadsField (Ok x) after read = read ≡ Ok (x, after)
-ReadsField (Err e) after read = read ≡ Err e
+abbrev pub IsFieldRead : {A : Type 0} → Result A FormErr → Place → Result (A × Place) FormErr → Type 0
+IsFieldRead (Ok x) after read = read ≡ Ok (x, after)
+IsFieldRead (Err e) after read = read ≡ Err e
+
+-- a reader of fields: its answer is as defined, and the cursor keeps its bytes
+pub record ReadsField {A : Type 0} (result : Result A FormErr) (before after : Place) (reader : Place → Result (A × Place) FormErr) : Type 0 where
+  pub read : IsFieldRead result after (reader before)
+  pub bytes : after.bytes ≡ before.bytes

@@ -7,6 +7,7 @@ mod errors;
 mod failing_calls;
 mod field_readers;
 mod fields;
+mod file_cursor;
 mod files;
 mod mem_files;
 mod mem_sink;
@@ -21,6 +22,7 @@ pub use errors::{
 };
 pub use field_readers::{read_bytes, read_u8, read_u16, read_u32};
 pub use fields::{bits, put_u16, put_u32, sext};
+pub use file_cursor::FileCursor;
 pub use files::{FileErr, Files};
 pub use mem_files::MemFiles;
 pub use mem_sink::MemSink;

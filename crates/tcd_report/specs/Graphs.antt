@@ -204,16 +204,18 @@ jumped_in ds = flat_map (λ d. jump_by d.duty) ds
 abbrev pub returned_in : CertData → List Owed → List ℕ
 returned_in cert ds = flat_map (λ d. back_by cert d.duty) ds
 
--- for the graph's `call` lines of a point: the functions that an instruction of this shape calls
+-- the functions that an instruction of this shape calls
 abbrev pub called_of : PlanData → State → ℕ → Shape → List ℕ
 called_of plan s p (Call target) = unwrap_or (targets_of plan s p target) []
 called_of plan s p _ = []
 
--- for the graph's `sys` line of a point: the entry of the handler of system calls, if the
--- instruction is a system call
-abbrev pub systems_of : PlanData → Key → Shape → List ℕ
-systems_of plan key (Syscall tin) = (sys_key plan key).entry ∷ []
-systems_of plan key _ = []
+-- the entries of the frames of a kind, for the lines of the graph with its word
+abbrev pub entries_of_kind : ℕ → List Key → List ℕ
+entries_of_kind kind keys = flat_map (λ k. if k.kind == kind then k.entry ∷ [] else []) keys
+
+-- the address where a frame goes on after these frames, once for each whose node has an exit
+abbrev pub backs_after : CertData → ℕ → List Key → List ℕ
+backs_after cert q keys = flat_map (λ k. back_by cert (resume k q)) keys
 
 -- for the graph: the addresses where a point goes on, by the words of its lines, are those that its
 -- duties give
@@ -248,7 +250,3 @@ leaving_text front _ = []
 -- the successors of a point in its frame, by its instruction
 abbrev pub successors_at : Judged → Point → Located → List Owed
 successors_at j point found = successors_of j.bounds.now j.image.now j.plan.now point.addr point.state found.shape found.size
-
--- the entries and returns of the frames that its instruction enters
-abbrev pub entries_at : Judged → Key → Point → Located → List Owed
-entries_at j key point found = entries_of j.plan.now key point.addr point.state found.shape found.size

@@ -1,7 +1,9 @@
 //! Words and the bytes that hold them, and readers that name the first byte at fault.
 use crate::asserts::same;
 use std::test::Fail;
-use tcd_base::{Cursor, FormErr, bits, put_u32, read_bytes, read_u8, read_u16, read_u32, sext};
+use tcd_base::{
+    Cursor, FileCursor, FormErr, bits, put_u32, read_bytes, read_u8, read_u16, read_u32, sext,
+};
 
 #[test]
 fn fields_and_words(rt: HostRuntime) -> Result<(), Fail> {
@@ -32,7 +34,7 @@ fn cursor_moves(rt: HostRuntime) {
 #[test]
 fn readers_name_the_first_byte(rt: HostRuntime) {
     let bytes = [1, 2, 0, 3, 0, 0, 0, 4, 5];
-    let mut c = Cursor::new(&bytes);
+    let mut c = FileCursor::new(&bytes);
     same(&rt, &read_u8(&mut c), &Ok(1));
     same(&rt, &read_u16(&mut c), &Ok(2));
     same(&rt, &read_u32(&mut c), &Ok(3));

@@ -8,12 +8,12 @@ ghost use Rattle.tcd_report.specs.Judging.{duties_at};
 ghost use Rattle.depth_cert.specs.Points.{point_of};
 
 use crate::graphs::addresses::{keep_once, sort_once};
-use crate::graphs::entries::{push_called, set_misaligned, set_system_call};
+use crate::graphs::entries::{set_entries, set_misaligned};
 use crate::graphs::handlers::{Handlers, find_handlers};
-use crate::graphs::successors::{add_returns, push_successors};
+use crate::graphs::successors::{push_successors, set_returns};
 use crate::judged::Judged;
-use cfg_recover::Located;
-use depth_cert::Key;
+use cfg_recover::{Located, push_entered_keys};
+use depth_cert::{CALL, Key, SYS};
 use tcd_base::NoMemory;
 use value_domain::State;
 
@@ -29,8 +29,8 @@ pub(crate) struct Edges {
     pub(crate) irq: Handlers,
     /// Room for addresses in the order in which they are found.
     pub(crate) found: Vec<u32>,
-    /// Room for return addresses, one for each entered frame that may return.
-    pub(crate) returns: Vec<u32>,
+    /// The frames that the point enters by a call or a system call.
+    pub(crate) keys: Vec<Key>,
 }
 
 /// Finds the addresses where a point with this instruction goes on.
@@ -52,13 +52,19 @@ pub(crate) fn find_edges(
     ways.found.clear();
     push_successors(&mut ways.found, judged, addr, s, found)?;
     sort_once(&mut ways.to, &ways.found)?;
-    ways.found.clear();
-    push_called(&mut ways.found, judged.plan, addr, s, found.shape)?;
+    ways.keys.clear();
+    push_entered_keys(&mut ways.keys, judged.plan, key, addr, s, found.shape)?;
+    set_entries(&mut ways.found, &ways.keys, CALL)?;
     sort_once(&mut ways.call, &ways.found)?;
-    ways.returns.clear();
-    add_returns(&mut ways.returns, judged, key, addr, &ways.found, found)?;
-    keep_once(&mut ways.back, &ways.returns)?;
-    set_system_call(&mut ways.sys, judged.plan, key, found.shape)?;
+    set_entries(&mut ways.found, &ways.keys, SYS)?;
+    keep_once(&mut ways.sys, &ways.found)?;
+    set_returns(
+        &mut ways.found,
+        judged.cert,
+        &ways.keys,
+        addr.wrapping_add(found.size),
+    )?;
+    keep_once(&mut ways.back, &ways.found)?;
     set_misaligned(&mut ways.aln, judged, key, s, found.shape)?;
     find_handlers(&mut ways.irq, &mut ways.found, judged.plan, s)
 }

@@ -51,7 +51,7 @@ pub(crate) fn empty_graph_text(alloc: Global) -> Drawing
             aln: Vec::new(alloc),
             irq: no_handlers(alloc),
             found: Vec::new(alloc),
-            returns: Vec::new(alloc),
+            keys: Vec::new(alloc),
         },
     }
 }

@@ -5,17 +5,15 @@ ghost use Rattle.value_domain.specs.State.{AreValues};
 ghost use Rattle.vd_transfer.specs.Branches.{refine_of};
 ghost use Rattle.cfg_recover.specs.LocalRules.{targets_of};
 ghost use Rattle.cfg_recover.specs.Duties.{jump_on, resume};
-ghost use Rattle.tcd_report.specs.Graphs.{successors_at, jumped_in, back_by, called_of, entries_at, returned_in};
+ghost use Rattle.tcd_report.specs.Graphs.{successors_at, jumped_in, back_by, backs_after};
 ghost use Rattle.depth_cert.specs.Points.{point_of};
 ghost use Rattle.std.specs.List.{flat_map};
 ghost use Rattle.std.specs.Option.{option_map_or};
 ghost use Rattle.depth_cert.specs.Nodes.{find_node};
-ghost use Rattle.depth_cert.specs.Keys.{call_kind};
-ghost use Rattle.cfg_recover.specs.Entries as entries;
 
 use crate::judged::Judged;
-use cfg_recover::{Located, entered_key, sys_key, targets};
-use depth_cert::{CALL, Key};
+use cfg_recover::{Located, targets};
+use depth_cert::Key;
 use packed_cert::Cert;
 use tc_isa::{Shape, Target};
 use tcd_base::NoMemory;
@@ -54,10 +52,9 @@ pub(crate) fn push_successors(
     }
 }
 
-/// Appends a point's successors by a jump, or the addresses that its call enters. A function of its
-/// own, as it has room for a list of them.
+/// Appends a point's successors by a jump. A function of its own, as it has room for a list of them.
 #[inline(never)]
-pub(crate) fn push_targets(
+fn push_targets(
     all: &mut Vec<u32>,
     plan: &Plan,
     addr: u32,
@@ -73,27 +70,21 @@ pub(crate) fn push_targets(
     Ok(())
 }
 
-/// Appends the address after a call or a system call, once for each entered frame that may return.
-/// `called` has the functions that a call may enter.
-pub(crate) fn add_returns(
+/// Fills the list, instead of what it held, with the address after a call or a system call, once
+/// for each of the entered frames whose node has an exit.
+pub(crate) fn set_returns(
     all: &mut Vec<u32>,
-    judged: &Judged,
-    key: &Key,
-    addr: u32,
-    called: &[u32],
-    found: &Located,
+    cert: &Cert,
+    keys: &[Key],
+    back: u32,
 ) -> Result<(), NoMemory>
-    ensures { let j = judged.now in (s : State)
-        → called.now ≡ called_of j.plan.now s addr found.now.shape
-        → OnOk result (all.new.items ≡ all.old.items
-        ++ returned_in j.cert.now (entries_at j key.now (point_of addr s) found.now)) }
+    ensures { OnOk result (all.new.items ≡ backs_after cert.now back keys.now) }
 {
-    let back = addr.wrapping_add(found.size);
-    match found.shape {
-        Shape::Call { .. } => push_returns(all, judged.cert, key, called, back),
-        Shape::Syscall { .. } => push_return(all, judged.cert, &sys_key(judged.plan, key), back),
-        _ => Ok(()),
+    all.clear();
+    for key in keys {
+        push_return(all, cert, key, back)?;
     }
+    Ok(())
 }
 
 // Appends the address of a side of a branch, if that side is possible.
@@ -126,25 +117,6 @@ fn is_successor_possible(judged: &Judged, shape: Shape, s: &State, taken: bool) 
 {
     let mut c = identity_change(s);
     change_on(judged.bounds, judged.plan, shape, s, taken, &mut c)
-}
-
-/// Appends the successor of a call in its frame, the address after it, once for each of the called
-/// functions whose node has an exit.
-fn push_returns(
-    all: &mut Vec<u32>,
-    cert: &Cert,
-    key: &Key,
-    targets: &[u32],
-    back: u32,
-) -> Result<(), NoMemory>
-    ensures { OnOk result (all.new.items ≡ all.old.items
-        ++ flat_map (λ t. back_by cert.now (resume (entries.entered_key key.now call_kind t) back))
-        targets.now) }
-{
-    for target in targets {
-        push_return(all, cert, &entered_key(key, CALL, *target), back)?;
-    }
-    Ok(())
 }
 
 // Appends an address, if the node of this key has an exit.

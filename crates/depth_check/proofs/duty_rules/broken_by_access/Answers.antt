@@ -1,6 +1,6 @@
-use Rattle.std.proofs.Common.{List, None, ap, sym, subst, ◌∙◌}
+use Rattle.std.proofs.Common.{◌≡◌, true, List, None, ap, sym, subst, ◌∙◌}
 use Rattle.tcd_plan.specs.PlanData.{PlanData}
-use Rattle.cfg_recover.specs.Duties.{Owed}
+use Rattle.cfg_recover.specs.Duties.{Owed, may_be_misaligned}
 use Rattle.depth_check.specs.LeastBroken.{LeastBrokenByDuties}
 use Rattle.depth_check.proofs.DutyLaws.{nothing_found, untrapped_none}
 use Rattle.depth_check.proofs.duty_rules.broken_by_access.Goals as goal
@@ -13,8 +13,8 @@ returns-then-not-plan c =
     (rw (← c.at.view_is) (ap (λ (p : PlanData). p.aln) (sym c.plan.view_is) ∙ c.if-not-plan.true)))
     (nothing_found t.cert t.node t.point.state)
 
-pub returns-in-Load : goal.returns-in-Load
-returns-in-Load c = rw c.in-Load.is (rw c.in-Load.is at c.broken_by_misaligned.ensures)
-
-pub returns-in-Store : goal.returns-in-Store
-returns-in-Store c = rw c.in-Store.is (rw c.in-Store.is at c.broken_by_misaligned-in-Store.ensures)
+pub returns : goal.returns
+returns c =
+    let t = c.args.at.now in
+    let may : may_be_misaligned t.bounds t.plan t.point.state c.args.found.now.shape ≡ true = rw (← c.at.view_is) (sym c.may_be_misaligned.ensures ∙ c.if-not-may_be_misaligned.false) in
+    rw may c.broken_by_trap.ensures

@@ -1,6 +1,7 @@
-use Rattle.std.proofs.Common.{sym, ap, ◌∙◌}
+use Rattle.std.proofs.Common.{refl, sym, ap, ◌∙◌}
 use Rattle.tcd_plan.specs.PlanData.{PlanData}
-use Rattle.depth_maker.proofs.EnteredLemmas.{access_none, entries_none}
+use Rattle.cfg_recover.proofs.AccessDuties.{accesses_nothing}
+use Rattle.cfg_recover.proofs.DutyLists.{only_calls_enter}
 use Rattle.depth_maker.proofs.PlainRows.{load_enters_none, off_of, store_enters_none}
 use Rattle.depth_maker.proofs.entered_frames.enters_no_frame.Goals as goal
 
@@ -12,4 +13,4 @@ returns-in-Store c t = store_enters_none c.args.plan.now c.args.shape (sym (ap (
 
 pub returns-in_default : goal.returns-in_default
 returns-in_default c t b k p u n rule =
-    (entries_none c.args.plan.now k p u c.args.shape n c.in_default.not-Call c.in_default.not-Syscall, access_none b c.args.plan.now k u c.args.shape c.in_default.not-Load c.in_default.not-Store)
+    (only_calls_enter c.args.plan.now k p u c.args.shape n c.in_default.not-Call c.in_default.not-Syscall, rw (accesses_nothing b c.args.plan.now u c.args.shape c.in_default.not-Load c.in_default.not-Store) refl)

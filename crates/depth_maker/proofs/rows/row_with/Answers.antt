@@ -4,7 +4,7 @@ use Rattle.std.proofs.lemmas.List.{map-append}
 use Rattle.std.proofs.lemmas.List.Elements.{Contains-append_left, Contains-append_right}
 use Rattle.depth_cert.specs.declared.keys.Key.{Key}
 use Rattle.frame_places.specs.Numbers.{frame_number_in}
-use Rattle.depth_maker.specs.EnteredFrames.{entered_in}
+use Rattle.cfg_recover.specs.Duties.{entered_in}
 use Rattle.depth_maker.specs.InterruptHandlers.{nodes_taken}
 use Rattle.depth_maker.specs.VisitDuties.{access_by, entries_by, interrupts_by}
 use Rattle.depth_maker.proofs.EnteredLemmas.{entered_whole}

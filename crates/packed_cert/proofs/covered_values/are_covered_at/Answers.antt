@@ -27,7 +27,7 @@ overflow_add-at c =
     let l = left_first c.args.version c.args.bytes.now c.loop-i.at c.args.n c.loop-i.i (values_in c.args.version c.args.bytes.now c.args.place c.args.n) (omega arith) (length-values_in c.args.version c.args.bytes.now c.args.place c.args.n) c.loop-i.invariant.have c.loop-i.invariant.left in
     let next : c.loop-i.at + c.value_length_by_tag-at.result ≡ place_after_value c.args.bytes.now c.loop-i.at = ap (λ (k : ℕ). c.loop-i.at + k) c.value_length_by_tag-at.ensures in
     let within : c.loop-i.at + c.value_length_by_tag-at.result ≤ length c.args.bytes.now = rw next (stands_at c.args.version c.args.bytes.now c.loop-i.at (λ k. (c.type_inv.bytes k).fits) l.0).within in
-    omega (arith, within, c.requires.short)
+    omega (arith, within)
 
 pub returns-then-not-is_below_value_at : goal.returns-then-not-is_below_value_at
 returns-then-not-is_below_value_at c =

@@ -19,16 +19,16 @@ returns-then-has_passed_repeated_bytes-clause-exit c =
 pub returns-clause-ok : goal.returns-clause-ok
 returns-clause-ok c =
     let same : c.match-room.c ≡ c.args.c.now = elim c.match-room.branch [ in-Some+else-has_passed_repeated_bytes w ↦ w.c-is ∙ w.has_passed_repeated_bytes.ensures.kept w.if-has_passed_repeated_bytes.false | in_default w ↦ w.c-is ] in
-    let here = exit_read c.args.version c.args.bytes.now c.match-room.c c.place-start.result _ _ (ap (λ (p : Place). p.bytes) same ∙ c.requires.same) c.place-start.ensures.place c.in_ok-read_exit.ensures.ok in
+    let here = exit_read c.args.version c.args.bytes.now c.match-room.c c.place-start.result _ _ (ap (λ (p : Place). p.bytes) same ∙ c.requires.same) (c.place-start.ensures.place ∙ ap (λ (p : Place). p.place) (sym same)) c.in_ok-read_exit.ensures.ok in
     rw here.0 (ap (exit_at c.args.version) (sym same) ∙ c.in_ok-read_exit.ensures.ok)
 
 pub returns-clause-exit : goal.returns-clause-exit
 returns-clause-exit c =
     let same : c.match-room.c ≡ c.args.c.now = elim c.match-room.branch [ in-Some+else-has_passed_repeated_bytes w ↦ w.c-is ∙ w.has_passed_repeated_bytes.ensures.kept w.if-has_passed_repeated_bytes.false | in_default w ↦ w.c-is ] in
-    (exit_read c.args.version c.args.bytes.now c.match-room.c c.place-start.result _ _ (ap (λ (p : Place). p.bytes) same ∙ c.requires.same) c.place-start.ensures.place c.in_ok-read_exit.ensures.ok).1
+    (exit_read c.args.version c.args.bytes.now c.match-room.c c.place-start.result _ _ (ap (λ (p : Place). p.bytes) same ∙ c.requires.same) (c.place-start.ensures.place ∙ ap (λ (p : Place). p.place) (sym same)) c.in_ok-read_exit.ensures.ok).1
 
 pub returns-clause-last : goal.returns-clause-last
 returns-clause-last c =
     let same : c.match-room.c ≡ c.args.c.now = elim c.match-room.branch [ in-Some+else-has_passed_repeated_bytes w ↦ w.c-is ∙ w.has_passed_repeated_bytes.ensures.kept w.if-has_passed_repeated_bytes.false | in_default w ↦ w.c-is ] in
     let here = ap (λ (p : Place). p.bytes) same ∙ c.requires.same in
-    exit_where c.args.version c.args.bytes.now c.match-room.c c.read_exit.new.c (record { start = c.place-start.result; end = c.place-end.result }) (λ k. (c.type_inv.bytes k).fits) here (c.read_exit.ensures.bytes ∙ here) c.place-start.ensures.place c.place-end.ensures.place (rw here at c.place-start.ensures.within) (c.read_exit.new.out, c.in_ok-read_exit.ensures.ok)
+    exit_where c.args.version c.args.bytes.now c.match-room.c c.read_exit.new.c (record { start = c.place-start.result; end = c.place-end.result }) (λ k. (c.type_inv.bytes k).fits) here (c.read_exit.ensures.bytes ∙ here) (c.place-start.ensures.place ∙ ap (λ (p : Place). p.place) (sym same)) c.place-end.ensures.place (rw c.requires.same at c.place-start.ensures.within) (c.read_exit.new.out, c.in_ok-read_exit.ensures.ok)

@@ -25,29 +25,29 @@ unfolding points_at
 returns-in_err-addr-clause-err c =
     let p = err_from_is_err_and c.from_residual-in_err-addr.result c.from_residual-in_err-addr.ensures.1 in
     let before = points_in c.args.version c.args.bytes.now c.loop-i.points.items in
-    let e = rw c.loop-i.invariant.last at c.in_err-addr.ensures.read in
+    let e = rw c.loop-i.invariant.last at c.in_err-addr.ensures.read.read in
     let fault = many_fail (point_after c.args.version) c.in_ok-count.count c.loop-i.i before c.read_point_count.new.c c.loop-i.c _ c.loop-i-test.true c.loop-i.invariant.read
     (address_fails c.args.version before c.loop-i.c _ (ap (λ (l : _). address_after (last_number_read l) c.loop-i.c) (addresses_in c.args.version c.args.bytes.now c.loop-i.points.items) ∙ e)) in
-    rw (p.1, p.2, c.in_ok-count.ensures.read) fault
+    rw (p.1, p.2, c.in_ok-count.ensures.read.read) fault
 
 pub returns-in_err-read-clause-err : goal.returns-in_err-read-clause-err
 unfolding points_at
 returns-in_err-read-clause-err c =
     let p = err_from_is_err_and c.from_residual-in_err-read.result c.from_residual-in_err-read.ensures.1 in
     let before = points_in c.args.version c.args.bytes.now c.loop-i.points.items in
-    let e = rw c.loop-i.invariant.last at c.in_ok-addr.ensures.read in
+    let e = rw c.loop-i.invariant.last at c.in_ok-addr.ensures.read.read in
     let fault = many_fail (point_after c.args.version) c.in_ok-count.count c.loop-i.i before c.read_point_count.new.c c.loop-i.c _ c.loop-i-test.true c.loop-i.invariant.read
     (state_fails c.args.version before c.loop-i.c _ _ _ (ap (λ (l : _). address_after (last_number_read l) c.loop-i.c) (addresses_in c.args.version c.args.bytes.now c.loop-i.points.items) ∙ e) c.in_err-read.ensures.err) in
-    rw (p.1, p.2, c.in_ok-count.ensures.read) fault
+    rw (p.1, p.2, c.in_ok-count.ensures.read.read) fault
 
 pub loop-i-preserved : goal.loop-i-preserved
 loop-i-preserved c =
     let version = c.args.version in
     let bytes = c.args.bytes.now in
     let ps = c.loop-i.points.items in
-    let e = rw c.loop-i.invariant.last at c.in_ok-addr.ensures.read in
+    let e = rw c.loop-i.invariant.last at c.in_ok-addr.ensures.read.read in
     let next = rw c.loop-i.invariant.last at c.in_ok-addr.ensures.next in
-    let same = c.read_address.ensures.bytes ∙ c.loop-i.invariant.bytes ∙ c.read_point_count.ensures.bytes ∙ c.requires.same in
+    let same = c.read_address.ensures.read.bytes ∙ c.loop-i.invariant.bytes ∙ c.read_point_count.ensures.read.bytes ∙ c.requires.same in
     let q = c.read_address.new.c in
     let item : PointPlace = record { addr = c.in_ok-addr.addr; place = c.in_ok-read.read.at.start; row = c.for_point-kept.result.row; same = c.for_point-kept.result.same } in
     let stands = c.in_ok-read.ensures.held in
@@ -68,7 +68,7 @@ loop-i-preserved c =
       read =
           rw (pushed, points_push version bytes ps item)
           (many_more (point_after version) c.in_ok-count.count c.loop-i.i (points_in version bytes ps) c.read_point_count.new.c c.loop-i.c _ _ c.loop-i-test.true c.loop-i.invariant.read more);
-      bytes = c.read_state_like.ensures.bytes ∙ c.read_address.ensures.bytes ∙ c.loop-i.invariant.bytes;
+      bytes = c.read_state_like.ensures.bytes ∙ c.read_address.ensures.read.bytes ∙ c.loop-i.invariant.bytes;
       count = omega (arith, c.in_ok-push.ensures.len, c.loop-i.invariant.count);
       states = rw pushed (All-push (λ (p : PointPlace). HasState version bytes p.place) ps item c.loop-i.invariant.states there);
       rising = rw pushed (rising_map_push (λ (p : PointPlace). p.addr) ps item c.loop-i.invariant.rising next);
@@ -85,5 +85,5 @@ loop-i-preserved c =
 pub returns-clause-ok : goal.returns-clause-ok
 unfolding points_at
 returns-clause-ok c =
-    rw c.in_ok-count.ensures.read
+    rw c.in_ok-count.ensures.read.read
     (many_end (point_after c.args.version) c.in_ok-count.count c.loop-i.i (points_in c.args.version c.args.bytes.now c.loop-i.points.items) c.read_point_count.new.c c.loop-i.c c.loop-i-test.false c.loop-i.invariant.read)

@@ -23,8 +23,8 @@ is_restored_below-requires-clause-low c = (lower_step c.args.lower.version c.arg
 pub is_restored_below-requires-clause-high : goal.is_restored_below-requires-clause-high
 is_restored_below-requires-clause-high c = (left_first c.args.high.version c.args.high.bytes.now c.loop-i.at 27 c.loop-i.i (values_in c.args.high.version c.args.high.bytes.now c.args.high.place 27) (omega arith) (length-values_in c.args.high.version c.args.high.bytes.now c.args.high.place 27) c.loop-i.invariant.have c.loop-i.invariant.left).0
 
-pub next_lower-from-requires-clause-low : goal.next_lower-from-requires-clause-low
-next_lower-from-requires-clause-low c = (lower_step c.args.lower.version c.args.lower.bytes.now c.args.lower.place c.loop-i.i c.loop-i.from c.args.regs.now (omega arith) (omega arith) c.loop-i.invariant.lower).has
+pub next_lower-from-requires : goal.next_lower-from-requires
+next_lower-from-requires c = (lower_step c.args.lower.version c.args.lower.bytes.now c.args.lower.place c.loop-i.i c.loop-i.from c.args.regs.now (omega arith) (omega arith) c.loop-i.invariant.lower).has
 
 pub bounds-high-at : goal.bounds-high-at
 bounds-high-at c =
@@ -36,7 +36,7 @@ overflow_add-at c =
     let l = left_first c.args.high.version c.args.high.bytes.now c.loop-i.at 27 c.loop-i.i (values_in c.args.high.version c.args.high.bytes.now c.args.high.place 27) (omega arith) (length-values_in c.args.high.version c.args.high.bytes.now c.args.high.place 27) c.loop-i.invariant.have c.loop-i.invariant.left in
     let next : c.loop-i.at + c.value_length_by_tag-at.result ≡ place_after_value c.args.high.bytes.now c.loop-i.at = ap (λ (k : ℕ). c.loop-i.at + k) c.value_length_by_tag-at.ensures in
     let within : c.loop-i.at + c.value_length_by_tag-at.result ≤ length c.args.high.bytes.now = rw next (stands_at c.args.high.version c.args.high.bytes.now c.loop-i.at c.cert_bytes_below_256.ensures l.0).within in
-    omega (arith, within, c.requires.high_short)
+    omega (arith, within)
 
 pub returns-then-not-is_restored_below : goal.returns-then-not-is_restored_below
 returns-then-not-is_restored_below c =

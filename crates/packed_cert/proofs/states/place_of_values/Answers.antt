@@ -1,14 +1,9 @@
-use Rattle.std.proofs.Common.{◌∙◌, ap, arith}
+use Rattle.std.proofs.Common.{◌∙◌, ap}
 use Rattle.value_domain.specs.declared.states.State.{State}
 use Rattle.packed_cert.specs.ValuesInBytes.{read_from_bytes_or}
 use Rattle.value_domain.specs.State.{no_state}
-use Rattle.packed_cert.proofs.StateShapes.{state_context, state_values}
+use Rattle.packed_cert.proofs.StateShapes.{state_values}
 use Rattle.packed_cert.proofs.states.place_of_values.Goals as goal
-
-pub bounds-bytes-place : goal.bounds-bytes-place
-bounds-bytes-place c =
-    let h = c.requires.state in
-    omega (arith, (state_context c.args.version c.args.bytes.now c.args.place h.0.0 h.0.1 h.1).inside)
 
 pub returns-clause-have : goal.returns-clause-have
 returns-clause-have c = let h = c.requires.state in (state_values c.args.version c.args.bytes.now c.args.place h.0.0 h.0.1 (λ k. (c.type_inv.bytes k).fits) h.1).have

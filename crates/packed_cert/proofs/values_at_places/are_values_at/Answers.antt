@@ -8,8 +8,8 @@ use Rattle.packed_cert.proofs.ValueShapes.{left_first, length-values_in, stands_
 use Rattle.packed_cert.proofs.values_at_places.are_values_at.Goals as goal
 use Rattle.packed_cert.proofs.values_at_places.are_values_at.Goals.{else-tag-ne0-via-then-tag-ne0+else-not-is_value_at, else-tag-ne0-via-else-tag-ne0}
 
-pub is_value_at-requires-clause-stands : goal.is_value_at-requires-clause-stands
-is_value_at-requires-clause-stands c = (left_first c.args.version c.args.bytes.now c.loop-i.at c.args.n c.loop-i._i (values_in c.args.version c.args.bytes.now c.args.place c.args.n) (omega arith) (length-values_in c.args.version c.args.bytes.now c.args.place c.args.n) c.loop-i.invariant.have c.loop-i.invariant.left).0
+pub is_value_at-requires : goal.is_value_at-requires
+is_value_at-requires c = (left_first c.args.version c.args.bytes.now c.loop-i.at c.args.n c.loop-i._i (values_in c.args.version c.args.bytes.now c.args.place c.args.n) (omega arith) (length-values_in c.args.version c.args.bytes.now c.args.place c.args.n) c.loop-i.invariant.have c.loop-i.invariant.left).0
 
 pub bounds-bytes-at : goal.bounds-bytes-at
 bounds-bytes-at c =
@@ -21,7 +21,7 @@ overflow_add-at c =
     let l = left_first c.args.version c.args.bytes.now c.loop-i.at c.args.n c.loop-i._i (values_in c.args.version c.args.bytes.now c.args.place c.args.n) (omega arith) (length-values_in c.args.version c.args.bytes.now c.args.place c.args.n) c.loop-i.invariant.have c.loop-i.invariant.left in
     let next : c.loop-i.at + c.value_length_by_tag-at.result ≡ place_after_value c.args.bytes.now c.loop-i.at = ap (λ (k : ℕ). c.loop-i.at + k) c.value_length_by_tag-at.ensures in
     let within : c.loop-i.at + c.value_length_by_tag-at.result ≤ length c.args.bytes.now = rw next (stands_at c.args.version c.args.bytes.now c.loop-i.at (λ k. (c.type_inv.bytes k).fits) l.0).within in
-    omega (arith, within, c.requires.short)
+    omega (arith, within)
 
 pub returns-then-not-is_value_at : goal.returns-then-not-is_value_at
 returns-then-not-is_value_at c =

@@ -15,8 +15,8 @@ loop-i-init c = record {
   done = λ k lt outside. sym (c.requires.row.kept k (omega arith) outside);
 }
 
-pub read_value_at_place-requires-clause-stands : goal.read_value_at_place-requires-clause-stands
-read_value_at_place-requires-clause-stands c =
+pub read_value_at_place-requires : goal.read_value_at_place-requires
+read_value_at_place-requires c =
     let vs = (state_in c.args.version c.args.bytes.now c.args.point.place).regs in
     let len : length vs ≡ 27 = omega (arith, c.requires.row.count) in
     (left_first c.args.version c.args.bytes.now c.loop-i.at 27 c.loop-i.i vs (omega (arith, c.requires.few)) len (c.loop-i.invariant.have (omega arith)) (c.loop-i.invariant.left (omega arith))).0
@@ -35,7 +35,7 @@ overflow_add-at c =
     let l = left_first c.args.version c.args.bytes.now c.loop-i.at 27 c.loop-i.i vs (omega (arith, c.requires.few)) len (c.loop-i.invariant.have (omega arith)) (c.loop-i.invariant.left (omega arith)) in
     let next : c.loop-i.at + c.value_length_by_tag-at.result ≡ place_after_value c.args.bytes.now c.loop-i.at = ap (λ (k : ℕ). c.loop-i.at + k) c.value_length_by_tag-at.ensures in
     let within : c.loop-i.at + c.value_length_by_tag-at.result ≤ length c.args.bytes.now = rw next (stands_at c.args.version c.args.bytes.now c.loop-i.at (λ k. (c.type_inv.bytes k).fits) l.0).within in
-    omega (arith, within, c.requires.short)
+    omega (arith, within)
 
 pub loop-i-preserved : goal.loop-i-preserved
 loop-i-preserved c =

@@ -6,5 +6,4 @@ use Rattle.tc_object.proofs.reloc_reader.read_relocs.Given as goal
 abbrev pub invariant-loop-i : goal.invariant-loop-i
 invariant-loop-i l = record {
   read : many_fields_at (reloc_after l.sections l.symbols) l.count [] l.initial.c ≡ many_fields_at (reloc_after l.sections l.symbols) (l.count - l._i) l.relocs.items l.c;
-  bytes : l.c.bytes ≡ l.initial.c.bytes;
 }

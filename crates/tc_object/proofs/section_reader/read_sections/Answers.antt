@@ -1,4 +1,3 @@
-use Rattle.std.proofs.Common.{◌∙◌}
 use Rattle.std.proofs.lemmas.Result.{err_from_is_err_and}
 use Rattle.tc_object.specs.Grammar.{section_after}
 use Rattle.tcd_base.proofs.ManyLaws.{many_more, many_fail, many_end}
@@ -17,7 +16,6 @@ loop-i-preserved c = record {
       rw c.in_ok-push.ensures.items
       (many_more section_after c.args.count c.loop-i._i c.loop-i.sections.items c.args.c.now c.loop-i.c _ _ c.loop-i-test.true c.loop-i.invariant.read
       (rw c.deref.ensures.value at c.in_ok-section.ensures.read));
-  bytes = c.read_section.ensures.bytes ∙ c.loop-i.invariant.bytes;
 }
 
 pub returns-clause-ok : goal.returns-clause-ok

@@ -6,5 +6,4 @@ use Rattle.tc_object.proofs.section_reader.read_sections.Given as goal
 abbrev pub invariant-loop-i : goal.invariant-loop-i
 invariant-loop-i l = record {
   read : many_fields_at section_after l.count [] l.initial.c ≡ many_fields_at section_after (l.count - l._i) l.sections.items l.c;
-  bytes : l.c.bytes ≡ l.initial.c.bytes;
 }

@@ -27,7 +27,6 @@ loop-i-preserved c = record {
       rw c.in_ok-push.ensures.items
       (many_more (symbol_after c.args.sections.now) c.args.count c.loop-i._i c.loop-i.symbols.items c.args.c.now c.loop-i.c _ _ c.loop-i-test.true c.loop-i.invariant.read
       (by_names c.args.sections.now c.loop-i.symbols.items (is_used_name c.loop-i.names) c.loop-i.invariant.names c.loop-i.c ∙ c.in_ok-symbol.ensures.ok));
-  bytes = c.read_symbol.ensures.bytes ∙ c.loop-i.invariant.bytes;
   names = rw c.in_ok-push.ensures.items (used_more (λ (x : SymbolData). x.name) c.loop-i.symbols.items c.in_ok-symbol.symbol (is_used_name c.loop-i.names) _ c.loop-i.invariant.names c.in_ok-symbol.ensures.names);
 }
 

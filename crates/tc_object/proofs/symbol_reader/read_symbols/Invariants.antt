@@ -8,6 +8,5 @@ use Rattle.tc_object.proofs.symbol_reader.read_symbols.Given as goal
 abbrev pub invariant-loop-i : goal.invariant-loop-i
 invariant-loop-i l = record {
   read : many_fields_at (symbol_after l.sections) l.count [] l.initial.c ≡ many_fields_at (symbol_after l.sections) (l.count - l._i) l.symbols.items l.c;
-  bytes : l.c.bytes ≡ l.initial.c.bytes;
   names : (q : List ℕ) → is_used_name l.names q ≡ is_symbol_name l.symbols.items q;
 }

@@ -1,14 +1,9 @@
-use Rattle.std.proofs.Common.{◌∙◌, sym, ap, arith}
+use Rattle.std.proofs.Common.{◌∙◌, sym, ap}
 use Rattle.depth_cert.specs.declared.points.Exit.{Exit}
 use Rattle.packed_cert.specs.ValuesInBytes.{read_from_bytes_or}
 use Rattle.depth_cert.specs.Exits.{no_exit}
 use Rattle.packed_cert.proofs.StateShapes.{exit_context}
 use Rattle.packed_cert.proofs.exits.ExitAt.ie.Goals as goal
-
-pub bounds-self-inside-self-inside : goal.bounds-self-inside-self-inside
-bounds-self-inside-self-inside c =
-    let h = c.self.invariant.exit in
-    omega (arith, (exit_context c.self.inside.version c.self.inside.bytes.now c.self.inside.place h.0.0 h.0.1 h.1).inside)
 
 pub returns : goal.returns
 returns c =

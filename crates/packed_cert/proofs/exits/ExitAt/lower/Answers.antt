@@ -1,14 +1,9 @@
-use Rattle.std.proofs.Common.{◌∙◌, sym, ap, arith}
+use Rattle.std.proofs.Common.{◌∙◌, sym, ap}
 use Rattle.depth_cert.specs.declared.points.Exit.{Exit}
 use Rattle.packed_cert.specs.ValuesInBytes.{read_from_bytes_or}
 use Rattle.depth_cert.specs.Exits.{no_exit}
-use Rattle.packed_cert.proofs.StateShapes.{exit_context, exit_values}
+use Rattle.packed_cert.proofs.StateShapes.{exit_values}
 use Rattle.packed_cert.proofs.exits.ExitAt.lower.Goals as goal
-
-pub overflow_add-result : goal.overflow_add-result
-overflow_add-result c =
-    let h = c.self.invariant.exit in
-    omega (arith, (exit_context c.self.inside.version c.self.inside.bytes.now c.self.inside.place h.0.0 h.0.1 h.1).inside, c.self.invariant.short)
 
 pub returns-clause-have : goal.returns-clause-have
 returns-clause-have c = let h = c.self.invariant.exit in (exit_values c.self.inside.version c.self.inside.bytes.now c.self.inside.place h.0.0 h.0.1 c.cert_bytes_below_256.ensures h.1).have

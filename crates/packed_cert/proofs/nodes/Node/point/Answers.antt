@@ -8,10 +8,7 @@ use Rattle.packed_cert.proofs.nodes.Node.point.Goals as goal
 use Rattle.packed_cert.proofs.nodes.Node.point.Goals.{else-at-points-via-then-at-points+else-points-at, else-at-points-via-else-at-points}
 
 pub at-requires : goal.at-requires
-at-requires c = record {
-  short = c.self.invariant.short;
-  state = c.self.invariant.states c.node_point_place-at.result _ c.if-at-points.true;
-}
+at-requires c = c.self.invariant.states c.node_point_place-at.result _ c.if-at-points.true
 
 pub returns-then-points-at : goal.returns-then-points-at
 returns-then-points-at c =

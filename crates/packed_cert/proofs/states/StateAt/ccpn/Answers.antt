@@ -1,19 +1,9 @@
-use Rattle.std.proofs.Common.{◌∙◌, sym, ap, arith}
+use Rattle.std.proofs.Common.{◌∙◌, sym, ap}
 use Rattle.value_domain.specs.declared.states.State.{State}
 use Rattle.packed_cert.specs.ValuesInBytes.{read_from_bytes_or}
 use Rattle.value_domain.specs.State.{no_state}
 use Rattle.packed_cert.proofs.StateShapes.{state_context}
 use Rattle.packed_cert.proofs.states.StateAt.ccpn.Goals as goal
-
-pub overflow_add-result : goal.overflow_add-result
-overflow_add-result c =
-    let h = c.self.invariant.state in
-    omega (arith, (state_context c.self.inside.version c.self.inside.bytes.now c.self.inside.place h.0.0 h.0.1 h.1).inside, c.self.invariant.short)
-
-pub bounds-self-inside-self-inside : goal.bounds-self-inside-self-inside
-bounds-self-inside-self-inside c =
-    let h = c.self.invariant.state in
-    omega (arith, (state_context c.self.inside.version c.self.inside.bytes.now c.self.inside.place h.0.0 h.0.1 h.1).inside)
 
 pub returns : goal.returns
 returns c =

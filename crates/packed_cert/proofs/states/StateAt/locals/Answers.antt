@@ -1,17 +1,9 @@
-use Rattle.std.proofs.Common.{◌∙◌, sym, ap, arith}
+use Rattle.std.proofs.Common.{◌∙◌, sym, ap}
 use Rattle.value_domain.specs.declared.states.State.{State}
 use Rattle.packed_cert.specs.ValuesInBytes.{read_from_bytes_or}
 use Rattle.value_domain.specs.State.{no_state}
 use Rattle.packed_cert.proofs.StateShapes.{state_context}
 use Rattle.packed_cert.proofs.states.StateAt.locals.Goals as goal
-
-pub bounds-self-inside-self-inside : goal.bounds-self-inside-self-inside
-bounds-self-inside-self-inside c =
-    let h = c.self.invariant.state in
-    omega (arith, (state_context c.self.inside.version c.self.inside.bytes.now c.self.inside.place h.0.0 h.0.1 h.1).inside)
-
-pub state_locals_at-requires-clause-within : goal.state_locals_at-requires-clause-within
-state_locals_at-requires-clause-within c = let h = c.self.invariant.state in (state_context c.self.inside.version c.self.inside.bytes.now c.self.inside.place h.0.0 h.0.1 h.1).within
 
 pub state_locals_at-requires-clause-few : goal.state_locals_at-requires-clause-few
 state_locals_at-requires-clause-few c = let h = c.self.invariant.state in (state_context c.self.inside.version c.self.inside.bytes.now c.self.inside.place h.0.0 h.0.1 h.1).few

@@ -1,0 +1,86 @@
+// The frames that an instruction enters by itself.
+ghost use Rattle.std.specs.Prelude.{◌≡◌, ◌++◌, ◌∷◌, [], ℕ, OnOk, not};
+ghost use Rattle.std.specs.List.{flat_map};
+ghost use Rattle.tc_isa.specs.InBounds.{IsShape, IsShapeAccessSize};
+ghost use Rattle.value_domain.specs.State.{AreValues};
+ghost use Rattle.vd_transfer.specs.EffectsOnStates.{address_of};
+ghost use Rattle.store_ranges.specs.Accesses.{are_aligned};
+ghost use Rattle.cfg_recover.specs.Entries.{call_key};
+ghost use Rattle.cfg_recover.specs.Duties.{entered_in, entries_of};
+ghost use Rattle.cfg_recover.specs.Duties as duties;
+
+use crate::flow_targets::targets;
+use crate::keys::{entered_key, sys_key};
+use depth_cert::{CALL, Key};
+use std::alloc::AllocError;
+use store_ranges::aligned;
+use tc_isa::Shape;
+use tcd_plan::Plan;
+use value_domain::{Bounds, State};
+use vd_transfer::address_by;
+
+/// Appends the keys of the frames that a call or a system call enters, in the order of its duties.
+pub fn push_entered_keys(
+    keys: &mut Vec<Key>,
+    plan: &Plan,
+    key: &Key,
+    addr: u32,
+    s: &State,
+    shape: Shape,
+) -> Result<(), AllocError>
+    requires { IsShape shape }
+    ensures { (size : ℕ) → OnOk result (keys.new.items
+        ≡ keys.old.items ++ entered_in (entries_of plan.now key.now addr s.now shape size)) }
+{
+    match shape {
+        Shape::Call { to } => {
+            let targets = targets(plan, s, addr, to);
+            push_called_keys(keys, key, targets.as_slice())
+        }
+        Shape::Syscall { .. } => {
+            keys.push(sys_key(plan, key))?;
+            Ok(())
+        }
+        _ => Ok(()),
+    }
+}
+
+/// Returns true if the access of an instruction may be misaligned, so that the instruction enters
+/// the handler of misaligned accesses. Only loads and stores have an address.
+#[inline(always)]
+pub fn may_be_misaligned(b: &Bounds, plan: &Plan, s: &State, shape: Shape) -> bool
+    requires shape { IsShape shape }
+    requires values { AreValues b.now s.now.regs }
+    ensures { result ≡ duties.may_be_misaligned b.now plan.now s.now shape }
+{
+    match shape {
+        Shape::Load { size, .. } => has_misaligned_address(b, plan, s, shape, size),
+        Shape::Store { size, .. } => has_misaligned_address(b, plan, s, shape, size),
+        _ => false,
+    }
+}
+
+/// Returns true if an address of an access of this size may be misaligned. It is a call of its own,
+/// since it has room for a value.
+#[inline(never)]
+fn has_misaligned_address(b: &Bounds, plan: &Plan, s: &State, shape: Shape, size: u8) -> bool
+    requires shape { IsShape shape }
+    requires values { AreValues b.now s.now.regs }
+    requires size { IsShapeAccessSize size }
+    ensures { result ≡ not (are_aligned (address_of b.now plan.now shape s.now) size) }
+{
+    let _most_words = b.most_words();
+    let at = address_by(b, plan, shape, s);
+    !aligned(&at, size)
+}
+
+/// Appends the keys of the frames of these functions, which a call enters.
+fn push_called_keys(keys: &mut Vec<Key>, key: &Key, targets: &[u32]) -> Result<(), AllocError>
+    ensures { OnOk result
+        (keys.new.items ≡ keys.old.items ++ flat_map (λ t. call_key key.now t ∷ []) targets.now) }
+{
+    for t in targets {
+        keys.push(entered_key(key, CALL, *t))?;
+    }
+    Ok(())
+}
