@@ -1,5 +1,5 @@
 -- A further line in both passes.
-use Rattle.std.proofs.Common.{◌≡◌, ◌≢◌, ◌<◌, ◌≤◌, ◌+◌, ℕ, List, [], ◌∷◌, map, length, get_or, take, drop, min, refl, ap, sym, subst, ◌∙◌, inl, inr, arith, length-drop, get_or-drop}
+use Rattle.std.proofs.Common.{◌≡◌, ◌≢◌, ◌<◌, ◌≤◌, ◌+◌, ℕ, Bool, List, [], ◌∷◌, map, length, get_or, take, drop, min, refl, ap, sym, subst, ◌∙◌, inl, inr, arith, length-drop, get_or-drop}
 use Rattle.std.specs.Prelude.{fold}
 use Rattle.std.proofs.lemmas.List.{length-map, get_or-map, drop_more, drop_all, drop-drop, take_all, take-map}
 use Rattle.std.specs.List.{drop-map}
@@ -17,6 +17,7 @@ use Rattle.tc_asm.proofs.LaidLaws.{lines-items}
 use Rattle.tc_asm.specs.Symbols.{SymbolData}
 use Rattle.tc_asm.specs.Drafts.{DraftData, start, draft_after_item}
 use Rattle.tc_asm.specs.DraftedSources.{draft_from_lines, with_line, symbols_of}
+use Rattle.tc_asm.specs.KnownSymbols.{kept, kept_rule}
 use Rattle.tc_asm.specs.Rules.{rule_in, KeepsRules, IsLeastBrokenLine, item_rule, items_rule, line_rule}
 
 -- the line at a place, with the lines after it
@@ -78,6 +79,16 @@ item_here items i d within =
 -- ---- the lines of the code
 pub first_things : (items first : List Item) (n : ℕ) → first ≡ take n items → map item_of first ≡ take n (map item_of items)
 first_things items front n e = ap (map item_of) e ∙ sym (take-map item_of n items)
+
+-- the draft after a line's items, and the least rule that the line breaks
+pub line_drafted : (known : Bool) (labels : List SymbolData) (items first : List Item) (count rule : ℕ) (old new : DraftData) → first ≡ take count items → kept known new ≡ kept known (fold (draft_after_item labels) old (map item_of first))
+    → kept known new ≡ kept known (with_line labels old (line_data rule (take count (map item_of items))))
+unfolding with_line
+line_drafted known labels items first count rule old new front same = same ∙ ap (λ is. kept known (fold (draft_after_item labels) old is)) (first_things items first count front)
+
+pub line_ruled : (known : Bool) (labels : List SymbolData) (items first : List Item) (count rule found least : ℕ) (old : DraftData) → first ≡ take count items → found ≡ kept_rule known labels old (map item_of first)
+    → least ≡ min rule found → least ≡ min rule (kept_rule known labels old (take count (map item_of items)))
+line_ruled known labels items first count rule found least old front is e = e ∙ ap (min rule) (is ∙ ap (kept_rule known labels old) (first_things items first count front))
 
 module _ (lines : List Line) (i : ℕ) (d : Line) (items : List Item) (within : i < length lines) where
   -- the next line has the next items

@@ -1,12 +1,12 @@
 // Assembles a source in two passes: first for its symbols, then for its bytes.
-ghost use Rattle.std.specs.Prelude.{◌≡◌, ◌≤◌, ◌<◌, ◌^◌, ◌&&◌, if◌then◌else◌, All, true, map, length, min, IfOk, OnOk, IfErr, fold, take, drop, []};
+ghost use Rattle.std.specs.Prelude.{◌≡◌, ◌≤◌, ◌<◌, ◌^◌, ◌&&◌, if◌then◌else◌, All, true, map, length, IfOk, OnOk, IfErr, fold, take, drop, []};
 ghost use Rattle.tc_stmt.specs.Items.{item_of};
-ghost use Rattle.tc_stmt.specs.Lines.{line_data, lines_in, items_in};
+ghost use Rattle.tc_stmt.specs.Lines.{lines_in, items_in};
 ghost use Rattle.tc_asm.specs.ItemInvariants.{IsAddedItem};
 ghost use Rattle.tc_asm.specs.Drafts.{start, draft_after_item};
-ghost use Rattle.tc_asm.specs.DraftedSources.{draft_from_lines, with_line, symbols_of as symbols_in};
+ghost use Rattle.tc_asm.specs.DraftedSources.{draft_from_lines, symbols_of as symbols_in};
 ghost use Rattle.tc_asm.specs.Rules.{KeepsRules, IsLeastBrokenLine};
-ghost use Rattle.tc_asm.specs.KnownSymbols.{kept, kept_rule, are_new};
+ghost use Rattle.tc_asm.specs.KnownSymbols.{kept, are_new};
 ghost use Rattle.tc_asm.specs.Objects.{object_of};
 ghost use Rattle.tc_asm.specs.Errors.{IfBad};
 ghost use Rattle.tc_asm.specs.DraftInvariants.{IsDraft};
@@ -19,7 +19,7 @@ use crate::put_checked_items::add_items;
 use crate::symbols::Symbols;
 use std::alloc::{AllocError, Global};
 use tc_object::Object;
-use tc_stmt::{Item, Line, NO_RULE, Source, read_source};
+use tc_stmt::{Item, NO_RULE, Source, read_source};
 
 /// The object of a source, or the least line that breaks a rule, counted from 1, and the least rule
 /// there.
@@ -77,7 +77,9 @@ fn draft_of_lines<'a>(
         if line.count == 0 && line.rule == NO_RULE {
             continue;
         }
-        let rule = add_line(alloc, &mut draft, labels, known, line, rest)?;
+        let first = first_items(rest, line.count);
+        let found = add_items(alloc, &mut draft, labels, known, first)?;
+        let rule = line.rule.min(found);
         if rule != NO_RULE {
             return Err(AsmErr::Bad {
                 line: (i + 1) as u32,
@@ -136,27 +138,6 @@ fn are_items_new(before: bool, room: bool, new: bool) -> bool
     ensures { result ≡ (before && (room && new)) }
 {
     before && (room && new)
-}
-
-// Adds a line, whose items are first in `items`, and returns the least rule that it breaks.
-#[inline(always)]
-#[tactic(auto, unfolding(crate::specs::DraftedSources::with_line))]
-fn add_line<'a>(
-    alloc: Global,
-    draft: &mut Draft<'a>,
-    labels: &Symbols<'a>,
-    known: bool,
-    line: Line,
-    items: &[Item<'a>],
-) -> Result<u8, AllocError>
-    ensures draft { OnOk result (kept known draft.new
-        ≡ kept known (with_line labels.now draft.old
-        (line_data line.rule (take line.count (map item_of items.now))))) }
-    ensures rule { IfOk result (λ rule. rule ≡ min line.rule
-        (kept_rule known labels.now draft.old (take line.count (map item_of items.now)))) }
-{
-    let rule = add_items(alloc, draft, labels, known, first_items(items, line.count))?;
-    Ok(line.rule.min(rule))
 }
 
 // The items after the first `count`.

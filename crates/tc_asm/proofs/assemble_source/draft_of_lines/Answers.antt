@@ -8,7 +8,7 @@ use Rattle.tc_asm.specs.KnownSymbols.{kept}
 use Rattle.tc_stmt.specs.Lines.{LineData}
 use Rattle.tc_asm.specs.DraftedSources.{draft_from_lines}
 use Rattle.tc_asm.specs.DraftInvariants.{IsDraft}
-use Rattle.tc_asm.proofs.Passes.{drafted_more, kept_more as rules_more, least_here, behind_here, read_here, read_behind}
+use Rattle.tc_asm.proofs.Passes.{drafted_more, kept_more as rules_more, least_here, line_drafted, line_ruled, behind_here, read_here, read_behind}
 use Rattle.tc_asm.proofs.KeptLaws.{IsDraft-start, IsDraft-more}
 use Rattle.tc_asm.proofs.KnownSymbols.{kept_more, kept_line, new_lines, lines_end, past, blank_draft, blank_rule}
 use Rattle.tc_asm.proofs.assemble_source.draft_of_lines.Goals as goal
@@ -28,9 +28,9 @@ loop-i-preserved c =
     let ls = lines_of c.args.source.now in
     let so_far = draft_from_lines c.args.labels.now (take c.loop-i.i ls) in
     let here = read_here lines c.loop-i.i _ c.loop-i.rest.now (omega arith) ls c.loop-i.invariant.rest in
-    let rule = kept_line c.args.known c.args.labels.now ls c.loop-i.i _ _ here c.loop-i.draft c.loop-i.invariant.so_far c.loop-i.invariant.new _ c.in_ok-rule.ensures.rule in
+    let rule = kept_line c.args.known c.args.labels.now ls c.loop-i.i _ _ here c.loop-i.draft c.loop-i.invariant.so_far c.loop-i.invariant.new _ (line_ruled c.args.known c.args.labels.now c.loop-i.rest.now _ _ _ _ _ c.loop-i.draft c.first_items-first.ensures c.in_ok-found.ensures.rule c.min-rule.ensures) in
     record {
-      so_far = kept_more c.args.known c.args.labels.now ls c.loop-i.i _ _ here c.loop-i.draft c.loop-i.invariant.so_far _ c.in_ok-rule.ensures.draft;
+      so_far = kept_more c.args.known c.args.labels.now ls c.loop-i.i _ _ here c.loop-i.draft c.loop-i.invariant.so_far _ (line_drafted c.args.known c.args.labels.now c.loop-i.rest.now _ _ _ c.loop-i.draft _ c.first_items-first.ensures c.in_ok-found.ensures.draft);
       whole = IsDraft-more c.args.labels.now so_far _ _ _ c.loop-i.invariant.whole (sym (drafted_more ls c.loop-i.i _ _ here c.args.labels.now so_far _ refl refl)) rule (omega arith);
       rules = rules_more ls c.loop-i.i _ _ here c.args.labels.now so_far _ c.requires.labels refl rule (omega arith) c.loop-i.invariant.rules;
       rest = behind_here ls c.loop-i.i _ _ here ∙ read_behind lines c.loop-i.i _ c.loop-i.rest.now (omega arith) _ c.later_items-rest.ensures;
@@ -59,7 +59,7 @@ returns-then-rule-ne-NO_RULE-clause-bad c =
     let ls = lines_of c.args.source.now in
     let here = read_here c.as_slice-lines.result.now c.loop-i.i _ c.loop-i.rest.now (omega arith) ls c.loop-i.invariant.rest in
     least_here ls c.loop-i.i _ _ here c.args.labels.now (draft_from_lines c.args.labels.now (take c.loop-i.i ls)) _ c.requires.labels refl
-    (kept_line c.args.known c.args.labels.now ls c.loop-i.i _ _ here c.loop-i.draft c.loop-i.invariant.so_far c.loop-i.invariant.new _ c.in_ok-rule.ensures.rule)
+    (kept_line c.args.known c.args.labels.now ls c.loop-i.i _ _ here c.loop-i.draft c.loop-i.invariant.so_far c.loop-i.invariant.new _ (line_ruled c.args.known c.args.labels.now c.loop-i.rest.now _ _ _ _ _ c.loop-i.draft c.first_items-first.ensures c.in_ok-found.ensures.rule c.min-rule.ensures))
     c.if-rule-ne-NO_RULE.true c.loop-i.invariant.rules
 
 pub returns-clause-ok : goal.returns-clause-ok
