@@ -32,22 +32,12 @@ pub fn assemble(alloc: Global, source: &[u8]) -> Result<Object, AsmErr>
     ensures bad { IfErr result (IfBad (IsLeastBrokenLine (lines_in source.now))) }
 {
     let read = read_source(alloc, source)?;
-    let (labels, known) = symbols_of(alloc, &read.items)?;
+    // The symbols of all items don't depend on the targets of jumps.
+    let mut first = Draft::new(alloc);
+    let known = count_items(alloc, &mut first, &read.items)?;
+    let labels = first.symbols;
     let draft = draft_of_lines(alloc, &labels, known, &read)?;
     Ok(emit_object(alloc, draft_with_known_symbols(draft, known, labels))?)
-}
-
-// The symbols of all items, which don't depend on the targets of jumps, and whether there is room
-// for all of them and no label is there twice.
-fn symbols_of<'a>(alloc: Global, items: &[Item<'a>]) -> Result<(Symbols<'a>, bool), AllocError>
-    requires { All (λ i. IsAddedItem (item_of i)) items.now }
-    ensures symbols { IfOk result
-        (λ s. s.0 ≡ (fold (draft_after_item []) start (map item_of items.now)).symbols) }
-    ensures new { IfOk result (λ s. s.1 ≡ are_new [] start (map item_of items.now)) }
-{
-    let mut draft = Draft::new(alloc);
-    let new = count_items(alloc, &mut draft, items)?;
-    Ok((draft.symbols, new))
 }
 
 // The draft of all lines, or the first line that breaks a rule with the least rule there. If there
