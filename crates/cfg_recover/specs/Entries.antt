@@ -20,13 +20,13 @@ start_key image plan = record { kind = start_kind; entry = image.entry; prio = 0
 abbrev pub call_key : Key → ℕ → Key
 call_key key target = record { kind = call_kind; entry = target; prio = key.prio; is = key.is }
 
--- The handler of an interrupt is at BIV with the priority in bits 12:5 (TriCore 1 architecture
--- manual, volume 1, interrupts). It runs on the interrupt stack.
+-- The handler of an interrupt is at BIV with the priority in bits 12:5 (TriCore 1 Architecture
+-- Manual V1.3, volume 1, interrupts). It runs on the interrupt stack.
 abbrev pub irq_key : PlanData → ℕ → Key
 irq_key plan p = record { kind = irq_kind; entry = bit_or plan.biv (p * 2 ^ 5); prio = p; is = true }
 
--- The handlers of traps are at BTV with the class in bits 7:5 (TriCore 1 architecture manual,
--- volume 1, traps): class 6 for system calls, class 2 for misaligned accesses.
+-- The handlers of traps are at BTV with the class in bits 7:5 (manual, volume 1, traps): class 6
+-- for system calls, class 2 for misaligned accesses.
 abbrev pub sys_key : PlanData → Key → Key
 sys_key plan key = record { kind = sys_kind; entry = bit_or plan.btv (6 * 2 ^ 5); prio = key.prio; is = true }
 

@@ -5,7 +5,7 @@ use Rattle.tcd_base.specs.declared.core_version.Core.TheVariants.{V13, V16}
 
 -- ---- PCXI
 -- The word with these fields and all other bits zero. V13: PCPN in bits 31:24, PIE in 23, UL in 22,
--- the link in 19:0 (TriCore 1 architecture manual, volume 1, context management).
+-- the link in 19:0 (manual, volume 1, context management).
 -- V16, the layout of core 1.6, which that manual doesn't have: PCPN in bits 29:22, PIE in 21, UL in
 -- 20, the link in 19:0.
 abbrev pub pcxi_word_of : Core → ℕ → Bool → Bool → ℕ → ℕ
@@ -29,7 +29,7 @@ ul_of V16 word = word / 2 ^ 20 % 2 == 1
 
 -- ---- what a save writes
 -- The 16 words of the upper context: PCXI, PSW, A10, A11, D8 to D11, A12 to A15, D12 to D15
--- (TriCore 1 architecture manual, volume 1, context management).
+-- (manual, volume 1, context management).
 abbrev pub upper_words_of : ℕ → ℕ → List ℕ → List ℕ → List ℕ
 upper_words_of pcxi psw d a =
     pcxi ∷ psw ∷ slice_index a 10 ∷ slice_index a 11
@@ -37,8 +37,8 @@ upper_words_of pcxi psw d a =
     ∷ slice_index a 12 ∷ slice_index a 13 ∷ slice_index a 14 ∷ slice_index a 15
     ∷ slice_index d 12 ∷ slice_index d 13 ∷ slice_index d 14 ∷ slice_index d 15 ∷ []
 
--- The 16 words of the lower context: PCXI, A11, A2, A3, D0 to D3, A4 to A7, D4 to D7 (TriCore 1
--- architecture manual, volume 1, context management).
+-- The 16 words of the lower context: PCXI, A11, A2, A3, D0 to D3, A4 to A7, D4 to D7 (manual,
+-- volume 1, context management).
 abbrev pub lower_words_of : ℕ → List ℕ → List ℕ → List ℕ
 lower_words_of pcxi d a =
     pcxi ∷ slice_index a 11 ∷ slice_index a 2 ∷ slice_index a 3
@@ -47,8 +47,8 @@ lower_words_of pcxi d a =
     ∷ slice_index d 4 ∷ slice_index d 5 ∷ slice_index d 6 ∷ slice_index d 7 ∷ []
 
 -- ---- what a restore reads
--- D0 to D15 after an upper context is restored: D8 to D15 are the context's (TriCore 1 architecture
--- manual, volume 1, context management).
+-- D0 to D15 after an upper context is restored: D8 to D15 are the context's (manual, volume 1,
+-- context management).
 abbrev pub d_after_upper : List ℕ → List ℕ → List ℕ
 d_after_upper words d =
     slice_index d 0 ∷ slice_index d 1 ∷ slice_index d 2 ∷ slice_index d 3
@@ -56,8 +56,8 @@ d_after_upper words d =
     ∷ slice_index words 4 ∷ slice_index words 5 ∷ slice_index words 6 ∷ slice_index words 7
     ∷ slice_index words 12 ∷ slice_index words 13 ∷ slice_index words 14 ∷ slice_index words 15 ∷ []
 
--- A0 to A15 after an upper context is restored: A10 to A15 are the context's (TriCore 1
--- architecture manual, volume 1, context management).
+-- A0 to A15 after an upper context is restored: A10 to A15 are the context's (manual, volume 1,
+-- context management).
 abbrev pub a_after_upper : List ℕ → List ℕ → List ℕ
 a_after_upper words a =
     slice_index a 0 ∷ slice_index a 1 ∷ slice_index a 2 ∷ slice_index a 3
@@ -65,8 +65,8 @@ a_after_upper words a =
     ∷ slice_index a 8 ∷ slice_index a 9 ∷ slice_index words 2 ∷ slice_index words 3
     ∷ slice_index words 8 ∷ slice_index words 9 ∷ slice_index words 10 ∷ slice_index words 11 ∷ []
 
--- D0 to D15 after the words of a lower context are restored: D0 to D7 are the context's (TriCore 1
--- architecture manual, volume 1, context management)
+-- D0 to D15 after the words of a lower context are restored: D0 to D7 are the context's (manual,
+-- volume 1, context management)
 abbrev pub d_after_lower : List ℕ → List ℕ → List ℕ
 d_after_lower words d =
     slice_index words 4 ∷ slice_index words 5 ∷ slice_index words 6 ∷ slice_index words 7
@@ -75,7 +75,7 @@ d_after_lower words d =
     ∷ slice_index d 12 ∷ slice_index d 13 ∷ slice_index d 14 ∷ slice_index d 15 ∷ []
 
 -- A0 to A15 after the words of a lower context were loaded: A2 to A7 and A11 are the context's
--- (TriCore 1 architecture manual, volume 1, context management)
+-- (manual, volume 1, context management)
 abbrev pub a_after_lower : List ℕ → List ℕ → List ℕ
 a_after_lower words a =
     slice_index a 0 ∷ slice_index a 1 ∷ slice_index words 2 ∷ slice_index words 3

@@ -1,5 +1,5 @@
 -- Arithmetic on words, by whole numbers modulo 2 ^ 32.
--- (TriCore 1 architecture manual, volume 2, instruction set)
+-- (manual, volume 2, instruction set)
 use Rattle.std.specs.Prelude.{◌+◌, ◌-◌, ◌*◌, ◌/◌, ◌%◌, ◌^◌, ℕ, Bool, not, ◌==◌, nat_lt, nat_le, if◌then◌else◌, bit_and, bit_or, bit_xor}
 use Rattle.tcd_base.specs.BitFields.{sext_of}
 use Rattle.tc_isa.specs.declared.shapes.Op.{Op}

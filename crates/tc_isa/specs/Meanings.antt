@@ -1,4 +1,4 @@
--- What each instruction does (TriCore 1 architecture manual, volume 2, instruction set).
+-- What each instruction does (manual, volume 2, instruction set).
 use Rattle.std.specs.Prelude.{◌%◌, ◌^◌, ℕ, Bool, true, false, List, ◌∷◌, codes, Option, Some, None, slice_get, []}
 use Rattle.tc_isa.specs.declared.fields.Fields.{Fields}
 use Rattle.tc_isa.specs.declared.shapes.Op.{Op}

@@ -36,8 +36,8 @@ word32 = 7
 abbrev pub is_reloc : ℕ → Bool
 is_reloc kind = nat_le rel24 kind && nat_le kind word32
 
--- a relocation of this kind fills the constant of an instruction of this form (TriCore 1
--- architecture manual, volume 2, instruction formats)
+-- a relocation of this kind fills the constant of an instruction of this form (manual, volume 2,
+-- instruction formats)
 unfoldable pub can_relocation_fill : Form → ℕ → Bool
 can_relocation_fill B kind = kind == rel24 || kind == abs24
 can_relocation_fill Brr kind = kind == rel15

@@ -20,7 +20,8 @@ row_of r = record { name = r.name.now; operands = r.operands.now; form = r.form;
 abbrev pub row : List ℕ → List ℕ → Form → ℕ → ℕ → RowData
 row name operands form op1 op2 = record { name = name; operands = operands; form = form; op1 = op1; op2 = op2 }
 
--- the rows: instructions and codes of the TriCore 1 architecture manual, volume 2, instruction set
+-- the rows: instructions and codes of the TriCore 1 Architecture Manual V1.3, volume 2, instruction
+-- set
 abbrev pub listed : List RowData
 listed =
     row (codes "addi") (codes "Dc, Ds1, sk") Rlc 0x1b 0x00 ∷

@@ -1,4 +1,4 @@
--- The bytes of instructions (TriCore 1 architecture manual, volume 2, instruction formats).
+-- The bytes of instructions (manual, volume 2, instruction formats).
 use Rattle.std.specs.Prelude.{◌≡◌, ℕ, List, slice_get, Bool, true, false, Option, Some, None, ◌+◌, ◌*◌, ◌/◌, ◌%◌, ◌^◌, []}
 use Rattle.tc_isa.specs.Insts.{InstData, IsInst, fields_in}
 use Rattle.tc_isa.specs.Rows.{RowData, listed, is_long}

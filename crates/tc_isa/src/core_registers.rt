@@ -1,4 +1,4 @@
-// The numbers of core registers (TriCore 1 architecture manual, volume 1, core registers).
+// The numbers of core registers (manual, volume 1, core registers).
 
 /// The link to the previous context.
 pub const PCXI: u16 = 0xfe00;

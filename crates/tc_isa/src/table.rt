@@ -2,8 +2,7 @@
 ghost use Rattle.std.specs.Prelude.{◌≡◌, length, map};
 ghost use Rattle.tc_isa.specs.Rows.{listed, row_of};
 
-/// A form: the layout of an instruction's codes and fields (TriCore 1 architecture manual, volume
-/// 2, instruction formats).
+/// A form: the layout of an instruction's codes and fields (manual, volume 2, instruction formats).
 #[derive(Clone, Copy, Debug, PartialEq, Eq)]
 pub enum Form {
     Rlc,

@@ -1,4 +1,4 @@
--- What each shape of instruction does (TriCore 1 architecture manual, volumes 1 and 2).
+-- What each shape of instruction does (TriCore 1 Architecture Manual V1.3, volumes 1 and 2).
 use Rattle.std.specs.Prelude.{ℕ, ◌-◌, ◌*◌, ◌/◌, ◌%◌, ◌^◌, Bool, true, false, not, ◌&&◌, ◌==◌, if◌then◌else◌, slice_set, ◌+◌}
 use Rattle.csa_chain.specs.ContextWords.{pcpn_of, pie_of}
 use Rattle.tc_isa.specs.Arithmetic.{alu_of, taken_of}

@@ -1,4 +1,4 @@
--- Saving and restoring contexts (TriCore 1 architecture manual, volume 1, context management).
+-- Saving and restoring contexts (manual, volume 1, context management).
 use Rattle.std.specs.Prelude.{ℕ, Bool, not, ◌==◌, if◌then◌else◌, List, [], ◌∷◌, map}
 use Rattle.csa_chain.specs.MemoryBytes.{Memory, with_words}
 use Rattle.csa_chain.specs.Chain.{link_in, link_address, is_area, area_word, word_with_link}

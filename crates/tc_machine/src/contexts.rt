@@ -85,7 +85,7 @@ impl Machine {
 
     /// Saves a context. The machine dies if the free list is empty or its first area isn't mapped.
     /// After the save it dies if the limit of the list is reached.
-    /// (TriCore 1 architecture manual, volume 1, context management)
+    /// (manual, volume 1, context management)
     #[tactic(auto, unfolding(crate::specs::SavesAndRestores::save))]
     pub(crate) fn save(&mut self, upper: bool)
         ensures { self.new ≡ save self.old upper }
@@ -108,7 +108,7 @@ impl Machine {
 
     /// Restores a context. The machine dies if there is none, if it is of the other kind, or if its
     /// area isn't mapped.
-    /// (TriCore 1 architecture manual, volume 1, context management)
+    /// (manual, volume 1, context management)
     #[tactic(auto, unfolding(crate::specs::SavesAndRestores::restore))]
     pub(crate) fn restore(&mut self, upper: bool)
         ensures { self.new ≡ restore self.old upper }

@@ -14,7 +14,7 @@ fn psw_of_handler(psw: u32) -> u32
 }
 
 impl Machine {
-    /// Takes an interrupt (TriCore 1 architecture manual, volume 1, interrupts).
+    /// Takes an interrupt (manual, volume 1, interrupts).
     pub(crate) fn interrupt(&mut self, irq: u8)
         ensures { self.new ≡ interrupt self.old irq }
     {
@@ -32,8 +32,7 @@ impl Machine {
         }
     }
 
-    /// Takes a trap of a class, with its identification number in D15 (TriCore 1 architecture
-    /// manual, volume 1, traps).
+    /// Takes a trap of a class, with its identification number in D15 (manual, volume 1, traps).
     pub(crate) fn trap(&mut self, class: u8, tin: u8, back: u32)
         ensures { self.new ≡ trap self.old class tin back }
     {

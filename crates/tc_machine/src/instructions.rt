@@ -35,8 +35,7 @@ struct Comparison {
 }
 
 impl Machine {
-    /// Executes an instruction of `n` bytes (TriCore 1 architecture manual, volume 2, instruction
-    /// set).
+    /// Executes an instruction of `n` bytes (manual, volume 2, instruction set).
     #[tactic(auto, unfolding(crate::specs::Instructions::does))]
     pub(crate) fn execute(&mut self, event: &Event, shape: Shape, n: u32)
         requires { IsShape shape }

@@ -3,7 +3,7 @@ use crate::End;
 use tc_mem::Mem;
 use tcd_base::Core;
 
-/// The state of the machine (TriCore 1 architecture manual, volume 1, core registers).
+/// The state of the machine (manual, volume 1, core registers).
 #[derive(Drop)]
 pub struct Machine {
     pub pc: u32,

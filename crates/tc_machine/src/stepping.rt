@@ -31,7 +31,7 @@ impl Machine {
 
     /// Performs one event: takes its interrupt, or executes the instruction at pc. If the machine
     /// still runs afterwards, the event's status byte is written to PSW. A dead machine doesn't
-    /// change (TriCore 1 architecture manual, volumes 1 and 2).
+    /// change (manual, volumes 1 and 2).
     pub fn step(&mut self, event: &Event)
         ensures { self.new ≡ step self.old event.now }
     {

@@ -1,5 +1,5 @@
 -- The number that a relocation writes, and the bits of the little-endian word that hold it.
--- The fields are those of the TriCore 1 architecture manual, volume 2, instruction formats.
+-- The fields are those of the TriCore 1 Architecture Manual V1.3, volume 2, instruction formats.
 use Rattle.std.specs.Prelude.{◌+◌, ◌*◌, ◌/◌, ◌%◌, ◌^◌, ◌==◌, ◌||◌, if◌then◌else◌, ℕ, List, ◌-◌}
 use Rattle.tc_isa.specs.Relocations.{rel24, abs24, rel15, hi16, lo16, offset16, word32}
 use Rattle.tcd_base.specs.Bytes.{word_in_bytes, bytes_of_word}

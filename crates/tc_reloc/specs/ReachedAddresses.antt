@@ -20,8 +20,8 @@ reloc_address_from_halves upper lower = (upper * 2 ^ 16 + sext_of lower 16) % 2 
 
 -- The address that an instruction at the place reaches by this number in its field. Kind 4 also
 -- uses the lower half of the value, in a later instruction. Kinds 5 and 6 also use the upper half,
--- in an earlier one. Source: TriCore 1 architecture manual, volume 2, CALL and J, CALLA and JA, JEQ
--- and its like, MOVH.A with LEA or ADDI.
+-- in an earlier one. Source: manual, volume 2, CALL and J, CALLA and JA, JEQ and its like, MOVH.A
+-- with LEA or ADDI.
 unfoldable pub address_reached_by_reloc : ℕ → ℕ → ℕ → ℕ → ℕ
 address_reached_by_reloc kind place value k =
     if kind == rel24 then (place + sext_of k 24 * 2) % 2 ^ 32

@@ -72,7 +72,7 @@ fill_value r signed field v acc =
     else None)))
 
 -- `[BASE]` or `[BASE+]`, with an offset if the row has one: base plus offset and post-increment
--- (TriCore 1 architecture manual, volume 1, addressing modes)
+-- (TriCore 1 Architecture Manual V1.3, volume 1, addressing modes)
 unfoldable pub fill_memory : RowData → Bool → Bool → OperandData → RowFieldsData → Option RowFieldsData
 fill_memory r plus offset o acc =
     if o.is_memory && (if o.plus then plus else not plus)
@@ -111,8 +111,8 @@ fill_absolute r v acc =
 unfoldable pub fill_register : Bool → Field → ValueData → RowFieldsData → Option RowFieldsData
 fill_register bank field v acc = if is_name_operand v.shape then Some (put_register bank field v.name acc) else None
 
--- The value a10, the stack pointer, which no field holds. Source: TriCore 1 architecture manual,
--- volume 1, general purpose and system registers.
+-- The value a10, the stack pointer, which no field holds. Source: manual, volume 1, general purpose
+-- and system registers.
 unfoldable pub fill_a10 : ValueData → RowFieldsData → Option RowFieldsData
 fill_a10 v acc = if is_name_operand v.shape then (if bytes_eq v.name (codes "a10") then Some acc else Some (with_rule wrong_register acc)) else None
 

@@ -174,7 +174,7 @@ unfoldable pub too_many_of : PlanData → Option PlanKey
 too_many_of p = first_given_refusal (passed_limits p)
 
 -- what holds of every plan's save areas: 1 to 4096 from `at` on in a segment of 2^22 bytes, first
--- link not 0, 1 or more in reserve (TriCore 1 architecture manual, volume 1, contexts)
+-- link not 0, 1 or more in reserve (TriCore 1 Architecture Manual V1.3, volume 1, contexts)
 abbrev pub are_areas : ℕ → ℕ → ℕ → Bool
 are_areas at areas reserve = nat_le 1 areas && nat_le areas 4096 && nat_le 1 reserve && nat_le reserve areas && (at % 64 == 0) && (at / 2 ^ 22 % 2 ^ 6 == 0) && nat_lt 0 at && nat_le (at % 2 ^ 22 + 64 * areas) (2 ^ 22)
 
@@ -182,8 +182,7 @@ are_areas at areas reserve = nat_le 1 areas && nat_le areas 4096 && nat_le 1 res
 unfoldable pub has_areas : PlanData → Bool
 has_areas p = are_areas p.csa_at p.areas p.reserve
 
--- what holds of every plan's data: BIV and BTV are even (TriCore 1 architecture manual, volume 1,
--- interrupts and traps)
+-- what holds of every plan's data: BIV and BTV are even (manual, volume 1, interrupts and traps)
 unfoldable pub has_vectors : PlanData → Bool
 has_vectors p = (p.biv % 2 == 0) && (p.btv % 2 == 0)
 

@@ -36,7 +36,7 @@ words_after (Mfcr dst number) input word = words_with_register word dst input
 words_after _ input word = word
 
 -- an instruction's effect on CCPN: BISR sets it, and restoring contexts is defined elsewhere
--- (TriCore 1 architecture manual, volume 2, instruction set)
+-- (TriCore 1 Architecture Manual V1.3, volume 2, instruction set)
 unfoldable pub ccpn_after : Shape → ℕ → ℕ
 ccpn_after (Bisr c) ccpn = c
 ccpn_after _ ccpn = ccpn
