@@ -39,7 +39,7 @@ pub fn node_ranks(
     Ok(ranks)
 }
 
-/// Returns the number that a list has for a node. A number without a node has 0.
+/// Returns the number that a list has for a node. A node without a number has 0.
 pub fn number_at(numbers: &[usize], node: usize) -> usize
     ensures { result ≡ slice_index numbers.now node }
 {
