@@ -17,7 +17,7 @@ accesses_nothing b plan s (Load dst base offset size signed after) load store = 
 accesses_nothing b plan s (Store src base offset size after) load store = absurd (store src base offset size after refl)
 accesses_nothing b plan s _ load store = refl
 
--- if the plan doesn't state the trap, rule 10 has each address aligned
+-- if the plan doesn't state the trap, K10 has each address aligned
 untrapped : (t aln : Bool) → (t ≡ true) ⊎ (aln ≡ true) → aln ≡ false → not t ≡ false
 untrapped t aln (inl e) off = ap not e
 untrapped t aln (inr on) off = absurd (let no : true ≡ false = sym on ∙ off in cc)

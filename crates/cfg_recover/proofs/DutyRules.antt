@@ -14,6 +14,6 @@ module _ (b : Limits) (image : ImageData) (plan : PlanData) (key : Key) (p : ℕ
   asked_by _ _ returns = (omega arith, omega arith)
   asked_by _ _ _ = (omega arith, omega arith)
 
-  -- one of the rules 4 to 12 asks for each duty of a point
+  -- one of K4 to K12 asks for each duty of a point
   pub duty_asked : (shape : Shape) (d : Owed) → Contains (duties_of b image plan key p s shape n) d → (4 ≤ d.rule) × (d.rule ≤ 12)
   duty_asked shape d c = asked_by shape d (duty_at b image plan key p s n shape d c)

@@ -23,7 +23,7 @@ fails_refutes image plan cert _ _ _ (at_point node q r member at wrong) accepts 
     let holds = All-contains (HoldsAtNode image plan cert) cert.nodes node accepts.nodes member in
     wrong (All-contains (λ (p : Point). (r : ℕ) → RuleHolds image plan cert node p r) node.points q holds.points at r)
 
--- only rules 2 to 14 ask something of a point
+-- only K2 to K14 ask something of a point
 no_rule : (image : ImageData) (plan : PlanData) (cert : CertData) (node : NodeData) (q : Point) (r : ℕ) → (r < 2) ⊎ (14 < r) → RuleHolds image plan cert node q r
 no_rule image plan cert node q r out =
     let other : (n : ℕ) → 2 ≤ n → n ≤ 14 → r ≡ n → ⊥ = λ n low high e. elim out [ inl h ↦ omega arith | inr h ↦ omega arith ] in

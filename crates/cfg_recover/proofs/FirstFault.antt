@@ -94,7 +94,7 @@ address_small cert is_cert node point member stands =
     (All-contains (IsPoint cert.version) node.points point is.points stands).addr
 
 -- ---- values that are accepted
--- the values of an accepted certificate are of the plan's lattice (rule 2)
+-- the values of an accepted certificate are of the plan's lattice (K2)
 pub accepted_values : (image : ImageData) (plan : PlanData) (cert : CertData) (node : NodeData) → Accepts image plan cert → Contains cert.nodes node → All (λ (p : Point). AreValues (limits_in plan cert) (p.state).regs) node.points
 accepted_values image plan cert node accepts member i d lt =
     let holds = All-contains (HoldsAtNode image plan cert) cert.nodes node accepts.nodes member in

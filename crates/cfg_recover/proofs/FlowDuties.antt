@@ -25,6 +25,6 @@ same_test true b there back = sym (there refl)
 same_test false true there back = back refl
 same_test false false there back = refl
 
--- if rule 8's own part holds, there is room
+-- if K8's own part holds, there is room
 pub room_of : (b : Limits) (image : ImageData) (plan : PlanData) (key : Key) (p : ℕ) (s : State) (found : InstData × ℕ) → FindsFaultless b image plan key p s found → EffectHasRoom b (shape_of found.0) s
 room_of b image plan key p s found f = ((f.faultless 8).own (shape_of found.0) found.1 f.code).room refl

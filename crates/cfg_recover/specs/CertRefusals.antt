@@ -91,7 +91,7 @@ pub record Recurs (b : Limits) (image : ImageData) (plan : PlanData) (a : Assign
 abbrev pub refused_point_number : Key → ℕ → ℕ
 refused_point_number k p = number_of_key k * 2 ^ 32 + p
 
--- a reason to refuse a certificate, by rule 14: this is the first point that enters a frame from
+-- a reason to refuse a certificate, by K14: this is the first point that enters a frame from
 -- which its own is reached again
 pub record IsRefusedRecursion (b : Limits) (image : ImageData) (plan : PlanData) (a : Assignment) (k : Key) (p : ℕ) : Type 0 where
   pub recurs : Recurs b image plan a k p
@@ -105,7 +105,7 @@ pub record IsRefusedNeed (b : Limits) (image : ImageData) (plan : PlanData) (a :
   pub above : (need : Key → ℕ) → MeetsNeeds b image plan a need → plan.areas - plan.reserve < need (start_key image plan)
 
 -- with these limits, a certificate is refused: by a fault of a derived assignment or, if there is
--- none, by rule 14 at the least one's first recursion, or at the start if its need is too great
+-- none, by K14 at the least one's first recursion, or at the start if its need is too great
 pub data IsRefusalWith (b : Limits) (image : ImageData) (plan : PlanData) : ℕ → Key → ℕ → Type 0 where
   fault : (r : ℕ) (k : Key) (p : ℕ) → IsRefusalFault b image plan r k p → IsRefusalWith b image plan r k p
   recursion : (a : Assignment) (k : Key) (p : ℕ) → IsLeastAssignment b image plan a → IsRefusedRecursion b image plan a k p → IsRefusalWith b image plan 14 k p
@@ -117,7 +117,7 @@ IsRefusal image plan version = IsRefusalWith (limits_for plan version) image pla
 
 -- The printed rule and place, one of five:
 -- - The rule's own part fails at this very point, for a state that was derived for it.
--- - Two states with unequal numbers of locals meet at this point (rule 8).
+-- - Two states with unequal numbers of locals meet at this point (K8).
 -- - This point passes a limit (15).
 -- - This is the first point, in the least assignment, that enters a frame from which its own frame
 --   is reached again (14).

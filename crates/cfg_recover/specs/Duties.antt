@@ -63,7 +63,7 @@ jump_on q (Some s) = owed 4 (jump q s) ∷ []
 abbrev pub next_of : Limits → ImageData → PlanData → ℕ → State → Shape → ℕ → List Owed
 next_of b image plan p s shape n = owed 4 (jump (machine_address_ahead p n) (transfer_of b plan shape s (loaded_for_duties b image plan s shape))) ∷ []
 
--- the successors in the same frame (rule 4), without the one after a call or a system call
+-- the successors in the same frame (K4), without the one after a call or a system call
 abbrev pub successors_of : Limits → ImageData → PlanData → ℕ → State → Shape → ℕ → List Owed
 successors_of b image plan p s (Branch cond x y by lowers) n =
     jump_on (machine_address_ahead p n) (refine_of b plan (Branch cond x y by lowers) s false) ++ jump_on (machine_address_ahead p by) (refine_of b plan (Branch cond x y by lowers) s true)
@@ -75,12 +75,12 @@ successors_of b image plan p s (Syscall tin) n = []
 successors_of b image plan p s (Mtcr src number) n = []
 successors_of b image plan p s shape n = next_of b image plan p s shape n
 
--- what a point owes by entering a frame through a call (rule 5) or a system call (rule 12): the
--- duty to enter it, and the duty to go on after its return (rule 4)
+-- what a point owes by entering a frame through a call (K5) or a system call (K12): the
+-- duty to enter it, and the duty to go on after its return (K4)
 abbrev pub entered_and_back : ℕ → Key → State → ℕ → List Owed
 entered_and_back rule key s back = owed rule (enter key s) ∷ owed 4 (resume key back) ∷ []
 
--- what a point owes by a call or a system call: the entries of the called frames (rules 5 and 12),
+-- what a point owes by a call or a system call: the entries of the called frames (K5 and K12),
 -- and the returns from them
 abbrev pub entries_of : PlanData → Key → ℕ → State → Shape → ℕ → List Owed
 entries_of plan key p s (Call to) n = flat_map (λ t. entered_and_back 5 (call_key key t) (call_entry s) (machine_address_ahead p n)) (unwrap_or (targets_of plan s p to) [])
@@ -88,7 +88,7 @@ entries_of plan key p s (Syscall tin) n = entered_and_back 12 (sys_key plan key)
 entries_of plan key p s _ n = []
 
 -- a duty of a point, and the rule that asks for it: to enter the handler of misaligned accesses, by
--- rule 10
+-- K10
 abbrev pub misaligned_entry : PlanData → Key → State → Owed
 misaligned_entry plan key s = owed 10 (enter (aln_key plan key) (aln_entry plan key s))
 
@@ -105,12 +105,12 @@ abbrev pub misaligned_of : Limits → PlanData → Key → State → Shape → L
 misaligned_of b plan key s shape = if may_be_misaligned b plan s shape then misaligned_entry plan key s ∷ [] else []
 
 -- what a point owes by interrupts: the duties to enter the handlers of those that may be taken,
--- which rule 11 asks for
+-- which K11 asks for
 abbrev pub interrupts_of : PlanData → Key → State → List Owed
 interrupts_of plan key s = map (λ p. owed 11 (enter (irq_key plan p) (irq_entry plan key s p))) (irqs_of plan s)
 
--- what a point owes by leaving its frame: the duty of the exit of a function by RET (rule 6), or of
--- the handler of system calls by RFE (rule 7)
+-- what a point owes by leaving its frame: the duty of the exit of a function by RET (K6), or of
+-- the handler of system calls by RFE (K7)
 abbrev pub leavings_of : Key → State → Shape → List Owed
 leavings_of key s Ret = owed 6 (leave (exit_of s)) ∷ []
 leavings_of key s Rfe = if key.kind == sys_kind then owed 7 (leave (exit_of s)) ∷ [] else []

@@ -33,8 +33,8 @@ pub record FindsFaultless (b : Limits) (image : ImageData) (plan : PlanData) (ke
   pub faultless : IsFaultless b image plan key p s
   pub code : IsCode image plan p (shape_of found.0) found.1
 
--- ---- rules 9 and 10
--- the local fault of a load or a store by its addresses: the lesser of rules 9 and 10 that an
+-- ---- K9 and K10
+-- the local fault of a load or a store by its addresses: the lesser of K9 and K10 that an
 -- instruction of this shape breaks; if none, both hold
 abbrev pub IsAccessFault : Limits → PlanData → State → Shape → Option ℕ → Type 0
 IsAccessFault b plan s shape (Some r) =

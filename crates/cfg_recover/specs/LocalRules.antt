@@ -21,19 +21,19 @@ use Rattle.depth_cert.specs.declared.keys.Key.{Key}
 use Rattle.cfg_recover.specs.Code.{IsCode, HasCode}
 
 -- ---- targets
--- the targets of a jump or a call by register, which rule 5's own part asks to be known: the words
+-- the targets of a jump or a call by register, which K5's own part asks to be known: the words
 -- of the register's value with bit 0 cleared, ascending, each once; none for a span
 abbrev pub targets_named_by : Val → Option (List ℕ)
 targets_named_by (Set ws) = Some (sorted_set_of (map (λ w. w / 2 * 2) ws))
 targets_named_by (Span lo last step) = None
 
--- the targets of a jump or a call at p, which rule 5's own part asks to be known
+-- the targets of a jump or a call at p, which K5's own part asks to be known
 abbrev pub targets_of : PlanData → State → ℕ → Target → Option (List ℕ)
 targets_of plan s p (target.Rel by) = Some (machine_address_ahead p by ∷ [])
 targets_of plan s p (target.Abs x) = Some (x ∷ [])
 targets_of plan s p (target.Reg r) = targets_named_by (reg_of plan s r)
 
--- a target that rule 5's own part knows without any register: the only one of a jump or a call at
+-- a target that K5's own part knows without any register: the only one of a jump or a call at
 -- p; none if it goes by a register
 abbrev pub direct_target : ℕ → Target → Option ℕ
 direct_target p (target.Rel by) = Some (machine_address_ahead p by)
@@ -41,18 +41,18 @@ direct_target p (target.Abs x) = Some x
 direct_target p (target.Reg r) = None
 
 -- ---- the rules' own parts, by shape; nothing is asked of other shapes
--- rule 5: the targets of a jump or a call are a known list of addresses
+-- K5: the targets of a jump or a call are a known list of addresses
 abbrev pub KnowsTargets : PlanData → State → ℕ → Shape → Type 0
 KnowsTargets plan s p (Jump to) = IsSome (targets_of plan s p to)
 KnowsTargets plan s p (Call to) = IsSome (targets_of plan s p to)
 KnowsTargets plan s p _ = Unit {0}
 
--- rule 6: only a called function returns, and it has restored all lower contexts
+-- K6: only a called function returns, and it has restored all lower contexts
 abbrev pub MayReturn : Key → State → Shape → Type 0
 MayReturn key s Ret = (key.kind ≡ call_kind) × (length s.locals.items ≡ 0)
 MayReturn key s _ = Unit {0}
 
--- Rule 7: only a handler returns from an exception, and it has restored all lower contexts. The
+-- K7: only a handler returns from an exception, and it has restored all lower contexts. The
 -- handler of an interrupt or of a misaligned access, which may come anywhere, returns with the
 -- lower registers of its entry.
 abbrev pub MayReturnFromException : Key → State → Shape → Type 0
@@ -60,13 +60,13 @@ MayReturnFromException key s Rfe =
     (length s.locals.items ≡ 0) × ((((key.kind ≡ irq_kind) ⊎ (key.kind ≡ aln_kind)) × (s.lower ≡ true)) ⊎ (key.kind ≡ sys_kind))
 MayReturnFromException key s _ = Unit {0}
 
--- rule 9's own part, for an instruction of this shape at a point: each possible store is in one ram
+-- K9's own part, for an instruction of this shape at a point: each possible store is in one ram
 -- range or one device range as a whole, and doesn't pass 2^32
 abbrev pub StoresInRange : Limits → PlanData → State → Shape → Type 0
 StoresInRange b plan s (Store src base offset size after) = AreStoresInRange plan (address_of b plan (Store src base offset size after) s) size
 StoresInRange b plan s _ = Unit {0}
 
--- Rule 10: each possible address is a multiple of the size, or the plan states the trap of
+-- K10: each possible address is a multiple of the size, or the plan states the trap of
 -- misaligned accesses.
 abbrev pub MayAccess : Limits → PlanData → State → Shape → Type 0
 MayAccess b plan s (Load dst base offset size signed after) =
@@ -75,13 +75,13 @@ MayAccess b plan s (Store src base offset size after) =
     (are_aligned (address_of b plan (Store src base offset size after) s) size ≡ true) ⊎ (plan.aln ≡ true)
 MayAccess b plan s _ = Unit {0}
 
--- rule 12: the plan states the trap of system calls
+-- K12: the plan states the trap of system calls
 abbrev pub MayCallSystem : PlanData → Shape → Type 0
 MayCallSystem plan (Syscall tin) = plan.sys ≡ true
 MayCallSystem plan _ = Unit {0}
 
--- The own part of rule r at an instruction of this shape. Rule 8: a lower context is saved only if
--- there is room for a local, and restored only if there is one. Rule 13: the instruction isn't
+-- The own part of rule r at an instruction of this shape. K8: a lower context is saved only if
+-- there is room for a local, and restored only if there is one. K13: the instruction isn't
 -- MTCR, and writes none of A0, A1, A8, A9 and A11.
 pub record LocalRule (b : Limits) (plan : PlanData) (key : Key) (p : ℕ) (s : State) (shape : Shape) (r : ℕ) : Type 0 where
   pub targets : r ≡ 5 → KnowsTargets plan s p shape
@@ -93,21 +93,21 @@ pub record LocalRule (b : Limits) (plan : PlanData) (key : Key) (p : ℕ) (s : S
   pub system : r ≡ 12 → MayCallSystem plan shape
   pub writes : r ≡ 13 → WritesNoFixedRegister shape
 
--- The own part of rule r holds at the point p of a node with this key and state. Rule 3: there is
+-- The own part of rule r holds at the point p of a node with this key and state. K3: there is
 -- an instruction.
 pub record LocalHolds (b : Limits) (image : ImageData) (plan : PlanData) (key : Key) (p : ℕ) (s : State) (r : ℕ) : Type 0 where
   pub code : r ≡ 3 → HasCode image plan p
   pub own : (shape : Shape) (n : ℕ) → IsCode image plan p shape n → LocalRule b plan key p s shape r
 
--- ---- rules 9 and 10, by the addresses of the access
+-- ---- K9 and K10, by the addresses of the access
 
--- what rule 9 asks of a point's instruction alone, by the addresses of its access: each possible
+-- what K9 asks of a point's instruction alone, by the addresses of its access: each possible
 -- store is in one ram range or one device range as a whole, and doesn't pass 2^32
 abbrev pub StoresInRangeAt : PlanData → Val → Shape → Type 0
 StoresInRangeAt plan at (Store src base offset size after) = AreStoresInRange plan at size
 StoresInRangeAt plan at _ = Unit {0}
 
--- the own part of rule 10, by the addresses of the access: each is a multiple of the size, or the
+-- the own part of K10, by the addresses of the access: each is a multiple of the size, or the
 -- plan states the trap of misaligned accesses
 abbrev pub MayAccessAt : PlanData → Val → Shape → Type 0
 MayAccessAt plan at (Load dst base offset size signed after) = (are_aligned at size ≡ true) ⊎ (plan.aln ≡ true)

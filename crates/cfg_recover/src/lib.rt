@@ -1,4 +1,4 @@
-//! The rules of certificates: what a point owes, and when a certificate is accepted.
+//! The rules of certificates, K1 to K14: what a point owes, and when a certificate is accepted.
 #![tactic(auto)]
 
 mod after_return;

@@ -27,31 +27,31 @@ use vd_transfer::{arg_word, reg, write_address};
 
 // The rules that have an own part, by what fails there.
 
-/// Rule 3: there is no instruction.
+/// K3: there is no instruction.
 pub(crate) const NO_CODE: u8 = 3;
 
-/// Rule 5: the targets of a jump or a call are unknown.
+/// K5: the targets of a jump or a call are unknown.
 pub(crate) const UNKNOWN_TARGETS: u8 = 5;
 
-/// Rule 6: RET may not return.
+/// K6: RET may not return.
 pub(crate) const BAD_RETURN: u8 = 6;
 
-/// Rule 7: RFE may not return.
+/// K7: RFE may not return.
 pub(crate) const BAD_EXCEPTION_RETURN: u8 = 7;
 
-/// Rule 8: there is no room for a lower context, or none to restore.
+/// K8: there is no room for a lower context, or none to restore.
 pub(crate) const BAD_LOCALS: u8 = 8;
 
-/// Rule 9: a store may be out of range.
+/// K9: a store may be out of range.
 const STORE_OUT_OF_RANGE: u8 = 9;
 
-/// Rule 10: an access may be misaligned, and the plan doesn't state its trap.
+/// K10: an access may be misaligned, and the plan doesn't state its trap.
 const MISALIGNED: u8 = 10;
 
-/// Rule 12: the plan doesn't state the trap of system calls.
+/// K12: the plan doesn't state the trap of system calls.
 pub(crate) const NO_SYSTEM_CALLS: u8 = 12;
 
-/// Rule 13: the instruction is MTCR, or writes A0, A1, A8, A9 or A11.
+/// K13: the instruction is MTCR, or writes A0, A1, A8, A9 or A11.
 pub(crate) const FIXED_REGISTER: u8 = 13;
 
 /// An instruction that was decoded: its shape, and its size in bytes.
@@ -240,7 +240,7 @@ pub(crate) fn local_fault_at_value(b: &Bounds, plan: &Plan, s: &State, shape: Sh
     None
 }
 
-/// Rule 5: the targets of a jump or a call are a known list of addresses.
+/// K5: the targets of a jump or a call are a known list of addresses.
 pub(crate) fn knows_target(plan: &Plan, s: &State, to: Target) -> bool
     requires { IsTarget to }
     ensures { (p : ℕ) → IsTrue result ↔ IsSome (targets_of plan.now s.now p to) }
@@ -251,36 +251,35 @@ pub(crate) fn knows_target(plan: &Plan, s: &State, to: Target) -> bool
     }
 }
 
-/// Rule 6, at RET: only a called function returns, and it has restored all lower contexts.
+/// K6, at RET: only a called function returns, and it has restored all lower contexts.
 pub(crate) fn may_return(key: &Key, s: &State) -> bool
     ensures { IsTrue result ↔ MayReturn key.now s.now Ret }
 {
     key.kind == CALL && has_no_locals(s)
 }
 
-/// Rule 7, at RFE: only a handler returns from an exception, and it has restored all lower
-/// contexts.
+/// K7, at RFE: only a handler returns from an exception, and it has restored all lower contexts.
 pub(crate) fn may_return_from_exception(key: &Key, s: &State) -> bool
     ensures { IsTrue result ↔ MayReturnFromException key.now s.now Rfe }
 {
     has_no_locals(s) && may_handler_return(key, s)
 }
 
-/// Rule 8, at an instruction that saves a lower context: there is room for a local.
+/// K8, at an instruction that saves a lower context: there is room for a local.
 pub(crate) fn may_save(b: &Bounds, s: &State) -> bool
     ensures { IsTrue result ↔ (length s.now.locals.items < b.now.most_locals) }
 {
     s.locals.len() < b.most_locals()
 }
 
-/// Rule 8, at an instruction that restores a lower context: there is one.
+/// K8, at an instruction that restores a lower context: there is one.
 pub(crate) fn may_restore(s: &State) -> bool
     ensures { IsTrue result ↔ (1 ≤ length s.now.locals.items) }
 {
     1 <= s.locals.len()
 }
 
-/// Rule 9: each possible store is in one ram range or one device range as a whole, and doesn't pass
+/// K9: each possible store is in one ram range or one device range as a whole, and doesn't pass
 /// 2^32.
 pub(crate) fn stores_in_range(plan: &Plan, at: &Val, shape: Shape) -> bool
     requires shape { IsShape shape }
@@ -293,7 +292,7 @@ pub(crate) fn stores_in_range(plan: &Plan, at: &Val, shape: Shape) -> bool
     }
 }
 
-/// Returns true if rule 9's own part holds at an instruction whose access has only one address: a
+/// Returns true if K9's own part holds at an instruction whose access has only one address: a
 /// store is in one ram or device range.
 pub(crate) fn stores_in_range_at(plan: &Plan, x: u32, shape: Shape) -> bool
     ensures { IsTrue result ↔ StoresInRangeAt plan.now (word_val x) shape }
@@ -304,7 +303,7 @@ pub(crate) fn stores_in_range_at(plan: &Plan, x: u32, shape: Shape) -> bool
     }
 }
 
-/// Rule 10: each possible address is a multiple of the size, or the plan states the trap of
+/// K10: each possible address is a multiple of the size, or the plan states the trap of
 /// misaligned accesses.
 pub(crate) fn may_access(plan: &Plan, at: &Val, shape: Shape) -> bool
     requires shape { IsShape shape }
@@ -318,7 +317,7 @@ pub(crate) fn may_access(plan: &Plan, at: &Val, shape: Shape) -> bool
     }
 }
 
-/// Rule 10, if the access has only one address.
+/// K10, if the access has only one address.
 pub(crate) fn may_access_at(plan: &Plan, x: u32, shape: Shape) -> bool
     requires { IsShape shape }
     ensures { IsTrue result ↔ MayAccessAt plan.now (word_val x) shape }
@@ -330,14 +329,14 @@ pub(crate) fn may_access_at(plan: &Plan, x: u32, shape: Shape) -> bool
     }
 }
 
-/// Rule 12, at SYSCALL: the plan states the trap of system calls.
+/// K12, at SYSCALL: the plan states the trap of system calls.
 pub(crate) fn may_call_system(plan: &Plan) -> bool
     ensures { IsTrue result ↔ (plan.now.sys ≡ true) }
 {
     plan.sys
 }
 
-/// Tries rule 9, then rule 10, for an access.
+/// Tries K9, then K10, for an access.
 fn local_access_fault(b: &Bounds, plan: &Plan, s: &State, shape: Shape) -> Option<u8>
     requires shape { IsShape shape }
     requires values { AreValues b.now s.now.regs }
@@ -349,7 +348,7 @@ fn local_access_fault(b: &Bounds, plan: &Plan, s: &State, shape: Shape) -> Optio
     }
 }
 
-/// Returns the address that the own parts of rules 9 and 10 test, if the instruction is a load or a
+/// Returns the address that the own parts of K9 and K10 test, if the instruction is a load or a
 /// store whose base has only one word.
 #[tactic(auto, unfolding(vd_transfer::specs::EffectsOnStates::address_of))]
 fn rule_address_by_shape(b: &Bounds, plan: &Plan, s: &State, shape: Shape) -> Option<u32>
@@ -374,7 +373,7 @@ fn rule_address_by_shape(b: &Bounds, plan: &Plan, s: &State, shape: Shape) -> Op
     }
 }
 
-/// Returns the address that the own parts of rules 9 and 10 test, if the base register of the
+/// Returns the address that the own parts of K9 and K10 test, if the base register of the
 /// access has only one word.
 #[inline(always)]
 fn rule_address_by_base(
@@ -399,7 +398,7 @@ fn rule_address_by_base(
     Some(alu(Op::Add, x, offset))
 }
 
-/// Rule 5, at a jump or a call by a register: its value is a Set, a known list of targets.
+/// K5, at a jump or a call by a register: its value is a Set, a known list of targets.
 fn is_known_target_list(v: &Val) -> bool
     ensures { IsTrue result ↔ IsSome (targets_named_by v.now) }
 {
@@ -409,7 +408,7 @@ fn is_known_target_list(v: &Val) -> bool
     }
 }
 
-/// Rules 6 and 7: the frame has restored all lower contexts.
+/// K6 and K7: the frame has restored all lower contexts.
 fn has_no_locals(s: &State) -> bool
     ensures { IsTrue result ↔ (length s.now.locals.items ≡ 0) }
 {
@@ -431,7 +430,7 @@ fn may_handler_return(key: &Key, s: &State) -> bool
     }
 }
 
-/// Returns true if rule 10's own part holds for an access of this size: each address is a multiple
+/// Returns true if K10's own part holds for an access of this size: each address is a multiple
 /// of it, or the plan states the trap of misaligned accesses.
 fn is_allowed(plan: &Plan, at: &Val, size: u8) -> bool
     requires well { IsWell at.now }
@@ -441,7 +440,7 @@ fn is_allowed(plan: &Plan, at: &Val, size: u8) -> bool
     plan.aln || aligned(at, size)
 }
 
-/// Rule 10, for an access of this size with only one address.
+/// K10, for an access of this size with only one address.
 fn is_allowed_at(plan: &Plan, x: u32, size: u8) -> bool
     requires { IsShapeAccessSize size }
     ensures { IsTrue result
@@ -450,9 +449,9 @@ fn is_allowed_at(plan: &Plan, x: u32, size: u8) -> bool
     plan.aln || x % u32::from(size) == 0
 }
 
-// Rule 13: the instruction isn't MTCR, and writes none of A0, A1, A8, A9 and A11.
+// K13: the instruction isn't MTCR, and writes none of A0, A1, A8, A9 and A11.
 
-/// Tests rule 13 for a load: true if none of the registers that it writes is one of the fixed
+/// Tests K13 for a load: true if none of the registers that it writes is one of the fixed
 /// registers.
 pub(crate) fn keeps_fixed_registers_in_load(dst: u8, base: Arg, after: bool) -> bool
     ensures { IsTrue result ↔ (RegisterHasValue dst × HasBaseValue base after) }
@@ -460,14 +459,14 @@ pub(crate) fn keeps_fixed_registers_in_load(dst: u8, base: Arg, after: bool) -> 
     may_write_register(dst) && keeps_fixed_base(base, after)
 }
 
-/// Tests rule 13 for a branch: true if it decrements no register, or one that isn't fixed.
+/// Tests K13 for a branch: true if it decrements no register, or one that isn't fixed.
 pub(crate) fn keeps_fixed_registers_in_branch(x: u8, lowers: bool) -> bool
     ensures { IsTrue result ↔ (IsTrue lowers → RegisterHasValue x) }
 {
     !lowers || may_write_register(x)
 }
 
-/// Tests rule 13 for the base of a load or a store: true if the access doesn't increase it, or it
+/// Tests K13 for the base of a load or a store: true if the access doesn't increase it, or it
 /// isn't one of the fixed registers.
 pub(crate) fn keeps_fixed_base(base: Arg, after: bool) -> bool
     ensures { IsTrue result ↔ HasBaseValue base after }
@@ -478,7 +477,7 @@ pub(crate) fn keeps_fixed_base(base: Arg, after: bool) -> bool
     }
 }
 
-/// Tests rule 13 for one register: true unless it is one of the fixed ones, A0, A1, A8, A9 and A11,
+/// Tests K13 for one register: true unless it is one of the fixed ones, A0, A1, A8, A9 and A11,
 /// for which a state has no value.
 #[tactic(auto, unfolding(vd_transfer::specs::Registers::slot))]
 pub(crate) fn may_write_register(r: u8) -> bool

@@ -70,7 +70,7 @@ module _ (image : ImageData) (plan : PlanData) (cert : CertData) (is_cert : IsCe
   node_first i node r p lt at before f = record { fails = f.fails; start = inr start; least = λ q j x fails. inr (least_of_all i node r p q j x lt at before f fails) }
 
 -- ---- an accepted certificate
--- the start's need leaves the reserve free, as rule 14 asks at the entry's point
+-- the start's need leaves the reserve free, as K14 asks at the entry's point
 need_at : (image : ImageData) (plan : PlanData) (cert : CertData) (node : NodeData) (point : Point) → ((r : ℕ) → RuleHolds image plan cert node point r) → node.key ≡ start_key image plan → point.addr ≡ image.entry
     → node.need ≤ plan.areas - plan.reserve
 need_at image plan cert node point holds key addr =

@@ -76,7 +76,7 @@ module _ (image : ImageData) (plan : PlanData) (cert : CertData) (node : NodeDat
       made i point r point.addr lt at before (at_point node point r member (is_point point (i, lt, sym at)) f.broken) entry
       (λ q broken. elim (cases_lt q r) [ inl less ↦ absurd (broken (f.least q less)) | inr more ↦ omega arith ]) (omega arith) f.known addr
 
-  -- rule 2 at the entry, which doesn't come after the point
+  -- K2 at the entry, which doesn't come after the point
   at_its_entry : (i : ℕ) (point : Point) → i < length points → point ≡ get_or points i point → All AllHold (take i points) → (HoldsAtEntry (limits_in plan cert) node → ⊥) → (node.key).entry < 2 ^ 32
       → (node.key).entry ≤ point.addr → ((q : ℕ) → (RuleHolds image plan cert node point q → ⊥) → (node.key).entry * 2 ^ 4 + 2 ≤ point.addr * 2 ^ 4 + q) → IsNodeFault image plan cert node 2 (node.key).entry
   at_its_entry i point lt at before wrong entry below here =

@@ -16,7 +16,7 @@ use Rattle.cfg_recover.specs.Duties.{Owed}
 use Rattle.cfg_recover.specs.RulesHoldOrFail.{HasPoint, IsMet, EntryNeedRuleHolds}
 
 -- what the checker tests of a point's duty for rule q: that it is met, if q is its rule, and for
--- rule 14 that the need has room for the entered node
+-- K14 that the need has room for the entered node
 pub record DutyHolds (cert : CertData) (node : NodeData) (s : State) (q : ℕ) (d : Owed) : Type 0 where
   pub met : d.rule ≡ q → IsMet cert node s d.duty
   pub need : q ≡ 14 → EntryNeedRuleHolds cert node s d.duty
@@ -43,14 +43,14 @@ GoesOn node s entered kind back = IfSome back (λ q. IfSome entered.exit (λ x. 
 abbrev pub HasExit : NodeData → State → Type 0
 HasExit node s = IsSomeAnd node.exit (λ y. ExitCovers y (exit_of s))
 
--- what rule q asks of an instruction that leaves the node: rule 6 of RET, rule 7 of RFE in the
+-- what rule q asks of an instruction that leaves the node: K6 of RET, K7 of RFE in the
 -- handler of system calls
 abbrev pub LeavingHolds : NodeData → State → Leave → ℕ → Type 0
 LeavingHolds node s Stays q = Unit {0}
 LeavingHolds node s Ret q = 6 ≡ q → HasExit node s
 LeavingHolds node s Rfe q = (node.key).kind ≡ sys_kind → 7 ≡ q → HasExit node s
 
--- what the checker tests of a node's own need for rule 14, apart from the duties: room for the
+-- what the checker tests of a node's own need for K14, apart from the duties: room for the
 -- locals and, at the start's entry, that the reserve stays free
 pub record HasOwnNeed (image : ImageData) (plan : PlanData) (node : NodeData) (point : Point) : Type 0 where
   pub locals : length (point.state).locals.items ≤ node.need

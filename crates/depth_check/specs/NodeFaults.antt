@@ -17,7 +17,7 @@ pub record IsNodeFault (image : ImageData) (plan : PlanData) (cert : CertData) (
   pub rule : r ≤ 14
   pub addr : p < 2 ^ 32
 
--- the first of two faults: that at an address, and rule 2 at the entry unless it is good; an entry
+-- the first of two faults: that at an address, and K2 at the entry unless it is good; an entry
 -- after the address doesn't count
 abbrev pub earlier_node_fault : Bool → ℕ → ℕ → Option ℕ → Option Fault
 earlier_node_fault good entry addr found =

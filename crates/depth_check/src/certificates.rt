@@ -28,7 +28,7 @@ pub fn check(image: &Image, plan: &Plan, cert: &Cert) -> Verdict
     judge(image, plan, cert)
 }
 
-/// Returns the certificate's node of the start, as rule 1 asks for it: with a point at the image's
+/// Returns the certificate's node of the start, as K1 asks for it: with a point at the image's
 /// entry that covers the start state. `None` if there is none.
 #[inline(never)]
 pub(crate) fn start_node<'a>(image: &Image, plan: &Plan, cert: &'a Cert) -> Option<Node<'a>>

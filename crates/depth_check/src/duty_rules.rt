@@ -126,7 +126,7 @@ fn broken_by_entries(
 }
 
 /// The least rule that the trap of a misaligned access breaks. Without that trap in the plan no
-/// entry is owed, since rule 10 holds.
+/// entry is owed, since K10 holds.
 fn broken_by_access(at: &PointCheck<'_, '_>, found: &Located) -> Option<u8>
     requires { StandsFaultless at.now.bounds at.now.image at.now.plan
         at.now.node.key at.now.point.addr at.now.point.state found.now }
@@ -343,7 +343,7 @@ fn has_need_for_entry(node: &Node<'_>, s: &State, entered: &Node<'_>) -> bool
     s.locals.len() + 1 + usize::from(entered.need) <= usize::from(node.need)
 }
 
-/// Tests rule 4 of an entry: whether the node goes on at `back` after a frame of the entered node
+/// Tests K4 of an entry: whether the node goes on at `back` after a frame of the entered node
 /// has returned. True if `back` is no address.
 fn has_point_after_entry(
     node: &Node<'_>,

@@ -92,7 +92,7 @@ pub(crate) fn node_fault<'a>(
     }
 }
 
-/// The first of two faults: that of a point, and rule 2 at the node's entry unless `good`. An entry
+/// The first of two faults: that of a point, and K2 at the node's entry unless `good`. An entry
 /// after the point doesn't count yet.
 fn earlier_node_fault(good: bool, entry: u32, addr: u32, found: Option<u8>) -> Option<Fault>
     ensures { result ≡ nodes.earlier_node_fault good entry addr found }
@@ -109,7 +109,7 @@ fn earlier_node_fault(good: bool, entry: u32, addr: u32, found: Option<u8>) -> O
     })
 }
 
-/// Rule 2 at the entry of a node.
+/// K2 at the entry of a node.
 fn node_entry_fault(entry: u32) -> Fault
     ensures { result ≡ record { rule = 2; addr = entry } }
 {
@@ -125,7 +125,7 @@ fn node_address_limit(addr: u32)
     ensures { addr < 2 ^ 32 }
 {}
 
-/// Returns true if rule 2 holds at the entry of a node: it has a point there, and values of the
+/// Returns true if K2 holds at the entry of a node: it has a point there, and values of the
 /// plan in its exit if it has one.
 pub(crate) fn holds_at_entry(b: &Bounds, node: &Node<'_>) -> bool
     ensures { IsTrue result ↔ HoldsAtEntry b.now node.now }

@@ -6,34 +6,34 @@ ghost use Rattle.depth_check.specs.DutiesHold.{HasOwnNeed};
 use crate::points::PointCheck;
 use cfg_recover::start_key;
 
-/// Rule 1: the start has no node, or no point that covers the start state.
+/// K1: the start has no node, or no point that covers the start state.
 pub(crate) const NO_START: u8 = 1;
 
-/// Rule 2: the node has no point at its entry, or a value isn't one of the plan.
+/// K2: the node has no point at its entry, or a value isn't one of the plan.
 pub(crate) const BAD_VALUES: u8 = 2;
 
-/// Rule 4: no point of the node covers a state to which the instruction leads.
+/// K4: no point of the node covers a state to which the instruction leads.
 pub(crate) const NO_POINT: u8 = 4;
 
-/// Rule 5: no node covers the entry of a called function.
+/// K5: no node covers the entry of a called function.
 pub(crate) const NO_FUNCTION: u8 = 5;
 
-/// Rule 6: the node's exit doesn't cover RET.
+/// K6: the node's exit doesn't cover RET.
 pub(crate) const NO_RETURN: u8 = 6;
 
-/// Rule 7: the node's exit doesn't cover RFE of a system call.
+/// K7: the node's exit doesn't cover RFE of a system call.
 pub(crate) const NO_EXCEPTION_RETURN: u8 = 7;
 
-/// Rule 10: no node covers the entry of the handler of misaligned accesses.
+/// K10: no node covers the entry of the handler of misaligned accesses.
 pub(crate) const NO_MISALIGNED: u8 = 10;
 
-/// Rule 11: no node covers the entry of an interrupt's handler.
+/// K11: no node covers the entry of an interrupt's handler.
 pub(crate) const NO_INTERRUPT: u8 = 11;
 
-/// Rule 12: no node covers the entry of the handler of system calls.
+/// K12: no node covers the entry of the handler of system calls.
 pub(crate) const NO_SYSTEM_CALL: u8 = 12;
 
-/// Rule 14: the need of the node is too small. It is the last rule that a point may break.
+/// K14: the need of the node is too small. It is the last rule that a point may break.
 pub(crate) const SMALL_NEED: u8 = 14;
 
 /// The lesser of two rules that fail.

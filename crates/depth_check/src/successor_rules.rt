@@ -1,4 +1,4 @@
-// Rule 4 for the successors of a point in its frame.
+// K4 for the successors of a point in its frame.
 ghost use Rattle.std.specs.Prelude.{◌≡◌, ◌+◌, [], unwrap_or, ◌<◌, ◌++◌, false, true};
 ghost use Rattle.depth_check.specs.LeastBroken.{LeastBrokenByDuties};
 ghost use Rattle.tc_isa.specs.InBounds.{IsShape, IsTarget};

@@ -84,7 +84,7 @@ unjoined b (exit k) (state s) v h g e = absurd h
 unjoined b (exit k) (leaving x) (state s) h g e = absurd g
 unjoined b (exit k) (leaving x) (leaving z) h g e = absurd (let q : Some (leaving (joined_exit b x z)) ≡ None = e in cc)
 
--- so it is a fault of rule 8
+-- so it is a fault of K8
 pub unjoined_fault : (b : Limits) (image : ImageData) (plan : PlanData) (a : Assignment) → Derived b image plan a → (y : Place) (v w : Known) → Asks b image plan a y v → a y ≡ Some w → joined_known b w v ≡ None
     → (k : Key) × (p : ℕ) × (y ≡ point k p) × HasRefusalFault b image plan a 8 k p
 unjoined_fault b image plan a d y v w k at none =

@@ -13,7 +13,7 @@ use Rattle.frame_places.specs.declared.places.Spot.{Spot}
 use Rattle.frame_places.specs.declared.places.Spot.TheVariants.{Point, Exit}
 use Rattle.cfg_recover.specs.Duties.{entries_of, misaligned_of, entered_in}
 
--- an instruction of this shape enters no frame by itself if none of its accesses breaks rule 10;
+-- an instruction of this shape enters no frame by itself if none of its accesses breaks K10;
 -- interrupts may be taken
 abbrev pub EntersNoFrame : PlanData → Shape → Type 0
 EntersNoFrame plan shape =

@@ -17,7 +17,7 @@ abbrev pub PassesCountLimit : List Spot → List Key → Spot → Type 0
 PassesCountLimit ps ks (Point k p) = (length ps ≡ 2 ^ 16) ⊎ ((p ≡ k.entry) × (length ks ≡ 2048))
 PassesCountLimit ps ks (Exit k) = ⊥
 
--- a refusal by rule 15, at a place that isn't known
+-- a refusal by K15, at a place that isn't known
 abbrev pub IsCountRefusal : Bool → List Spot → List Key → Spot → Refusal → Type 0
 IsCountRefusal known ps ks y (Fault rule x) = (rule ≡ 15) × (x ≡ y) × (known ≡ false) × PassesCountLimit ps ks y
 IsCountRefusal known ps ks y NoMemory = Unit {0}

@@ -1,4 +1,4 @@
--- The test of rule 17, part by part.
+-- The test of K17, part by part.
 use Rattle.std.proofs.Common.{◌≡◌, ℕ, ◌-◌, ◌/◌, ◌%◌, ◌<◌, ◌≤◌, true, false, IsTrue, arith, ◌==◌}
 use Rattle.std.proofs.lemmas.Bool.{eqb-true, eq-eqb}
 use Rattle.task_chains.specs.Tasks.{TasksData}

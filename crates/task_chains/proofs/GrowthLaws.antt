@@ -1,4 +1,4 @@
--- The faults of rule 17 grow with what is known.
+-- The faults of K17 grow with what is known.
 use Rattle.std.proofs.Common.{◌≡◌, ℕ, sym, subst}
 use Rattle.std.specs.Prelude.{All, Contains}
 use Rattle.std.proofs.lemmas.List.Elements.{All-contains}

@@ -1,4 +1,4 @@
--- Rule 17: what the code of a task must not do, since the task's view hides it.
+-- K17: what the code of a task must not do, since the task's view hides it.
 use Rattle.std.specs.Prelude.{◌≡◌, ◌≢◌, ◌+◌, ◌*◌, ◌%◌, ◌^◌, ◌<◌, ◌≤◌, ◌⊎◌, ℕ, false, All, Contains}
 use Rattle.depth_cert.specs.Keys.{number_of_key}
 use Rattle.elf_image.specs.Images.{ImageData}
@@ -19,12 +19,12 @@ use Rattle.cfg_recover.specs.RulesHoldOrFail.{limits_in}
 use Rattle.task_chains.specs.Tasks.{TasksData}
 use Rattle.task_chains.specs.SwitchRoutine.{routine_size, switch_key, IsRoutineStep}
 
--- rule 17 for one access of a task: its n bytes from x on, which can wrap at 2^32, are none of the
+-- K17 for one access of a task: its n bytes from x on, which can wrap at 2^32, are none of the
 -- `len` bytes from `from` on
 abbrev pub IsAccessApart : ℕ → ℕ → ℕ → ℕ → Type 0
 IsAccessApart x n from len = (i : ℕ) → i < n → ((x + i) % 2 ^ 32 < from) ⊎ (from + len ≤ (x + i) % 2 ^ 32)
 
--- rule 17 for a load of a task: no access of n bytes, at an address that is a word of the value,
+-- K17 for a load of a task: no access of n bytes, at an address that is a word of the value,
 -- shares a byte with the `len` bytes from `from` on
 abbrev pub AreAccessesApart : Val → ℕ → ℕ → ℕ → Type 0
 AreAccessesApart v n from len = (x : ℕ) → IsMember x v → IsAccessApart x n from len
@@ -36,17 +36,17 @@ LoadsElsewhere b plan tasks s (Load dst base offset size signed after) =
     × AreAccessesApart (address_of b plan (Load dst base offset size signed after) s) size tasks.switch routine_size
 LoadsElsewhere b plan tasks s _ = Unit {0}
 
--- a part of rule 17: no MFCR reads PCXI, FCX or LCX
+-- a part of K17: no MFCR reads PCXI, FCX or LCX
 abbrev pub ReadsNoLink : Shape → Type 0
 ReadsNoLink (Mfcr dst number) = (number ≢ 0xfe00) × (number ≢ 0xfe38) × (number ≢ 0xfe3c)
 ReadsNoLink _ = Unit {0}
 
--- a part of rule 17: the instruction is no BISR, which would set CCPN and enable interrupts
+-- a part of K17: the instruction is no BISR, which would set CCPN and enable interrupts
 abbrev pub IsNoBisr : Shape → Type 0
 IsNoBisr (Bisr c) = ⊥
 IsNoBisr _ = Unit {0}
 
--- rule 17 at a point with an instruction of this shape
+-- K17 at a point with an instruction of this shape
 pub record StaysApart (b : Limits) (plan : PlanData) (tasks : TasksData) (key : Key) (p : ℕ) (s : State) (shape : Shape) : Type 0 where
   pub inside : tasks.switch ≤ p → p < tasks.switch + routine_size → key ≡ switch_key tasks
   pub at : key ≡ switch_key tasks → (i : ℕ) × (i < 18) × (p ≡ tasks.switch + 4 * i)
@@ -54,27 +54,27 @@ pub record StaysApart (b : Limits) (plan : PlanData) (tasks : TasksData) (key : 
   pub links : ReadsNoLink shape
   pub level : key.prio ≡ 0 → key.is ≡ false → IsNoBisr shape
 
--- rule 17 at a point of a view's certificate
+-- K17 at a point of a view's certificate
 abbrev pub HoldsApart : ImageData → PlanData → TasksData → CertData → NodeData → Point → Type 0
 HoldsApart view plan tasks cert node point =
     (shape : Shape) (n : ℕ) → IsCode view plan point.addr shape n → StaysApart (limits_in plan cert) plan tasks node.key point.addr point.state shape
 
--- rule 17 at all points of a view's certificate
+-- K17 at all points of a view's certificate
 abbrev pub KeepsApart : ImageData → PlanData → TasksData → CertData → Type 0
 KeepsApart view plan tasks cert = All (λ node. All (λ point. HoldsApart view plan tasks cert node point) node.points) cert.nodes
 
--- rule 17 fails at a key and an address
+-- K17 fails at a key and an address
 pub data FailsApart (view : ImageData) (plan : PlanData) (tasks : TasksData) (cert : CertData) : Key → ℕ → Type 0 where
   at_point :
       (node : NodeData) (point : Point) → Contains cert.nodes node → Contains node.points point → (HoldsApart view plan tasks cert node point → ⊥)
       → FailsApart view plan tasks cert node.key point.addr
 
--- rule 17 fails there, and at no lesser key or address
+-- K17 fails there, and at no lesser key or address
 pub record IsTaskFault (view : ImageData) (plan : PlanData) (tasks : TasksData) (cert : CertData) (k : Key) (p : ℕ) : Type 0 where
   pub fails : FailsApart view plan tasks cert k p
   pub least : (j : Key) (x : ℕ) → FailsApart view plan tasks cert j x → number_of_key k * 2 ^ 32 + p ≤ number_of_key j * 2 ^ 32 + x
 
--- for rule 17 at a point: some word of the value, at which an access begins, is in low..=high
+-- for K17 at a point: some word of the value, at which an access begins, is in low..=high
 abbrev pub HasAccessBetween : Val → ℕ → ℕ → Type 0
 HasAccessBetween v low high = (x : ℕ) × IsMember x v × (low ≤ x) × (x ≤ high)
 
@@ -84,11 +84,11 @@ pub record IsPlaceApart (tasks : TasksData) (key : Key) (p : ℕ) : Type 0 where
   pub inside : tasks.switch ≤ p → p < tasks.switch + routine_size → key ≡ switch_key tasks
   pub at : key ≡ switch_key tasks → IsRoutineStep tasks p
 
--- rule 17 at a point of a frame, under these limits
+-- K17 at a point of a frame, under these limits
 abbrev pub HoldsApartIn : Limits → ImageData → PlanData → TasksData → Key → Point → Type 0
 HoldsApartIn b view plan tasks key point = (shape : Shape) (n : ℕ) → IsCode view plan point.addr shape n → StaysApart b plan tasks key point.addr point.state shape
 
--- rule 17 fails at an address of a node's points, and at no lesser one
+-- K17 fails at an address of a node's points, and at no lesser one
 pub record IsNodeFault (b : Limits) (view : ImageData) (plan : PlanData) (tasks : TasksData) (node : NodeData) (p : ℕ) : Type 0 where
   pub point : Point
   pub stands : Contains node.points point

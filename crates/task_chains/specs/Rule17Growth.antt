@@ -1,4 +1,4 @@
--- Rule 17 and larger certificates: the statements of the laws.
+-- K17 and larger certificates: the statements of the laws.
 use Rattle.std.specs.Prelude.{◌≡◌, ℕ}
 use Rattle.elf_image.specs.Images.{ImageData}
 use Rattle.tcd_plan.specs.PlanData.{PlanData, IsPlan}
@@ -10,7 +10,7 @@ use Rattle.task_chains.specs.Tasks.{TasksData}
 use Rattle.task_chains.specs.Rule17.{KeepsApart, FailsApart}
 
 -- One certificate is below another if the other has all of its places and covers what is known
--- there. If both are accepted for a view, rule 17 fails for the upper one wherever it fails for the
+-- there. If both are accepted for a view, K17 fails for the upper one wherever it fails for the
 -- lower.
 abbrev pub TaskFaultsGrow : Type 0
 TaskFaultsGrow =
@@ -18,7 +18,7 @@ TaskFaultsGrow =
     → lower.version ≡ upper.version → Accepts view plan lower → Accepts view plan upper → IsBelowAt (known_in lower) (known_in upper)
     → FailsApart view plan tasks lower k p → FailsApart view plan tasks upper k p
 
--- beside the law that faults of rule 17 grow with a certificate: a certificate for which rule 17
+-- beside the law that faults of K17 grow with a certificate: a certificate for which K17
 -- fails somewhere doesn't keep the rule
 abbrev pub TaskFaultsRefute : Type 0
 TaskFaultsRefute =

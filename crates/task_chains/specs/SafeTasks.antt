@@ -79,7 +79,7 @@ need_of_task image plan tasks certs u =
     if u == 0 then n else max n 2
 
 -- what the theorem of safe tasks needs of a task's certificate: it is accepted for the task's view
--- and keeps rule 17, and the view's runs are safe and have the certificate's frames
+-- and keeps K17, and the view's runs are safe and have the certificate's frames
 pub record IsJudged (image : ImageData) (plan : PlanData) (tasks : TasksData) (cert : CertData) (u : ℕ) : Type 0 where
   pub is_cert : IsCert cert
   pub accepted : Accepts (view_image_of image tasks u) (view_plan_of plan tasks u) cert

@@ -1,4 +1,4 @@
-// Rule 17 at each point of a view's certificate.
+// K17 at each point of a view's certificate.
 ghost use Rattle.std.specs.Prelude.{All, IfNone, IfSome};
 ghost use Rattle.value_domain.specs.State.{AreValues};
 ghost use Rattle.cfg_recover.specs.RulesHoldOrFail.{Accepts};
@@ -13,7 +13,7 @@ use packed_cert::{Cert, Node, PointWalk};
 use tcd_plan::Plan;
 use value_domain::Bounds;
 
-/// Returns the first key and address at which rule 17 fails: another frame's point in the switch
+/// Returns the first key and address at which K17 fails: another frame's point in the switch
 /// routine, a load that can reach a save area or the routine, an instruction that reads a link, or
 /// a BISR outside of all interrupts. The rules accept the certificate for a task's view.
 #[inline(never)]
@@ -42,7 +42,7 @@ pub fn task_fault(view: &Image, plan: &Plan, tasks: &Tasks, cert: &Cert) -> Opti
     None
 }
 
-/// Returns the first address of a node's points at which rule 17 fails.
+/// Returns the first address of a node's points at which K17 fails.
 fn node_task_fault<'a>(
     rule: &TasksRule,
     codes: &mut KnownCodes,

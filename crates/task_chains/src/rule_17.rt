@@ -1,4 +1,4 @@
-// Rule 17: the test at a point of a view's certificate.
+// K17: the test at a point of a view's certificate.
 ghost use Rattle.std.specs.Prelude.{◌↔◌, IsTrue, ◌≡◌, ◌≤◌, ◌<◌, ◌+◌, ◌-◌, ◌*◌, ◌/◌, ◌^◌, ℕ};
 ghost use Rattle.value_domain.specs.State.{AreValues};
 ghost use Rattle.task_chains.specs.Rule17.{HoldsApartIn, AreAccessesApart, LoadsElsewhere, ReadsNoLink, IsNoBisr, StaysApart, HasAccessBetween, IsPlaceApart};
@@ -20,7 +20,7 @@ use vd_transfer::address_by;
 /// The number of the rule on tasks: the code of a task keeps apart from what its view hides.
 pub const TASKS_RULE: u8 = 17;
 
-/// What rule 17 is judged by: the image and the plan of a task's view.
+/// What K17 is judged by: the image and the plan of a task's view.
 #[derive(Drop)]
 pub(crate) struct TasksRule<'a> {
     pub(crate) bounds: &'a Bounds,
@@ -29,7 +29,7 @@ pub(crate) struct TasksRule<'a> {
     pub(crate) tasks: &'a Tasks,
 }
 
-/// Returns whether rule 17 holds at an address of a frame, with this state before the instruction.
+/// Returns whether K17 holds at an address of a frame, with this state before the instruction.
 pub(crate) fn holds_apart(
     rule: &TasksRule,
     codes: &mut KnownCodes,
@@ -50,7 +50,7 @@ pub(crate) fn holds_apart(
 }
 
 /// Returns whether no access of `size` bytes (1, 2 or 4), at an address that is a word of the
-/// value, shares a byte with the `len` bytes from `from` on, as rule 17 asks of a load.
+/// value, shares a byte with the `len` bytes from `from` on, as K17 asks of a load.
 pub(crate) fn are_accesses_apart(at: &Val, size: u8, from: u32, len: u32) -> bool
     requires at { IsWell at.now }
     requires size { IsAccessSize size }
@@ -84,7 +84,7 @@ pub(crate) fn stays_apart(rule: &TasksRule, key: &Key, addr: u32, s: &State, sha
 }
 
 /// Returns whether some word of the value, at which an access begins, is in `low..=high`, for the
-/// test of rule 17.
+/// test of K17.
 fn has_access_between(v: &Val, low: u32, high: u32) -> bool
     requires { IsWell v.now }
     ensures { IsTrue result ↔ HasAccessBetween v.now low high }
@@ -97,7 +97,7 @@ fn has_access_between(v: &Val, low: u32, high: u32) -> bool
     }
 }
 
-/// Returns whether one of the words is in `low..=high`, for the test of rule 17 on accesses.
+/// Returns whether one of the words is in `low..=high`, for the test of K17 on accesses.
 fn has_word_between(words: &[u32], low: u32, high: u32) -> bool
     ensures { IsTrue result ↔ ((x : ℕ) × Among x words.now × (low ≤ x) × (x ≤ high)) }
 {
@@ -109,7 +109,7 @@ fn has_word_between(words: &[u32], low: u32, high: u32) -> bool
     false
 }
 
-/// Returns the least multiple of `2 ^ step` from `x` on, for the test of rule 17 on accesses.
+/// Returns the least multiple of `2 ^ step` from `x` on, for the test of K17 on accesses.
 fn multiple_from(x: u64, step: u8) -> u64
     requires step { step ≤ 2 }
     requires small { x ≤ 2 ^ 32 }
@@ -119,7 +119,7 @@ fn multiple_from(x: u64, step: u8) -> u64
     (x + (unit - 1)) / unit * unit
 }
 
-/// Returns whether a word is in `low..=high`, for the test of rule 17 on accesses.
+/// Returns whether a word is in `low..=high`, for the test of K17 on accesses.
 fn is_between(x: u32, low: u32, high: u32) -> bool
     ensures { IsTrue result ↔ (low ≤ x) × (x ≤ high) }
 {
@@ -161,7 +161,7 @@ fn loads_elsewhere(b: &Bounds, plan: &Plan, tasks: &Tasks, s: &State, shape: Sha
     }
 }
 
-/// Returns whether the instruction reads none of PCXI, FCX and LCX, as rule 17 asks.
+/// Returns whether the instruction reads none of PCXI, FCX and LCX, as K17 asks.
 fn reads_no_link(shape: Shape) -> bool
     ensures { IsTrue result ↔ ReadsNoLink shape }
 {
@@ -171,7 +171,7 @@ fn reads_no_link(shape: Shape) -> bool
     }
 }
 
-/// Returns whether the instruction is no BISR; rule 17 asks it outside of all interrupts.
+/// Returns whether the instruction is no BISR; K17 asks it outside of all interrupts.
 fn is_no_bisr(shape: Shape) -> bool
     ensures { IsTrue result ↔ IsNoBisr shape }
 {

@@ -22,8 +22,8 @@ use Rattle.tcd_driver.specs.Cellcert.{NoneKeepsCells, IsCertifyingCells, refused
 use Rattle.tcd_reading.specs.declared.status.Status.TheVariants.{Done, Refused}
 use Rattle.tcd_reading.proofs.Decided.{AreAlike, status_is, writes_are}
 
--- ---- rule 16
--- if the least certificate breaks rule 16, each one does
+-- ---- K16
+-- if the least certificate breaks K16, each one does
 none_keeps : (i : ImageData) (p : PlanData) (cells : List Cell) (c : CertData) (k : Key) (x : ℕ) → IsPlan (with_cells p cells) → IsCert c → IsMade i (with_cells p cells) 2 c → BreaksCells i (with_cells p cells) cells c k x → NoneKeepsCells i p cells
 none_keeps i p cells c k x ok is made breaks other is_other version accepted keeps =
     let better = made.best other is_other version accepted in

@@ -45,12 +45,12 @@ use Rattle.tcd_reading.proofs.Decided.{AreAlike, IsDecided, decided_answer, stat
 use Rattle.tcd_driver.proofs.TasksReports.{judged_well, decided_each_named, sum_next, as_many, not_as_many}
 
 -- ---- the certificate of a view
--- if the least certificate fails rule 17, each one does
+-- if the least certificate fails K17, each one does
 none_apart : (v : ImageData) (b : PlanData) (t : TasksData) (c : CertData) (k : Key) (x : ℕ) → IsPlan b → IsCert c → IsMade v b 2 c → FailsApart v b t c k x → NoneKeepsTaskApart v b t
 none_apart v b t c k x ok is_c made fails d is_d version accepted apart =
     task_faults_refute v b t d k x (task_faults_grow v b t c d k x ok is_c is_d (made.of_version ∙ sym version) made.accepted accepted (made.best d is_d version accepted).below fails) apart
 
--- the report of its fault, if the certificate that is made fails rule 17
+-- the report of its fault, if the certificate that is made fails K17
 pub apart_fails : (v : ImageData) (fields b : PlanData) (t : TasksData) (c : CertData) (need : ℕ) (k : Key) (x : ℕ) → fields ≡ b → IsPlan fields → IsLeastWithNeed v b 2 c need → IsTaskFault v b t c k x → IsTaskUncertified v b t 17 k x
 apart_fails v fields b t c need k x plan_is is_plan least fault =
     not_apart c k x least.is_cert least.made fault (none_apart v b t c k x (subst IsPlan plan_is is_plan) least.is_cert least.made fault.fails)

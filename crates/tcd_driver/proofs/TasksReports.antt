@@ -42,12 +42,12 @@ tasks_lawful p = record {
 }
 
 -- ---- one task
--- a certificate that is judged well is accepted, and keeps rule 17
+-- a certificate that is judged well is accepted, and keeps K17
 refused_refutes : (i : ImageData) (p : PlanData) (t : TasksData) (c : CertData) (u rule : ℕ) (k : Key) (x : ℕ) → IsTaskRefused i p t c u rule k x → IsJudged i p t c u → ⊥
 refused_refutes i p t c u _ _ _ (unaccepted rule k x first) good = fails_refutes (view_image_of i t u) (view_plan_of p t u) c rule k x first.fails good.accepted
 refused_refutes i p t c u _ _ _ (not_apart k x accepted fault) good = task_faults_refute (view_image_of i t u) (view_plan_of p t u) t c k x fault.fails good.apart
 
--- a certificate that isn't accepted for its view, or fails rule 17, with equal images and plans
+-- a certificate that isn't accepted for its view, or fails K17, with equal images and plans
 pub first_there : (i : ImageData) (p : PlanData) (t : TasksData) (c : CertData) (u rule : ℕ) (k : Key) (x : ℕ) (view : ImageData) (board : PlanData) → view ≡ view_image_of i t u → board ≡ view_plan_of p t u
     → IsFirstFault view board c rule k x → IsTaskRefused i p t c u rule k x
 first_there i p t c u rule k x view board seen planned first =

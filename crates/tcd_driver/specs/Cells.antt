@@ -24,7 +24,7 @@ pub record CellsNames : Type 0 where
   pub cert : List ℕ
 
 -- The verdict on an image, a plan, its cells and a certificate, under the plan in which the cells
--- are devices. If the certificate isn't accepted, its first fault is printed. If it is, and rule 16
+-- are devices. If the certificate isn't accepted, its first fault is printed. If it is, and K16
 -- fails, the first place at which it fails is printed. Else every run in which each cell's word
 -- starts in its bounds is safe, and keeps the words there.
 pub data IsCellsVerdict (image : ImageData) (plan : PlanData) (cells : List Cell) (cert : CertData) (report : Report) : Type 0 where

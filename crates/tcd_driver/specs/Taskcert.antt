@@ -36,13 +36,13 @@ pub record TaskcertNames : Type 0 where
 
 -- ---- one task
 
--- each certificate of version 2 that is accepted for a view fails rule 17
+-- each certificate of version 2 that is accepted for a view fails K17
 abbrev pub NoneKeepsTaskApart : ImageData → PlanData → TasksData → Type 0
 NoneKeepsTaskApart view plan tasks =
     (cert : CertData) → IsCert cert → cert.version ≡ 2 → Accepts view plan cert → KeepsApart view plan tasks cert → ⊥
 
 -- `taskcert` has no certificate for a view: none of version 2 is accepted, for this reason; or each
--- accepted one fails rule 17, and this is the first place at which the least one does
+-- accepted one fails K17, and this is the first place at which the least one does
 pub data IsTaskUncertified (view : ImageData) (plan : PlanData) (tasks : TasksData) : ℕ → Key → ℕ → Type 0 where
   unaccepted : (rule : ℕ) (key : Key) (addr : ℕ) → NoneAccepted view plan 2 → IsRefusal view plan 2 rule key addr → IsTaskUncertified view plan tasks rule key addr
   not_apart :
@@ -100,7 +100,7 @@ taskcert_reading names =
     (λ tasks. with_name_per_task names.certs tasks (answer (IsTaskcerting names.certs image plan tasks)))))
 
 -- ---- by what the code has
--- the result of making the least certificate of a view that keeps rule 17, with its need
+-- the result of making the least certificate of a view that keeps K17, with its need
 abbrev pub MakesTaskViewCert : ImageData → PlanData → TasksData → Result (CertData × ℕ) MakeErr → Type 0
 MakesTaskViewCert view plan tasks (Ok made) = IsLeastWithNeed view plan 2 made.0 made.1 × KeepsApart view plan tasks made.0
 MakesTaskViewCert view plan tasks (Err (make_err.Refused rule key addr)) = IsTaskUncertified view plan tasks rule key addr

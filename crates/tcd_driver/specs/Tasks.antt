@@ -37,7 +37,7 @@ cert_of_task certs u = slice_index_or certs u (record { version = 1; nodes = [] 
 
 -- ---- one task
 -- the certificate isn't accepted for the task's view, and its first fault is this; or it is
--- accepted, and this is the first place at which rule 17 fails
+-- accepted, and this is the first place at which K17 fails
 pub data IsTaskRefused (image : ImageData) (plan : PlanData) (tasks : TasksData) (cert : CertData) (u : ℕ) : ℕ → Key → ℕ → Type 0 where
   unaccepted :
       (rule : ℕ) (key : Key) (addr : ℕ) → IsFirstFault (view_image_of image tasks u) (view_plan_of plan tasks u) cert rule key addr

@@ -134,7 +134,7 @@ fn interrupt_and_back(rt: HostRuntime) -> Result<(), Fail> {
 }
 
 // Two areas are another task's, and two the reserve: FCX is at the limit. MTCR by one task moves it
-// for all of them, so tasks are safe together only if rule 13 holds for each.
+// for all of them, so tasks are safe together only if K13 holds for each.
 #[test]
 fn a_task_can_move_the_limit(rt: HostRuntime) -> Result<(), Fail> {
     let image = image(&rt, &LIMIT_TO_ZERO)?;

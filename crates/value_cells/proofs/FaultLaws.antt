@@ -1,4 +1,4 @@
--- The first place at which rule 16 fails, from tests of one point after another.
+-- The first place at which K16 fails, from tests of one point after another.
 use Rattle.std.proofs.Common.{◌≡◌, ℕ, ◌+◌, ◌^◌, ◌<◌, ◌≤◌, Bool, List, ◌∷◌, ◌++◌, length, get_or, take, IsTrue, refl, sym, subst}
 use Rattle.std.specs.Prelude.{All, Contains, ◌↔◌}
 use Rattle.std.proofs.lemmas.List.Elements.{All-contains, All-same}

@@ -1,4 +1,4 @@
--- The faults of rule 16 grow with what is known.
+-- The faults of K16 grow with what is known.
 use Rattle.std.proofs.Common.{◌≡◌, ℕ, List, refl, sym, subst}
 use Rattle.std.specs.Prelude.{Contains}
 use Rattle.elf_image.specs.Images.{ImageData}

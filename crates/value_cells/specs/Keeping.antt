@@ -1,4 +1,4 @@
--- Rule 16 of certificates: stores keep the cells' bounds.
+-- K16: stores keep the cells' bounds.
 use Rattle.std.specs.Prelude.{◌≡◌, ◌<◌, ◌≤◌, ◌+◌, ◌*◌, ◌^◌, ℕ, Bool, IsTrue, List, All, Contains}
 use Rattle.elf_image.specs.Images.{ImageData}
 use Rattle.tcd_plan.specs.PlanData.{PlanData}
@@ -39,31 +39,31 @@ KeepsCellsAt b plan cells s (Store src base offset size after) =
     (x : ℕ) → IsMember x (address_of b plan (Store src base offset size after) s) → KeepsAll (reg_of plan s src) size x cells
 KeepsCellsAt b plan cells s _ = Unit {0}
 
--- rule 16 at a point of a certificate: the instruction there keeps the cells
+-- K16 at a point of a certificate: the instruction there keeps the cells
 abbrev pub KeepsCellsAtPoint : Limits → ImageData → PlanData → List Cell → Point → Type 0
 KeepsCellsAtPoint b image plan cells point = (shape : Shape) (n : ℕ) → IsCode image plan point.addr shape n → KeepsCellsAt b plan cells point.state shape
 
--- Rule 16, at each point of a certificate under the plan in which the cells are devices.
+-- K16, at each point of a certificate under the plan in which the cells are devices.
 abbrev pub KeepsCells : ImageData → PlanData → List Cell → CertData → Type 0
 KeepsCells image plan cells cert =
     (node : NodeData) (point : Point) → Contains cert.nodes node → Contains node.points point → KeepsCellsAtPoint (limits_in plan cert) image plan cells point
 
--- rule 16 fails at a key and an address
+-- K16 fails at a key and an address
 pub data BreaksCells (image : ImageData) (plan : PlanData) (cells : List Cell) (cert : CertData) : Key → ℕ → Type 0 where
   breaks_at :
       (node : NodeData) (point : Point) → Contains cert.nodes node → Contains node.points point → (KeepsCellsAtPoint (limits_in plan cert) image plan cells point → ⊥)
       → BreaksCells image plan cells cert node.key point.addr
 
--- the number of a place where rule 16 can fail: places are ordered by key, then by address
+-- the number of a place where K16 can fail: places are ordered by key, then by address
 abbrev pub cell_break_number : Key → ℕ → ℕ
 cell_break_number k p = number_of_key k * 2 ^ 32 + p
 
--- rule 16 fails there, and at no lesser key or address
+-- K16 fails there, and at no lesser key or address
 pub record IsFirstBreak (image : ImageData) (plan : PlanData) (cells : List Cell) (cert : CertData) (k : Key) (p : ℕ) : Type 0 where
   pub breaks : BreaksCells image plan cells cert k p
   pub least : (j : Key) (x : ℕ) → BreaksCells image plan cells cert j x → cell_break_number k p ≤ cell_break_number j x
 
--- rule 16 fails at an address of a node's points, and at no lesser one
+-- K16 fails at an address of a node's points, and at no lesser one
 pub record IsNodeBreak (b : Limits) (image : ImageData) (plan : PlanData) (cells : List Cell) (node : NodeData) (p : ℕ) : Type 0 where
   pub point : Point
   pub stands : Contains node.points point

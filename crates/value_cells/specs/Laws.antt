@@ -43,7 +43,7 @@ CellsKeepTheirBounds =
 abbrev pub CellsMakeAPlan : Type 0
 CellsMakeAPlan = (plan : PlanData) (cells : List Cell) → IsPlan plan → AreCells plan cells → IsPlan (with_cells plan cells)
 
--- If rule 16 fails somewhere, the certificate doesn't keep the cells.
+-- If K16 fails somewhere, the certificate doesn't keep the cells.
 abbrev pub CellFaultsRefute : Type 0
 CellFaultsRefute =
     (image : ImageData) (plan : PlanData) (cells : List Cell) (cert : CertData) (k : Key) (p : ℕ) → BreaksCells image plan cells cert k p

@@ -1,4 +1,4 @@
--- Rule 16 and larger certificates: the statements of the laws.
+-- K16 and larger certificates: the statements of the laws.
 use Rattle.std.specs.Prelude.{◌≡◌, ℕ, List}
 use Rattle.elf_image.specs.Images.{ImageData}
 use Rattle.tcd_plan.specs.PlanData.{PlanData, IsPlan}
@@ -10,7 +10,7 @@ use Rattle.value_cells.specs.declared.cells.Cell.{Cell}
 use Rattle.value_cells.specs.Keeping.{KeepsCells, BreaksCells}
 
 -- One certificate is below another if the other has all of its places and covers what is known
--- there. If both are accepted under a plan, rule 16 fails for the upper one wherever it fails for
+-- there. If both are accepted under a plan, K16 fails for the upper one wherever it fails for
 -- the lower.
 abbrev pub CellFaultsGrow : Type 0
 CellFaultsGrow =

@@ -1,4 +1,4 @@
-// Rule 16 at each point of a certificate.
+// K16 at each point of a certificate.
 ghost use Rattle.std.specs.Prelude.{◌≤◌, ◌+◌, ◌^◌, All, IfNone, IfSome};
 ghost use Rattle.value_domain.specs.State.{AreValues};
 ghost use Rattle.cfg_recover.specs.RulesHoldOrFail.{Accepts};
@@ -16,7 +16,7 @@ use packed_cert::{Cert, Node, PointWalk};
 use tcd_plan::Plan;
 use value_domain::Bounds;
 
-/// Returns the first key and address at which rule 16 fails: some possible store touches a cell,
+/// Returns the first key and address at which K16 fails: some possible store touches a cell,
 /// and isn't a store of the cell's whole word, or can store a word outside its bounds. The rules
 /// accept the certificate under the plan in which the cells are devices.
 #[inline(never)]
@@ -50,7 +50,7 @@ pub fn cells_fault(image: &Image, plan: &Plan, cells: &Cells, cert: &Cert) -> Op
     None
 }
 
-/// Returns the first address of a node's points at which rule 16 fails.
+/// Returns the first address of a node's points at which K16 fails.
 fn node_cells_fault<'a>(
     rule: &CellsRule,
     codes: &mut KnownCodes,

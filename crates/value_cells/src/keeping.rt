@@ -1,4 +1,4 @@
-// The test of rule 16: stores keep the cells' bounds.
+// The test of K16: stores keep the cells' bounds.
 ghost use Rattle.std.specs.Prelude.{◌≤◌, ◌+◌, ◌^◌, ◌↔◌, ℕ, IsTrue, All};
 ghost use Rattle.tc_isa.specs.InBounds.{IsShape};
 ghost use Rattle.value_domain.specs.Values.{IsWell, IsMember};

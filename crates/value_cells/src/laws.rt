@@ -22,7 +22,7 @@ pub fn cells_in_words()
     ensures one { CellTextReadsOne }
 {}
 
-/// If a greater certificate keeps the cells, a lesser one does, since each fault of rule 16 in the
+/// If a greater certificate keeps the cells, a lesser one does, since each fault of K16 in the
 /// lesser is one in the greater. One fault is enough to break the rule.
 pub fn faults_of_cells()
     ensures grow { CellFaultsGrow }

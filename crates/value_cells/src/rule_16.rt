@@ -1,4 +1,4 @@
-// Rule 16 at a point.
+// K16 at a point.
 ghost use Rattle.std.specs.Prelude.{◌≤◌, ◌+◌, ◌^◌, ◌↔◌, IsTrue, All};
 ghost use Rattle.value_domain.specs.State.{AreValues};
 ghost use Rattle.value_cells.specs.Keeping.{KeepsCellsAtPoint};
@@ -13,7 +13,7 @@ use value_domain::{Bounds, State};
 /// The number of the rule on cells: every store keeps their bounds.
 pub const CELLS_RULE: u8 = 16;
 
-/// What rule 16 is judged by.
+/// What K16 is judged by.
 #[derive(Drop)]
 pub(crate) struct CellsRule<'a> {
     pub(crate) bounds: &'a Bounds,

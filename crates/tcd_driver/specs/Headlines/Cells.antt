@@ -52,7 +52,7 @@ pub record HeadlineOfCells (elf_name plan_name cells_name cert_name : List ℕ) 
   pub stays : after ≡ before
 
 -- `cells` refuses: the certificate isn't accepted, and this rule fails first. Or it is accepted,
--- and this is the first store that may leave a cell's bounds (rule 16).
+-- and this is the first store that may leave a cell's bounds (K16).
 pub record RefusalByCells (elf_name plan_name cells_name cert_name : List ℕ) (before after : FileMap) (printed : List ℕ) : Type 0 where
   pub image : ImageData
   pub plan : PlanData
@@ -96,7 +96,7 @@ pub record NoneKeepsCellBounds (image : ImageData) (plan : PlanData) (list : Lis
   pub first : IsFirstBreak image (with_cells plan list) list cert frame address
 
 -- `cellcert` refuses: no certificate of version 2 is accepted, and this is why. Or none that is
--- accepted keeps the cells' bounds (rule 16).
+-- accepted keeps the cells' bounds (K16).
 pub record RefusalByCellcert (elf_name plan_name cells_name : List ℕ) (before after : FileMap) (printed : List ℕ) : Type 0 where
   pub image : ImageData
   pub plan : PlanData

@@ -86,7 +86,7 @@ pub record HeadlineOfTasks (elf_name plan_name tasks_name : List ℕ) (cert_name
 
 -- Task u is the first whose certificate is refused. It isn't accepted for the task's view, and this
 -- rule fails first. Or it is accepted, and this is the first place at which it doesn't keep the
--- task apart (rule 17).
+-- task apart (K17).
 pub record IsFirstRefusedTask (image : ImageData) (plan : PlanData) (list : TasksData) (certs : List CertData) (u rule : ℕ) (frame : Key) (address : ℕ) : Type 0 where
   pub task : u < count list
   pub before : (w : ℕ) → w < u → IsAcceptedForTask image plan list w (cert_of_task certs w)
@@ -150,7 +150,7 @@ pub record HeadlineOfTaskcert (elf_name plan_name tasks_name : List ℕ) (cert_n
   pub prints : printed ≡ certified_tasks_words (sum_over_chains (count list) needs) (plan.areas - plan.reserve) (count list)
 
 -- In the headlines of tasks: no certificate of version 2 is accepted for the view, for this reason;
--- or each accepted one fails rule 17, and here the least one fails it.
+-- or each accepted one fails K17, and here the least one fails it.
 pub data NoCertForTask (view : ImageData) (plan : PlanData) (list : TasksData) : ℕ → Key → ℕ → Type 0 where
   unaccepted : (rule : ℕ) (frame : Key) (address : ℕ) → NoneAccepted view plan 2 → IsRefusal view plan 2 rule frame address → NoCertForTask view plan list rule frame address
   not_apart :

@@ -201,8 +201,7 @@ fn judge_tasks(
     Ok(Tally::Sum(sum))
 }
 
-// Judges the certificate of a task for its view: by the rules of all certificates, and then by rule
-// 17.
+// Judges the certificate of a task for its view: by the rules of all certificates, and then by K17.
 fn judge_task(
     alloc: Global,
     image: &Image,

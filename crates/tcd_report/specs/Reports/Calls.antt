@@ -13,7 +13,7 @@ use Rattle.cfg_recover.specs.Duties.{Owed, duties_of, keys_entered_by_duty}
 use Rattle.cfg_recover.specs.RulesHoldOrFail.{limits_in}
 use Rattle.tcd_report.specs.Graphs.{call_rule}
 
--- the keys of the functions that an instruction calls: rule 5 asks for their entries
+-- the keys of the functions that an instruction calls: K5 asks for their entries
 abbrev pub called_by : List Owed → List Key
 called_by ds = flat_map (λ d. if d.rule == call_rule then keys_entered_by_duty d.duty else []) ds
 
