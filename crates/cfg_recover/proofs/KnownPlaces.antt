@@ -159,7 +159,7 @@ module _ (lower upper : CertData) (low_cert : IsCert lower) (below : IsBelowAt (
       let a = known_from upper node.key q.addr o.0 (c.at ∙ ap Some o.1) in
       record { node = a.node; place = a.place; member = a.member; stands = a.stands; key = a.key; addr = a.addr; covers = subst (λ t. Covers t q.state) (sym a.is) o.2 }
 
--- certificates of one version have the same limits
+-- certificates of one format have the same limits
 pub limits_same : (plan : PlanData) (lower upper : CertData) → lower.version ≡ upper.version → limits_in plan upper ≡ limits_in plan lower
 limits_same plan lower upper same = sym (ap (λ v. limits_in plan (record lower { version = v })) same)
 

@@ -111,7 +111,7 @@ pub data IsRefusalWith (b : Limits) (image : ImageData) (plan : PlanData) : ℕ 
   recursion : (a : Assignment) (k : Key) (p : ℕ) → IsLeastAssignment b image plan a → IsRefusedRecursion b image plan a k p → IsRefusalWith b image plan 14 k p
   need : (a : Assignment) → IsLeastAssignment b image plan a → IsRefusedNeed b image plan a → IsRefusalWith b image plan 14 (start_key image plan) image.entry
 
--- a refusal to make a certificate of this version
+-- a refusal to make a certificate of this format
 abbrev pub IsRefusal : ImageData → PlanData → ℕ → ℕ → Key → ℕ → Type 0
 IsRefusal image plan version = IsRefusalWith (limits_for plan version) image plan
 

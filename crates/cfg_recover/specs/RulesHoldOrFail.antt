@@ -20,7 +20,7 @@ use Rattle.cfg_recover.specs.LocalRules.{LocalHolds}
 use Rattle.cfg_recover.specs.LocalFaults.{IsFaultless}
 use Rattle.cfg_recover.specs.Duties.{Duty, jump, enter, resume, leave, Owed, duties_of}
 
--- the limits with which the rules hold or fail: those of the plan and of the certificate's version
+-- the limits with which the rules hold or fail: those of the plan and of the certificate's format
 abbrev pub limits_in : PlanData → CertData → Limits
 limits_in plan cert = limits_for plan cert.version
 

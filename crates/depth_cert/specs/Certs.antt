@@ -4,7 +4,7 @@ use Rattle.std.specs.List.{All}
 use Rattle.std.specs.List.Sorted.{IsStrictlyIncreasing}
 use Rattle.depth_cert.specs.Nodes.{NodeData, IsNode, count_points, key_numbers}
 
--- a certificate: its version, and its nodes in their order
+-- a certificate: its format, and its nodes in their order
 pub record CertData : Type 0 where
   pub version : ℕ
   pub nodes : List NodeData

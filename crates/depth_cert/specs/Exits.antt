@@ -51,7 +51,7 @@ joined_exit b x y = record { ie = x.ie || y.ie; ccpn = min x.ccpn y.ccpn; lower 
 abbrev pub no_exit : Exit
 no_exit = record { ie = false; ccpn = 0; lower = [] }
 
--- an exit that a certificate of the version can have: values of the 14 lower registers, and a CCPN
+-- an exit that a certificate of the format can have: values of the 14 lower registers, and a CCPN
 pub record IsExit (version : ℕ) (e : Exit) : Type 0 where
   pub lower : length e.lower ≡ 14
   pub values : All (IsWellCertValue version) e.lower

@@ -54,7 +54,7 @@ unfoldable pub span_at : ℕ → ℕ → Place → Place → Result (Val × Plac
 span_at version step start p =
     u32_at p >>= λ lo. u32_at lo.1 >>= λ last. if is_cert_span version lo.0 last.0 step then Ok (Span lo.0 last.0 step, last.1) else field_fault_at 4 start
 
--- a value: any word, a Set within the version's width, or a Span
+-- a value: any word, a Set within the format's width, or a Span
 unfoldable pub value_at : ℕ → Place → Result (Val × Place) FormErr
 value_at version p =
     u8_at p >>= λ b.
@@ -68,7 +68,7 @@ unfoldable pub values_at : ℕ → ℕ → Place → Result (List Val × Place) 
 values_at version n p = many_fields_at (λ before. value_at version) n [] p
 
 -- ---- points
--- a state's locals: how many, at most the version's limit, and a flag for each
+-- a state's locals: how many, at most the format's limit, and a flag for each
 unfoldable pub locals_at : ℕ → Place → Result (List Bool × Place) FormErr
 locals_at version p =
     u8_at p >>= λ n. checked_cert_field 5 (nat_le n.0 (most_locals_of version)) p n >>= λ n. many_fields_at (λ before. flag_at) n.0 [] n.1
@@ -133,7 +133,7 @@ node_after version before p =
 unfoldable pub magic_at : Place → Result (ℕ × Place) FormErr
 magic_at p = u32_at p >>= λ magic. checked_cert_field 2 (magic.0 == 0x43444354) p magic
 
--- the version, 1 or 2
+-- the format, 1 or 2
 unfoldable pub version_at : Place → Result (ℕ × Place) FormErr
 version_at p = u16_at p >>= λ version. checked_cert_field 2 (version.0 == 1 || version.0 == 2) p version
 
@@ -141,7 +141,7 @@ version_at p = u16_at p >>= λ version. checked_cert_field 2 (version.0 == 1 || 
 unfoldable pub node_count_at : Place → Result (ℕ × Place) FormErr
 node_count_at p = u16_at p >>= λ n. checked_cert_field 5 (nat_le n.0 2048) p n
 
--- a certificate: the magic bytes, the version, and the nodes
+-- a certificate: the magic bytes, the format, and the nodes
 unfoldable pub cert_at : Place → Result (CertData × Place) FormErr
 cert_at p =
     magic_at p >>= λ magic. version_at magic.1 >>= λ version. node_count_at version.1 >>= λ n. many_fields_at (node_after version.0) n.0 [] n.1 >>= λ nodes.

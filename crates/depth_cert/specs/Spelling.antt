@@ -41,6 +41,6 @@ unfoldable pub bytes_of_node : NodeData → List ℕ
 bytes_of_node n =
     bytes_of_key n.key ++ (bytes_of_half n.need ++ (bytes_of_exit n.exit ++ (bytes_of_word (length n.points) ++ flat_map bytes_of_point n.points)))
 
--- the magic word, the version, the number of nodes and the nodes
+-- the magic word, the format, the number of nodes and the nodes
 unfoldable pub bytes_of_cert : CertData → List ℕ
 bytes_of_cert c = bytes_of_word 0x43444354 ++ (bytes_of_half c.version ++ (bytes_of_half (length c.nodes) ++ flat_map bytes_of_node c.nodes))

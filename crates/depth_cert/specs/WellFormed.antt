@@ -1,4 +1,4 @@
--- What is known within the limits of a version.
+-- What is known within the limits of a format.
 use Rattle.std.specs.Prelude.{◌≡◌, ◌≤◌, length}
 use Rattle.value_domain.specs.declared.states.State.{State}
 use Rattle.value_domain.specs.Limits.{Limits}
@@ -6,8 +6,7 @@ use Rattle.value_domain.specs.State.{AreValues}
 use Rattle.depth_cert.specs.declared.points.Exit.{Exit}
 use Rattle.depth_cert.specs.Known.{Known, leaving, state}
 
--- a state at the limits: 27 values of the plan's lattice, and no more locals than the version
--- allows
+-- a state at the limits: 27 values of the plan's lattice, and no more locals than the format allows
 pub record IsWellFormedState (b : Limits) (s : State) : Type 0 where
   pub regs : length s.regs ≡ 27
   pub values : AreValues b s.regs

@@ -24,7 +24,7 @@ pub fn read_magic(c: &mut FileCursor<'_>) -> Result<u32, FormErr>
     Ok(magic)
 }
 
-/// Reads the version, 1 or 2.
+/// Reads the format, 1 or 2.
 #[tactic(auto, unfolding(crate::specs::Grammar::version_at))]
 pub fn read_version(c: &mut FileCursor<'_>) -> Result<u8, FormErr>
     ensures read { ReadsField result c.old c.new version_at }

@@ -7,7 +7,7 @@ use crate::value_reader::read_flag;
 use arrayvec::ArrayVec;
 use tcd_base::{ABOVE_LIMIT, BAD_ORDER, FileCursor, FormErr, form_err_at, read_u8, read_u32};
 
-/// Reads a list of flags: their number, at most 4 in version 1 and 8 in version 2, and each flag.
+/// Reads a list of flags: their number, at most 4 in format 1 and 8 in format 2, and each flag.
 #[tactic(auto, unfolding(crate::specs::Grammar::locals_at))]
 pub fn read_locals(c: &mut FileCursor<'_>, version: u8) -> Result<ArrayVec<bool, 8>, FormErr>
     ensures ok { IfOk result (λ l. locals_at version c.old ≡ Ok (l.items, c.new)) }

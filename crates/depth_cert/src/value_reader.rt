@@ -51,7 +51,7 @@ fn read_set<const N: usize>(c: &mut FileCursor<'_>, n: usize, out: &mut Val) -> 
     Ok(())
 }
 
-/// Reads a value of a version in place, or returns its first fault.
+/// Reads a value of a format in place, or returns its first fault.
 #[tactic(auto, unfolding(crate::specs::Grammar::value_at))]
 pub fn read_value(c: &mut FileCursor<'_>, version: u8, out: &mut Val) -> Result<(), FormErr>
     ensures ok { OnOk result (value_at version c.old ≡ Ok (out.new, c.new)) }
@@ -149,7 +149,7 @@ fn read_span(
     Ok(())
 }
 
-/// Returns true if a certificate of the version spells these ends and this step as a Span.
+/// Returns true if a certificate of the format spells these ends and this step as a Span.
 fn is_cert_span(version: u8, lo: u32, last: u32, step: u8) -> bool
     requires { step ≤ 2 }
     ensures { result ≡ is_cert_span version lo last step }

@@ -18,7 +18,7 @@ use Rattle.cfg_recover.specs.Entries.{start_state}
 use Rattle.cfg_recover.proofs.FlowStates.{entry_values}
 use Rattle.depth_check.proofs.RuleLaws.{values_well}
 
--- the limits of any version
+-- the limits of any format
 pub limits_are : (plan : PlanData) (version : ℕ) → AreLimits (limits_for plan version)
 limits_are plan version =
     elim (cases_Bool (version == 1)) [

@@ -53,7 +53,7 @@ use Rattle.depth_maker.proofs.Sizes.{decides}
 use Rattle.depth_maker.proofs.TableLaws.{derived_well_formed}
 
 -- ---- values
--- a value at the limits is one that certificates of the version may have
+-- a value at the limits is one that certificates of the format may have
 pub well_of : (plan : PlanData) (version : ℕ) (v : Val) → IsValue (limits_for plan version) v → IsWellCertValue version v
 well_of plan version (Set ws) is = let well = is.well in (well, (set_value (limits_for plan version) ws well).1 is)
 well_of plan version (Span lo last step) is = let well = is.well in (well.0, span_count (limits_for plan version) lo last step is, well.2)

@@ -17,18 +17,18 @@ use Rattle.depth_maker.specs.SpotsAsPlaces.{place_of_spot}
 use Rattle.depth_cert.specs.Certs.{CertData, IsCert}
 use Rattle.cfg_recover.specs.RulesHoldOrFail.{Accepts}
 
--- answer of the maker when it refuses: no certificate of this version is accepted
+-- answer of the maker when it refuses: no certificate of this format is accepted
 abbrev pub NoneAccepted : ImageData → PlanData → ℕ → Type 0
 NoneAccepted image plan version = (cert : CertData) → IsCert cert → cert.version ≡ version → Accepts image plan cert → ⊥
 
 -- a refusal by the maker: it names a fault, or that too many areas are needed, and no certificate
--- of the version is accepted
+-- of the format is accepted
 abbrev pub IsRefused : ImageData → PlanData → ℕ → MakeErr → Type 0
 IsRefused image plan version (Refused rule key addr) = IsRefusal image plan version rule key addr × NoneAccepted image plan version
 IsRefused image plan version NoMemory = Unit {0}
 
 -- ---- by the types of the code
--- the ground of the maker's answer has the limits of this certificate version
+-- the ground of the maker's answer has the limits of this certificate format
 abbrev pub IsGroundOf : Ground → ℕ → Type 0
 IsGroundOf g version = g.bounds.now ≡ limits_for g.plan.now version
 
@@ -38,11 +38,11 @@ Refuses g (Refused rule key addr) = IsRefusalWith g.bounds.now g.image.now g.pla
 Refuses g NoMemory = Unit {0}
 
 -- what the maker returns for its image and plan is right: the bytes spell the least certificate of
--- this version
+-- this format
 abbrev pub AreMadeOn : Ground → ℕ → List ℕ → Type 0
 AreMadeOn g version bytes = AreMade g.image.now g.plan.now version bytes
 
--- the refusal holds, and no certificate of the version is accepted
+-- the refusal holds, and no certificate of the format is accepted
 abbrev pub IsRefusedOn : Ground → ℕ → MakeErr → Type 0
 IsRefusedOn g version e = IsRefused g.image.now g.plan.now version e
 

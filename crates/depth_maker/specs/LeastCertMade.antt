@@ -39,7 +39,7 @@ pub record AreLeastNeeds (b : Limits) (image : ImageData) (plan : PlanData) (a :
   pub least : (other : Key → ℕ) → MeetsNeeds b image plan a other → (k : Key) → need k ≤ other k
 
 -- the least certificate, which is to be made: it is accepted, and its assignment and its needs are
--- the least of its version
+-- the least of its format
 pub record IsMade (image : ImageData) (plan : PlanData) (version : ℕ) (cert : CertData) : Type 0 where
   pub of_version : cert.version ≡ version
   pub accepted : Accepts image plan cert
@@ -47,7 +47,7 @@ pub record IsMade (image : ImageData) (plan : PlanData) (version : ℕ) (cert : 
   pub needs : AreLeastNeeds (limits_for plan version) image plan (known_in cert) (needs_in cert)
   pub best : (other : CertData) → IsCert other → other.version ≡ version → Accepts image plan other → IsNoWorse image plan cert other
 
--- a made certificate is the least: it is accepted, and each accepted one of its version covers its
+-- a made certificate is the least: it is accepted, and each accepted one of its format covers its
 -- points and exits and has no lesser need of a frame
 pub record IsLeastAccepted (image : ImageData) (plan : PlanData) (version : ℕ) (cert : CertData) : Type 0 where
   pub its_version : cert.version ≡ version

@@ -95,7 +95,7 @@ pub record AreMakerLaws (b : Limits) (image : ImageData) (plan : PlanData) : Typ
       → Covers (state_after_exit t y kind) (state_after_exit s x kind)
   pub after_well_formed : (s : State) (x : Exit) (kind : ℕ) → IsWellFormedState b s → IsWellFormedExit b x → IsWellFormedState b (state_after_exit s x kind)
 
--- law of the maker: if it refuses at a place, each certificate of the version is refused
+-- law of the maker: if it refuses at a place, each certificate of the format is refused
 abbrev pub RefusalsHold : Type 0
 RefusalsHold =
     (image : ImageData) (plan : PlanData) (version rule : ℕ) (key : Key) (addr : ℕ) (cert : CertData) → IsRefused image plan version (Refused rule key addr)
@@ -107,7 +107,7 @@ WrittenIsMade =
     (image : ImageData) (plan : PlanData) (version : ℕ) (cert : CertData) → IsGround (limits_for plan version) image plan → image.entry < 2 ^ 32
     → IsWritten image plan version cert → IsMade image plan version cert
 
--- law of the maker: if one of its refusals holds, no certificate of the version is accepted
+-- law of the maker: if one of its refusals holds, no certificate of the format is accepted
 abbrev pub RefusedIsNone : Type 0
 RefusedIsNone =
     (image : ImageData) (plan : PlanData) (version r : ℕ) (k : Key) (p : ℕ) → IsGround (limits_for plan version) image plan → image.entry < 2 ^ 32

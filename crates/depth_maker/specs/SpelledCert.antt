@@ -65,7 +65,7 @@ pub record HasSpelledCcpns (n : NodeData) : Type 0 where
 
 -- ---- by the types of the code
 
--- the limits are those of the version
+-- the limits are those of the format
 abbrev pub IsSpelledVersion : Source → ℕ → Type 0
 IsSpelledVersion s version = (s.ground.now).bounds.now ≡ limits_for (s.ground.now).plan.now version
 

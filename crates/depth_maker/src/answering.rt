@@ -53,7 +53,7 @@ impl From<tcd_base::NoMemory> for MakeErr {
     }
 }
 
-/// Returns the least certificate of version 1 or 2 that the rules accept, or why none is accepted.
+/// Returns the least certificate of format 1 or 2 that the rules accept, or why none is accepted.
 pub fn make(alloc: Global, image: &Image, plan: &Plan, version: u8) -> Result<Cert, MakeErr>
     requires { (version ≡ 1) ⊎ (version ≡ 2) }
     ensures made { IfOk result (IsMade image.now plan.now version) }
@@ -67,7 +67,7 @@ pub fn make(alloc: Global, image: &Image, plan: &Plan, version: u8) -> Result<Ce
     }
 }
 
-/// Returns the bytes of the least certificate of version 1 or 2 that the rules accept, or why none
+/// Returns the bytes of the least certificate of format 1 or 2 that the rules accept, or why none
 /// is accepted.
 fn make_bytes(alloc: Global, image: &Image, plan: &Plan, version: u8) -> Result<Vec<u8>, MakeErr>
     requires { (version ≡ 1) ⊎ (version ≡ 2) }

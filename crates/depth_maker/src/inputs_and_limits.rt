@@ -7,7 +7,7 @@ use elf_image::Image;
 use tcd_plan::Plan;
 use value_domain::{Bounds, State};
 
-/// An image and a plan, with the limits of values of one version.
+/// An image and a plan, with the limits of values of one format.
 #[derive(Drop)]
 pub(crate) struct Ground<'a> {
     pub(crate) bounds: &'a Bounds,

@@ -42,8 +42,8 @@ pub fn accepted_laws()
 {}
 
 /// A certificate of a derived closed assignment without faults, with the least needs, is the one to
-/// make. It is accepted, and no accepted certificate of its version is less. If a refusal holds, no
-/// certificate of the version is accepted.
+/// make. It is accepted, and no accepted certificate of its format is less. If a refusal holds, no
+/// certificate of the format is accepted.
 pub fn making_laws()
     ensures made { WrittenIsMade }
     ensures refused { RefusedIsNone }

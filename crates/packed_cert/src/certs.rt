@@ -66,7 +66,7 @@ impl Cert {
         self.bytes
     }
 
-    /// Returns the version, 1 or 2. A certificate keeps the order and the limits.
+    /// Returns the format, 1 or 2. A certificate keeps the order and the limits.
     pub fn version(&self) -> u8
         ensures version { result ≡ self.now.version }
         ensures limits { IsCert self.now }

@@ -82,7 +82,7 @@ impl<'a> ExitAt<'a> {
         }
     }
 
-    /// Returns true if its values are those of the plan and the version.
+    /// Returns true if its values are those of the plan and the format.
     pub fn are_values(&self, b: &Bounds) -> bool
         ensures { IsTrue result ↔ AreValues b.now self.now.lower }
     {

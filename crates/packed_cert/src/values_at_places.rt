@@ -35,7 +35,7 @@ pub(crate) fn is_below_value_at(v: &Val, bytes: &[u8], version: u8, place: usize
     }
 }
 
-/// Returns true if each of the `n` values from a place on is one of the plan and the version.
+/// Returns true if each of the `n` values from a place on is one of the plan and the format.
 pub(crate) fn are_values_at(b: &Bounds, bytes: &[u8], version: u8, place: usize, n: usize) -> bool
     requires { HaveValuesInBytes version bytes.now place n }
     ensures { IsTrue result ↔ AreValues b.now (values_in version bytes.now place n) }
@@ -131,7 +131,7 @@ fn has_words_at(v: &Val, bytes: &[u8], place: usize, n: usize) -> bool
     true
 }
 
-/// Returns true if the value at a place is one of the plan and the version.
+/// Returns true if the value at a place is one of the plan and the format.
 #[inline(never)]
 fn is_value_at(b: &Bounds, bytes: &[u8], version: u8, place: usize) -> bool
     requires { HasValueInBytes version bytes.now place }

@@ -160,7 +160,7 @@ accepted_of i p c accepted =
     let n = a_node (find_node (start_key i p) c.nodes) (λ n. HasPoint n i.entry (start_state p)) accepted.start in
     record { accepted = accepted; start = n.0; start_is = n.1; need_is = ap need_of n.1 }
 
--- the certificate that is made for a version is the least of this version
+-- the certificate that is made for a format is the least of this format
 pub least_of : (i : ImageData) (p : PlanData) (version : ℕ) (c : CertData) → IsCert c → IsMade i p version c → IsLeastOfItsVersion i p c
 least_of i p version c is_cert h = record {
   is_cert = is_cert;

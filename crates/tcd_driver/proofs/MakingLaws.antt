@@ -20,12 +20,12 @@ use Rattle.tcd_reading.specs.declared.status.Status.TheVariants.{Done, Refused}
 use Rattle.tcd_reading.proofs.Decided.{AreAlike, status_is, writes_are}
 use Rattle.tcd_reading.proofs.Told.{told_more}
 
--- if no certificate of version 1 and none of version 2 is accepted, no certificate is the best
+-- if no certificate of format 1 and none of format 2 is accepted, no certificate is the best
 pub none_best : (i : ImageData) (p : PlanData) (c : CertData) → NoneAccepted i p 1 → NoneAccepted i p 2 → IsCert c → IsBestCert i p c → ⊥
 none_best i p c one two is (first m) = one c is m.of_version m.accepted
 none_best i p c one two is (second none m) = two c is m.of_version m.accepted
 
--- the least certificate of a version, if it is the best one
+-- the least certificate of a format, if it is the best one
 pub best_least : (i : ImageData) (p : PlanData) (version : ℕ) (c : CertData) (need : ℕ) → IsBestCert i p c → IsLeastWithNeed i p version c need → IsAcceptedBestCert i p c × (need ≡ certified_need i p c)
 best_least i p version c need best least = (
   record {
@@ -37,7 +37,7 @@ best_least i p version c need best least = (
   least.need_is,
 )
 
--- if none of version 1 is accepted, what is made of version 2 is the best certificate
+-- if none of format 1 is accepted, what is made of format 2 is the best certificate
 pub best_second : (i : ImageData) (p : PlanData) (r : Result (CertData × ℕ) MakeErr) → NoneAccepted i p 1 → MakesLeastCert i p 2 r → MakesBestCert i p r
 best_second i p (Ok made) none h = best_least i p 2 made.0 made.1 (second none h.made) h
 best_second i p (Err (make_err.Refused rule key addr)) none h = record { first = none; second = h.1; why = h.0 }

@@ -16,13 +16,13 @@ use Rattle.tcd_reading.specs.declared.status.Status.TheVariants.{Refused}
 use Rattle.tcd_forms.specs.Lines.{refused_line}
 use Rattle.cfg_recover.specs.Assignments.{IsBelowAt, known_in}
 
--- the best certificate: the least of version 1, or the least of version 2 if none of version 1 is
+-- the best certificate: the least of format 1, or the least of format 2 if none of format 1 is
 -- accepted
 pub data IsBestCert (image : ImageData) (plan : PlanData) (cert : CertData) : Type 0 where
   first : IsMade image plan 1 cert → IsBestCert image plan cert
   second : NoneAccepted image plan 1 → IsMade image plan 2 cert → IsBestCert image plan cert
 
--- the best certificate for an image and a plan, of version 1 or 2: it is accepted, so that every
+-- the best certificate for an image and a plan, of format 1 or 2: it is accepted, so that every
 -- run is safe with its need
 pub record IsAcceptedBestCert (image : ImageData) (plan : PlanData) (cert : CertData) : Type 0 where
   pub is_cert : IsCert cert
@@ -30,34 +30,34 @@ pub record IsAcceptedBestCert (image : ImageData) (plan : PlanData) (cert : Cert
   pub accepted : Accepts image plan cert
   pub safe : Safe image plan (certified_need image plan cert)
 
--- no certificate of either version is accepted, and this is why none of version 2 is
+-- no certificate of either format is accepted, and this is why none of format 2 is
 pub record HaveNoBestCert (image : ImageData) (plan : PlanData) (rule : ℕ) (key : Key) (addr : ℕ) : Type 0 where
   pub first : NoneAccepted image plan 1
   pub second : NoneAccepted image plan 2
   pub why : IsRefusal image plan 2 rule key addr
 
--- the best certificate is the least of its version: no accepted one of that version states a lesser
+-- the best certificate is the least of its format: no accepted one of that format states a lesser
 -- need of a frame, or less of what is known at a point
 pub record IsLeastOfItsVersion (image : ImageData) (plan : PlanData) (cert : CertData) : Type 0 where
   pub is_cert : IsCert cert
   pub needs : (other : CertData) (frame : Key) → IsCert other → other.version ≡ cert.version → Accepts image plan other → needs_in cert frame ≤ needs_in other frame
   pub states : (other : CertData) → IsCert other → other.version ≡ cert.version → Accepts image plan other → IsBelowAt (known_in cert) (known_in other)
 
--- why an image and a plan have no best certificate: none of either version is accepted, and this is
--- why none of version 2 is
+-- why an image and a plan have no best certificate: none of either format is accepted, and this is
+-- why none of format 2 is
 pub record NoneIsAccepted (image : ImageData) (plan : PlanData) (rule : ℕ) (frame : Key) (address : ℕ) : Type 0 where
   pub each : (cert : CertData) → IsCert cert → Accepts image plan cert → ⊥
   pub why : IsRefusal image plan 2 rule frame address
 
 -- ---- by the values in the code
--- the least certificate of a version, which was checked, and its need
+-- the least certificate of a format, which was checked, and its need
 pub record IsLeastWithNeed (image : ImageData) (plan : PlanData) (version : ℕ) (cert : CertData) (need : ℕ) : Type 0 where
   pub is_cert : IsCert cert
   pub made : IsMade image plan version cert
   pub safe : Safe image plan need
   pub need_is : need ≡ certified_need image plan cert
 
--- the result of making the least certificate of a version
+-- the result of making the least certificate of a format
 abbrev pub MakesLeastCert : ImageData → PlanData → ℕ → Result (CertData × ℕ) MakeErr → Type 0
 MakesLeastCert image plan version (Ok made) = IsLeastWithNeed image plan version made.0 made.1
 MakesLeastCert image plan version (Err e) = IsRefused image plan version e

@@ -98,7 +98,7 @@ pub record IsAcceptedWithNeed (image : ImageData) (plan : PlanData) (cert : Cert
   pub need_is : need ≡ start.need
 
 -- What headlines say of a made certificate: it is accepted, each run is safe with its need, and its
--- bytes read back as it. It is the least of its version, 2 only if each of 1 is refused.
+-- bytes read back as it. It is the least of its format, 2 only if each of 1 is refused.
 pub record IsBestWithNeed (image : ImageData) (plan : PlanData) (cert : CertData) (need : ℕ) : Type 0 where
   pub accepted : IsAcceptedWithNeed image plan cert need
   pub safe : Safe image plan need

@@ -36,12 +36,12 @@ pub record TaskcertNames : Type 0 where
 
 -- ---- one task
 
--- each certificate of version 2 that is accepted for a view fails K17
+-- each certificate of format 2 that is accepted for a view fails K17
 abbrev pub NoneKeepsTaskApart : ImageData → PlanData → TasksData → Type 0
 NoneKeepsTaskApart view plan tasks =
     (cert : CertData) → IsCert cert → cert.version ≡ 2 → Accepts view plan cert → KeepsApart view plan tasks cert → ⊥
 
--- `taskcert` has no certificate for a view: none of version 2 is accepted, for this reason; or each
+-- `taskcert` has no certificate for a view: none of format 2 is accepted, for this reason; or each
 -- accepted one fails K17, and this is the first place at which the least one does
 pub data IsTaskUncertified (view : ImageData) (plan : PlanData) (tasks : TasksData) : ℕ → Key → ℕ → Type 0 where
   unaccepted : (rule : ℕ) (key : Key) (addr : ℕ) → NoneAccepted view plan 2 → IsRefusal view plan 2 rule key addr → IsTaskUncertified view plan tasks rule key addr
@@ -49,14 +49,14 @@ pub data IsTaskUncertified (view : ImageData) (plan : PlanData) (tasks : TasksDa
       (cert : CertData) (key : Key) (addr : ℕ) → IsCert cert → IsMade view plan 2 cert → IsTaskFault view plan tasks cert key addr → NoneKeepsTaskApart view plan tasks
       → IsTaskUncertified view plan tasks 17 key addr
 
--- this is the least certificate of version 2 that is accepted for the task's view, and it is judged
+-- this is the least certificate of format 2 that is accepted for the task's view, and it is judged
 -- well
 pub record IsTaskCertMade (image : ImageData) (plan : PlanData) (tasks : TasksData) (u : ℕ) (cert : CertData) : Type 0 where
   pub made : IsMade (view_image_of image tasks u) (view_plan_of plan tasks u) 2 cert
   pub judged : IsJudged image plan tasks cert u
 
 -- ---- all tasks
--- the certificates that `taskcert` has made, those of the first tasks: each is the least of version
+-- the certificates that `taskcert` has made, those of the first tasks: each is the least of format
 -- 2 for its task's view, and judged well
 abbrev pub AreTasksMade : ImageData → PlanData → TasksData → List CertData → Type 0
 AreTasksMade image plan tasks certs = (u : ℕ) → u < length certs → IsTaskCertMade image plan tasks u (cert_of_task certs u)

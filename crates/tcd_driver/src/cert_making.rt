@@ -12,7 +12,7 @@ use tcd_forms::refused_line;
 use tcd_plan::Plan;
 use tcd_reading::{Outcome, Report, Status, Stop};
 
-/// Makes the least certificate of version 1 or 2, and checks it. Returns it with its need, or why
+/// Makes the least certificate of format 1 or 2, and checks it. Returns it with its need, or why
 /// none is accepted.
 pub(crate) fn make_least_cert(
     alloc: Global,
@@ -24,7 +24,7 @@ pub(crate) fn make_least_cert(
     ensures { MakesLeastCert image.now plan.now version result }
 {
     let cert = make(alloc, image, plan, version)?;
-    // What holds of every certificate is known after its version is read.
+    // What holds of every certificate is known after its format is read.
     let _version = cert.version();
     match check(image, plan, &cert) {
         Verdict::Yes(need) => Ok((cert, need)),
@@ -32,8 +32,8 @@ pub(crate) fn make_least_cert(
     }
 }
 
-/// Makes the least certificate of version 1, or of version 2 if none of version 1 is accepted, and
-/// checks it. Returns it with its need, or why none of version 2 is accepted.
+/// Makes the least certificate of format 1, or of format 2 if none of format 1 is accepted, and
+/// checks it. Returns it with its need, or why none of format 2 is accepted.
 pub(crate) fn make_best_cert(
     alloc: Global,
     image: &Image,

@@ -4,7 +4,7 @@ use packed_cert::Cert;
 use tcd_plan::Plan;
 use value_domain::Bounds;
 
-/// A certificate with its image and its plan, and the limits on values in its version.
+/// A certificate with its image and its plan, and the limits on values in its format.
 #[derive(Drop)]
 pub(crate) struct Judged<'a> {
     pub(crate) bounds: &'a Bounds,

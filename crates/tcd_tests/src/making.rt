@@ -1,4 +1,4 @@
-//! Certificates that are made, in both versions.
+//! Certificates that are made, in both formats.
 use crate::asserts::{is_so, same};
 use crate::boards::{Edit, INTERRUPTS, board};
 use crate::programs::{CALLER, DISPATCH, FIVE_LOCALS, NESTED, Program, image};
@@ -71,7 +71,7 @@ fn a_table_of_functions_has_its_targets(rt: HostRuntime) -> Result<(), Fail> {
     Ok(())
 }
 
-// Five locals are too many for the first version.
+// Five locals are too many for format 1.
 #[test]
 fn five_locals_want_the_second_version(rt: HostRuntime) -> Result<(), Fail> {
     let edits = [

@@ -1,4 +1,4 @@
-// Cases of certificates that are checked: needs, handlers, tables, values, cores and versions.
+// Cases of certificates that are checked: needs, handlers, tables, values, cores and formats.
 use crate::stage::play;
 use std::test::Fail;
 

@@ -180,7 +180,7 @@ pub fn is_extent_inside(e: &Extent, lo: u32, last: u32, step: u8) -> bool
     lo <= e.least && e.greatest <= last && step <= e.step
 }
 
-/// Returns true if a value is in the lattice of a plan's thresholds and a version's limits.
+/// Returns true if a value is in the lattice of a plan's thresholds and a format's limits.
 pub fn is_value(b: &Bounds, v: &Val) -> bool
     ensures { IsTrue result ↔ IsValue b.now v.now }
 {
@@ -412,7 +412,7 @@ fn is_span_below_set(lo: u32, last: u32, step: u8, words: &[u32]) -> bool
     true
 }
 
-/// Returns true if this Span is in the lattice of a plan's thresholds and a version's limits.
+/// Returns true if this Span is in the lattice of a plan's thresholds and a format's limits.
 fn is_span_value(b: &Bounds, lo: u32, last: u32, step: u8) -> bool
     ensures { IsTrue result ↔ IsValue b.now (Span lo last step) }
 {

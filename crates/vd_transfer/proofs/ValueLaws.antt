@@ -1,4 +1,4 @@
--- The value of an operation is one of the plan and the version.
+-- The value of an operation is one of the plan and the format.
 use Rattle.std.proofs.Common.{◌≡◌, ℕ, ◌+◌, ◌%◌, ◌^◌, ◌<◌, ◌≤◌, inl, inr, Bool, true, false, not, List, [], ◌∷◌, ◌++◌, get_or, sym, arith, min, max, subst, bit_and, bit_or, bit_xor, ltb, leb, eqb}
 use Rattle.std.proofs.lemmas.Bool.{cases_lt, lt-ltb, le-ltb, le-leb, lt-leb}
 use Rattle.std.proofs.lemmas.Nat.{or_of_32, xor_of_32}

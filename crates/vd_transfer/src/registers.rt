@@ -81,8 +81,7 @@ pub(crate) fn fixed_register_value(plan: &Plan, r: u8) -> Val
     Val::one(plan.globals[i])
 }
 
-/// Returns the value of a register, which is one of the plan's lattice at the limits of the
-/// version.
+/// Returns the value of a register, which is one of the plan's lattice at the limits of the format.
 #[inline(always)]
 pub(crate) fn reg_value(b: &Bounds, plan: &Plan, s: &State, r: u8) -> Val
     requires register { r < 32 }

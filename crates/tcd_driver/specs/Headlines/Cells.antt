@@ -69,7 +69,7 @@ pub record RefusalByCells (elf_name plan_name cells_name cert_name : List ℕ) (
   pub prints : printed ≡ refused_words rule frame address
   pub stays : after ≡ before
 
--- `cellcert` is done: CERT now holds such a certificate, the least of version 2 under the plan in
+-- `cellcert` is done: CERT now holds such a certificate, the least of format 2 under the plan in
 -- which the cells are devices.
 pub record HeadlineOfCellcert (elf_name plan_name cells_name cert_name : List ℕ) (before after : FileMap) (printed : List ℕ) : Type 0 where
   pub image : ImageData
@@ -85,7 +85,7 @@ pub record HeadlineOfCellcert (elf_name plan_name cells_name cert_name : List �
   pub writes : IsOnlyFileWritten before after cert_name (bytes_of_cert cert)
   pub prints : printed ≡ cells_words need (plan.areas - plan.reserve) (length list)
 
--- in the headline of a refusal by `cellcert`: by each accepted certificate of version 2 a store may
+-- in the headline of a refusal by `cellcert`: by each accepted certificate of format 2 a store may
 -- leave a cell's bounds, and here is the first such store by the least one
 pub record NoneKeepsCellBounds (image : ImageData) (plan : PlanData) (list : List Cell) (frame : Key) (address : ℕ) : Type 0 where
   pub each : (other : CertData) → IsCert other → other.version ≡ 2 → Accepts image (with_cells plan list) other → KeepsCells image (with_cells plan list) list other → ⊥
@@ -95,7 +95,7 @@ pub record NoneKeepsCellBounds (image : ImageData) (plan : PlanData) (list : Lis
   pub least : IsLeastOfItsVersion image (with_cells plan list) cert
   pub first : IsFirstBreak image (with_cells plan list) list cert frame address
 
--- `cellcert` refuses: no certificate of version 2 is accepted, and this is why. Or none that is
+-- `cellcert` refuses: no certificate of format 2 is accepted, and this is why. Or none that is
 -- accepted keeps the cells' bounds (K16).
 pub record RefusalByCellcert (elf_name plan_name cells_name : List ℕ) (before after : FileMap) (printed : List ℕ) : Type 0 where
   pub image : ImageData

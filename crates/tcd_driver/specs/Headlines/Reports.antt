@@ -75,7 +75,7 @@ gen_words functions nodes points need areas =
     ++ (decimal points ++ (codes " certified " ++ (decimal need ++ (codes " of " ++ (decimal areas ++ (codes " areas" ++ 10 ∷ []))))))))))
 
 -- `gen` has reported on a generated image and its plan: the line counts the least certificate of
--- version 1, and every run of the image is safe with its need.
+-- format 1, and every run of the image is safe with its need.
 pub record HeadlineOfGen (word : List ℕ) (before after : FileMap) (printed : List ℕ) : Type 0 where
   pub functions : ℕ
   pub cert : CertData
@@ -88,7 +88,7 @@ pub record HeadlineOfGen (word : List ℕ) (before after : FileMap) (printed : L
   pub prints : printed ≡ gen_words functions (length cert.nodes) (count_points cert.nodes) need (generated_plan.areas - generated_plan.reserve)
   pub stays : after ≡ before
 
--- `gen`, which only reports, refuses: no certificate of version 1 is accepted for the generated
+-- `gen`, which only reports, refuses: no certificate of format 1 is accepted for the generated
 -- image, and this is why.
 pub record RefusalByGen (word : List ℕ) (before after : FileMap) (printed : List ℕ) : Type 0 where
   pub functions : ℕ

@@ -127,14 +127,14 @@ HoldTaskCerts m [] (cert ∷ certs) = ⊥
 HoldTaskCerts m (name ∷ names) [] = ⊥
 HoldTaskCerts m (name ∷ names) (cert ∷ certs) = (get m name ≡ Some (bytes_of_cert cert)) × HoldTaskCerts m names certs
 
--- what the headline of `taskcert` says of a certificate: it is the least of version 2 for task u's
+-- what the headline of `taskcert` says of a certificate: it is the least of format 2 for task u's
 -- view, and its bytes read back as it
 pub record IsLeastForTask (image : ImageData) (plan : PlanData) (list : TasksData) (u : ℕ) (cert : CertData) : Type 0 where
   pub version : cert.version ≡ 2
   pub least : IsLeastOfItsVersion (view_image_of image list u) (view_plan_of plan list u) cert
   pub reads : certificate_of (bytes_of_cert cert) ≡ Ok cert
 
--- `taskcert` is done: the CERT names now hold such certificates, each the least of version 2. Each
+-- `taskcert` is done: the CERT names now hold such certificates, each the least of format 2. Each
 -- other name holds what it held.
 pub record HeadlineOfTaskcert (elf_name plan_name tasks_name : List ℕ) (cert_names : List (List ℕ)) (before after : FileMap) (printed : List ℕ) : Type 0 where
   pub image : ImageData
@@ -149,7 +149,7 @@ pub record HeadlineOfTaskcert (elf_name plan_name tasks_name : List ℕ) (cert_n
   pub others : (other : List ℕ) → All (λ name. other ≢ name) cert_names → get after other ≡ get before other
   pub prints : printed ≡ certified_tasks_words (sum_over_chains (count list) needs) (plan.areas - plan.reserve) (count list)
 
--- In the headlines of tasks: no certificate of version 2 is accepted for the view, for this reason;
+-- In the headlines of tasks: no certificate of format 2 is accepted for the view, for this reason;
 -- or each accepted one fails K17, and here the least one fails it.
 pub data NoCertForTask (view : ImageData) (plan : PlanData) (list : TasksData) : ℕ → Key → ℕ → Type 0 where
   unaccepted : (rule : ℕ) (frame : Key) (address : ℕ) → NoneAccepted view plan 2 → IsRefusal view plan 2 rule frame address → NoCertForTask view plan list rule frame address

@@ -47,7 +47,7 @@ fn cells_verdict(alloc: Global, image: &Image, plan: &Plan, cells: &Cells, cert:
     requires { AreCells plan.now cells.now }
     ensures { IsToldOutcome (IsCellsVerdict image.now plan.now cells.now cert.now) ⊥ result }
 {
-    // What holds of every certificate is known after its version is read.
+    // What holds of every certificate is known after its format is read.
     let _version = cert.version();
     match check(image, &with_cells(plan, cells), cert) {
         Verdict::Yes(need) => match cells_fault(image, plan, cells, cert) {

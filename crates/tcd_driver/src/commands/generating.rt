@@ -39,7 +39,7 @@ pub(crate) fn certify_generated_image(alloc: Global, functions: u32) -> Outcome
     }
 }
 
-/// Makes the least certificate of version 1 of a generated image, and reports the numbers of its
+/// Makes the least certificate of format 1 of a generated image, and reports the numbers of its
 /// nodes and points.
 fn report_generated_image(alloc: Global, functions: u32, image: &Image, plan: &Plan) -> Outcome
     ensures { IsToldOutcome (IsGenReport functions image.now plan.now) ⊥ result }

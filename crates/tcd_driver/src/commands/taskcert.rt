@@ -120,7 +120,7 @@ fn make_each_task_cert(
     Ok((writes, sum))
 }
 
-// Makes the least certificate of version 2 for a task's view, and checks that it keeps K17.
+// Makes the least certificate of format 2 for a task's view, and checks that it keeps K17.
 fn make_task_cert(
     alloc: Global,
     image: &Image,
@@ -153,7 +153,7 @@ fn add_task_cert_file(
     Ok(())
 }
 
-/// Makes the least certificate of version 2 of a task's view, and checks that it keeps K17.
+/// Makes the least certificate of format 2 of a task's view, and checks that it keeps K17.
 fn make_task_view_cert(
     alloc: Global,
     view: &Image,

@@ -215,7 +215,7 @@ fn judge_task(
     ensures { IfOk result (JudgesTask image.now plan.now tasks.now cert.now u) }
 {
     // What holds of plans and tasks is known after they are read, and what holds of certificates
-    // after their version is read.
+    // after their format is read.
     let _areas = plan.areas;
     let _switch = tasks.switch;
     let _version = cert.version();
