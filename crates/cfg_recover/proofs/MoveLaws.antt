@@ -141,7 +141,7 @@ loads_hold : (b : Limits) (image : ImageData) (plan : PlanData) (at : Val) (size
 loads_hold b image plan (Set ws) size signed ok well = set_sound b image plan ws size signed ok
 loads_hold b image plan (Span lo last step) size signed ok well = span_sound b image plan (Span lo last step) size signed ok well
 
--- the load at pc is answered by its device
+-- the load at pc is answered by its peripheral
 answered : (plan : PlanData) (m : Machine) (e : Event) (shape : Shape) (n : ℕ) → Fits plan m e → is_taken m e ≡ false → fetched m ≡ Ok (shape, n) → AnswersLoad plan e.input (load_in m (Ok (shape, n)))
 answered plan m e shape n fits none at = subst (λ f. AnswersLoad plan e.input (load_in m f)) at (fits.answers none)
 

@@ -1,4 +1,4 @@
--- A store in one ram range or one device range keeps rom, the save areas and what is mapped.
+-- A store in one ram range or one peripheral range keeps rom, the save areas and what is mapped.
 use Rattle.std.proofs.Common.{◌≡◌, ℕ, ◌+◌, ◌-◌, ◌<◌, ◌≤◌, ◌⊎◌, inl, inr, true, List, [], ◌∷◌, ◌++◌, map, sym, ap, ◌∙◌, subst, arith, append_assoc}
 use Rattle.std.proofs.lemmas.Bool.{cases_lt}
 use Rattle.std.specs.FinMap as memory_map

@@ -61,7 +61,7 @@ MayReturnFromException key s Rfe =
 MayReturnFromException key s _ = Unit {0}
 
 -- K9's own part, for an instruction of this shape at a point: each possible store is in one ram
--- range or one device range as a whole, and doesn't pass 2^32
+-- range or one peripheral range as a whole, and doesn't pass 2^32
 abbrev pub StoresInRange : Limits → PlanData → State → Shape → Type 0
 StoresInRange b plan s (Store src base offset size after) = AreStoresInRange plan (address_of b plan (Store src base offset size after) s) size
 StoresInRange b plan s _ = Unit {0}
@@ -102,7 +102,7 @@ pub record LocalHolds (b : Limits) (image : ImageData) (plan : PlanData) (key : 
 -- ---- K9 and K10, by the addresses of the access
 
 -- what K9 asks of a point's instruction alone, by the addresses of its access: each possible
--- store is in one ram range or one device range as a whole, and doesn't pass 2^32
+-- store is in one ram range or one peripheral range as a whole, and doesn't pass 2^32
 abbrev pub StoresInRangeAt : PlanData → Val → Shape → Type 0
 StoresInRangeAt plan at (Store src base offset size after) = AreStoresInRange plan at size
 StoresInRangeAt plan at _ = Unit {0}

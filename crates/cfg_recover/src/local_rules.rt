@@ -279,7 +279,7 @@ pub(crate) fn may_restore(s: &State) -> bool
     1 <= s.locals.len()
 }
 
-/// K9: each possible store is in one ram range or one device range as a whole, and doesn't pass
+/// K9: each possible store is in one ram range or one peripheral range as a whole, and doesn't pass
 /// 2^32.
 pub(crate) fn stores_in_range(plan: &Plan, at: &Val, shape: Shape) -> bool
     requires shape { IsShape shape }
@@ -293,7 +293,7 @@ pub(crate) fn stores_in_range(plan: &Plan, at: &Val, shape: Shape) -> bool
 }
 
 /// Returns true if K9's own part holds at an instruction whose access has only one address: a
-/// store is in one ram or device range.
+/// store is in one ram or peripheral range.
 pub(crate) fn stores_in_range_at(plan: &Plan, x: u32, shape: Shape) -> bool
     ensures { IsTrue result ↔ StoresInRangeAt plan.now (word_val x) shape }
 {

@@ -3,7 +3,7 @@ ghost use Rattle.depth_check.specs.AnswerLaws.{AnswersAreExact, AnswersSay};
 ghost use Rattle.depth_check.specs.AcceptedPromises.{AcceptedHoldsFrames, AcceptedIsSafe, AcceptedOwesEdges};
 
 /// If the rules accept a certificate, every run of the image under the plan is safe with its need,
-/// whatever interrupts, traps and devices do.
+/// whatever interrupts, traps and peripherals do.
 pub fn accepted_is_safe()
     ensures { AcceptedIsSafe }
 {}

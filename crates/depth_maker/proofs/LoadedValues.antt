@@ -74,7 +74,7 @@ module _ (image : ImageData) (plan : PlanData) (size : ℕ) (signed : Bool) (ok 
         | inr f ↦ absurd (let g : None ≡ Some w = rw f at e in cc)
       ]
 
-  -- the device that is found is one of the plan's
+  -- the peripheral that is found is one of the plan's
   device_is : (xs : List ℕ) (d : Device) → device_of_loads plan size xs ≡ Some d → is_device d ≡ true
   device_is xs d e =
       elim (cases_Bool (eqb size 4)) [

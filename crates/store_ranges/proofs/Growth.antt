@@ -70,7 +70,7 @@ module _ (plan : PlanData) (ok : IsPlan plan) where
         | inr other ↦ absurd (let f : None ≡ Some d = rw other at e in cc)
       ]
 
-  -- what a device may answer is a word
+  -- what a peripheral may answer is a word
   answers_within : (size : ℕ) (signed : Bool) (xs : List ℕ) (o : Option Device) → device_of_loads plan size xs ≡ o → Within (loaded_answers size signed o) (all_extended size signed)
   answers_within size signed xs None e z i = i
   answers_within size signed xs (Some d) e z i =
@@ -101,8 +101,8 @@ module _ (plan : PlanData) (ok : IsPlan plan) where
   given_more image size signed x None = answers_more size signed (x ∷ [])
   given_more image size signed x (Some w) = omega arith
 
--- ---- one device
--- a device that is found with more accesses is found with fewer
+-- ---- one peripheral
+-- a peripheral that is found with more accesses is found with fewer
 found_fewer : (p q : Device → Bool) (x : ℕ) (rest : List Range) (ds : List Device) (d : Device) → are_all_ranges_apart (map (λ d. d.range) ds ++ rest) ≡ true
     → ((c : Device) → q c ≡ true → p c ≡ true) → ((c : Device) → p c ≡ true → IsWithinRange x 1 c.range) → find q ds ≡ Some d → find p ds ≡ Some d
 found_fewer p q x rest [] d apart narrow at e = absurd (let f : None ≡ Some d = e in cc)
@@ -140,7 +140,7 @@ module _ (plan : PlanData) (ok : IsPlan plan) where
       in
       ap (λ n. cond (eqb n 4) (find (λ d. list_all (λ x. is_within_range x 4 d.range) xs) plan.devices) None) found.0 ∙ fewer
 
-  -- rom has no access of a device
+  -- rom has no access of a peripheral
   no_rom : (image : ImageData) (size : ℕ) (x : ℕ) (ys : List ℕ) (d : Device) → Among x ys → device_of_loads plan size ys ≡ Some d → rom_number image plan x size ≡ None
   no_rom image size x ys d i e =
       let found = only_words plan ok size ys d e in

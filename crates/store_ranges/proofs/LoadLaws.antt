@@ -20,7 +20,7 @@ use Rattle.value_domain.proofs.MeetLaws.{cover-parts}
 use Rattle.store_ranges.proofs.Finds.{found_all}
 use Rattle.tcd_base.proofs.RangeLaws.{within_true, true_within}
 
--- ---- the device of several accesses
+-- ---- the peripheral of several accesses
 pub all_at : (n : ℕ) (r : Range) (xs : List ℕ) (z : ℕ) → list_all (λ x. is_within_range x n r) xs ≡ true → Among z xs → is_within_range z n r ≡ true
 all_at n r [] z t i = absurd i
 all_at n r (x ∷ xs) z t i =

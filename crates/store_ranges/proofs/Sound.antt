@@ -75,8 +75,8 @@ loaded-held image mem input x (suc n) w fits there e =
     ∙ ap (λ l. h.0 + 2 ^ 8 * l) (loaded-place mem (input / 2 ^ 8) (x + 1) n (omega arith) ∙ rest)
     ∙ h.4
 
--- ---- devices
--- no byte of a device's range is mapped
+-- ---- peripherals
+-- no byte of a peripheral's range is mapped
 pub in_ranges : (x n : ℕ) (ds : List Device) → IsInDevice x n ds → IsInOneRange x n (map (λ d. d.range) ds)
 in_ranges x n [] i = i
 in_ranges x n (d ∷ ds) (inl w) = inl w
@@ -126,7 +126,7 @@ extended-word true w below = elim (cases_lt w (2 ^ 31)) [
   | inr high ↦ rw (le-ltb w (2 ^ 31) high) (omega arith)
 ]
 
--- what holds of all devices holds of the one that is found
+-- what holds of all peripherals holds of the one that is found
 found_each : (P : Device → Type 0) (p : Device → Bool) (ds : List Device) (d : Device) → All P ds → find p ds ≡ Some d → P d
 found_each P p [] d all e = absurd (let f : None ≡ Some d = e in cc)
 found_each P p (c ∷ ds) d all e =
@@ -137,7 +137,7 @@ found_each P p (c ∷ ds) d all e =
 
 -- ---- what the machine loads
 module _ (image : ImageData) (plan : PlanData) (ok : IsPlan plan) (mem : Memory) (bytes : HasBytes mem) (memory : IsPlanMemory plan mem) (rom : HoldsRom image plan mem) where
-  -- from a device
+  -- from a peripheral
   device_has : (input x : ℕ) (signed : Bool) (p : Device → Bool) (d : Device) → input < 2 ^ 32 → AnswersAt x input plan.devices → find p plan.devices ≡ Some d → IsWithinRange x 4 d.range
       → Among (extend_loaded_bytes signed 4 (load_number mem input x 4)) (range d.lo d.hi 0)
   device_has input x signed p d small answer found w =

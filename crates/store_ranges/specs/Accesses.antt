@@ -11,7 +11,8 @@ use Rattle.std.specs.List.{list_all}
 abbrev pub IsAccessSize : ℕ → Type 0
 IsAccessSize n = (n ≡ 1) ⊎ (n ≡ 2) ⊎ (n ≡ 4)
 
--- each access from a member doesn't pass 2^32 and is wholly in one ram range or one device range
+-- each access from a member doesn't pass 2^32 and is wholly in one ram range or one peripheral
+-- range
 abbrev pub AreStoresInRange : PlanData → Val → ℕ → Type 0
 AreStoresInRange plan v size = (x : ℕ) → IsMember x v → IsStoreInRange plan (x, size)
 

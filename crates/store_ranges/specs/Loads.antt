@@ -29,7 +29,7 @@ held_number image x (suc n) = option_and_then (λ b. option_map (λ w. b + 2 ^ 8
 abbrev pub rom_number : ImageData → PlanData → ℕ → ℕ → Option ℕ
 rom_number image plan x n = if list_any (is_within_range x n) plan.rom then held_number image x n else None
 
--- the device whose range has each access; only words are loaded from devices
+-- the peripheral whose range has each access; only words are loaded from peripherals
 abbrev pub device_of_loads : PlanData → ℕ → List ℕ → Option Device
 device_of_loads plan size xs = if size == 4 then find (λ d. list_all (λ x. is_within_range x 4 d.range) xs) plan.devices else None
 
@@ -37,28 +37,28 @@ device_of_loads plan size xs = if size == 4 then find (λ d. list_all (λ x. is_
 abbrev pub all_extended : ℕ → Bool → List ℕ
 all_extended size signed = map (extend_loaded_bytes signed size) (range 0 (2 ^ (8 * size) - 1) 0)
 
--- the words that a device can answer; without a device, all words of that size and sign
+-- the words that a peripheral can answer; without a peripheral, all words of that size and sign
 abbrev pub loaded_answers : ℕ → Bool → Option Device → List ℕ
 loaded_answers size signed None = all_extended size signed
 loaded_answers size signed (Some d) = range d.lo d.hi 0
 
--- the loaded word of a number that is known, else what the device can answer
+-- the loaded word of a number that is known, else what the peripheral can answer
 abbrev pub loaded_number_or : ℕ → Bool → Option Device → Option ℕ → List ℕ
 loaded_number_or size signed device None = loaded_answers size signed device
 loaded_number_or size signed device (Some w) = extend_loaded_bytes signed size w ∷ []
 
--- what an address gives: the word in rom, else what the device can answer, else any word
+-- what an address gives: the word in rom, else what the peripheral can answer, else any word
 abbrev pub loaded_words_at : ImageData → PlanData → ℕ → Bool → ℕ → List ℕ
 loaded_words_at image plan size signed x = loaded_number_or size signed (device_of_loads plan size (x ∷ [])) (rom_number image plan x size)
 
 -- The least value that holds what the loads from all members give. For a Span that is what one
--- device answers if all accesses are in its range, else any word.
+-- peripheral answers if all accesses are in its range, else any word.
 abbrev pub loaded_of : Limits → ImageData → PlanData → Val → ℕ → Bool → Val
 loaded_of b image plan (Set ws) size signed = cover b (flat_map (loaded_words_at image plan size signed) ws)
 loaded_of b image plan (Span lo last step) size signed = cover b (loaded_answers size signed (device_of_loads plan size (range lo last step)))
 
 -- the value v holds each word that a load from a member of `at` gives, in the plan's memory with
--- the image's bytes in rom, and with a device's input within its bounds
+-- the image's bytes in rom, and with a peripheral's input within its bounds
 abbrev pub HoldsLoads : ImageData → PlanData → Val → ℕ → Bool → Val → Type 0
 HoldsLoads image plan at size signed v =
     (mem : Memory) (x input : ℕ) → HasBytes mem → IsPlanMemory plan mem → HoldsRom image plan mem → input < 2 ^ 32

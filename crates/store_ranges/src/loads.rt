@@ -26,8 +26,8 @@ pub struct LoadKind {
 }
 
 /// Returns the least value that holds what loads of 1, 2 or 4 bytes (`size`) from all members of
-/// `at` give. An address in rom gives the image's word, a word of a device what the plan lets the
-/// device answer, any other address any word.
+/// `at` give. An address in rom gives the image's word, a word of a peripheral what the plan lets
+/// the peripheral answer, any other address any word.
 pub fn load_of(b: &Bounds, image: &Image, plan: &Plan, at: &Val, size: u8, signed: bool) -> Val
     requires at { IsValue b.now at.now }
     requires size { IsAccessSize size }
@@ -41,8 +41,8 @@ pub fn load_of(b: &Bounds, image: &Image, plan: &Plan, at: &Val, size: u8, signe
 }
 
 /// Overwrites a value with what loads from all members of `at` give, as `load_of` does. Only a load
-/// from a device, and one from several addresses of which some aren't in rom, make a value of their
-/// own.
+/// from a peripheral, and one from several addresses of which some aren't in rom, make a value of
+/// their own.
 pub fn write_load(b: &Bounds, image: &Image, plan: &Plan, at: &Val, load: LoadKind, out: &mut Val)
     requires at { IsValue b.now at.now }
     requires size { IsAccessSize load.size }
@@ -117,7 +117,7 @@ fn add_at(b: &Bounds, image: &Image, plan: &Plan, x: u32, load: LoadKind, out: &
     }
 }
 
-/// Returns the device whose range has a word both at `low` and at `high`. For smaller accesses
+/// Returns the peripheral whose range has a word both at `low` and at `high`. For smaller accesses
 /// there is none.
 fn device_of_load(plan: &Plan, low: u32, high: u32, size: u8) -> Option<Device>
     ensures device { result
@@ -147,8 +147,8 @@ fn extend_loaded_number(number: u32, load: LoadKind) -> u32
     }
 }
 
-/// Overwrites a value with the cover of the words that a device can answer. Without a device, it is
-/// that of anything.
+/// Overwrites a value with the cover of the words that a peripheral can answer. Without a
+/// peripheral, it is that of anything.
 fn write_answers(b: &Bounds, device: Option<Device>, load: LoadKind, out: &mut Val)
     requires size { IsAccessSize load.size }
     requires bounds { IfSome device (λ d. d.lo ≤ d.hi) }
@@ -203,8 +203,8 @@ fn greatest_loaded_number(size: u8) -> u32
     }
 }
 
-/// Widens a value to the least one that holds the words that a device can answer, too. This is a
-/// function of its own, so that its callers need no stack for a value.
+/// Widens a value to the least one that holds the words that a peripheral can answer, too. This is
+/// a function of its own, so that its callers need no stack for a value.
 #[inline(never)]
 fn add_answers(b: &Bounds, device: Option<Device>, load: LoadKind, out: &mut Val)
     requires size { IsAccessSize load.size }

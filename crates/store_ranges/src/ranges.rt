@@ -17,7 +17,7 @@ pub(crate) fn store_range_at(ranges: &[Range], x: u32, n: u8) -> Option<Range>
     ranges.iter().find(|r| r.holds(x, u32::from(n))).copied()
 }
 
-/// Returns the first device whose range has an access of `n` bytes both at `low` and at `high`.
+/// Returns the first peripheral whose range has an access of `n` bytes both at `low` and at `high`.
 pub(crate) fn device_range_at(devices: &[Device], low: u32, high: u32, n: u8) -> Option<Device>
     ensures { result ≡ find (λ d. is_within_range low n d.range && is_within_range high n d.range)
         devices.now }
@@ -29,8 +29,8 @@ pub(crate) fn device_range_at(devices: &[Device], low: u32, high: u32, n: u8) ->
         .copied()
 }
 
-/// Returns true if for each of these addresses one ram range or one device range has all the bytes
-/// of a store there.
+/// Returns true if for each of these addresses one ram range or one peripheral range has all the
+/// bytes of a store there.
 pub(crate) fn are_in_range(plan: &Plan, words: &[u32], size: u8) -> bool
     ensures { IsTrue result ↔ All (λ x. IsStoreInRange plan.now (x, size)) words.now }
 {
@@ -42,8 +42,8 @@ pub(crate) fn are_in_range(plan: &Plan, words: &[u32], size: u8) -> bool
     true
 }
 
-/// Returns true if a store of so many bytes at an address is wholly in one ram range or one device
-/// range.
+/// Returns true if a store of so many bytes at an address is wholly in one ram range or one
+/// peripheral range.
 pub fn is_in_range(plan: &Plan, x: u32, size: u8) -> bool
     ensures { IsTrue result ↔ IsStoreInRange plan.now (x, size) }
 {
@@ -77,7 +77,7 @@ pub(crate) fn next_store_address(x: u64, step: u8) -> u64
     (x / unit + 1) * unit
 }
 
-/// Returns the end of a ram range or device range that holds the access.
+/// Returns the end of a ram range or peripheral range that holds the access.
 fn range_end(plan: &Plan, x: u32, size: u8) -> Option<u64>
     ensures { MatchOption result (¬ IsStoreInRange plan.now (x, size))
         (λ end. StaysInRange plan.now size x end) }

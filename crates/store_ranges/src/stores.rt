@@ -9,7 +9,7 @@ use tcd_plan::Plan;
 use value_domain::{Val, alignment_log2, extent_of};
 
 /// Returns true if each store of 1, 2 or 4 bytes (`size`) at a member of the value is wholly in one
-/// ram range or one device range. Addresses don't wrap at 2^32.
+/// ram range or one peripheral range. Addresses don't wrap at 2^32.
 pub fn store_ok(plan: &Plan, at: &Val, size: u8) -> bool
     requires well { IsWell at.now }
     requires size { IsAccessSize size }

@@ -1,4 +1,4 @@
--- The number of the plan's devices and of ranges that answer as devices.
+-- The number of the plan's peripherals and of ranges that answer as peripherals.
 use Rattle.std.proofs.Common.{◌≡◌, ◌+◌, List, ◌++◌, length, map, arith}
 use Rattle.std.proofs.lemmas.List.{length-append, length-map}
 use Rattle.tcd_base.specs.declared.range.Range.{Range}

@@ -24,7 +24,7 @@ use Rattle.tcd_base.proofs.RangeLaws.{IsInOne-front}
 use Rattle.tcd_plan.proofs.ApartLaws.{all_apart-before, all_apart-behind}
 use Rattle.tc_machine.proofs.Areas.{Areas}
 
--- ---- an answer of the device that has the word
+-- ---- an answer of the peripheral that has the word
 abbrev has_word : Device → ℕ → Bool
 has_word d x = nat_le (d.range).at x && nat_le (x + 4) ((d.range).at + (d.range).len)
 
@@ -39,7 +39,7 @@ All-cons P x xs h hs (suc i) d lt = hs i d (omega arith)
 All-none : {X : Type 0} (P : X → Type 0) → All P []
 All-none P i d lt = absurd (omega arith)
 
--- the bounds of an input, if a device has the word
+-- the bounds of an input, if a peripheral has the word
 abbrev Answered : ℕ → ℕ → Device → Type 0
 Answered x input d = IsWithinRange x 4 d.range → (d.lo ≤ input) × (input ≤ d.hi)
 
@@ -48,12 +48,12 @@ device_bounds d h =
     let a = and_parts (is_range d.range && nat_le d.lo d.hi) (nat_lt d.hi (2 ^ 32)) h in
     (leb-true d.lo d.hi (and_parts (is_range d.range) (nat_le d.lo d.hi) a.0).1, ltb-true d.hi (2 ^ 32) a.1)
 
--- if no device of the list has the word, each input fits
+-- if no peripheral of the list has the word, each input fits
 none_within : (ds : List Device) (x input : ℕ) → (IsInOneRange x 1 (map (λ (d : Device). d.range) ds) → ⊥) → AnswersAt x input ds
 none_within [] x input none = All-none (Answered x input)
 none_within (d ∷ ds) x input none = All-cons (Answered x input) d ds (λ there. absurd (none (inl (there.0, (let h = there.1 in omega arith))))) (none_within ds x input (λ h. none (inr h)))
 
--- the device that has the word answers in its bounds, and no other has it
+-- the peripheral that has the word answers in its bounds, and no other has it
 answers : (ds : List Device) (x : ℕ) (rest : List Range) → list_all is_device ds ≡ true → are_all_ranges_apart (map (λ (d : Device). d.range) ds ++ rest) ≡ true → AnswersAt x (answer ds x) ds × (answer ds x < 2 ^ 32)
 answers [] x rest are apart = (All-none (Answered x 0), omega arith)
 answers (d ∷ ds) x rest are apart =

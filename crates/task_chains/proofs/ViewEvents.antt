@@ -53,7 +53,7 @@ All-append P [] ys h g i d lt = g i d lt
 All-append P (x ∷ xs) ys h g zero d lt = h 0 d (omega arith)
 All-append P (x ∷ xs) ys h g (suc i) d lt = All-append P xs ys (λ j c less. h (suc j) c (omega arith)) g i d (omega arith)
 
--- a byte of a device's range is one of the devices' bytes
+-- a byte of a peripheral's range is one of the peripherals' bytes
 nth_in : (ds : List Device) (i : ℕ) (d : Device) → i < length ds → (y : ℕ) → IsWithinRange y 1 (slice_index_or ds i d).range → IsInOneRange y 1 (map (λ (d : Device). d.range) ds)
 nth_in [] i d lt y h = absurd (omega arith)
 nth_in (x ∷ ds) zero d lt y h = inl h
@@ -99,7 +99,7 @@ module _ {plan : PlanData} (ok : IsPlan plan) (tasks : TasksData) (are : AreTask
   fits_word : (y : ℕ) → IsInOneRange y 1 devs → y + 1 ≤ 2 ^ 32
   fits_word y at = IsInOne-fits y 1 devs (device_ranges plan.devices (ok.ranges).devices) at
 
-  -- a byte of a device isn't mapped
+  -- a byte of a peripheral isn't mapped
   device_unmapped : (mem : Memory) → IsPlanMemory plan mem → (y : ℕ) → IsInOneRange y 1 devs → is_mapped mem y ≡ false
   device_unmapped mem memory y at =
       elim (cases_Bool (is_mapped mem y)) [
@@ -111,8 +111,8 @@ module _ {plan : PlanData} (ok : IsPlan plan) (tasks : TasksData) (are : AreTask
         ]
       ]
 
-  -- in the view no byte of its devices is mapped, which are the plan's devices and what is left of
-  -- ram
+  -- in the view no byte of its peripherals is mapped, which are the plan's peripherals and what is
+  -- left of ram
   view_unmapped : (mem : Memory) → IsPlanMemory (view_plan_of plan tasks u) mem → (y : ℕ) → IsInOneRange y 1 (devs ++ left ok tasks are fit) → is_mapped mem y ≡ false
   view_unmapped mem memory y at =
       elim (cases_Bool (is_mapped mem y)) [
@@ -172,7 +172,7 @@ module _ {plan : PlanData} (ok : IsPlan plan) (tasks : TasksData) (are : AreTask
     word_lt : (x : ℕ) → load_number m.mem e.input x 4 < 2 ^ 32
     word_lt x = load_lt m.mem (k.words).bytes false e.input x 4 (inr (inr refl))
 
-    -- a word that the view loads from a device is in its bounds
+    -- a word that the view loads from a peripheral is in its bounds
     answered : (x : ℕ) → AnswersAt x e.input plan.devices → AnswersAt x (load_number m.mem e.input x 4) (view_devices plan tasks)
     answered x own =
         All-append (λ (d : Device). IsWithinRange x 4 d.range → (d.lo ≤ load_number m.mem e.input x 4) × (load_number m.mem e.input x 4 ≤ d.hi)) plan.devices (map any_view_device (left ok tasks are fit))

@@ -1,4 +1,4 @@
--- A view's plan is a plan, and its devices are the plan's own and the ram that isn't the block.
+-- A view's plan is a plan, and its peripherals are the plan's own and the ram that isn't the block.
 use Rattle.std.proofs.Common.{◌≡◌, ℕ, ◌+◌, ◌-◌, ◌%◌, ◌<◌, ◌≤◌, ◌⊎◌, inl, inr, true, List, [], ◌∷◌, ◌++◌, map, refl, sym, ap, ◌∙◌, subst, arith, append_assoc}
 use Rattle.std.proofs.lemmas.Bool.{cases_lt, and_parts, and_from}
 use Rattle.std.proofs.lemmas.List.{append-nil, map-append}
@@ -19,7 +19,7 @@ use Rattle.task_chains.specs.Views.{view_plan_of, FitPlan}
 use Rattle.task_chains.specs.Devices.{any_view_device, view_devices}
 use Rattle.task_chains.specs.SafeTasks.{MissesBlock}
 
--- ---- devices
+-- ---- peripherals
 pub in_devices : (ds : List Device) (rs : List Range) (x n : ℕ) → IsInDevice x n (ds ++ map any_view_device rs) → IsInDevice x n ds ⊎ IsInOneRange x n rs
 in_devices [] [] x n h = absurd h
 in_devices [] (r ∷ rs) x n (inl here) = inr (inl here)
@@ -72,7 +72,7 @@ module _ {plan : PlanData} (ok : IsPlan plan) (tasks : TasksData) (are : AreTask
   dev_have : HaveBytes dev
   dev_have = HaveBytes-ranges dev (device_ranges plan.devices (ok.ranges).devices)
 
-  -- rom, then the devices, the ram that is left, and the areas
+  -- rom, then the peripherals, the ram that is left, and the areas
   pub all_left : are_all_ranges_apart (plan.rom ++ ((dev ++ left) ++ areas_range plan ∷ [])) ≡ true
   all_left =
       let left_have = HaveBytes-ranges left left_range in
@@ -137,8 +137,8 @@ module _ {plan : PlanData} (ok : IsPlan plan) (tasks : TasksData) (are : AreTask
   }
 
   -- ---- stores
-  -- addresses inside a device of the view are inside a device of the plan, or in ram; and they miss
-  -- the block
+  -- addresses inside a peripheral of the view are inside a peripheral of the plan, or in ram; and
+  -- they miss the block
   pub view_store : (u x n : ℕ) → 0 < n → IsStoreInRange (view_plan_of plan tasks u) (x, n) → IsStoreInRange plan (x, n) × MissesBlock tasks (x, n)
   view_store u x n some range =
       elim range.1 [

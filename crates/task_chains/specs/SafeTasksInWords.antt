@@ -35,7 +35,7 @@ pub record OwnsChain (switch block n : ℕ) (m : Machine) (u : ℕ) : Type 0 whe
 abbrev pub LinkStandsInTask : ℕ → (ℕ → List ℕ) → List ℕ → ℕ → ℕ → ℕ → Type 0
 LinkStandsInTask n used free link u place = ((u < n) × (slice_get (used u) place ≡ Some link)) ⊎ ((u ≡ n) × (slice_get free place ≡ Some link))
 
--- A store of these bytes by an instruction at pc is inside one range of ram or of a device. It
+-- A store of these bytes by an instruction at pc is inside one range of ram or of a peripheral. It
 -- misses the save areas and all rom, where code and vectors are. It misses the block, unless pc is
 -- at one of the routine's 72 bytes.
 pub record IsSafeTaskStore (plan : PlanData) (switch block n pc x size : ℕ) : Type 0 where

@@ -32,7 +32,7 @@ EveryTaskIsReady =
     → word_at mem (block + 4 * (i + 1)) ≡ first_link plan + (2 * i + 1)
     → IsReady core plan (record { switch = switch; block = block; list = list }) mem (i + 1)
 
--- guard law of a premise: tasks fit a plan with at most 15 devices and ram ranges together, the
+-- guard law of a premise: tasks fit a plan with at most 15 peripherals and ram ranges together, the
 -- block inside one ram range (it can add one more), and no start on the interrupt stack
 abbrev pub EveryPlanFits : Type 0
 EveryPlanFits =

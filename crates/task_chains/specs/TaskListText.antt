@@ -93,7 +93,7 @@ AreTasksFew tasks = (2 ≤ count tasks) × (count tasks ≤ 7)
 abbrev pub IsBlockInRam : PlanData → TasksData → Type 0
 IsBlockInRam plan tasks = IsInOneRange tasks.block (block_size tasks) plan.ram
 
--- for the errors of a text of tasks: the plan of a task's view has at most 16 devices, a plan's
+-- for the errors of a text of tasks: the plan of a task's view has at most 16 peripherals, a plan's
 -- limit
 abbrev pub HaveViewsRoom : PlanData → TasksData → Type 0
 HaveViewsRoom plan tasks = length (view_devices plan tasks) ≤ 16

@@ -1,12 +1,12 @@
-// The devices of a task's view: the plan's, and the ram that isn't the block.
+// The peripherals of a task's view: the plan's, and the ram that isn't the block.
 ghost use Rattle.std.specs.Prelude.{◌≡◌, ◌≤◌, length};
 ghost use Rattle.task_chains.specs.Devices.{devices_beside_block};
 
 use arrayvec::ArrayVec;
 use tcd_plan::{Device, Plan, cut_plan_ranges};
 
-/// Returns the plan's devices, and after them what is left of each ram range without the `n` bytes
-/// from `x` on, as devices that answer with any word.
+/// Returns the plan's peripherals, and after them what is left of each ram range without the `n`
+/// bytes from `x` on, as peripherals that answer with any word.
 pub(crate) fn devices_beside_block(plan: &Plan, x: u32, n: u32) -> ArrayVec<Device, 16>
     requires { length (devices_beside_block plan.now x n) ≤ 16 }
     ensures { result.items ≡ devices_beside_block plan.now x n }
@@ -27,7 +27,7 @@ pub(crate) fn devices_beside_block(plan: &Plan, x: u32, n: u32) -> ArrayVec<Devi
     devices
 }
 
-/// Returns the number of the plan's devices and of the parts that are left of ram.
+/// Returns the number of the plan's peripherals and of the parts that are left of ram.
 pub(crate) fn count_devices_beside_block(plan: &Plan, x: u32, n: u32) -> usize
     ensures { result ≡ length (devices_beside_block plan.now x n) }
 {

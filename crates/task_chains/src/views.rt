@@ -31,8 +31,8 @@ pub fn view_image(alloc: Global, image: &Image, tasks: &Tasks, u: usize) -> Resu
 }
 
 /// Returns the plan of a task's view. It has the task's stack pointer, and no ram: what is left of
-/// ram without the block are devices that answer with any word. Interrupts are off at the start of
-/// all tasks except the first.
+/// ram without the block are peripherals that answer with any word. Interrupts are off at the start
+/// of all tasks except the first.
 pub fn view_plan(plan: &Plan, tasks: &Tasks, u: usize) -> Plan
     requires task { u < count tasks.now }
     requires fit { FitPlan plan.now tasks.now }

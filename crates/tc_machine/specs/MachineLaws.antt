@@ -72,8 +72,8 @@ RunKeepsMachine = (image : ImageData) (plan : PlanData) (m : Machine) (es : List
 
 -- ---- guard laws: what the definitions under the headline say, in plain equations
 -- An event fits if its interrupt is none or one of the plan's, and its input is within bounds. If
--- no interrupt is taken, these are the bounds of the device that has the loaded word. The status is
--- any byte, and a misaligned access may trap or not.
+-- no interrupt is taken, these are the bounds of the peripheral that has the loaded word. The
+-- status is any byte, and a misaligned access may trap or not.
 abbrev pub EveryEventFits : Type 0
 EveryEventFits =
     (plan : PlanData) (m : Machine) (irq input status : ℕ) (aln : Bool) → (irq ≡ 0) ⊎ Contains plan.irqs irq → input < 2 ^ 32 → status < 2 ^ 8

@@ -16,7 +16,7 @@ use Rattle.tc_machine.specs.PlanAreas.{plan_areas}
 use Rattle.tc_machine.specs.Starting.{Starts}
 
 -- an event that safe runs allow: its interrupt is none or one of the plan's, and if none is taken,
--- a word that is loaded from a device is within that device's bounds
+-- a word that is loaded from a peripheral is within that peripheral's bounds
 pub record Fits (plan : PlanData) (m : Machine) (e : Event) : Type 0 where
   pub irq : (e.irq ≡ 0) ⊎ Contains plan.irqs e.irq
   pub input : e.input < 2 ^ 32

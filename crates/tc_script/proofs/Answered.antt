@@ -1,4 +1,4 @@
--- The device that has an address.
+-- The peripheral that has an address.
 use Rattle.std.proofs.Common.{◌≡◌, ℕ, zero, suc, ◌+◌, true, false, List, [], ◌∷◌, length, drop, slice_get, Some, sym, ap, ◌∙◌, arith, add-one}
 use Rattle.std.specs.Option.{option_map}
 use Rattle.std.proofs.lemmas.Bool.{cond-true, cond-false}
@@ -7,12 +7,12 @@ use Rattle.tc_script.specs.declared.scripts.AnswerRange.{AnswerRange}
 use Rattle.tcd_base.specs.Ranges.{is_within_range}
 use Rattle.tc_script.specs.Ports.{device_answer, device_answer_at}
 
--- what a slice of devices reads as past its end
+-- what a slice of peripherals reads as past its end
 abbrev pub no_device : Device
 no_device = record { range = record { at = 0; len = 0 }; lo = 0; hi = 0 }
 
 module _ (x t : ℕ) where
-  -- the first device that has it answers
+  -- the first peripheral that has it answers
   pub answered : (ds : List Device) (bs : List AnswerRange) (i : ℕ) (d : Device) (w : ℕ) → slice_get ds i ≡ Some d → is_within_range x 1 d.range ≡ true → option_map (λ b. device_answer b t) (slice_get bs i) ≡ Some w → w ≡ device_answer_at (drop i ds) (drop i bs) x t
   answered [] bs i d w here has gives = cc
   answered (e ∷ ds) [] i d w here has gives = cc

@@ -1,4 +1,4 @@
--- What a script answers is within the bounds of the device that is asked.
+-- What a script answers is within the bounds of the peripheral that is asked.
 use Rattle.std.proofs.Common.{◌≡◌, ℕ, zero, suc, ◌+◌, ◌≤◌, inl, inr, true, List, [], ◌∷◌, ◌++◌, map, slice_get, slice_index_or, Some, refl, sym, subst, ◌∙◌, arith}
 use Rattle.std.specs.Prelude.{nat_le}
 use Rattle.std.specs.List.{list_all}

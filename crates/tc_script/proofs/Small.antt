@@ -1,4 +1,4 @@
--- Numbers, and the bounds that devices have of their own.
+-- Numbers, and the bounds that peripherals have of their own.
 use Rattle.std.proofs.Common.{◌≡◌, ℕ, ◌+◌, ◌*◌, ◌-◌, ◌<◌, ◌≤◌, ◌^◌, min, true, List, [], length, map, take, get_or, sym, ap, subst, ◌∙◌, arith}
 use Rattle.std.specs.Prelude.{All}
 use Rattle.std.specs.Char.{digit_value, is_ascii_digit}

@@ -17,8 +17,8 @@ use Rattle.tc_machine.specs.Machine.{IsDead}
 abbrev pub DeviceAnswers : Type 1
 DeviceAnswers = ℕ → ℕ → ℕ → Type 0
 
--- The input at an event: an answer for the load's address if the load is wholly inside one device
--- range, else 0.
+-- The input at an event: an answer for the load's address if the load is wholly inside one
+-- peripheral range, else 0.
 abbrev pub IsDrivenInput : List Device → DeviceAnswers → ℕ → Option (ℕ × ℕ) → ℕ → Type 0
 IsDrivenInput devices answers t None input = input ≡ 0
 IsDrivenInput devices answers t (Some load) input =

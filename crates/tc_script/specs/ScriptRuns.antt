@@ -1,4 +1,4 @@
--- Runs by a script that answers for the devices: there is one list of events.
+-- Runs by a script that answers for the peripherals: there is one list of events.
 use Rattle.std.specs.Prelude.{◌≡◌, ℕ, ◌+◌, if◌then◌else◌, List, ◌∷◌, length, Option, Some, None, []}
 use Rattle.std.specs.List.{list_any}
 use Rattle.tcd_plan.specs.declared.plans.Device.{Device}
@@ -18,7 +18,7 @@ use Rattle.tc_script.specs.DrivenRuns.{DeviceAnswers, AreDrivenEvents, driven_pe
 use Rattle.tc_script.specs.Ports.{device_answer_at}
 
 -- in a run by a script, the input at an event: the answer at the load's address if the load is
--- wholly inside one device range, else 0
+-- wholly inside one peripheral range, else 0
 abbrev pub script_input_of : List Device → List AnswerRange → ℕ → Option (ℕ × ℕ) → ℕ
 script_input_of devices bounds t None = 0
 script_input_of devices bounds t (Some load) = if list_any (λ d. is_within_range load.0 load.1 d.range) devices then device_answer_at devices bounds load.0 t else 0
@@ -44,7 +44,7 @@ events_of devices bounds t (turn ∷ turns) m =
 abbrev pub script_events : PlanData → ScriptData → Machine → List Event
 script_events plan script m = events_of plan.devices script.bounds 0 script.turns m
 
--- the answers of the devices by a script
+-- the answers of the peripherals by a script
 abbrev pub answers_by : PlanData → ScriptData → DeviceAnswers
 answers_by plan script = λ x t w. w ≡ device_answer_at plan.devices script.bounds x t
 

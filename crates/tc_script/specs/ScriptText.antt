@@ -23,13 +23,13 @@ with_turns line count irq d =
     then Ok (record d { script = record d.script { turns = d.script.turns ++ replicate count (record { irq = irq; aln = d.aln }) } })
     else Err (TooMany line)
 
--- a line of a script's text may set these bounds for a device's answers: the device exists, and
--- they are inside its own
+-- a line of a script's text may set these bounds for a peripheral's answers: the peripheral exists,
+-- and they are inside its own
 abbrev pub holds_bounds : Option Device → ℕ → ℕ → Bool
 holds_bounds None lo hi = false
 holds_bounds (Some d) lo hi = nat_le d.lo lo && nat_le hi d.hi
 
--- the draft with these bounds for a device
+-- the draft with these bounds for a peripheral
 abbrev pub with_bounds : ℕ → ℕ → ℕ → Draft → Draft
 with_bounds device lo hi d = record d { script = record d.script { bounds = slice_set d.script.bounds device (record { lo = lo; hi = hi }) } }
 

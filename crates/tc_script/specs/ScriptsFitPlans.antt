@@ -10,13 +10,13 @@ use Rattle.tc_script.specs.ScriptData.{ScriptData}
 abbrev pub HasSources : PlanData → List Turn → Type 0
 HasSources plan turns = All (λ turn. (turn.irq ≡ 0) ⊎ Contains plan.irqs turn.irq) turns
 
--- for each device, bounds inside its own
+-- for each peripheral, bounds inside its own
 abbrev pub AreInside : List Device → List AnswerRange → Type 0
 AreInside [] [] = Unit {0}
 AreInside (d ∷ ds) (b ∷ bs) = ((d.lo ≤ b.lo) × (b.lo ≤ b.hi) × (b.hi ≤ d.hi)) × AreInside ds bs
 AreInside _ _ = ⊥
 
--- a script of the plan's interrupts, with bounds for each of the plan's devices inside its own
+-- a script of the plan's interrupts, with bounds for each of the plan's peripherals inside its own
 pub record FitsPlan (plan : PlanData) (script : ScriptData) : Type 0 where
   pub sources : HasSources plan script.turns
   pub devices : length script.bounds ≡ length plan.devices

@@ -26,7 +26,7 @@ pub struct Peak {
 
 /// Performs one event for each turn of the script, until the machine is dead or the turns end.
 /// An event has the turn's `irq` and `aln`, and status 0. Its input is the answer of the ports if
-/// the load at pc is wholly inside one device range, else 0.
+/// the load at pc is wholly inside one peripheral range, else 0.
 pub fn drive<F: Fn(u32, u32) -> u32>(
     m: &mut Machine,
     plan: &Plan,

@@ -8,7 +8,7 @@ pub enum ScriptErr {
     BadLine(u32),
     /// The interrupt isn't one of the plan's.
     NoSource(u32),
-    /// The device doesn't exist, or a bound is outside the device's own.
+    /// The peripheral doesn't exist, or a bound is outside the peripheral's own.
     OutOfRange(u32),
     /// There are more than 100,000 turns.
     TooMany(u32),

@@ -1,4 +1,4 @@
-//! Scripts: the turns of a run, the answers of devices in it, and the machine driven by them.
+//! Scripts: the turns of a run, the answers of peripherals in it, and the machine driven by them.
 #![tactic(auto)]
 
 mod area_counts;

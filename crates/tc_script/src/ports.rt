@@ -1,4 +1,4 @@
-// The answers of devices: the ports that a run is driven with.
+// The answers of peripherals: the ports that a run is driven with.
 ghost use Rattle.std.specs.Prelude.{◌≡◌, ◌<◌, ◌≤◌, IfSome, length};
 ghost use Rattle.tcd_base.specs.Ranges.{is_within_range};
 ghost use Rattle.std.specs.List.{list_any};
@@ -11,8 +11,8 @@ use arrayvec::ArrayVec;
 use std::marker::Model;
 use tcd_plan::{Device, Plan};
 
-/// The devices of a plan, and a closure that answers for them: for an address of a device and the
-/// number of an event, a word within that device's bounds.
+/// The peripherals of a plan, and a closure that answers for them: for an address of a peripheral
+/// and the number of an event, a word within that peripheral's bounds.
 /// A struct can't keep a fact about a closure. So `new` ensures this, and each call that asks
 /// requires it.
 #[derive(Drop)]
@@ -30,7 +30,7 @@ impl<F: Fn(u32, u32) -> u32> Model for Ports<F> {
 }
 
 impl<F: Fn(u32, u32) -> u32> Ports<F> {
-    /// Returns the ports of a plan's devices.
+    /// Returns the ports of a plan's peripherals.
     pub fn new(plan: &Plan, answer: F) -> Ports<F>
         requires askable { ArePortsAskable (F.pre answer) plan.now.devices }
         requires bounded { ArePortsBounded (F.post answer) plan.now.devices }
@@ -46,7 +46,7 @@ impl<F: Fn(u32, u32) -> u32> Ports<F> {
         Ports { devices, answer }
     }
 
-    /// Returns true if the bytes from an address on are wholly inside one device range.
+    /// Returns true if the bytes from an address on are wholly inside one peripheral range.
     pub(crate) fn holds(&self, addr: u32, size: u8) -> bool
         ensures { result ≡ list_any (λ d. is_within_range addr size d.range) self.now.devices }
     {
@@ -64,7 +64,7 @@ impl<F: Fn(u32, u32) -> u32> Ports<F> {
     }
 }
 
-/// Returns the input of an event: the closure's answer if the load is wholly inside one device
+/// Returns the input of an event: the closure's answer if the load is wholly inside one peripheral
 /// range, else 0.
 pub(crate) fn port_input<F: Fn(u32, u32) -> u32>(
     ports: &Ports<F>,
@@ -85,8 +85,8 @@ pub(crate) fn port_input<F: Fn(u32, u32) -> u32>(
     }
 }
 
-/// Returns what a device's port answers at an event, numbered from 0: the words from `lo` to `hi`,
-/// in turn and over again.
+/// Returns what a peripheral's port answers at an event, numbered from 0: the words from `lo` to
+/// `hi`, in turn and over again.
 pub(crate) fn device_answer(bounds: AnswerRange, at: u32) -> u32
     requires { bounds.lo ≤ bounds.hi }
     ensures { result ≡ device_answer bounds at }
@@ -95,8 +95,8 @@ pub(crate) fn device_answer(bounds: AnswerRange, at: u32) -> u32
     (u64::from(bounds.lo) + u64::from(at) % count) as u32
 }
 
-/// Returns the answer of the port at an address at an event: that of the device there, by the
-/// script's bounds, or 0 if no device is there.
+/// Returns the answer of the port at an address at an event: that of the peripheral there, by the
+/// script's bounds, or 0 if no peripheral is there.
 pub(crate) fn device_answer_at(devices: &[Device], script: &Script, addr: u32, t: u32) -> u32
     requires { length script.now.bounds ≡ length devices.now }
     ensures { result ≡ device_answer_at devices.now script.now.bounds addr t }

@@ -20,7 +20,7 @@ pub(crate) struct Draft {
     pub(crate) aln: bool,
 }
 
-/// Returns each device's bounds before a line of the script states others: its `lo` alone.
+/// Returns each peripheral's bounds before a line of the script states others: its `lo` alone.
 fn script_bounds_of(devices: &[Device]) -> ArrayVec<AnswerRange, 16>
     requires { length devices.now ≤ 16 }
     ensures { result.items ≡ map own_bounds devices.now }
@@ -42,8 +42,8 @@ fn is_source(plan: &Plan, irq: u8) -> bool
     plan.irqs.iter().any(|q| *q == irq)
 }
 
-/// Returns true if a line `in` of a script can be read: the plan has its device, and its bounds are
-/// inside the device's own.
+/// Returns true if a line `in` of a script can be read: the plan has its peripheral, and its bounds
+/// are inside the peripheral's own.
 fn holds_bounds(devices: &[Device], device: usize, lo: u32, hi: u32) -> bool
     ensures value { result ≡ holds_bounds (slice_get devices.now device) lo hi }
     ensures there { IsTrue result → device < length devices.now }
@@ -131,7 +131,7 @@ impl Draft {
         Ok(())
     }
 
-    /// Sets the bounds of a device's answers in the script that is read.
+    /// Sets the bounds of a peripheral's answers in the script that is read.
     fn set_bounds(&mut self, device: usize, lo: u32, hi: u32)
         requires there { device < length self.old.script.bounds }
         requires ordered { lo ≤ hi }

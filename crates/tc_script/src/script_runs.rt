@@ -1,4 +1,4 @@
-// Drives the machine by a script that answers for the devices too.
+// Drives the machine by a script that answers for the peripherals too.
 ghost use Rattle.std.specs.Prelude.{◌≡◌, length};
 ghost use Rattle.tc_script.specs.ScriptsFitPlans.{FitsPlan};
 ghost use Rattle.tc_script.specs.ScriptRuns.{IsScriptRun};
@@ -9,8 +9,8 @@ use crate::{Peak, Ports, Script, drive};
 use tc_machine::Machine;
 use tcd_plan::Plan;
 
-/// Runs the machine by a script that answers for the devices too: performs one event for each turn,
-/// until the machine is dead or the turns end.
+/// Runs the machine by a script that answers for the peripherals too: performs one event for each
+/// turn, until the machine is dead or the turns end.
 pub fn drive_by_script(m: &mut Machine, plan: &Plan, script: &Script) -> Peak
     requires { FitsPlan plan.now script.now }
     ensures { IsScriptRun plan.now script.now m.old m.new result }

@@ -14,14 +14,14 @@ pub struct Turn {
     pub aln: bool,
 }
 
-/// The bounds of a device's answers: words from `lo` to `hi`.
+/// The bounds of a peripheral's answers: words from `lo` to `hi`.
 #[derive(Clone, Copy, Debug, Default, PartialEq, Eq)]
 pub struct AnswerRange {
     pub lo: u32,
     pub hi: u32,
 }
 
-/// A script: at most 100,000 turns, and for each device of the plan the bounds of its answers.
+/// A script: at most 100,000 turns, and for each peripheral of the plan the bounds of its answers.
 #[derive(Drop)]
 pub struct Script {
     pub(crate) turns: Vec<Turn>,
@@ -55,8 +55,8 @@ impl Script {
         self.turns[at as usize]
     }
 
-    /// Returns what a device answers at an event, both numbered from 0: the words from the device's
-    /// `lo` to its `hi`, in turn and over again.
+    /// Returns what a peripheral answers at an event, both numbered from 0: the words from the
+    /// peripheral's `lo` to its `hi`, in turn and over again.
     pub fn answer(&self, device: usize, at: u32) -> u32
         requires { device < length self.now.bounds }
         ensures { option_map (λ b. device_answer b at) (slice_get self.now.bounds device)

@@ -8,7 +8,7 @@ use tcd_text::{Words, words_in};
 
 /// The statement of a line: nothing; a number of turns without an interrupt; one turn with an
 /// interrupt; whether a misaligned access traps in the turns that follow; or the bounds of a
-/// device's answers.
+/// peripheral's answers.
 #[derive(Clone, Copy, Debug, PartialEq, Eq)]
 pub(crate) enum Statement {
     Blank,

@@ -28,12 +28,12 @@ pub record CellcertNames : Type 0 where
   pub cert : List ℕ
 
 -- a reason why `cellcert` writes no certificate: each one of format 2 that is accepted under the
--- plan in which the cells are devices breaks K16
+-- plan with cells breaks K16
 abbrev pub NoneKeepsCells : ImageData → PlanData → List Cell → Type 0
 NoneKeepsCells image plan cells =
     (cert : CertData) → IsCert cert → cert.version ≡ 2 → Accepts image (with_cells plan cells) cert → KeepsCells image (with_cells plan cells) cells cert → ⊥
 
--- The report on an image, a plan and its cells, under the plan in which the cells are devices. If
+-- The report on an image, a plan and its cells, under the plan with cells. If
 -- no certificate of format 2 is accepted, the reason is printed. If each one that is accepted
 -- breaks K16, the first place at which the least one does is printed. Else the least one keeps
 -- the rule, and is written under this name; then every run in which each cell's word starts in its

@@ -23,10 +23,10 @@ pub record CellsNames : Type 0 where
   pub cells : List ℕ
   pub cert : List ℕ
 
--- The verdict on an image, a plan, its cells and a certificate, under the plan in which the cells
--- are devices. If the certificate isn't accepted, its first fault is printed. If it is, and K16
--- fails, the first place at which it fails is printed. Else every run in which each cell's word
--- starts in its bounds is safe, and keeps the words there.
+-- The verdict on an image, a plan, its cells and a certificate, under the plan with cells. If the
+-- certificate isn't accepted, its first fault is printed. If it is, and K16 fails, the first place
+-- at which it fails is printed. Else every run in which each cell's word starts in its bounds is
+-- safe, and keeps the words there.
 pub data IsCellsVerdict (image : ImageData) (plan : PlanData) (cells : List Cell) (cert : CertData) (report : Report) : Type 0 where
   refused :
       (rule : ℕ) (key : Key) (addr : ℕ) → IsFirstFault image (with_cells plan cells) cert rule key addr → report ≡ says Refused (refused_line rule key addr)

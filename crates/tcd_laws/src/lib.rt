@@ -1,8 +1,8 @@
 //! What the commands give together, and what stands on the lines of a graph.
 //!
 //! **Edges.** Where a certificate is accepted, each step of each run that starts as the plan says,
-//! whatever interrupts, traps and device words meet it, stands on a line of the graph's text: with
-//! the key of its frame, its address, and how it goes on.
+//! whatever interrupts, traps and answers of peripherals meet it, stands on a line of the graph's
+//! text: with the key of its frame, its address, and how it goes on.
 //!
 //! **Commands one after another**, each on the files and the sink that the one before it left, up
 //! to the first that isn't done. Over steady files, with room for all that is printed, where each

@@ -21,7 +21,7 @@ range_parts r h =
 pub is_range-from : (r : Range) → r.at % 4 ≡ 0 → r.len % 4 ≡ 0 → 0 < r.len → r.at + r.len ≤ 2 ^ 32 → is_range r ≡ true
 is_range-from r a l some fits = and_from _ _ (and_from _ _ (and_from _ _ (eq-eqb _ _ a) (eq-eqb _ _ l)) (lt-ltb 0 r.len some)) (le-leb (r.at + r.len) (2 ^ 32) fits)
 
--- the ranges of devices
+-- the ranges of peripherals
 pub device_ranges : (ds : List Device) → list_all is_device ds ≡ true → list_all is_range (map (λ (d : Device). d.range) ds) ≡ true
 device_ranges [] h = refl
 device_ranges (d ∷ ds) h =

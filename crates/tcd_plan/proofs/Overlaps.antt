@@ -26,7 +26,7 @@ pub ranges_of_devices : (objects : List Data) → map (λ d. d.range) (map plan_
 ranges_of_devices [] = refl
 ranges_of_devices (o ∷ objects) = ap (λ rs. plan_range_of o ∷ rs) (ranges_of_devices objects)
 
--- rom, ram, devices and the save areas, one after another
+-- rom, ram, peripherals and the save areas, one after another
 pub all_gathered : (d : Data) (rom ram devices all : List Range) → rom ≡ map plan_range_of (plan_objects_of Rom d) → ram ≡ rom ++ map plan_range_of (plan_objects_of Ram d) → devices ≡ ram ++ map plan_range_of (plan_objects_of Devices d)
     → all ≡ devices ++ areas_range (plan_in d) ∷ [] → all ≡ all_ranges (plan_in d)
 unfolding plan_in

@@ -1,10 +1,10 @@
--- What a plan maps, which of its ranges overlap, and what its devices can answer.
+-- What a plan maps, which of its ranges overlap, and what its peripherals can answer.
 use Rattle.std.specs.Prelude.{◌≡◌, ℕ, ◌+◌, ◌*◌, ◌^◌, ◌<◌, ◌≤◌, ◌⊎◌, List, ◌∷◌, Option, All, IfSome, []}
 use Rattle.tcd_base.specs.Ranges.{IsWithinRange, IsInOneRange}
 use Rattle.tcd_plan.specs.declared.plans.Device.{Device}
 use Rattle.tcd_plan.specs.PlanData.{PlanData}
 
--- the n addresses from x on are in one of a plan's device regions: the range of one device
+-- the n addresses from x on are in one of a plan's peripheral regions: the range of one peripheral
 abbrev pub IsInDevice : ℕ → ℕ → List Device → Type 0
 IsInDevice x n [] = ⊥
 IsInDevice x n (d ∷ ds) = IsWithinRange x n d.range ⊎ IsInDevice x n ds
@@ -17,17 +17,17 @@ IsInAreas plan x = (plan.csa_at ≤ x) × (x < plan.csa_at + 64 * plan.areas)
 abbrev pub IsMappedBy : PlanData → ℕ → Type 0
 IsMappedBy plan x = IsInOneRange x 1 plan.rom ⊎ IsInOneRange x 1 plan.ram ⊎ IsInAreas plan x
 
--- the input is one that the device regions of a plan can answer: it is within the bounds of each
--- device that has the four bytes at x
+-- the input is one that the peripheral regions of a plan can answer: it is within the bounds of
+-- each peripheral that has the four bytes at x
 abbrev pub AnswersAt : ℕ → ℕ → List Device → Type 0
 AnswersAt x input ds = All (λ d. IsWithinRange x 4 d.range → (d.lo ≤ input) × (input ≤ d.hi)) ds
 
--- the input is one that the device regions of a plan can answer to this load: a word that is loaded
--- from a device is within the device's bounds
+-- the input is one that the peripheral regions of a plan can answer to this load: a word that is
+-- loaded from a peripheral is within the peripheral's bounds
 abbrev pub AnswersLoad : PlanData → ℕ → Option (ℕ × ℕ) → Type 0
 AnswersLoad plan input load = IfSome load (λ l. l.1 ≡ 4 → AnswersAt l.0 input plan.devices)
 
 -- a store is in the regions where a plan allows it: not past 2^32, and wholly in one ram range or
--- one device range
+-- one peripheral range
 abbrev pub IsStoreInRange : PlanData → ℕ × ℕ → Type 0
 IsStoreInRange plan at = (at.0 + at.1 ≤ 2 ^ 32) × (IsInOneRange at.0 at.1 plan.ram ⊎ IsInDevice at.0 at.1 plan.devices)

@@ -12,8 +12,8 @@ use Rattle.std.specs.Option.{option_map_or, option_or}
 use Rattle.tcd_plan.specs.declared.plans.PlanErr.{PlanErr}
 use Rattle.tcd_plan.specs.declared.plans.PlanErr.TheVariants.{Overlap}
 
--- a plan: the board's memory and devices, the save areas, the start state, the interrupts, and the
--- traps
+-- a plan: the board's memory and peripherals, the save areas, the start state, the interrupts, and
+-- the traps
 pub record PlanData : Type 0 where
   pub rom : List Range
   pub ram : List Range
@@ -57,22 +57,22 @@ plan_data p = record {
   core = p.core;
 }
 
--- what holds of each rom, ram or device range in every plan's data: whole words, at least one, and
--- an end at 2^32 or below
+-- what holds of each rom, ram or peripheral range in every plan's data: whole words, at least one,
+-- and an end at 2^32 or below
 abbrev pub is_range : Range → Bool
 is_range r = (r.at % 4 == 0) && (r.len % 4 == 0) && nat_lt 0 r.len && nat_le (r.at + r.len) (2 ^ 32)
 
--- what holds of each device in every plan's data: its range is valid, and the bounds of the words
--- that it answers are in order and below 2^32
+-- what holds of each peripheral in every plan's data: its range is valid, and the bounds of the
+-- words that it answers are in order and below 2^32
 abbrev pub is_device : Device → Bool
 is_device d = is_range d.range && nat_le d.lo d.hi && nat_lt d.hi (2 ^ 32)
 
--- in a plan's data, the save areas of 64 bytes each, as one range beside rom, ram and devices
+-- in a plan's data, the save areas of 64 bytes each, as one range beside rom, ram and peripherals
 abbrev pub areas_range : PlanData → Range
 areas_range p = record { at = p.csa_at; len = 64 * p.areas }
 
 -- all ranges in a plan's data as one list, in the order in which overlaps number them: rom, ram,
--- devices, save areas
+-- peripherals, save areas
 abbrev pub all_ranges : PlanData → List Range
 all_ranges p = p.rom ++ p.ram ++ map (λ d. d.range) p.devices ++ areas_range p ∷ []
 
@@ -85,8 +85,8 @@ abbrev pub are_all_ranges_apart : List Range → Bool
 are_all_ranges_apart [] = true
 are_all_ranges_apart (r ∷ rs) = list_all (are_ranges_apart r) rs && are_all_ranges_apart rs
 
--- what holds of every plan's rom, ram and devices: how many they are, how large, and that each is a
--- range
+-- what holds of every plan's rom, ram and peripherals: how many they are, how large, and that each
+-- is a range
 pub record AreRanges (p : PlanData) : Type 0 where
   pub some : 1 ≤ length p.rom
   pub few_rom : length p.rom ≤ 16

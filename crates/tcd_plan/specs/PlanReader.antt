@@ -24,7 +24,7 @@ abbrev pub plan_range_of : Data → Range
 plan_range_of o = record { at = json_word_at (codes "at") o; len = json_word_at (codes "len") o }
 
 -- what the reader of plans makes of an object of the document with `at`, `len`, `lo` and `hi`: a
--- device
+-- peripheral
 abbrev pub plan_device_of : Data → Device
 plan_device_of o = record { range = plan_range_of o; lo = json_word_at (codes "lo") o; hi = json_word_at (codes "hi") o }
 

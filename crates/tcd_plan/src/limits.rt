@@ -53,8 +53,8 @@ pub fn has_vectors(value: &Value) -> bool
     json_word_at(value, "biv") % 2 == 0 && json_word_at(value, "btv") % 2 == 0
 }
 
-/// Returns the first pair of ranges that share a byte, numbered over rom, ram, devices and the save
-/// areas.
+/// Returns the first pair of ranges that share a byte, numbered over rom, ram, peripherals and the
+/// save areas.
 pub fn plan_range_overlap(value: &Value) -> Option<PlanErr>
     requires { HasShortPlanArrays (view value.now) }
     ensures { result ≡ plan_range_overlap (plan_in (view value.now)) }

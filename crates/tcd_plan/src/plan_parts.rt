@@ -41,7 +41,7 @@ pub fn ranges_of(objects: &[Value]) -> ArrayVec<Range, 16>
     ranges
 }
 
-/// Reads the devices of the objects.
+/// Reads the peripherals of the objects.
 pub fn devices_of(objects: &[Value]) -> ArrayVec<Device, 16>
     requires { length objects.now ≤ 16 }
     ensures { result.items ≡ map plan_device_of (map view objects.now) }
@@ -100,7 +100,7 @@ pub(crate) fn areas_range(value: &Value) -> Range
     }
 }
 
-/// Reads a device of the plan: its range, and the bounds of its words.
+/// Reads a peripheral of the plan: its range, and the bounds of its words.
 fn plan_device_of(object: &Value) -> Device
     ensures { result ≡ plan_device_of (view object.now) }
 {

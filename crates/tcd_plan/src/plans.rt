@@ -24,13 +24,13 @@ pub enum PlanErr {
     BadCsa,
     /// BIV or BTV is odd.
     BadVector,
-    /// Two ranges share a byte: their numbers over rom, ram, devices and the save areas.
+    /// Two ranges share a byte: their numbers over rom, ram, peripherals and the save areas.
     Overlap(u32, u32),
     /// An allocation failed.
     NoMemory,
 }
 
-/// A device: a range, and the bounds of the words that a load from it can give, `lo..=hi`.
+/// A peripheral: a range, and the bounds of the words that a load from it can give, `lo..=hi`.
 #[derive(Clone, Copy, Debug, Default, PartialEq, Eq)]
 pub struct Device {
     pub range: Range,

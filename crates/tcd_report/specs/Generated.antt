@@ -28,9 +28,9 @@ abbrev pub call_from : ℕ → ℕ → List ℕ
 call_from at to = generated_code (codes "call") (fields 0 0 0 0 ((to - at) / 2))
 
 -- ---- the main program, at 80000000
--- a15 is the address of the device, F0000000. Its word d15 is the number of a word in the table,
--- 256 bytes after the start of the program. That function is called, then a system call is made,
--- and then all again.
+-- a15 is the address of the peripheral, F0000000. Its word d15 is the number of a word in the
+-- table, 256 bytes after the start of the program. That function is called, then a system call is
+-- made, and then all again.
 unfoldable pub main_code : List ℕ
 main_code =
     generated_code (codes "movh.a") (fields 15 0 0 0 0xf000) ++ generated_code (codes "ld.w.l") (fields 0 15 15 0 0)

@@ -1,5 +1,5 @@
-//! Worked addresses on the board; with devices, one at F0000000 that answers 0 to 15, and one that
-//! begins where ram ends.
+//! Worked addresses on the board; with peripherals, one at F0000000 that answers 0 to 15, and one
+//! that begins where ram ends.
 use crate::asserts::{is_so, same};
 use crate::boards::{Edit, board};
 use crate::programs::{Program, image};
@@ -23,8 +23,8 @@ static TABLE: Program<'static> = Program {
     layout: "entry table\nplace words 80000020 00000010\n",
 };
 
-// The last word of ram is stored at; a word that passes the end of ram is not, even where a device
-// begins there.
+// The last word of ram is stored at; a word that passes the end of ram is not, even where a
+// peripheral begins there.
 #[test]
 fn stores_at_the_end_of_ram(rt: HostRuntime) -> Result<(), Fail> {
     for plan in [board(&rt, &[])?, board(&rt, &DEVICES)?] {

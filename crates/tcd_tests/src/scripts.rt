@@ -63,7 +63,7 @@ fn polled_device(rt: HostRuntime) -> Result<(), Fail> {
     Ok(())
 }
 
-// A caller with a closure of its own, which always answers the upper bound of the one device.
+// A caller with a closure of its own, which always answers the upper bound of the one peripheral.
 fn drive_with_highest(m: &mut Machine, plan: &Plan, script: &Script) -> Option<Peak>
     requires { FitsPlan plan.now script.now }
 {

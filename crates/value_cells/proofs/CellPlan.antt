@@ -1,4 +1,4 @@
--- The plan in which the cells are devices is a plan.
+-- The plan with cells is a plan.
 use Rattle.std.proofs.Common.{get_or, ◌≡◌, ◌≢◌, ℕ, zero, suc, ◌+◌, ◌%◌, ◌^◌, ◌<◌, ◌≤◌, inl, inr, true, false, ◌&&◌, List, [], ◌∷◌, ◌++◌, map, length, take, refl, sym, ap, ◌∙◌, subst, arith, nat_le, nat_lt, All}
 use Rattle.std.proofs.lemmas.Bool.{and_parts, and_from, lt-ltb, le-leb, or_right}
 use Rattle.std.proofs.lemmas.List.Folds.{list_all-append}
@@ -36,7 +36,7 @@ ram_size : (cells : List Cell) (rs : List Range) → size (ram_without_cells cel
 ram_size [] rs = omega arith
 ram_size (c ∷ cs) rs = let a = ram_size cs (cut_plan_ranges c.at 4 rs) in let b : size (cut_plan_ranges c.at 4 rs) ≤ size rs = ranges_without_size c.at 4 rs in omega arith
 
--- ---- devices
+-- ---- peripherals
 abbrev cell_ranges : List Cell → List Range
 cell_ranges cells = map (λ (d : Device). d.range) (map cell_device cells)
 
@@ -156,7 +156,7 @@ module _ {plan : PlanData} (ok : IsPlan plan) (cells : List Cell) (are : AreCell
       there : HaveBytes (old_devices ++ cell_ranges cells)
       there = HaveBytes-append old_devices (cell_ranges cells) (HaveBytes-ranges _ (old_is)) (HaveBytes-ranges _ (new_is))
 
-  -- The plan in which the cells are devices is a plan.
+  -- The plan with cells is a plan.
   pub IsPlan-with_cells : IsPlan (with_cells plan cells)
   IsPlan-with_cells = record {
     ranges = record {

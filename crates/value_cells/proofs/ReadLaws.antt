@@ -43,7 +43,7 @@ room_few plan cells c room = subst (λ (rs : List Range). length rs ≤ 16) (roo
 pub room_lt : (plan : PlanData) (cells : List Cell) (c : Cell) → HasRoom plan cells c → length plan.devices + length cells < 16
 room_lt plan cells c room = omega (arith, room_devices plan cells c, room.devices)
 
--- if there are few enough ranges, the number of devices decides
+-- if there are few enough ranges, the number of peripherals decides
 pub room_then : (plan fields : PlanData) (cells : List Cell) (c : Cell) (n d m : ℕ) → fields ≡ plan → d ≡ length fields.devices → m ≡ length cells → n ≡ length (cut_plan_ranges c.at 4 (ram_without_cells cells plan.ram)) → n ≤ 16
     → (IsTrue (nat_lt (d + m) 16) → HasRoom plan cells c) × (HasRoom plan cells c → IsTrue (nat_lt (d + m) 16))
 room_then plan fields cells c n d m same devices count parts few =

@@ -47,7 +47,7 @@ pub record AreRead (plan : PlanData) (lines : List (List ℕ)) (cells : List Cel
   pub are : AreCells plan cells
 
 -- there is room for the cell of one more line of the text: it leaves at most 16 ranges of ram and
--- at most 16 devices, which are a plan's limits
+-- at most 16 peripherals, which are a plan's limits
 pub record HasRoom (plan : PlanData) (cells : List Cell) (c : Cell) : Type 0 where
   pub ram : length (with_cells plan (cells ++ c ∷ [])).ram ≤ 16
   pub devices : length (with_cells plan (cells ++ c ∷ [])).devices ≤ 16

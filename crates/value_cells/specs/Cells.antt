@@ -1,5 +1,5 @@
--- Cells, and the plan in which they are devices. The rules of certificates know devices but no
--- memory; so they can speak of words of ram.
+-- Cells, and the plan in which they are peripherals. The rules of certificates know peripherals but
+-- no memory; so they can speak of words of ram.
 use Rattle.std.specs.Prelude.{◌≡◌, ◌≢◌, ◌<◌, ◌≤◌, ◌+◌, ◌%◌, ◌^◌, ◌&&◌, ◌||◌, ℕ, Bool, false, nat_lt, nat_le, List, ◌∷◌, ◌++◌, length, map, take, All, AllPairs, []}
 use Rattle.tcd_base.specs.declared.range.Range.{Range}
 use Rattle.tcd_plan.specs.declared.plans.Device.{Device}
@@ -14,12 +14,12 @@ abbrev pub ram_without_cells : List Cell → List Range → List Range
 ram_without_cells [] rs = rs
 ram_without_cells (c ∷ cs) rs = ram_without_cells cs (cut_plan_ranges c.at 4 rs)
 
--- a cell as a device of the plan: it answers inside the cell's bounds
+-- a cell as a peripheral of the plan: it answers inside the cell's bounds
 abbrev pub cell_device : Cell → Device
 cell_device c = record { range = record { at = c.at; len = 4 }; lo = c.lo; hi = c.hi }
 
--- the plan with these cells as devices: their words aren't ram, and they are the last devices, in
--- their order
+-- the plan with these cells as peripherals: their words aren't ram, and they are the last
+-- peripherals, in their order
 abbrev pub with_cells : PlanData → List Cell → PlanData
 with_cells plan cells = record plan { ram = ram_without_cells cells plan.ram; devices = plan.devices ++ map cell_device cells }
 
@@ -31,7 +31,7 @@ pub record IsCell (plan : PlanData) (c : Cell) : Type 0 where
   pub in_ram : IsInOneRange c.at 4 plan.ram
 
 -- Cells of a plan: each is one, and no word is named twice. The first n of them, for each n, leave
--- at most 16 ram ranges and 16 devices, which are a plan's limits.
+-- at most 16 ram ranges and 16 peripherals, which are a plan's limits.
 pub record AreCells (plan : PlanData) (cells : List Cell) : Type 0 where
   pub each : All (IsCell plan) cells
   pub once : AllPairs (λ c d. d.at ≢ c.at) cells

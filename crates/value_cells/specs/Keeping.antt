@@ -43,7 +43,7 @@ KeepsCellsAt b plan cells s _ = Unit {0}
 abbrev pub KeepsCellsAtPoint : Limits → ImageData → PlanData → List Cell → Point → Type 0
 KeepsCellsAtPoint b image plan cells point = (shape : Shape) (n : ℕ) → IsCode image plan point.addr shape n → KeepsCellsAt b plan cells point.state shape
 
--- K16, at each point of a certificate under the plan in which the cells are devices.
+-- K16, at each point of a certificate under the plan with cells.
 abbrev pub KeepsCells : ImageData → PlanData → List Cell → CertData → Type 0
 KeepsCells image plan cells cert =
     (node : NodeData) (point : Point) → Contains cert.nodes node → Contains node.points point → KeepsCellsAtPoint (limits_in plan cert) image plan cells point

@@ -18,7 +18,7 @@ use Rattle.cfg_recover.specs.EdgeAndFrameLaws.{FramesHeld}
 use Rattle.value_cells.specs.Keeping.{KeepsCells, BreaksCells}
 use Rattle.depth_cert.specs.declared.keys.Key.{Key}
 
--- The ram of the plan in which the cells are devices is all ram except the cells' bytes.
+-- The ram of the plan with cells is all ram except the cells' bytes.
 abbrev pub RamIsWithoutCells : Type 0
 RamIsWithoutCells =
     (plan : PlanData) (cells : List Cell) (x : ℕ) → IsInOneRange x 1 (with_cells plan cells).ram ↔ (IsInOneRange x 1 plan.ram × (is_in_cell cells x ≡ false))
@@ -31,15 +31,15 @@ EachCellStays =
     → Starts image plan m → All (λ d. (d.lo ≤ word_at m.mem d.at) × (word_at m.mem d.at ≤ d.hi)) cells → AllFit plan m es → Fits plan (run m es) e → Contains cells c
     → IsSafeAt image plan most (run m es) e × (c.lo ≤ word_at (run m es).mem c.at) × (word_at (run m es).mem c.at ≤ c.hi)
 
--- if an accepted certificate keeps the cells, and its image is safe under the plan in which the
--- cells are devices, the image is safe with cells under the plan itself
+-- if an accepted certificate keeps the cells, and its image is safe under the plan with cells, the
+-- image is safe with cells under the plan itself
 abbrev pub CellsKeepTheirBounds : Type 0
 CellsKeepTheirBounds =
     (image : ImageData) (plan : PlanData) (cells : List Cell) (cert : CertData) (most : ℕ) → IsPlan plan → AreCells plan cells → IsCert cert
     → Accepts image (with_cells plan cells) cert → Safe image (with_cells plan cells) most → FramesHeld image (with_cells plan cells) cert
     → KeepsCells image (with_cells plan cells) cells cert → SafeWithCells image plan cells most
 
--- the plan in which the cells are devices is a plan
+-- the plan with cells is a plan
 abbrev pub CellsMakeAPlan : Type 0
 CellsMakeAPlan = (plan : PlanData) (cells : List Cell) → IsPlan plan → AreCells plan cells → IsPlan (with_cells plan cells)
 

@@ -7,7 +7,7 @@ use std::marker::Model;
 use tcd_plan::{Plan, cut_plan_ranges};
 use tcd_text::cut_line;
 
-/// The most ranges of ram and the most devices of a plan.
+/// The most ranges of ram and the most peripherals of a plan.
 const MOST: usize = 16;
 
 /// A word of ram with the bounds of its number, `lo..=hi`.
@@ -109,7 +109,7 @@ impl Cells {
         self.list.iter().any(|cell| cell.at == at)
     }
 
-    // Returns whether one more cell leaves at most 16 ranges of ram and at most 16 devices.
+    // Returns whether one more cell leaves at most 16 ranges of ram and at most 16 peripherals.
     fn has_room(&self, plan: &Plan, cell: &Cell) -> bool
         requires cells { AreCells plan.now self.now }
         requires cell { IsCell plan.now cell.now }

@@ -10,6 +10,6 @@ pub enum CellsErr {
     NotRam(u32),
     /// An earlier line names the same word.
     Twice(u32),
-    /// With it more than 16 ranges of ram are left, or there are more than 16 devices.
+    /// With it more than 16 ranges of ram are left, or there are more than 16 peripherals.
     TooMany(u32),
 }

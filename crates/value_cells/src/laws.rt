@@ -4,7 +4,7 @@ ghost use Rattle.value_cells.specs.Laws.{CellsMakeAPlan, RamIsWithoutCells, Each
 ghost use Rattle.value_cells.specs.Rule16Growth.{CellFaultsGrow, LesserKeepsCells};
 ghost use Rattle.value_cells.specs.CellListText.{CellTextReadsOne};
 
-/// The plan in which the cells are devices is a plan. The machine without the cells' bytes, whose
+/// The plan with cells is a plan. The machine without the cells' bytes, whose
 /// inputs are the cells' words, takes the same steps as the machine with them. So if the rules
 /// accept a certificate under that plan, and it keeps the cells, the image is safe under the plan
 /// itself, and each cell's word stays in its bounds.

@@ -1,4 +1,4 @@
-// The plan in which the cells are devices.
+// The plan with cells.
 ghost use Rattle.std.specs.Prelude.{◌≡◌, ◌≤◌, ◌+◌, ◌^◌, ◌++◌, ◌↔◌, All, IsTrue, map, length};
 ghost use Rattle.tcd_base.specs.Ranges.{IsInOneRange};
 ghost use Rattle.tcd_plan.specs.Cutting as cutting;
@@ -29,8 +29,8 @@ pub(crate) fn ram_without_cells(plan: &Plan, cells: &[Cell]) -> ArrayVec<Range, 
     ram
 }
 
-/// Returns the plan in which the cells are devices: their words aren't ram, and they are the last
-/// devices, in their order.
+/// Returns the plan with cells: their words aren't ram, and they are the last
+/// peripherals, in their order.
 pub fn with_cells(plan: &Plan, cells: &Cells) -> Plan
     requires { AreCells plan.now cells.now }
     ensures { result ≡ spec.with_cells plan.now cells.now }
@@ -68,8 +68,8 @@ fn ranges_without_cell(ranges: &[Range], at: u32) -> ArrayVec<Range, 16>
     ArrayVec::try_from(left.as_slice()).unwrap()
 }
 
-/// Returns the plan's devices, and after them one for each cell, which answers inside the cell's
-/// bounds.
+/// Returns the plan's peripherals, and after them one for each cell, which answers inside the
+/// cell's bounds.
 fn devices_with(plan: &Plan, cells: &[Cell]) -> ArrayVec<Device, 16>
     requires { AreCells plan.now cells.now }
     ensures { result.items ≡ plan.now.devices ++ map cell_device cells.now }

@@ -18,7 +18,7 @@ pub const CELLS_RULE: u8 = 16;
 pub(crate) struct CellsRule<'a> {
     pub(crate) bounds: &'a Bounds,
     pub(crate) image: &'a Image,
-    /// The plan in which the cells are devices.
+    /// The plan with cells.
     pub(crate) plan: &'a Plan,
     pub(crate) cells: &'a [Cell],
 }

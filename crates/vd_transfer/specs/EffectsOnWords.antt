@@ -24,8 +24,8 @@ abbrev pub with_base_word : (ℕ → ℕ) → Arg → ℕ → Bool → ℕ → �
 with_base_word word (Reg r) offset after = if after then words_with_register word r ((word r + offset) % 2 ^ 32) else word
 with_base_word word (Word w) offset after = word
 
--- the words after an instruction that read this word from memory or a device; saving and restoring
--- contexts is defined elsewhere
+-- the words after an instruction that read this word from memory or a peripheral; saving and
+-- restoring contexts is defined elsewhere
 unfoldable pub words_after : Shape → ℕ → (ℕ → ℕ) → ℕ → ℕ
 words_after (Compute op dst x y) input word = words_with_register word dst (alu_of op (word_of word x) (word_of word y))
 words_after (Scaled dst base index n) input word = words_with_register word dst ((word base + word index * 2 ^ n) % 2 ^ 32)

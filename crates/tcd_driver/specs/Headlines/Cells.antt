@@ -24,9 +24,9 @@ pub record AreCellFiles (before : FileMap) (elf_name plan_name cells_name : List
   pub firmware : AreFirmwareFiles before elf_name plan_name image plan
   pub cells_file : HoldsFile before cells_name (2 ^ 24) (λ bytes. Reads plan bytes (Ok list))
 
--- The certificate is accepted under the plan in which the cells are devices, and each store keeps
--- the cells' bounds. So each run under the plan itself is safe with the certificate's need if each
--- cell starts in its bounds, and each cell stays in them.
+-- The certificate is accepted under the plan in which the cells are peripherals, and each store
+-- keeps the cells' bounds. So each run under the plan itself is safe with the certificate's need if
+-- each cell starts in its bounds, and each cell stays in them.
 pub record AreKeptWith (image : ImageData) (plan : PlanData) (list : List Cell) (cert : CertData) (need : ℕ) : Type 0 where
   pub accepted : IsAcceptedWithNeed image (with_cells plan list) cert need
   pub keeps : KeepsCells image (with_cells plan list) list cert
@@ -70,7 +70,7 @@ pub record RefusalByCells (elf_name plan_name cells_name cert_name : List ℕ) (
   pub stays : after ≡ before
 
 -- `cellcert` is done: CERT now holds such a certificate, the least of format 2 under the plan in
--- which the cells are devices.
+-- which the cells are peripherals.
 pub record HeadlineOfCellcert (elf_name plan_name cells_name cert_name : List ℕ) (before after : FileMap) (printed : List ℕ) : Type 0 where
   pub image : ImageData
   pub plan : PlanData

@@ -14,8 +14,8 @@ use tcd_plan::Plan;
 use tcd_reading::{Outcome, Report, Status, read_input};
 use value_cells::{CELLS_RULE, Cells, cells_fault, with_cells};
 
-/// Reads the four files, and reports whether the certificate is accepted under the plan in which
-/// the cells are devices, and keeps the cells.
+/// Reads the four files, and reports whether the certificate is accepted under the plan with cells,
+/// and keeps the cells.
 #[inline(never)]
 pub(crate) fn check_cells<F: Files>(
     alloc: Global,
@@ -41,7 +41,7 @@ pub(crate) fn check_cells<F: Files>(
     cells_verdict(alloc, &image, &board, &words, &proof)
 }
 
-// Checks a certificate under the plan in which the cells are devices, and whether it keeps the
+// Checks a certificate under the plan with cells, and whether it keeps the
 // cells. Reports the verdict.
 fn cells_verdict(alloc: Global, image: &Image, plan: &Plan, cells: &Cells, cert: &Cert) -> Outcome
     requires { AreCells plan.now cells.now }

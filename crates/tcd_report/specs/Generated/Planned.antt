@@ -8,8 +8,8 @@ use Rattle.tcd_base.specs.Ranges.{range}
 abbrev pub generated_irqs : List ℕ
 generated_irqs = 10 ∷ 20 ∷ 30 ∷ 40 ∷ 50 ∷ 60 ∷ 70 ∷ 80 ∷ 90 ∷ 100 ∷ 110 ∷ 120 ∷ 130 ∷ 140 ∷ 150 ∷ 160 ∷ []
 
--- One range of ROM and one of RAM. A device that answers 0 to 15. 256 CSAs, 16 of them in reserve.
--- Sixteen interrupts, and the trap of system calls. Interrupts are enabled at the start.
+-- One range of ROM and one of RAM. A peripheral that answers 0 to 15. 256 CSAs, 16 of them in
+-- reserve. Sixteen interrupts, and the trap of system calls. Interrupts are enabled at the start.
 abbrev pub generated_plan : PlanData
 generated_plan = record {
   rom = range 0x80000000 0x20000 ∷ [];

@@ -23,7 +23,7 @@ pub struct Generated {
 
 /// The files of the generated image of n functions and of its plan. The image has a main program,
 /// the handlers of sixteen nested interrupts, and the functions. The main program makes system
-/// calls, and calls functions of a table by the numbers that a device gives. The functions call
+/// calls, and calls functions of a table by the numbers that a peripheral gives. The functions call
 /// each other as the places of a binary heap. The time is linear in n.
 pub fn generate(alloc: Global, n: u32) -> Result<Generated, NoMemory>
     requires some { 1 ≤ n }
