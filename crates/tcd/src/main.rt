@@ -1,4 +1,4 @@
-// The program: the words of the command line, real files and standard output, around the tool.
+// The program: the command line, real files and standard output, around the tool.
 #![tactic(auto)]
 
 use std::process::ExitCode;
@@ -20,7 +20,7 @@ fn main(rt: HostRuntime) -> ExitCode {
     }
 }
 
-// The words after the program's name.
+// The arguments after the program's name.
 fn words<R: env::Env + AllocGlobal>(rt: &R) -> io::Result<Vec<String>> {
     let mut words = Vec::new(rt.alloc());
     for (i, word) in env::args(rt)?.enumerate() {
@@ -31,8 +31,7 @@ fn words<R: env::Env + AllocGlobal>(rt: &R) -> io::Result<Vec<String>> {
     Ok(words)
 }
 
-// The exit status of the words behind the program's name, over the system's files and standard
-// output.
+// The exit status for these arguments, over the system's files and standard output.
 fn number_of<R: rt::Files + Print + AllocGlobal>(rt: &R, words: &[String]) -> u8 {
     let mut files = RealFiles { rt, failed: 0 };
     let mut out = Stdout { rt, failed: 0 };

@@ -16,7 +16,8 @@ const SOURCE: &str =
 // One area fewer than the program needs, beside the reserve.
 const SMALL: &str = "\"areas\": 4, \"reserve\": 3";
 
-/// Returns the exit status of the tool for a line of words, as a test over real files compares it.
+/// Returns the exit status of the tool for a line of arguments, as a test over real files compares
+/// it.
 fn number<R: std::rt::Files + Print + AllocGlobal>(rt: &R, line: &str) -> Result<u8, Fail> {
     let mut words = Vec::new(rt.alloc());
     for word in line.split(' ') {

@@ -1,4 +1,4 @@
--- The number of functions that a word asks for, by std's parser of numbers.
+-- The number of functions that an argument asks for, by std's parser of numbers.
 use Rattle.std.proofs.Common.{◌≡◌, ◌≢◌, ◌<◌, ◌&&◌, ◌||◌, ◌^◌, ◌==◌, ℕ, zero, suc, Bool, true, false, not, nat_lt, nat_le, if◌then◌else◌, List, [], ◌∷◌, length, get_or, Option, Some, None, option_and_then, Result, Ok, Err, refl, sym, ap, subst, ◌∙◌, arith, ⊎_elim, slice_index, leb-true, le-leb, lt-ltb, ltb-true, ne_eqb, eqb-true, true≢false}
 use Rattle.std.specs.Bool.{then_some}
 use Rattle.std.specs.Char.{is_ascii_digit}

@@ -1,4 +1,4 @@
--- The commands that words ask for, and how a call of the tool with these words ends.
+-- The commands that arguments ask for, and how a call of the tool with these arguments ends.
 use Rattle.std.proofs.Common.{◌≡◌, ◌≢◌, ◌≤◌, ◌+◌, ◌^◌, ◌&&◌, ℕ, Bool, true, false, not, nat_le, if◌then◌else◌, List, [], ◌∷◌, ◌++◌, length, Option, Some, None, inl, inr, refl, sym, ap, subst, ◌∙◌, arith}
 use Rattle.std.specs.Prelude.{codes, IfSome, IfNone, IsSomeAnd}
 use Rattle.std.specs.Bool.{then_some}
@@ -90,7 +90,7 @@ bad_words_is : bad_words_line ≡ codes "bad words" ++ 10 ∷ []
 unfolding bad_words_line
 bad_words_is = refl
 
--- words that are no command don't end with such a status
+-- arguments that are no command don't end with such a status
 by_prints : (text : List ℕ) (sink sink' : SinkSeen) (status : Status) → IsTold status → PrintsWithStatus BadWords text sink sink' status → ⊥
 by_prints text sink sink' status is_told (whole e p) = is_told.good_words e
 by_prints text sink sink' status is_told (cut e front counted full) = is_told.no_fault e
@@ -99,7 +99,7 @@ pub bad_end : (files files' : FilesSeen) (sink sink' : SinkSeen) (status : Statu
 bad_end files files' sink sink' status line same is prints later = record { files_stay = same; prints = subst (λ (t : List ℕ). PrintsWithStatus BadWords t sink sink' status) is prints; later = later }
 
 -- ---- words
--- a command that words ask for if a test holds
+-- a command that arguments ask for if a test holds
 or_none : (b : Bool) (c : Command) → option_or (if b then Some c else None) None ≡ (if b then Some c else None)
 or_none true c = refl
 or_none false c = refl
@@ -146,7 +146,7 @@ all_differ : (certs : List (List ℕ)) → is_taskcert (codes "taskcert") certs 
 all_differ certs e = (and_parts (bytes_eq (codes "taskcert") (codes "taskcert") && nat_le 1 (length certs) && nat_le (length certs) 65531) (are_distinct_names certs) e).1
 
 module _ (P : Command → Type 0) (Q : Type 0) (never : Q → ⊥) where
-  -- a word for an address
+  -- an argument for an address
   boot_asked : (elf plan cert : List ℕ) (o : Option ℕ) → IfSome (option_map (λ x. asked.boot (record { elf = elf; plan = plan; cert = cert; at = x })) o) P →
       IfNone (option_map (λ x. asked.boot (record { elf = elf; plan = plan; cert = cert; at = x })) o) Q → (at : ℕ) × (o ≡ Some at) × P (asked.boot (record { elf = elf; plan = plan; cert = cert; at = at }))
   boot_asked elf plan cert None some none = absurd (never none)
@@ -175,7 +175,7 @@ module _ (P : Command → Type 0) (Q : Type 0) (never : Q → ⊥) where
       let a = at_asked plan source entry at_word some none in
       (entry, a.0, refl, a.1, a.2, a.3)
 
-  -- a word for a number of functions
+  -- an argument for a number of functions
   some_asked : (b : Bool) (n : ℕ) → IfSome (option_map asked.generate (then_some b n)) P → IfNone (option_map asked.generate (then_some b n)) Q → (b ≡ true) × P (asked.generate n)
   some_asked true n some none = (refl, some)
   some_asked false n some none = absurd (never none)
@@ -210,7 +210,7 @@ module _ (call : ToolCall) where
     ends_with : (reading : Reading) (status : Status) → call.status ≡ status → Ends reading call.files call.files_after call.sink call.sink_after call.status → Ends reading call.files call.files_after call.sink call.sink_after status
     ends_with reading status is ends = subst (λ (s : Status). Ends reading call.files call.files_after call.sink call.sink_after s) is ends
 
-    -- the command that words ask for, and how the call ended as it
+    -- the command that arguments ask for, and how the call ended as it
     record Found (asks : List Ask) (IfDone IfRefused : FileMap → FileMap → List ℕ → Type 0) : Type 0 where
       c : Command
       answers : Answers c asks IfDone IfRefused
@@ -298,11 +298,11 @@ module _ (call : ToolCall) where
         decided = one_end;
       }
 
-    -- words that are this command for all names
+    -- arguments that are this command for all names
     fixed : (words : List (List ℕ)) (c : Command) (asks : List Ask) (IfDone IfRefused : FileMap → FileMap → List ℕ → Type 0) → Answers c asks IfDone IfRefused → (IfSome (command words) Ended → Ended c) → CommandSays call words asks IfDone IfRefused
     fixed words c asks IfDone IfRefused answers is = says words asks IfDone IfRefused (λ are no_bad. record { c = c; answers = answers; ended = is (some_by words are) })
 
-    -- words that are a command if a test holds
+    -- arguments that are a command if a test holds
     tested : (words : List (List ℕ)) (c : Command) (b : Bool) (asks : List Ask) (IfDone IfRefused : FileMap → FileMap → List ℕ → Type 0) → command words ≡ (if b then Some c else None) → (b ≡ true → Answers c asks IfDone IfRefused) →
         CommandSays call words asks IfDone IfRefused
     tested words c b asks IfDone IfRefused is answers = says words asks IfDone IfRefused

@@ -1,4 +1,4 @@
--- The commands that words ask for.
+-- The commands that arguments ask for.
 use Rattle.std.proofs.Common.{◌≡◌, Option, sym, subst}
 use Rattle.std.specs.Prelude.{IfSome, IfNone}
 

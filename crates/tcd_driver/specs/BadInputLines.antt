@@ -1,4 +1,4 @@
--- The printed lines for words that are no command, and on faults of boot sequences and of input
+-- The printed lines for arguments that are no command, and on faults of boot sequences and of input
 -- files.
 use Rattle.std.specs.Prelude.{ℕ, List, ◌∷◌, ◌++◌, codes, ◌≡◌, ◌≢◌, Err, []}
 use Rattle.std.specs.Fmt.{decimal}
@@ -26,7 +26,7 @@ use Rattle.task_chains.specs.TaskListText as tasks
 use Rattle.tc_stmt.specs.Lines.{lines_in}
 use Rattle.tc_asm.specs.Rules.{IsLeastBrokenLine}
 
--- the driver's line for words that are no command
+-- the driver's line for arguments that are no command
 unfoldable pub bad_words_line : List ℕ
 bad_words_line = codes "bad words" ++ 10 ∷ []
 

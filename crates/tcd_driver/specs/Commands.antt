@@ -1,4 +1,4 @@
--- The commands: what words ask for, and what each command reads and reports.
+-- The commands: what arguments ask for, and what each command reads and reports.
 use Rattle.std.specs.Prelude.{◌≤◌, ◌+◌, ◌^◌, ◌&&◌, not, nat_le, ℕ, Bool, List, ◌∷◌, length, map, string_bytes, codes, Option, Some, None, if◌then◌else◌, []}
 use Rattle.std.specs.Bool.{then_some}
 use Rattle.std.specs.Option.{option_or, option_map, option_and_then}
@@ -44,7 +44,7 @@ pub data Command : Type 0 where
   generate : ℕ → Command
   taskcert : TaskcertNames → Command
 
--- the words are those of the command `link`, which has 1 to 65,532 objects
+-- the arguments are those of the command `link`, which has 1 to 65,532 objects
 abbrev pub is_link : List ℕ → List (List ℕ) → Bool
 is_link verb objects = bytes_eq verb (codes "link") && nat_le 1 (length objects) && nat_le (length objects) 65532
 
@@ -53,8 +53,8 @@ abbrev pub link_command_of : List (List ℕ) → Option Command
 link_command_of (verb ∷ layout ∷ image ∷ objects) = if is_link verb objects then Some (link (record { layout = layout; image = image; objects = objects })) else None
 link_command_of words = None
 
--- the words are those of the command `ship`, which writes two files with different names, and has 1
--- to 65,530 sources
+-- the arguments are those of the command `ship`, which writes two files with different names, and
+-- has 1 to 65,530 sources
 abbrev pub is_ship : List ℕ → List ℕ → List ℕ → List (List ℕ) → Bool
 is_ship verb elf cert sources = bytes_eq verb (codes "ship") && not (bytes_eq elf cert) && nat_le 1 (length sources) && nat_le (length sources) 65530
 
@@ -90,21 +90,21 @@ bootgen_command_of plan entry at source =
 abbrev pub boot_command_of : List ℕ → List ℕ → List ℕ → List ℕ → Option Command
 boot_command_of elf plan cert at = option_map (λ x. boot (record { elf = elf; plan = plan; cert = cert; at = x })) (hex_number_of at)
 
--- the commands with one word after their verb
+-- the commands with one argument after their verb
 abbrev pub one_word_command : List ℕ → List ℕ → Option Command
 one_word_command verb word =
     if bytes_eq verb (codes "dis") then Some (dis word)
     else if bytes_eq verb (codes "gen") then option_map generate (gen_function_count word)
     else None
 
--- the commands with two words after their verb
+-- the commands with two arguments after their verb
 abbrev pub two_word_command : List ℕ → List ℕ → List ℕ → Option Command
 two_word_command verb first second =
     if bytes_eq verb (codes "asm") then Some (asm (record { source = first; object = second }))
     else if bytes_eq verb (codes "cfg") then Some (cfg (record { elf = first; plan = second }))
     else None
 
--- the commands with three words after their verb
+-- the commands with three arguments after their verb
 abbrev pub three_word_command : List ℕ → List ℕ → List ℕ → List ℕ → Option Command
 three_word_command verb elf plan third =
     if bytes_eq verb (codes "check") then Some (check (record { elf = elf; plan = plan; cert = third }))
@@ -113,7 +113,7 @@ three_word_command verb elf plan third =
     else if bytes_eq verb (codes "run") then Some (run (record { elf = elf; plan = plan; script = third }))
     else None
 
--- the commands with four words after their verb; an address has eight upper-case hex digits
+-- the commands with four arguments after their verb; an address has eight upper-case hex digits
 abbrev pub four_word_command : List ℕ → List ℕ → List ℕ → List ℕ → List ℕ → Option Command
 four_word_command verb first second third fourth =
     if bytes_eq verb (codes "cells") then Some (cells (record { elf = first; plan = second; cells = third; cert = fourth }))
@@ -122,7 +122,7 @@ four_word_command verb first second third fourth =
     else if bytes_eq verb (codes "bootgen") then bootgen_command_of first second third fourth
     else None
 
--- the commands with a fixed number of words
+-- the commands with a fixed number of arguments
 abbrev pub fixed_command_of : List (List ℕ) → Option Command
 fixed_command_of (verb ∷ first ∷ []) = one_word_command verb first
 fixed_command_of (verb ∷ first ∷ second ∷ []) = two_word_command verb first second
@@ -130,12 +130,12 @@ fixed_command_of (verb ∷ first ∷ second ∷ third ∷ []) = three_word_comma
 fixed_command_of (verb ∷ first ∷ second ∷ third ∷ fourth ∷ []) = four_word_command verb first second third fourth
 fixed_command_of words = None
 
--- the command that words ask for
+-- the command that arguments ask for
 abbrev pub command : List (List ℕ) → Option Command
 command words = option_or (link_command_of words) (option_or (ship_command_of words) (option_or (tasks_command_of words) (fixed_command_of words)))
 
--- for each of the commands, what it reads and reports: its files, in the order of its words, and
--- its report
+-- for each of the commands, what it reads and reports: its files, in the order of its arguments,
+-- and its report
 abbrev pub reading_of : Command → Reading
 reading_of (check names) = check_reading names
 reading_of (certify names) = cert_reading names
@@ -174,8 +174,8 @@ command_of_value (words.Taskcert elf plan list certs) = taskcert (record { elf =
 command_of_value (words.Tasks elf plan list certs) = tasks (record { elf = elf.now; plan = plan.now; tasks = list.now; certs = map string_bytes certs.now })
 command_of_value (words.Gen functions) = generate functions
 
--- a command that words ask for is within limits: at most 65,535 objects or sources, and to generate
--- a boot sequence that doesn't pass 2^32, or 1 to 500 functions
+-- a command that arguments ask for is within limits: at most 65,535 objects or sources, and to
+-- generate a boot sequence that doesn't pass 2^32, or 1 to 500 functions
 abbrev pub CommandKeepsLimits : Words → Type 0
 CommandKeepsLimits (words.Check elf plan cert) = Unit {0}
 CommandKeepsLimits (words.Cert elf plan cert) = Unit {0}

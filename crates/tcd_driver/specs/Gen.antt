@@ -39,13 +39,13 @@ pub data IsGenReport (functions : ℕ) (image : ImageData) (plan : PlanData) (re
 abbrev pub gen_reading : ℕ → Reading
 gen_reading functions = answer (IsGenReport functions (generated_image functions) generated_plan)
 
--- the word that `gen` has stands for this number of functions, 1 to 500
+-- the argument of `gen` stands for this number of functions, 1 to 500
 pub record IsGenFunctionCount (word : List ℕ) (functions : ℕ) : Type 0 where
   pub is : script_number word ≡ Some functions
   pub some : 1 ≤ functions
   pub few : functions ≤ 500
 
--- the number of functions in the image that `gen` generates, by its word: 1 to 500, in decimal
+-- the number of functions in the image that `gen` generates, by its argument: 1 to 500, in decimal
 -- without leading zeros
 abbrev pub gen_function_count : List ℕ → Option ℕ
 gen_function_count word = option_and_then (λ n. then_some (nat_le 1 n && nat_le n 500) n) (script_number word)

@@ -1,4 +1,4 @@
--- How a call of the tool ends: for words that are no command, and for each command.
+-- How a call of the tool ends: for arguments that are no command, and for each command.
 use Rattle.std.specs.Prelude.{◌≡◌, ◌≢◌, ◌≤◌, ◌⊎◌, ◌↔◌, ℕ, true, length, List, [], ◌∷◌, ◌++◌, codes, Some}
 use Rattle.tcd_base.specs.Files.{FileMap, FilesSeen}
 use Rattle.tcd_base.specs.Sink.{SinkSeen}
@@ -14,15 +14,15 @@ use Rattle.tcd_driver.specs.Headlines.Boots.{HeadlineOfBoot, RefusalByBoot, Head
 use Rattle.tcd_driver.specs.Headlines.Cells.{HeadlineOfCells, RefusalByCells, HeadlineOfCellcert, RefusalByCellcert}
 use Rattle.tcd_driver.specs.Headlines.Tasks.{HeadlineOfTasks, RefusalByTasks, HeadlineOfTaskcert, RefusalByTaskcert}
 
--- How a call of the tool with words that are no command ends: the files stay, and `bad words` is
--- printed, or the sink failed within this text. A sink with room doesn't fail, and no count of
+-- How a call of the tool with arguments that are no command ends: the files stay, and `bad words`
+-- is printed, or the sink failed within this text. A sink with room doesn't fail, and no count of
 -- faults falls.
 pub record EndsWithBadWords (files files' : FilesSeen) (sink sink' : SinkSeen) (result : Status) : Type 0 where
   pub files_stay : files' ≡ files
   pub prints : PrintsWithStatus BadWords bad_words_line sink sink' result
   pub later : sink.faults ≤ sink'.faults
 
--- one call of the driver's tool: its words, the files and the sink before and after it, and its
+-- one call of the driver's tool: its arguments, the files and the sink before and after it, and its
 -- status
 pub record ToolCall : Type 0 where
   pub words : List (List ℕ)
@@ -32,7 +32,7 @@ pub record ToolCall : Type 0 where
   pub sink_after : SinkSeen
   pub status : Status
 
--- what a `ToolCall` with these words and this status means, if its files reveal their contents:
+-- what a `ToolCall` with these arguments and this status means, if its files reveal their contents:
 -- `Holds` is true of the files before and after, and of the text by which the sink grew
 abbrev pub ToolCallMeans : ToolCall → List (List ℕ) → Status → (FileMap → FileMap → List ℕ → Type 0) → Type 0
 ToolCallMeans call words status Holds =
@@ -69,9 +69,9 @@ pub data MayPrintText (IfDone IfRefused IfBad : FileMap → List ℕ → Type 0)
   when_refused : (after : FileMap) → IfRefused after text → MayPrintText IfDone IfRefused IfBad text
   when_bad : (after : FileMap) → IfBad after text → MayPrintText IfDone IfRefused IfBad text
 
--- What the tool promises of a command's words: what it means if its status is Done, Refused or
--- BadInput. If nothing can fail, the status is one of these, each exactly if that can hold, or memory
--- ran out, or the words are none of the command's.
+-- What the tool promises of a command's arguments: what it means if its status is Done, Refused or
+-- BadInput. If nothing can fail, the status is one of these, each exactly if that can hold, or
+-- memory ran out, or the arguments are none of the command's.
 pub record CommandSays (call : ToolCall) (words : List (List ℕ)) (asks : List Ask) (IfDone IfRefused : FileMap → FileMap → List ℕ → Type 0) : Type 0 where
   pub done : ToolCallMeans call words Done IfDone
   pub refused : ToolCallMeans call words Refused IfRefused
@@ -84,7 +84,7 @@ pub record CommandSays (call : ToolCall) (words : List (List ℕ)) (asks : List 
 abbrev pub Never : FileMap → FileMap → List ℕ → Type 0
 Never before after printed = ⊥
 
--- What the tool promises of each command, by the words that were typed. `Ends`, in the clause
+-- What the tool promises of each command, by its arguments. `Ends`, in the clause
 -- `command` of `tool`, has what is left: a fault, and running out of memory.
 pub record ToolSays (call : ToolCall) : Type 0 where
   pub check :

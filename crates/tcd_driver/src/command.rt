@@ -1,4 +1,4 @@
-// The command that the words of the command line ask for.
+// The command that the arguments ask for.
 ghost use Rattle.std.specs.Prelude.{◌≡◌, ◌≤◌, ◌==◌, ◌&&◌, ◌||◌, nat_le, map, slice_index, string_bytes, IfSome};
 ghost use Rattle.std.specs.Bool.{then_some};
 ghost use Rattle.std.specs.Option.{option_map};
@@ -28,8 +28,8 @@ use tcd_base::Files;
 use tcd_reading::Outcome;
 use tcd_text::hex_number;
 
-// A command has at most 65,535 words. So these are the most objects of `link`, sources of `ship`,
-// and certificates of `tasks` and `taskcert`.
+// A command has at most 65,535 arguments. So these are the most objects of `link`, sources of
+// `ship`, and certificates of `tasks` and `taskcert`.
 const MOST_OBJECTS: usize = 65_532;
 
 const MOST_SOURCES: usize = 65_530;
@@ -123,7 +123,7 @@ pub(crate) enum Command<'a> {
     },
 }
 
-/// The command that words ask for. No memory is allocated.
+/// The command that arguments ask for. No memory is allocated.
 pub(crate) fn asked_command(words: &[String]) -> Option<Command<'_>>
     ensures is { option_map command_of_value result ≡ command (map string_bytes words.now) }
     ensures limits { IfSome result CommandKeepsLimits }
@@ -204,7 +204,7 @@ fn tasks_command(words: &[String]) -> Option<Command<'_>>
     }
 }
 
-// A command with a fixed number of words.
+// A command with a fixed number of arguments.
 fn fixed_command(words: &[String]) -> Option<Command<'_>>
     ensures is { option_map command_of_value result
         ≡ fixed_command_of (map string_bytes words.now) }
@@ -265,7 +265,7 @@ fn is_taskcert(verb: &str, certs: &[String]) -> bool
         && are_distinct_names(certs)
 }
 
-// A command with one word after its verb.
+// A command with one argument after its verb.
 fn one_word_command<'a>(verb: &str, word: &'a str) -> Option<Command<'a>>
     ensures is { option_map command_of_value result ≡ one_word_command verb.now word.now }
     ensures limits { IfSome result CommandKeepsLimits }
@@ -279,7 +279,7 @@ fn one_word_command<'a>(verb: &str, word: &'a str) -> Option<Command<'a>>
     }
 }
 
-// A command with two words after its verb.
+// A command with two arguments after its verb.
 fn two_word_command<'a>(verb: &str, first: &'a str, second: &'a str) -> Option<Command<'a>>
     ensures is { option_map command_of_value result
         ≡ two_word_command verb.now first.now second.now }
@@ -300,7 +300,7 @@ fn two_word_command<'a>(verb: &str, first: &'a str, second: &'a str) -> Option<C
     }
 }
 
-// A command with three words after its verb.
+// A command with three arguments after its verb.
 fn three_word_command<'a>(
     verb: &str,
     elf: &'a str,
@@ -340,7 +340,7 @@ fn three_word_command<'a>(
     }
 }
 
-// A command with four words after its verb.
+// A command with four arguments after its verb.
 fn four_word_command<'a>(
     verb: &str,
     first: &'a str,
@@ -375,7 +375,7 @@ fn four_word_command<'a>(
     }
 }
 
-// The command `gen` with this word after its verb.
+// The command `gen` with this argument after its verb.
 fn gen_command<'a>(word: &str) -> Option<Command<'a>>
     ensures is { option_map command_of_value result
         ≡ option_map generate (gen_function_count word.now) }
@@ -385,7 +385,7 @@ fn gen_command<'a>(word: &str) -> Option<Command<'a>>
     Some(Command::Gen { functions })
 }
 
-/// The number of functions that the word after `gen` asks for.
+/// The number of functions that the argument of `gen` asks for.
 fn gen_function_count(word: &str) -> Option<u32>
     ensures is { result ≡ gen_function_count word.now }
     ensures limits { IfSome result (λ n. (1 ≤ n) × (n ≤ 500)) }
@@ -399,7 +399,7 @@ fn gen_function_count(word: &str) -> Option<u32>
     }
 }
 
-/// Whether a word begins with 0 or a plus sign, so that `gen` doesn't take it as a number.
+/// Whether an argument begins with 0 or a plus sign, so that `gen` doesn't take it as a number.
 fn has_zero_or_plus(word: &str) -> bool
     ensures { result ≡ (slice_index word.now 0 == 48 || slice_index word.now 0 == 43) }
 {
@@ -421,7 +421,7 @@ fn gen_count_in_range(n: u32) -> Option<u32>
     }
 }
 
-// The command `boot` with these words after its verb.
+// The command `boot` with these arguments after its verb.
 fn boot_command<'a>(elf: &'a str, plan: &'a str, cert: &'a str, at: &str) -> Option<Command<'a>>
     ensures is { option_map command_of_value result
         ≡ boot_command_of elf.now plan.now cert.now at.now }
@@ -436,7 +436,7 @@ fn boot_command<'a>(elf: &'a str, plan: &'a str, cert: &'a str, at: &str) -> Opt
     })
 }
 
-// The command `bootgen` with these words after its verb.
+// The command `bootgen` with these arguments after its verb.
 fn bootgen_command<'a>(plan: &'a str, entry: &str, at: &str, source: &'a str) -> Option<Command<'a>>
     ensures is { option_map command_of_value result
         ≡ bootgen_command_of plan.now entry.now at.now source.now }
@@ -457,8 +457,8 @@ fn bootgen_command<'a>(plan: &'a str, entry: &str, at: &str, source: &'a str) ->
 }
 
 impl<'a> Command<'a> {
-    /// Runs the `Command` that words ask for: reads its inputs, and returns its outcome. No command
-    /// is inlined here, so that the stack has the locals of one command only.
+    /// Runs the `Command` that arguments ask for: reads its inputs, and returns its outcome. No
+    /// command is inlined here, so that the stack has the locals of one command only.
     pub(crate) fn outcome<F: Files>(self, alloc: Global, files: &mut F) -> Outcome
         requires { CommandKeepsLimits self }
         ensures { IsCommandOutcome (reading_of (command_of_value self.entry)) (F.seen files.old)

@@ -1,4 +1,4 @@
-// The printed lines for words that are no command, and on faults of boot sequences, of files of
+// The printed lines for arguments that are no command, and on faults of boot sequences, of files of
 // cells, and of files of tasks.
 ghost use Rattle.std.specs.Prelude.{◌≡◌, IfOk, ◌<◌, ◌++◌, ◌∷◌, [], codes};
 ghost use Rattle.tcd_driver.specs.BadInputLines.{bad_words_line, bad_cells_line, bad_tasks_line};
@@ -13,7 +13,7 @@ use tcd_forms::{append_to_printed_line, copy_printed_line};
 use tcd_text::hex_word;
 use value_cells::CellsErr;
 
-// The line for words that are no command.
+// The line for arguments that are no command.
 #[tactic(auto, unfolding(crate::specs::BadInputLines::bad_words_line))]
 pub(crate) fn bad_words_line() -> &'static [u8]
     ensures { result.now ≡ bad_words_line }

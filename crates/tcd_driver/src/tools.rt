@@ -1,4 +1,4 @@
-// The tool: words to status.
+// The tool: arguments to status.
 ghost use Rattle.std.specs.Prelude.{map, string_bytes, IsNone, IfSome, IfNone, ◌≡◌};
 ghost use Rattle.tcd_driver.specs.Commands.{command, reading_of};
 ghost use Rattle.tcd_driver.specs.Tool.{EndsWithBadWords, ToolSays};
@@ -10,9 +10,8 @@ use std::alloc::Global;
 use tcd_base::{Files, Sink};
 use tcd_reading::{Status, finish_outcome, print_with_status};
 
-/// Runs the program on the words after its name: reads input files, writes output files, prints one
-/// text, and returns the status. Words that are no command are refused before any memory is
-/// allocated.
+/// Runs the program on its arguments: reads input files, writes output files, prints one text, and
+/// returns the status. Arguments that are no command end it before any memory is allocated.
 ///
 /// - `check ELF PLAN CERT` prints whether the certificate shows that every run is safe.
 /// - `cert ELF PLAN CERT` makes the best certificate and writes it.

@@ -67,7 +67,7 @@ said_told (answer P) held r d says = d.told r says
 said_told (input A form name next) held r d (inl h) = inr (inr h.status)
 said_told (input A form name next) held r d (inr h) = said_told (next h.0) held r (d.1 h.0) h.2
 
--- the words are at fault in none, and neither are files or memory
+-- the arguments are at fault in none, and neither are files or memory
 pub never_words : (s : Status) → IsReportStatus s → s ≡ BadWords → ⊥
 never_words s (inl e) b = let f : Done ≡ BadWords = sym e ∙ b in cc
 never_words s (inr (inl e)) b = let f : Refused ≡ BadWords = sym e ∙ b in cc

@@ -16,7 +16,7 @@ pub record Report : Type 0 where
   pub writes : List ReportFile
 
 -- the status is one that a command's report can have: done, refused or bad input, as neither files
--- nor memory nor the words are at fault
+-- nor memory nor the arguments are at fault
 abbrev pub IsReportStatus : Status → Type 0
 IsReportStatus s = (s ≡ Done) ⊎ ((s ≡ Refused) ⊎ (s ≡ BadInput))
 

@@ -18,7 +18,7 @@ pub enum Status {
     Fault,
     /// Out of memory.
     NoMemory,
-    /// The words on the command line are no command.
+    /// The arguments are no command.
     BadWords,
 }
 

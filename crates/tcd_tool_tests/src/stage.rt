@@ -112,7 +112,7 @@ fn edit_bytes(alloc: Global, bytes: &[u8], edits: &[&str]) -> Result<Vec<u8>, Fa
     Ok(out)
 }
 
-// The words of a command, as a line spells them.
+// The arguments of a command, as a line spells them.
 fn command_words(alloc: Global, words: &[&str]) -> Result<Vec<String>, Fail> {
     let mut command = Vec::new(alloc);
     for word in words {
