@@ -1,4 +1,4 @@
--- Definitions of scripts: their statements, their effect together, and runs of the machine.
+-- Definitions of turn scripts: their statements, their effect together, and runs of the machine.
 pub mod Numbers
 pub mod Statements
 pub mod ScriptData

@@ -1,4 +1,4 @@
--- A script as plain data.
+-- A turn script as plain data.
 use Rattle.std.specs.Prelude.{◌≤◌, List, length, All}
 use Rattle.tc_script.specs.declared.scripts.Turn.{Turn}
 use Rattle.tc_script.specs.declared.scripts.AnswerRange.{AnswerRange}

@@ -1,7 +1,7 @@
-// Why the bytes of a file are no script.
+// Why the bytes of a file are no turn script.
 use std::alloc::{AllocError, AllocFailed};
 
-/// Why the bytes of a file are no script. The number is that of the line, from 1.
+/// Why the bytes of a file are no turn script. The number is that of the line, from 1.
 #[derive(Clone, Copy, Debug, PartialEq, Eq)]
 pub enum ScriptErr {
     /// The line is no statement.

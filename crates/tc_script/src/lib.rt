@@ -1,4 +1,4 @@
-//! Scripts: the turns of a run, the answers of peripherals in it, and the machine driven by them.
+//! Turn scripts: turns of a run, answers of peripherals in it, and the machine driven by them.
 #![tactic(auto)]
 
 mod area_counts;

@@ -21,7 +21,8 @@ pub struct AnswerRange {
     pub hi: u32,
 }
 
-/// A script: at most 100,000 turns, and for each peripheral of the plan the bounds of its answers.
+/// A turn script: at most 100,000 turns, and for each peripheral of the plan the bounds of its
+/// answers.
 #[derive(Drop)]
 pub struct Script {
     pub(crate) turns: Vec<Turn>,

@@ -1,4 +1,4 @@
--- The reports on refusals of the linker.
+-- The reports on rejections by the linker.
 use Rattle.std.proofs.Common.{◌≡◌, ℕ, List, Option, Some, None, refl, ap, ◌∙◌}
 use Rattle.std.specs.Prelude.{IfSome}
 use Rattle.tc_link.specs.Refusals.{Refusal}

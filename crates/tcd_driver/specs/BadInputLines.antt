@@ -42,7 +42,7 @@ IsNoPlan bytes line = (e : PlanErr) × AnswersPlan bytes (Err e) × (e ≢ NoMem
 abbrev pub IsNoCert : List ℕ → List ℕ → Type 0
 IsNoCert bytes line = (e : FormErr) × (certificate_of bytes ≡ Err e) × (line ≡ codes "bad cert " ++ (decimal e.kind ++ (codes " at " ++ (decimal e.at ++ 10 ∷ []))))
 
--- the bytes are no script for the plan, and this is the line of their first fault
+-- the bytes are no turn script for the plan, and this is the line of their first fault
 abbrev pub IsNoScript : PlanData → List ℕ → List ℕ → Type 0
 IsNoScript plan bytes line = (e : ScriptErr) × (script_of plan bytes ≡ Err e) × (line ≡ bad_script_line e)
 

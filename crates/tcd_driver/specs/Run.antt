@@ -15,7 +15,7 @@ use Rattle.tcd_forms.specs.Forms.{elf_form, plan_form, script_form}
 use Rattle.tcd_forms.specs.Lines.{run_line}
 use Rattle.tcd_reading.specs.declared.status.Status.TheVariants.{Done}
 
--- what `run` reads, by the names of the files: an executable, a plan, and a script
+-- what `run` reads, by the names of the files: an executable, a plan, and a turn script
 pub record RunNames : Type 0 where
   pub elf : List ℕ
   pub plan : List ℕ
@@ -33,7 +33,7 @@ pub data IsRunReport (image : ImageData) (plan : PlanData) (script : ScriptData)
       (m : Machine) → StartsInZeros image plan m → AllFit plan m (script_events plan script m) → report ≡ says Done (script_run_line plan script m)
       → IsRunReport image plan script report
 
--- an executable, a plan and a script for the plan are read; then the run is reported
+-- an executable, a plan and a turn script for the plan are read; then the run is reported
 abbrev pub run_reading : RunNames → Reading
 run_reading names =
     input ImageData elf_form names.elf

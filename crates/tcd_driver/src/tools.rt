@@ -17,7 +17,7 @@ use tcd_reading::{Status, finish_outcome, print_with_status};
 /// - `cert ELF PLAN CERT` makes the best certificate and writes it.
 /// - `cfg ELF PLAN` prints the control flow graph of the best certificate.
 /// - `report ELF PLAN CERT` prints the needs and the longest call chains of a certificate.
-/// - `run ELF PLAN SCRIPT` runs the machine by a script, and prints how it ended.
+/// - `run ELF PLAN SCRIPT` runs the machine by a turn script, and prints how it ended.
 /// - `dis ELF` prints the listing of an executable.
 /// - `asm SRC OBJ` assembles a source and writes its object.
 /// - `link LAYOUT ELF OBJ..` links objects by a layout and writes the executable.

@@ -35,7 +35,7 @@ plan_same bytes a b h k = let e = gives_same bytes (Ok a) (Ok b) h k in cc
 plan_err : (bytes : List ℕ) (p : PlanData) (e : PlanErr) → GivesPlan bytes (Ok p) → GivesPlan bytes (Err e) → ⊥
 plan_err bytes p e h k = let same = gives_same bytes (Ok p) (Err e) h k in cc
 
--- bytes that are a plan aren't refused
+-- bytes that are a plan aren't rejected
 not_refused : (bytes : List ℕ) (p : PlanData) (e : PlanErr) → GivesPlan bytes (Ok p) → AnswersPlan bytes (Err e) → (e ≡ plan.NoMemory → ⊥) → ⊥
 not_refused bytes p plan.NotJson h k some = let e = sym h.3 ∙ k h.0 h.1 h.2 in cc
 not_refused bytes p plan.NoMemory h k some = some refl

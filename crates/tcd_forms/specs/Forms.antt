@@ -52,7 +52,7 @@ cert_form = record {
   IsBad = λ bytes text. (e : FormErr) × (certificate_of bytes ≡ Err e) × (text ≡ bad_cert_line e);
 }
 
--- a script for a plan
+-- a turn script for a plan
 abbrev pub script_form : PlanData → FormSeen ScriptData
 script_form p = record {
   limit = 2 ^ 24;

@@ -24,20 +24,20 @@ use Rattle.tcd_plan.specs.declared.plans.PlanKey.{PlanKey}
 use Rattle.tcd_plan.specs.declared.plans.PlanErr.{PlanErr}
 use Rattle.tcd_plan.specs.declared.plans.PlanErr.TheVariants as plan
 
--- the end of a printed line that names a key: its kind, its entry, its priority, and whether the
+-- the end of a printed line that names a frame: its kind, its entry, its priority, and whether the
 -- interrupt stack is in use
 unfoldable pub key_line : Key → List ℕ
 key_line key = key_kind_text key.kind ++ (hex_word key.entry ++ (codes " prio " ++ (decimal key.prio ++ (codes " is " ++ ((if key.is then 49 else 48) ∷ 10 ∷ [])))))
 
--- the end of a refusal's line that names one number
+-- the end of a rejection's line that names one number
 unfoldable pub line_end_at_one : ℕ → List ℕ
 line_end_at_one i = codes " at " ++ (decimal i ++ 10 ∷ [])
 
--- the end of a refusal's line that names two numbers
+-- the end of a rejection's line that names two numbers
 unfoldable pub line_end_at_two : ℕ → ℕ → List ℕ
 line_end_at_two i j = codes " at " ++ (decimal i ++ (codes " " ++ (decimal j ++ 10 ∷ [])))
 
--- the end of a refusal's line that names a key of the plan
+-- the end of a rejection's line that names a key of the plan
 unfoldable pub line_end_at_key : PlanKey → List ℕ
 line_end_at_key key = codes " key " ++ (unwrap_or (slice_get key_texts key.0) [] ++ 10 ∷ [])
 
@@ -80,7 +80,7 @@ long_cert_line = codes "bad cert 0" ++ 10 ∷ []
 unfoldable pub bad_cert_line : FormErr → List ℕ
 bad_cert_line e = codes "bad cert " ++ (decimal e.kind ++ line_end_at_one e.at)
 
--- a rule that fails, with the address and the key
+-- a rule that fails, with the address and the frame
 unfoldable pub refused_line : ℕ → Key → ℕ → List ℕ
 refused_line rule key addr = codes "refused K" ++ (decimal rule ++ (codes " at " ++ (hex_word addr ++ (codes " in " ++ key_line key))))
 
@@ -88,11 +88,11 @@ refused_line rule key addr = codes "refused K" ++ (decimal rule ++ (codes " at "
 unfoldable pub certified_line : ℕ → ℕ → List ℕ
 certified_line need areas = codes "certified " ++ (decimal need ++ (codes " of " ++ (decimal areas ++ (codes " areas" ++ 10 ∷ []))))
 
--- the line for a script above its limit
+-- the line for a turn script above its limit
 unfoldable pub long_script_line : List ℕ
 long_script_line = codes "bad script 0" ++ 10 ∷ []
 
--- why a file is no script: the number of the fault, and its line
+-- why a file is no turn script: the number of the fault, and its line
 unfoldable pub bad_script_line : ScriptErr → List ℕ
 bad_script_line (script.BadLine n) = codes "bad script 1" ++ line_end_at_one n
 bad_script_line (script.NoSource n) = codes "bad script 2" ++ line_end_at_one n
@@ -210,7 +210,7 @@ refused_switch_line addr = codes "refused switch at " ++ (hex_word addr ++ 10 �
 unfoldable pub line_with_task : List ℕ → ℕ → List ℕ
 line_with_task line u = take (length line - 1) line ++ (codes " of task " ++ (decimal u ++ 10 ∷ []))
 
--- a rule that fails in a task's certificate, with the address, the key, and the task
+-- a rule that fails in a task's certificate, with the address, the frame, and the task
 abbrev pub refused_task_line : ℕ → Key → ℕ → ℕ → List ℕ
 refused_task_line rule key addr u = line_with_task (refused_line rule key addr) u
 

@@ -53,7 +53,7 @@ pub fn long_cert_line() -> &'static [u8]
     b"bad cert 0\n"
 }
 
-/// The line for a script above its limit.
+/// The line for a turn script above its limit.
 #[tactic(auto, unfolding(crate::specs::Lines::long_script_line))]
 pub fn long_script_line() -> &'static [u8]
     ensures { result.now ≡ long_script_line }
@@ -133,7 +133,7 @@ pub fn bad_cert_line(alloc: Global, e: FormErr) -> Result<Vec<u8>, NoMemory>
     Ok(format!(in alloc; "bad cert {kind} at {at}\n")?.into_bytes())
 }
 
-/// The line that says why a file is no script.
+/// The line that says why a file is no turn script.
 #[tactic(auto, unfolding(crate::specs::Lines::bad_script_line, crate::specs::Lines::line_end_at_one))]
 pub fn bad_script_line(alloc: Global, e: ScriptErr) -> Result<Vec<u8>, NoMemory>
     ensures line { IfOk result (λ line. line.items ≡ bad_script_line e) }
@@ -225,7 +225,7 @@ pub fn bad_link_line(alloc: Global, e: LinkErr) -> Result<Vec<u8>, NoMemory>
     }
 }
 
-// The line of a refusal that names a key of the plan.
+// The line of a rejection that names a key of the plan.
 #[tactic(auto, unfolding(crate::specs::Lines::line_end_at_key))]
 fn plan_key_line(alloc: Global, front: &str, key: PlanKey) -> Result<Vec<u8>, NoMemory>
     requires { key.0 < length key_texts }
@@ -235,7 +235,7 @@ fn plan_key_line(alloc: Global, front: &str, key: PlanKey) -> Result<Vec<u8>, No
     Ok(format!(in alloc; "{front} key {text}\n")?.into_bytes())
 }
 
-// The line of a refusal to link that names a symbol or a section.
+// The line of a rejection to link that names a symbol or a section.
 #[tactic(auto, unfolding(crate::specs::Lines::name_at_line_end))]
 fn bad_link_name_line(alloc: Global, front: &str, name: &str) -> Result<Vec<u8>, NoMemory>
     ensures { IfOk result (λ line. line.items ≡ front.now ++ name_at_line_end name.now) }

@@ -112,7 +112,7 @@ impl Form for CertFile {
     }
 }
 
-/// A script for a plan.
+/// A turn script for a plan.
 #[derive(Clone, Copy)]
 pub struct ScriptFile<'a> {
     /// The plan of the machine that the script drives.

@@ -117,7 +117,7 @@ pub fn linked_line(alloc: Global, bytes: &[u8]) -> Result<Vec<u8>, NoMemory>
     Ok(format!(in alloc; "image {size} bytes\n")?.into_bytes())
 }
 
-/// The line on a rule that fails, with the address and the key.
+/// The line on a rule that fails, with the address and the frame.
 #[tactic(auto, unfolding(crate::specs::Lines::refused_line))]
 pub fn refused_line(alloc: Global, rule: u8, key: Key, addr: u32) -> Result<Vec<u8>, NoMemory>
     ensures { IfOk result (λ line. line.items ≡ refused_line rule key addr) }
@@ -140,8 +140,8 @@ pub fn refused_switch_line(alloc: Global, addr: u32) -> Result<Vec<u8>, NoMemory
     Ok(line)
 }
 
-/// Returns the printed line on a rule that fails in a task's certificate, with the address, the key
-/// and the number of the task.
+/// Returns the printed line on a rule that fails in a task's certificate, with the address, the
+/// frame and the number of the task.
 #[tactic(auto, unfolding(crate::specs::Lines::line_with_task))]
 pub fn refused_task_line(
     alloc: Global,
@@ -208,7 +208,7 @@ fn refused_line_front(alloc: Global, rule: u8) -> Result<Vec<u8>, NoMemory>
     Ok(format!(in alloc; "refused K{rule} at ")?.into_bytes())
 }
 
-// Appends a key and the line feed.
+// Appends a frame and the line feed.
 #[tactic(auto, unfolding(crate::specs::Lines::key_line))]
 fn append_key_to_line(alloc: Global, line: &mut Vec<u8>, key: Key) -> Result<(), NoMemory>
     ensures { OnOk result (line.new.items ≡ line.old.items ++ key_line key) }

@@ -17,7 +17,7 @@ use Rattle.tcd_driver.specs.Asm.{AsmNames, asm_reading}
 use Rattle.tcd_driver.specs.Link.{LinkNames, link_reading}
 use Rattle.tcd_laws.specs.LimitsKept.{IsByte}
 
--- the file of this name is exactly this value: it is it, it is no other, and it isn't refused
+-- the file of this name is exactly this value: it is it, it is no other, and it isn't rejected
 pub record IsHandedExactly {A : Type 0} (form : FormSeen A) (held : Option FileMap) (name : List ℕ) (x : A) : Type 0 where
   pub is : HoldsInput form held name x
   pub only : (y : A) → HoldsInput form held name y → y ≡ x

@@ -31,7 +31,7 @@ pub data IsHeldBad {A : Type 0} (form : FormSeen A) (m : FileMap) (name line : L
   above_limit : (bytes : List ℕ) → get m name ≡ Some bytes → form.limit < length bytes → line ≡ form.long_line → IsHeldBad form m name line
   without_value : (bytes : List ℕ) → get m name ≡ Some bytes → length bytes ≤ form.limit → form.IsBad bytes line → IsHeldBad form m name line
 
--- why an input of a command is refused when it is read: this is the line for a file above its
+-- why an input of a command is rejected when it is read: this is the line for a file above its
 -- form's limit, or one of the lines for a file that isn't in its form
 pub data IsInputRefusal {A : Type 0} (form : FormSeen A) (held : Option FileMap) (name text : List ℕ) : Type 0 where
   long : IsFileTooLong held name form.limit → text ≡ form.long_line → IsInputRefusal form held name text

@@ -29,7 +29,7 @@ abbrev pub row_data : LongestCalls → Data
 row_data r = object (member (codes "longest") (reported_count r.longest) (member (codes "prio") (reported_count r.prio) no_members))
 
 -- the whole: the CSAs, the longest call chains, the certified need, the nodes in the order of their
--- keys, and the reserve
+-- frames, and the reserve
 abbrev pub whole_data : ℕ → Data → ℕ → Data → ℕ → Data
 whole_data areas calls certified nodes reserve =
     object

@@ -1,4 +1,4 @@
-//! Worked scripts, and the machine driven by them.
+//! Worked turn scripts, and the machine driven by them.
 ghost use Rattle.std.specs.Prelude.{◌≡◌};
 ghost use Rattle.tc_script.specs.ScriptsFitPlans.{FitsPlan};
 

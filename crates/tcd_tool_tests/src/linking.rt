@@ -1,4 +1,4 @@
-// Cases of layouts that are refused, and of programs that can't be linked.
+// Cases of layouts that are rejected, and of programs that can't be linked.
 use crate::stage::play;
 use std::test::Fail;
 

@@ -1,4 +1,4 @@
-// Cases of plans that are read or refused.
+// Cases of plans that are read or rejected.
 use crate::stage::play;
 use std::test::Fail;
 

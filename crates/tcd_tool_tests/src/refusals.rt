@@ -1,4 +1,4 @@
-// Cases of plans, scripts, executables, sources, objects and layouts that commands refuse.
+// Cases of plans, turn scripts, executables, sources, objects and layouts that commands reject.
 use crate::stage::play;
 use std::test::Fail;
 

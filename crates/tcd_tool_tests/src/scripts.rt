@@ -1,4 +1,4 @@
-// Cases of scripts that are refused, and of the peaks of runs.
+// Cases of turn scripts that are rejected, and of the peaks of runs.
 use crate::stage::play;
 use std::test::Fail;
 

@@ -24,8 +24,9 @@ use Rattle.tcd_driver.specs.Headlines.{HoldsFile, IsBadFile, HoldsImage, HoldsPl
 use Rattle.tcd_driver.specs.Headlines.Builds.{IsObjectText, HoldsLayout, AreLinkFiles, IsSourceText}
 
 -- What a command asks of its input: that a file is in its form; that objects, or those of sources,
--- are linked by a layout; that there is a certificate for each task. A script, cells and tasks are
--- of the plan that is named first. An object or a source has its place among those that are named.
+-- are linked by a layout; that there is a certificate for each task. A turn script, cells and tasks
+-- are of the plan that is named first. An object or a source has its place among those that are
+-- named.
 pub data Ask : Type 0 where
   is_elf : (name : List ℕ) → Ask
   is_plan : (name : List ℕ) → Ask
@@ -45,7 +46,7 @@ abbrev pub ask_each : (ℕ → List ℕ → Ask) → ℕ → List (List ℕ) →
 ask_each ask place [] rest = rest
 ask_each ask place (name ∷ names) rest = ask place name ∷ ask_each ask (place + 1) names rest
 
--- the name holds this script for the plan
+-- the name holds this turn script for the plan
 abbrev pub HoldsScript : FileMap → List ℕ → PlanData → ScriptData → Type 0
 HoldsScript m name plan script = HoldsFile m name (2 ^ 24) (λ bytes. script_of plan bytes ≡ Ok script)
 

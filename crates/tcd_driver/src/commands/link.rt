@@ -67,7 +67,7 @@ fn link_object_files<F: Files>(
     link_and_report(alloc, name, layout, &parts)
 }
 
-// Links the objects, and reports the image or the refusal.
+// Links the objects, and reports the image or the rejection.
 fn link_and_report(alloc: Global, name: &str, layout: &Layout, objects: &[ObjectRef<'_>]) -> Outcome
     requires { length objects.now ≤ 65535 }
     ensures { IsToldOutcome (IsLinkReport name.now layout.now objects.now) ⊥ result }

@@ -45,7 +45,7 @@ pub(crate) fn whole_value(
     Ok(Value::Object(members))
 }
 
-/// Returns the array of the nodes in the report's JSON, in the order of their keys.
+/// Returns the array of the nodes in the report's JSON, in the order of their frames.
 pub(crate) fn nodes_value(alloc: Global, cert: &Cert) -> Result<Value, NoMemory>
     ensures { IfOk result (λ v. view v ≡ nodes_data cert.now.nodes) }
 {
