@@ -18,7 +18,7 @@ pub(crate) struct Handler {
     node: usize,
 }
 
-/// Returns the handlers of all stated interrupts, each with its priority and the number of its frame.
+/// Returns the handlers of all stated interrupts, each with its priority and its frame's number.
 pub(crate) fn all_handler_frames(
     alloc: Global,
     plan: &Plan,

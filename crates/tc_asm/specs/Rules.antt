@@ -1,5 +1,5 @@
--- The rules that depend on the earlier lines or on the whole source, where 15 is none, and the least
--- one that a source breaks.
+-- The rules that depend on the earlier lines or on the whole source, where 15 is none, and the
+-- least one that a source breaks.
 use Rattle.std.specs.Prelude.{ℕ, Bool, ◌&&◌, ◌||◌, not, nat_lt, min, if◌then◌else◌, List, length, Option, Some, None, is_some, ◌∷◌, ◌≡◌, ◌≢◌, ◌+◌, ◌<◌, take, slice_index_or, []}
 use Rattle.tc_stmt.specs.SourceRules.{label_twice, no_rule, no_section, bad_name, past_limits, undefined_global}
 use Rattle.tc_stmt.specs.Names.{is_source_name}

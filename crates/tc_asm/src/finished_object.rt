@@ -116,8 +116,8 @@ fn emit_name(alloc: Global, name: &[u8]) -> Result<String, AllocError>
     String::from_str(alloc, object_name_of(name).unwrap())
 }
 
-/// The relocation for a use of a symbol in the section of this number. Its addend is the number that
-/// the source adds to the symbol, modulo 2^32.
+/// The relocation for a use of a symbol in the section of this number. Its addend is the number
+/// that the source adds to the symbol, modulo 2^32.
 fn emit_reloc(known: &Symbols, section: usize, u: Use<'_>) -> Reloc
     requires symbols { length known.now < 2 ^ 16 }
     requires section { section < 2 ^ 16 }

@@ -77,8 +77,8 @@ fn add_symbols<'a>(
     Ok(())
 }
 
-// Adds a symbol of object number `object`, if it is global. The first definition of a name keeps its
-// place.
+// Adds a symbol of object number `object`, if it is global. The first definition of a name keeps
+// its place.
 fn add_symbol<'a>(
     names: &mut HashMap<&'a str, Definition>,
     object: usize,

@@ -88,7 +88,7 @@ AreNoTasks plan bytes line = (e : TasksErr) × tasks.Reads plan (text_lines byte
 abbrev pub bad_source_words : ℕ → ℕ → ℕ → List ℕ
 bad_source_words rule place line = codes "bad source " ++ (decimal rule ++ (codes " at " ++ (decimal place ++ (codes " " ++ (decimal line ++ 10 ∷ [])))))
 
--- the bad-input line on a source of which a line breaks a rule: it has the source's place, the first
--- such line, and the least rule that it breaks
+-- the bad-input line on a source of which a line breaks a rule: it has the source's place, the
+-- first such line, and the least rule that it breaks
 abbrev pub SourceBreaksRule : ℕ → List ℕ → List ℕ → Type 0
 SourceBreaksRule place bytes printed = (line : ℕ) × (rule : ℕ) × IsLeastBrokenLine (lines_in bytes) line rule × (printed ≡ bad_source_words rule place line)

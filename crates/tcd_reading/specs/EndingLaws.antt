@@ -89,8 +89,8 @@ pub record EndsByLaw (reading : Reading) (files files' : FilesSeen) (sink sink' 
 
 -- How a command ends in all cases. It never ends with the status for bad words. It ends with the
 -- status of its report, except after a counted fault or out of memory. Contents that aren't
--- revealed remain so, and no count of faults falls. Over steady files with all needed inputs, and a sink with room, no fault is
--- counted. The status is then that of the report, or out of memory.
+-- revealed remain so, and no count of faults falls. Over steady files with all needed inputs, and a
+-- sink with room, no fault is counted. The status is then that of the report, or out of memory.
 pub record EndsAnyhowByLaw (reading : Reading) (files files' : FilesSeen) (sink sink' : SinkSeen) (result : Status) : Type 0 where
   pub some_words : result ≢ BadWords
   pub statuses :

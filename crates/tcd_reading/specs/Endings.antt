@@ -69,10 +69,11 @@ pub data HasEnded (reading : Reading) (files files' : FilesSeen) (sink sink' : S
   no_memory : result ≡ NoMemory → files'.held ≡ files.held → sink' ≡ sink → HasEnded reading files files' sink sink' result
 
 -- How a command ends, in terms of the views of the files and of the sink before and after. Whether
--- the files are steady doesn't change, and no count of faults falls. Over steady files with all needed inputs, their count of
--- faults doesn't change. Over a sink with room, its count doesn't change. Over both, the status is
--- that of the report (done, refused, or of a bad input), or out of memory. Only a report with
--- status Done has files to write, so a refused command leaves the files as they are.
+-- the files are steady doesn't change, and no count of faults falls. Over steady files with all
+-- needed inputs, their count of faults doesn't change. Over a sink with room, its count doesn't
+-- change. Over both, the status is that of the report (done, refused, or of a bad input), or out of
+-- memory. Only a report with status Done has files to write, so a refused command leaves the files
+-- as they are.
 pub record Ends (reading : Reading) (files files' : FilesSeen) (sink sink' : SinkSeen) (result : Status) : Type 0 where
   pub ended : HasEnded reading files files' sink sink' result
   pub no_bad_words : result ≢ BadWords

@@ -52,7 +52,7 @@ pub(crate) fn push_successors(
     }
 }
 
-/// Appends a point's successors by a jump. A function of its own, as it has room for a list of them.
+/// Appends a point's successors by a jump. A function of its own, as it has room for their list.
 #[inline(never)]
 fn push_targets(
     all: &mut Vec<u32>,
