@@ -91,8 +91,8 @@ pub record Recurs (b : Limits) (image : ImageData) (plan : PlanData) (a : Assign
 abbrev pub refused_point_number : Key → ℕ → ℕ
 refused_point_number k p = number_of_key k * 2 ^ 32 + p
 
--- a reason to refuse a certificate, by K14: this is the first point that enters a frame from
--- which its own is reached again
+-- a reason to refuse a certificate, by K14: this is the first point that enters a frame from which
+-- its own is reached again
 pub record IsRefusedRecursion (b : Limits) (image : ImageData) (plan : PlanData) (a : Assignment) (k : Key) (p : ℕ) : Type 0 where
   pub recurs : Recurs b image plan a k p
   pub first : (j : Key) (q : ℕ) → Recurs b image plan a j q → refused_point_number k p ≤ refused_point_number j q

@@ -75,13 +75,13 @@ successors_of b image plan p s (Syscall tin) n = []
 successors_of b image plan p s (Mtcr src number) n = []
 successors_of b image plan p s shape n = next_of b image plan p s shape n
 
--- what a point owes by entering a frame through a call (K5) or a system call (K12): the
--- duty to enter it, and the duty to go on after its return (K4)
+-- what a point owes by entering a frame through a call (K5) or a system call (K12): the duty to
+-- enter it, and the duty to go on after its return (K4)
 abbrev pub entered_and_back : ℕ → Key → State → ℕ → List Owed
 entered_and_back rule key s back = owed rule (enter key s) ∷ owed 4 (resume key back) ∷ []
 
--- what a point owes by a call or a system call: the entries of the called frames (K5 and K12),
--- and the returns from them
+-- what a point owes by a call or a system call: the entries of the called frames (K5 and K12), and
+-- the returns from them
 abbrev pub entries_of : PlanData → Key → ℕ → State → Shape → ℕ → List Owed
 entries_of plan key p s (Call to) n = flat_map (λ t. entered_and_back 5 (call_key key t) (call_entry s) (machine_address_ahead p n)) (unwrap_or (targets_of plan s p to) [])
 entries_of plan key p s (Syscall tin) n = entered_and_back 12 (sys_key plan key) (sys_entry plan key s tin) (machine_address_ahead p n)
@@ -109,8 +109,8 @@ misaligned_of b plan key s shape = if may_be_misaligned b plan s shape then misa
 abbrev pub interrupts_of : PlanData → Key → State → List Owed
 interrupts_of plan key s = map (λ p. owed 11 (enter (irq_key plan p) (irq_entry plan key s p))) (irqs_of plan s)
 
--- what a point owes by leaving its frame: the duty of the exit of a function by RET (K6), or of
--- the handler of system calls by RFE (K7)
+-- what a point owes by leaving its frame: the duty of the exit of a function by RET (K6), or of the
+-- handler of system calls by RFE (K7)
 abbrev pub leavings_of : Key → State → Shape → List Owed
 leavings_of key s Ret = owed 6 (leave (exit_of s)) ∷ []
 leavings_of key s Rfe = if key.kind == sys_kind then owed 7 (leave (exit_of s)) ∷ [] else []

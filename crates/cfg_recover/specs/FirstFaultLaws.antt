@@ -10,8 +10,8 @@ use Rattle.depth_cert.specs.Nodes.{NodeData, find_node}
 use Rattle.depth_cert.specs.Certs.{CertData, IsCert}
 use Rattle.cfg_recover.specs.RulesHoldOrFail.{Accepts, RuleHolds, HoldsAtStart, HoldsAtEntry, IsFirstFault, certified_need, limits_in}
 
--- a place that a first fault may name since a rule fails there: the start's entry for K1, a
--- node's entry for K2, or a point of a node
+-- a place that a first fault may name since a rule fails there: the start's entry for K1, a node's
+-- entry for K2, or a point of a node
 pub data IsFaultPlace (image : ImageData) (plan : PlanData) (cert : CertData) : ℕ → Key → ℕ → Type 0 where
   start : (HoldsAtStart image plan cert → ⊥) → IsFaultPlace image plan cert 1 (record { kind = 0; entry = image.entry; prio = 0; is = plan.start_is }) image.entry
   entry : (node : NodeData) → Contains cert.nodes node → (HoldsAtEntry (limits_in plan cert) node → ⊥) → IsFaultPlace image plan cert 2 node.key (node.key).entry

@@ -50,8 +50,8 @@ rule_of_entry (Some e) = if e.kind == call_kind then 5 else 12
 abbrev pub told_irqs : PlanData → State → List ℕ → List Owed
 told_irqs plan entry irqs = map (λ p. owed 11 (enter (irq_key plan p) (record entry { ccpn = p }))) irqs
 
--- the duty in a Flow by how the frame is left, as a list: the exit of a function by RET (K6),
--- or of the handler of system calls by RFE (K7); otherwise it is empty
+-- the duty in a Flow by how the frame is left, as a list: the exit of a function by RET (K6), or of
+-- the handler of system calls by RFE (K7); otherwise it is empty
 abbrev pub told_leaving : Key → State → Leave → List Owed
 told_leaving key s Stays = []
 told_leaving key s Ret = owed 6 (leave (exit_of s)) ∷ []

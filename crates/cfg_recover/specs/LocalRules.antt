@@ -21,8 +21,8 @@ use Rattle.depth_cert.specs.declared.keys.Key.{Key}
 use Rattle.cfg_recover.specs.Code.{IsCode, HasCode}
 
 -- ---- targets
--- the targets of a jump or a call by register, which K5's own part asks to be known: the words
--- of the register's value with bit 0 cleared, ascending, each once; none for a span
+-- the targets of a jump or a call by register, which K5's own part asks to be known: the words of
+-- the register's value with bit 0 cleared, ascending, each once; none for a span
 abbrev pub targets_named_by : Val → Option (List ℕ)
 targets_named_by (Set ws) = Some (sorted_set_of (map (λ w. w / 2 * 2) ws))
 targets_named_by (Span lo last step) = None
@@ -33,8 +33,8 @@ targets_of plan s p (target.Rel by) = Some (machine_address_ahead p by ∷ [])
 targets_of plan s p (target.Abs x) = Some (x ∷ [])
 targets_of plan s p (target.Reg r) = targets_named_by (reg_of plan s r)
 
--- a target that K5's own part knows without any register: the only one of a jump or a call at
--- p; none if it goes by a register
+-- a target that K5's own part knows without any register: the only one of a jump or a call at p;
+-- none if it goes by a register
 abbrev pub direct_target : ℕ → Target → Option ℕ
 direct_target p (target.Rel by) = Some (machine_address_ahead p by)
 direct_target p (target.Abs x) = Some x
@@ -52,9 +52,9 @@ abbrev pub MayReturn : Key → State → Shape → Type 0
 MayReturn key s Ret = (key.kind ≡ call_kind) × (length s.locals.items ≡ 0)
 MayReturn key s _ = Unit {0}
 
--- K7: only a handler returns from an exception, and it has restored all lower contexts. The
--- handler of an interrupt or of a misaligned access, which may come anywhere, returns with the
--- lower registers of its entry.
+-- K7: only a handler returns from an exception, and it has restored all lower contexts. The handler
+-- of an interrupt or of a misaligned access, which may come anywhere, returns with the lower
+-- registers of its entry.
 abbrev pub MayReturnFromException : Key → State → Shape → Type 0
 MayReturnFromException key s Rfe =
     (length s.locals.items ≡ 0) × ((((key.kind ≡ irq_kind) ⊎ (key.kind ≡ aln_kind)) × (s.lower ≡ true)) ⊎ (key.kind ≡ sys_kind))
@@ -66,8 +66,8 @@ abbrev pub StoresInRange : Limits → PlanData → State → Shape → Type 0
 StoresInRange b plan s (Store src base offset size after) = AreStoresInRange plan (address_of b plan (Store src base offset size after) s) size
 StoresInRange b plan s _ = Unit {0}
 
--- K10: each possible address is a multiple of the size, or the plan states the trap of
--- misaligned accesses.
+-- K10: each possible address is a multiple of the size, or the plan states the trap of misaligned
+-- accesses.
 abbrev pub MayAccess : Limits → PlanData → State → Shape → Type 0
 MayAccess b plan s (Load dst base offset size signed after) =
     (are_aligned (address_of b plan (Load dst base offset size signed after) s) size ≡ true) ⊎ (plan.aln ≡ true)
@@ -81,8 +81,8 @@ MayCallSystem plan (Syscall tin) = plan.sys ≡ true
 MayCallSystem plan _ = Unit {0}
 
 -- The own part of rule r at an instruction of this shape. K8: a lower context is saved only if
--- there is room for a local, and restored only if there is one. K13: the instruction isn't
--- MTCR, and writes none of A0, A1, A8, A9 and A11.
+-- there is room for a local, and restored only if there is one. K13: the instruction isn't MTCR,
+-- and writes none of A0, A1, A8, A9 and A11.
 pub record LocalRule (b : Limits) (plan : PlanData) (key : Key) (p : ℕ) (s : State) (shape : Shape) (r : ℕ) : Type 0 where
   pub targets : r ≡ 5 → KnowsTargets plan s p shape
   pub returns : r ≡ 6 → MayReturn key s shape
@@ -93,22 +93,22 @@ pub record LocalRule (b : Limits) (plan : PlanData) (key : Key) (p : ℕ) (s : S
   pub system : r ≡ 12 → MayCallSystem plan shape
   pub writes : r ≡ 13 → WritesNoFixedRegister shape
 
--- The own part of rule r holds at the point p of a node with this key and state. K3: there is
--- an instruction.
+-- The own part of rule r holds at the point p of a node with this key and state. K3: there is an
+-- instruction.
 pub record LocalHolds (b : Limits) (image : ImageData) (plan : PlanData) (key : Key) (p : ℕ) (s : State) (r : ℕ) : Type 0 where
   pub code : r ≡ 3 → HasCode image plan p
   pub own : (shape : Shape) (n : ℕ) → IsCode image plan p shape n → LocalRule b plan key p s shape r
 
 -- ---- K9 and K10, by the addresses of the access
 
--- what K9 asks of a point's instruction alone, by the addresses of its access: each possible
--- store is in one ram range or one peripheral range as a whole, and doesn't pass 2^32
+-- what K9 asks of a point's instruction alone, by the addresses of its access: each possible store
+-- is in one ram range or one peripheral range as a whole, and doesn't pass 2^32
 abbrev pub StoresInRangeAt : PlanData → Val → Shape → Type 0
 StoresInRangeAt plan at (Store src base offset size after) = AreStoresInRange plan at size
 StoresInRangeAt plan at _ = Unit {0}
 
--- the own part of K10, by the addresses of the access: each is a multiple of the size, or the
--- plan states the trap of misaligned accesses
+-- the own part of K10, by the addresses of the access: each is a multiple of the size, or the plan
+-- states the trap of misaligned accesses
 abbrev pub MayAccessAt : PlanData → Val → Shape → Type 0
 MayAccessAt plan at (Load dst base offset size signed after) = (are_aligned at size ≡ true) ⊎ (plan.aln ≡ true)
 MayAccessAt plan at (Store src base offset size after) = (are_aligned at size ≡ true) ⊎ (plan.aln ≡ true)

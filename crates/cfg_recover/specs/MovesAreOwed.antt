@@ -108,8 +108,8 @@ TrapsOwed =
 abbrev pub owed_system_handler : PlanData → Key → Key
 owed_system_handler plan key = record { kind = 3; entry = bit_or plan.btv (6 * 2 ^ 5); prio = key.prio; is = true }
 
--- a law of moves: a point with a system call owes the entry of its handler (K12), where D15,
--- A10, IE, `lower` and the locals are set and the rest stays, and the return (K4)
+-- a law of moves: a point with a system call owes the entry of its handler (K12), where D15, A10,
+-- IE, `lower` and the locals are set and the rest stays, and the return (K4)
 pub record SystemCallOwed (b : Limits) (image : ImageData) (plan : PlanData) (key : Key) (m : Machine) (s : State) (tin n : ℕ) : Type 0 where
   pub state : State
   pub entered : Contains (duties_of b image plan key m.pc s (Syscall tin) n) (owed 12 (enter (owed_system_handler plan key) state))

@@ -39,14 +39,14 @@ IsMet cert node s (resume k q) = IfSome (find_node k cert.nodes) (λ n. IfSome n
 IsMet cert node s (leave x) = IsSomeAnd node.exit (λ y. ExitCovers y x)
 
 -- ---- needs
--- K14 holds at an entry, else it fails: the node's need is at least the sum of
--- the state's locals, one for the entry, and the entered node's need
+-- K14 holds at an entry, else it fails: the node's need is at least the sum of the state's locals,
+-- one for the entry, and the entered node's need
 abbrev pub EntryNeedRuleHolds : CertData → NodeData → State → Duty → Type 0
 EntryNeedRuleHolds cert node s (enter k t) = IfSome (find_node k cert.nodes) (λ n. length s.locals.items + 1 + n.need ≤ node.need)
 EntryNeedRuleHolds cert node s _ = Unit {0}
 
--- What K14 asks at a point: the need is enough for the locals and for each entry. At the entry
--- of the start frame, the need is at most the areas without the reserve.
+-- What K14 asks at a point: the need is enough for the locals and for each entry. At the entry of
+-- the start frame, the need is at most the areas without the reserve.
 pub record NeedRuleHolds (image : ImageData) (plan : PlanData) (cert : CertData) (node : NodeData) (point : Point) (duties : List Owed) : Type 0 where
   pub locals : length (point.state).locals.items ≤ node.need
   pub entered : All (λ d. EntryNeedRuleHolds cert node point.state d.duty) duties
@@ -76,19 +76,19 @@ pub record RuleHolds (image : ImageData) (plan : PlanData) (cert : CertData) (no
       (shape : Shape) (n : ℕ) → r ≡ 14 → IsSoundAlone image plan cert node point shape n
       → NeedRuleHolds image plan cert node point (owed_at image plan cert node point shape n)
 
--- K1 holds: the certificate has a node of the start frame, and its point at the entry covers
--- the start state
+-- K1 holds: the certificate has a node of the start frame, and its point at the entry covers the
+-- start state
 abbrev pub HoldsAtStart : ImageData → PlanData → CertData → Type 0
 HoldsAtStart image plan cert = IsSomeAnd (find_node (start_key image plan) cert.nodes) (λ n. HasPoint n image.entry (start_state plan))
 
--- K2 holds at a node's entry, else it fails: there is a point, and the values
--- of the exit, if the node has one, are of the plan's lattice
+-- K2 holds at a node's entry, else it fails: there is a point, and the values of the exit, if the
+-- node has one, are of the plan's lattice
 pub record HoldsAtEntry (b : Limits) (node : NodeData) : Type 0 where
   pub point : IsSome (find_point (node.key).entry node.points)
   pub exit : IfSome node.exit (λ x. AreValues b x.lower)
 
--- a rule fails in a certificate, at a key and an address: K1 at the start, K2 at a node's
--- entry, or a rule at a point
+-- a rule fails in a certificate, at a key and an address: K1 at the start, K2 at a node's entry, or
+-- a rule at a point
 pub data RuleFails (image : ImageData) (plan : PlanData) (cert : CertData) : ℕ → Key → ℕ → Type 0 where
   at_start : (HoldsAtStart image plan cert → ⊥) → RuleFails image plan cert 1 (start_key image plan) image.entry
   at_entry : (node : NodeData) → Contains cert.nodes node → (HoldsAtEntry (limits_in plan cert) node → ⊥) → RuleFails image plan cert 2 node.key (node.key).entry
@@ -96,14 +96,14 @@ pub data RuleFails (image : ImageData) (plan : PlanData) (cert : CertData) : ℕ
       (node : NodeData) (point : Point) (r : ℕ) → Contains cert.nodes node → Contains node.points point → (RuleHolds image plan cert node point r → ⊥)
       → RuleFails image plan cert r node.key point.addr
 
--- all rules of certificates hold at a node, and none fails: K2 at its entry, and each rule at
--- each point
+-- all rules of certificates hold at a node, and none fails: K2 at its entry, and each rule at each
+-- point
 pub record HoldsAtNode (image : ImageData) (plan : PlanData) (cert : CertData) (node : NodeData) : Type 0 where
   pub entry : HoldsAtEntry (limits_in plan cert) node
   pub points : All (λ p. (r : ℕ) → RuleHolds image plan cert node p r) node.points
 
--- all rules hold in a certificate, so that it is accepted: K1 at the start, K2 at the entry
--- of each node, and each rule at each point
+-- all rules hold in a certificate, so that it is accepted: K1 at the start, K2 at the entry of each
+-- node, and each rule at each point
 pub record Accepts (image : ImageData) (plan : PlanData) (cert : CertData) : Type 0 where
   pub start : HoldsAtStart image plan cert
   pub nodes : All (HoldsAtNode image plan cert) cert.nodes
@@ -114,8 +114,8 @@ pub record Accepts (image : ImageData) (plan : PlanData) (cert : CertData) : Typ
 abbrev pub fault_number : ℕ → Key → ℕ → ℕ
 fault_number r k p = (number_of_key k * 2 ^ 32 + p) * 2 ^ 4 + r
 
--- a rule fails in a certificate here, and it is the first that does: K1 comes before all
--- others; if it holds, the first is the least by key, address and rule
+-- a rule fails in a certificate here, and it is the first that does: K1 comes before all others; if
+-- it holds, the first is the least by key, address and rule
 pub record IsFirstFault (image : ImageData) (plan : PlanData) (cert : CertData) (r : ℕ) (k : Key) (p : ℕ) : Type 0 where
   pub fails : RuleFails image plan cert r k p
   pub start : (r ≡ 1) ⊎ HoldsAtStart image plan cert

@@ -292,8 +292,8 @@ pub(crate) fn stores_in_range(plan: &Plan, at: &Val, shape: Shape) -> bool
     }
 }
 
-/// Returns true if K9's own part holds at an instruction whose access has only one address: a
-/// store is in one ram or peripheral range.
+/// Returns true if K9's own part holds at an instruction whose access has only one address: a store
+/// is in one ram or peripheral range.
 pub(crate) fn stores_in_range_at(plan: &Plan, x: u32, shape: Shape) -> bool
     ensures { IsTrue result ↔ StoresInRangeAt plan.now (word_val x) shape }
 {
@@ -303,8 +303,8 @@ pub(crate) fn stores_in_range_at(plan: &Plan, x: u32, shape: Shape) -> bool
     }
 }
 
-/// K10: each possible address is a multiple of the size, or the plan states the trap of
-/// misaligned accesses.
+/// K10: each possible address is a multiple of the size, or the plan states the trap of misaligned
+/// accesses.
 pub(crate) fn may_access(plan: &Plan, at: &Val, shape: Shape) -> bool
     requires shape { IsShape shape }
     requires well { IsWell at.now }
@@ -373,8 +373,8 @@ fn rule_address_by_shape(b: &Bounds, plan: &Plan, s: &State, shape: Shape) -> Op
     }
 }
 
-/// Returns the address that the own parts of K9 and K10 test, if the base register of the
-/// access has only one word.
+/// Returns the address that the own parts of K9 and K10 test, if the base register of the access
+/// has only one word.
 #[inline(always)]
 fn rule_address_by_base(
     b: &Bounds,
@@ -430,8 +430,8 @@ fn may_handler_return(key: &Key, s: &State) -> bool
     }
 }
 
-/// Returns true if K10's own part holds for an access of this size: each address is a multiple
-/// of it, or the plan states the trap of misaligned accesses.
+/// Returns true if K10's own part holds for an access of this size: each address is a multiple of
+/// it, or the plan states the trap of misaligned accesses.
 fn is_allowed(plan: &Plan, at: &Val, size: u8) -> bool
     requires well { IsWell at.now }
     requires size { IsShapeAccessSize size }
@@ -466,8 +466,8 @@ pub(crate) fn keeps_fixed_registers_in_branch(x: u8, lowers: bool) -> bool
     !lowers || may_write_register(x)
 }
 
-/// Tests K13 for the base of a load or a store: true if the access doesn't increase it, or it
-/// isn't one of the fixed registers.
+/// Tests K13 for the base of a load or a store: true if the access doesn't increase it, or it isn't
+/// one of the fixed registers.
 pub(crate) fn keeps_fixed_base(base: Arg, after: bool) -> bool
     ensures { IsTrue result ↔ HasBaseValue base after }
 {
@@ -477,8 +477,8 @@ pub(crate) fn keeps_fixed_base(base: Arg, after: bool) -> bool
     }
 }
 
-/// Tests K13 for one register: true unless it is one of the fixed ones, A0, A1, A8, A9 and A11,
-/// for which a state has no value.
+/// Tests K13 for one register: true unless it is one of the fixed ones, A0, A1, A8, A9 and A11, for
+/// which a state has no value.
 #[tactic(auto, unfolding(vd_transfer::specs::Registers::slot))]
 pub(crate) fn may_write_register(r: u8) -> bool
     ensures { IsTrue result ↔ RegisterHasValue r }

@@ -43,15 +43,15 @@ GoesOn node s entered kind back = IfSome back (λ q. IfSome entered.exit (λ x. 
 abbrev pub HasExit : NodeData → State → Type 0
 HasExit node s = IsSomeAnd node.exit (λ y. ExitCovers y (exit_of s))
 
--- what rule q asks of an instruction that leaves the node: K6 of RET, K7 of RFE in the
--- handler of system calls
+-- what rule q asks of an instruction that leaves the node: K6 of RET, K7 of RFE in the handler of
+-- system calls
 abbrev pub LeavingHolds : NodeData → State → Leave → ℕ → Type 0
 LeavingHolds node s Stays q = Unit {0}
 LeavingHolds node s Ret q = 6 ≡ q → HasExit node s
 LeavingHolds node s Rfe q = (node.key).kind ≡ sys_kind → 7 ≡ q → HasExit node s
 
--- what the checker tests of a node's own need for K14, apart from the duties: room for the
--- locals and, at the start's entry, that the reserve stays free
+-- what the checker tests of a node's own need for K14, apart from the duties: room for the locals
+-- and, at the start's entry, that the reserve stays free
 pub record HasOwnNeed (image : ImageData) (plan : PlanData) (node : NodeData) (point : Point) : Type 0 where
   pub locals : length (point.state).locals.items ≤ node.need
   pub start : node.key ≡ start_key image plan → point.addr ≡ image.entry → node.need ≤ plan.areas - plan.reserve

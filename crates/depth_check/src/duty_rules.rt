@@ -343,8 +343,8 @@ fn has_need_for_entry(node: &Node<'_>, s: &State, entered: &Node<'_>) -> bool
     s.locals.len() + 1 + usize::from(entered.need) <= usize::from(node.need)
 }
 
-/// Tests K4 of an entry: whether the node goes on at `back` after a frame of the entered node
-/// has returned. True if `back` is no address.
+/// Tests K4 of an entry: whether the node goes on at `back` after a frame of the entered node has
+/// returned. True if `back` is no address.
 fn has_point_after_entry(
     node: &Node<'_>,
     s: &State,

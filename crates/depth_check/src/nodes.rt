@@ -125,8 +125,8 @@ fn node_address_limit(addr: u32)
     ensures { addr < 2 ^ 32 }
 {}
 
-/// Returns true if K2 holds at the entry of a node: it has a point there, and values of the
-/// plan in its exit if it has one.
+/// Returns true if K2 holds at the entry of a node: it has a point there, and values of the plan in
+/// its exit if it has one.
 pub(crate) fn holds_at_entry(b: &Bounds, node: &Node<'_>) -> bool
     ensures { IsTrue result ↔ HoldsAtEntry b.now node.now }
 {

@@ -13,8 +13,8 @@ use depth_cert::{CertErr, no_exit, read_magic, read_node_count, read_version};
 use std::alloc::Global;
 use tcd_base::{FileCursor, TRAILING, form_err_at};
 
-/// Reads the format and the places of the nodes of the certificate that the bytes spell, or
-/// returns their first fault.
+/// Reads the format and the places of the nodes of the certificate that the bytes spell, or returns
+/// their first fault.
 #[tactic(auto, unfolding(depth_cert::specs::Grammar::certificate_of, depth_cert::specs::Grammar::cert_at))]
 pub(crate) fn read_cert_parts(alloc: Global, bytes: &[u8]) -> Result<(u8, Vec<NodePlaces>), CertErr>
     requires { length bytes.now ≤ 2 ^ 30 }

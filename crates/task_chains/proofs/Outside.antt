@@ -65,8 +65,8 @@ pub record Both (image view : ImageData) (plan : PlanData) (tasks : TasksData) (
   pub same_rom : SameRom plan tasks m.mem mem
   pub twins : Twins plan n u word_of chain_of seen m.mem m.pcxi m.fcx m.lcx mem pcxi fcx
 
--- What the certificate says of the view's point: the instruction, which isn't MTCR; K17; and
--- the addresses of its loads and stores.
+-- What the certificate says of the view's point: the instruction, which isn't MTCR; K17; and the
+-- addresses of its loads and stores.
 pub record AtPoint (b : Limits) (view : ImageData) (plan : PlanData) (tasks : TasksData) (u : ℕ) (v : Machine) (e : Event) (s : State) (shape : Shape) (size : ℕ) : Type 0 where
   pub code : IsCode view (view_plan_of plan tasks u) v.pc shape size
   pub writes : WritesNoFixedRegister shape

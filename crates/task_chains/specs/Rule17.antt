@@ -24,8 +24,8 @@ use Rattle.task_chains.specs.SwitchRoutine.{routine_size, switch_key, IsRoutineS
 abbrev pub IsAccessApart : ℕ → ℕ → ℕ → ℕ → Type 0
 IsAccessApart x n from len = (i : ℕ) → i < n → ((x + i) % 2 ^ 32 < from) ⊎ (from + len ≤ (x + i) % 2 ^ 32)
 
--- K17 for a load of a task: no access of n bytes, at an address that is a word of the value,
--- shares a byte with the `len` bytes from `from` on
+-- K17 for a load of a task: no access of n bytes, at an address that is a word of the value, shares
+-- a byte with the `len` bytes from `from` on
 abbrev pub AreAccessesApart : Val → ℕ → ℕ → ℕ → Type 0
 AreAccessesApart v n from len = (x : ℕ) → IsMember x v → IsAccessApart x n from len
 

@@ -18,8 +18,8 @@ TaskFaultsGrow =
     → lower.version ≡ upper.version → Accepts view plan lower → Accepts view plan upper → IsBelowAt (known_in lower) (known_in upper)
     → FailsApart view plan tasks lower k p → FailsApart view plan tasks upper k p
 
--- beside the law that faults of K17 grow with a certificate: a certificate for which K17
--- fails somewhere doesn't keep the rule
+-- beside the law that faults of K17 grow with a certificate: a certificate for which K17 fails
+-- somewhere doesn't keep the rule
 abbrev pub TaskFaultsRefute : Type 0
 TaskFaultsRefute =
     (view : ImageData) (plan : PlanData) (tasks : TasksData) (cert : CertData) (k : Key) (p : ℕ) → FailsApart view plan tasks cert k p → KeepsApart view plan tasks cert → ⊥

@@ -38,8 +38,8 @@ pub fn safe_tasks_in_words()
     ensures parts { TaskPartsAreSafe }
 {}
 
-/// Each fault of K17 in a lesser certificate is one in a greater one. One fault is enough to
-/// break the rule.
+/// Each fault of K17 in a lesser certificate is one in a greater one. One fault is enough to break
+/// the rule.
 pub fn faults_of_tasks()
     ensures grow { TaskFaultsGrow }
     ensures refute { TaskFaultsRefute }

@@ -22,8 +22,8 @@ pub data IsBestCert (image : ImageData) (plan : PlanData) (cert : CertData) : Ty
   first : IsMade image plan 1 cert → IsBestCert image plan cert
   second : NoneAccepted image plan 1 → IsMade image plan 2 cert → IsBestCert image plan cert
 
--- the best certificate for an image and a plan, of format 1 or 2: it is accepted, so that every
--- run is safe with its need
+-- the best certificate for an image and a plan, of format 1 or 2: it is accepted, so that every run
+-- is safe with its need
 pub record IsAcceptedBestCert (image : ImageData) (plan : PlanData) (cert : CertData) : Type 0 where
   pub is_cert : IsCert cert
   pub best : IsBestCert image plan cert

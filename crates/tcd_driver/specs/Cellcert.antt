@@ -33,11 +33,11 @@ abbrev pub NoneKeepsCells : ImageData → PlanData → List Cell → Type 0
 NoneKeepsCells image plan cells =
     (cert : CertData) → IsCert cert → cert.version ≡ 2 → Accepts image (with_cells plan cells) cert → KeepsCells image (with_cells plan cells) cells cert → ⊥
 
--- The report on an image, a plan and its cells, under the plan with cells. If
--- no certificate of format 2 is accepted, the reason is printed. If each one that is accepted
--- breaks K16, the first place at which the least one does is printed. Else the least one keeps
--- the rule, and is written under this name; then every run in which each cell's word starts in its
--- bounds is safe, and keeps the words there.
+-- The report on an image, a plan and its cells, under the plan with cells. If no certificate of
+-- format 2 is accepted, the reason is printed. If each one that is accepted breaks K16, the first
+-- place at which the least one does is printed. Else the least one keeps the rule, and is written
+-- under this name; then every run in which each cell's word starts in its bounds is safe, and keeps
+-- the words there.
 pub data IsCertifyingCells (name : List ℕ) (image : ImageData) (plan : PlanData) (cells : List Cell) (report : Report) : Type 0 where
   refused :
       (rule : ℕ) (key : Key) (addr : ℕ) → NoneAccepted image (with_cells plan cells) 2 → IsRefusal image (with_cells plan cells) 2 rule key addr

@@ -84,8 +84,8 @@ pub record CommandSays (call : ToolCall) (words : List (List ℕ)) (asks : List 
 abbrev pub Never : FileMap → FileMap → List ℕ → Type 0
 Never before after printed = ⊥
 
--- What the tool promises of each command, by its arguments. `Ends`, in the clause
--- `command` of `tool`, has what is left: a fault, and running out of memory.
+-- What the tool promises of each command, by its arguments. `Ends`, in the clause `command` of
+-- `tool`, has what is left: a fault, and running out of memory.
 pub record ToolSays (call : ToolCall) : Type 0 where
   pub check :
       (elf plan cert : List ℕ)

@@ -10,8 +10,8 @@ use Rattle.value_cells.specs.declared.cells.Cell.{Cell}
 use Rattle.value_cells.specs.Keeping.{KeepsCells, BreaksCells}
 
 -- One certificate is below another if the other has all of its places and covers what is known
--- there. If both are accepted under a plan, K16 fails for the upper one wherever it fails for
--- the lower.
+-- there. If both are accepted under a plan, K16 fails for the upper one wherever it fails for the
+-- lower.
 abbrev pub CellFaultsGrow : Type 0
 CellFaultsGrow =
     (image : ImageData) (plan : PlanData) (cells : List Cell) (lower upper : CertData) (k : Key) (p : ℕ) → IsPlan plan → IsCert lower → IsCert upper

@@ -16,9 +16,9 @@ use packed_cert::{Cert, Node, PointWalk};
 use tcd_plan::Plan;
 use value_domain::Bounds;
 
-/// Returns the first key and address at which K16 fails: some possible store touches a cell,
-/// and isn't a store of the cell's whole word, or can store a word outside its bounds. The rules
-/// accept the certificate under the plan with cells.
+/// Returns the first key and address at which K16 fails: some possible store touches a cell, and
+/// isn't a store of the cell's whole word, or can store a word outside its bounds. The rules accept
+/// the certificate under the plan with cells.
 #[inline(never)]
 pub fn cells_fault(image: &Image, plan: &Plan, cells: &Cells, cert: &Cert) -> Option<(Key, u32)>
     requires cells { AreCells plan.now cells.now }

@@ -4,10 +4,10 @@ ghost use Rattle.value_cells.specs.Laws.{CellsMakeAPlan, RamIsWithoutCells, Each
 ghost use Rattle.value_cells.specs.Rule16Growth.{CellFaultsGrow, LesserKeepsCells};
 ghost use Rattle.value_cells.specs.CellListText.{CellTextReadsOne};
 
-/// The plan with cells is a plan. The machine without the cells' bytes, whose
-/// inputs are the cells' words, takes the same steps as the machine with them. So if the rules
-/// accept a certificate under that plan, and it keeps the cells, the image is safe under the plan
-/// itself, and each cell's word stays in its bounds.
+/// The plan with cells is a plan. The machine without the cells' bytes, whose inputs are the cells'
+/// words, takes the same steps as the machine with them. So if the rules accept a certificate under
+/// that plan, and it keeps the cells, the image is safe under the plan itself, and each cell's word
+/// stays in its bounds.
 pub fn cells_keep_their_bounds()
     ensures plan { CellsMakeAPlan }
     ensures steps { StepsBeside }

@@ -38,8 +38,8 @@ pub(crate) fn certify_cells<F: Files>(
     make_cells_cert(alloc, cert, &image, &board, &words)
 }
 
-// Makes the certificate of format 2 under the plan with cells. Reports it with
-// the file to write, if it keeps the cells.
+// Makes the certificate of format 2 under the plan with cells. Reports it with the file to write,
+// if it keeps the cells.
 fn make_cells_cert(alloc: Global, name: &str, image: &Image, plan: &Plan, cells: &Cells) -> Outcome
     requires { AreCells plan.now cells.now }
     ensures { IsToldOutcome (IsCertifyingCells name.now image.now plan.now cells.now) ⊥ result }

@@ -56,8 +56,8 @@ pub called_none : (plan : PlanData) (s : State) (p : ℕ) (shape : Shape) → ((
 called_none plan s p (Call to) call = absurd (call to refl)
 called_none plan s p shape call = refl
 
--- the entries that K5 asks for are those of the called frames, and K12 asks for that of the
--- handler of system calls
+-- the entries that K5 asks for are those of the called frames, and K12 asks for that of the handler
+-- of system calls
 kind_is : (kind : ℕ) (ds : List Owed) → entries_of_kind kind (entered_in ds) ≡ flat_map (λ d. entries_of_kind kind (keys_entered_by_duty d.duty)) ds
 kind_is kind ds = flat_flat (λ k. if k.kind == kind then k.entry ∷ [] else []) (λ d. keys_entered_by_duty d.duty) _ (λ d. refl) ds
 
