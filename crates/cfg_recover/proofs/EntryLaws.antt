@@ -24,7 +24,7 @@ use Rattle.value_domain.specs.Values.{IsMember, any_val, word_val}
 use Rattle.value_domain.specs.State.{AreBelow, Covers, is_lower_slot}
 use Rattle.vd_transfer.specs.Operations.{value_of}
 use Rattle.vd_transfer.specs.Registers.{slot, reg_of, register_value_at, fixed_of, set_reg, is_lower_register, set_arg, is_operand_register}
-use Rattle.vd_transfer.specs.EffectsOnStates.{with_base, transfer_of}
+use Rattle.vd_transfer.specs.EffectsOnStates.{state_with_base, transfer_of}
 use Rattle.vd_transfer.specs.Branches.{refine_of, state_on_side, with_lowered_counter, side_with_register, side_with_operands}
 use Rattle.vd_transfer.specs.Holding.{Holds}
 use Rattle.vd_transfer.specs.EffectsOnWords.{words_with_register}
@@ -355,7 +355,7 @@ pub after_length : (s : State) (x : Exit) (kind : ℕ) → length (state_after_e
 after_length s x kind = with_lower_length 0 x.lower s.regs
 
 -- ---- the number of values of a state
-base_length : (b : Limits) (plan : PlanData) (s : State) (base : Arg) (offset : ℕ) (after : Bool) → length (with_base b plan s base offset after).regs ≡ length s.regs
+base_length : (b : Limits) (plan : PlanData) (s : State) (base : Arg) (offset : ℕ) (after : Bool) → length (state_with_base b plan s base offset after).regs ≡ length s.regs
 base_length b plan s (Word w) offset after = refl
 base_length b plan s (Reg r) offset false = refl
 base_length b plan s (Reg r) offset true = same_length s (value_of b Add (reg_of plan s r) (word_val offset)) (slot r)
@@ -364,7 +364,7 @@ pub transfer_length : (b : Limits) (plan : PlanData) (shape : Shape) (s : State)
 unfolding transfer_of
 transfer_length b plan (Compute op dst x y) s loaded = same_length s _ (slot dst)
 transfer_length b plan (Scaled dst base index n) s loaded = same_length s _ (slot dst)
-transfer_length b plan (Load dst base offset size signed after) s loaded = same_length (with_base b plan s base offset after) loaded (slot dst) ∙ base_length b plan s base offset after
+transfer_length b plan (Load dst base offset size signed after) s loaded = same_length (state_with_base b plan s base offset after) loaded (slot dst) ∙ base_length b plan s base offset after
 transfer_length b plan (Store src base offset size after) s loaded = base_length b plan s base offset after
 transfer_length b plan Rslcx s loaded = length-forgotten 0 s.regs
 transfer_length b plan (Mfcr dst number) s loaded = same_length s any_val (slot dst)

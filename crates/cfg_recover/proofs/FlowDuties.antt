@@ -12,12 +12,12 @@ use Rattle.vd_transfer.specs.Registers.{slot}
 use Rattle.depth_cert.specs.declared.keys.Key.{Key}
 use Rattle.cfg_recover.specs.Entries.{irq_entry, irqs_of}
 use Rattle.cfg_recover.specs.Duties.{interrupts_of}
-use Rattle.cfg_recover.specs.FlowDuties.{told_irqs}
+use Rattle.cfg_recover.specs.FlowDuties.{duties_of_irqs}
 
 -- the state at an interrupt's entry is that of priority 0 with another priority
-pub told_irqs-is : (plan : PlanData) (key : Key) (s entry : State) (irqs : List ℕ) → entry ≡ irq_entry plan key s 0 → irqs ≡ irqs_of plan s → told_irqs plan entry irqs ≡ interrupts_of plan key s
+pub duties_of_irqs-is : (plan : PlanData) (key : Key) (s entry : State) (irqs : List ℕ) → entry ≡ irq_entry plan key s 0 → irqs ≡ irqs_of plan s → duties_of_irqs plan entry irqs ≡ interrupts_of plan key s
 unfolding slot
-told_irqs-is plan key s entry irqs e f = ap (λ (t : State). told_irqs plan t irqs) e ∙ ap (λ (l : List ℕ). told_irqs plan (irq_entry plan key s 0) l) f
+duties_of_irqs-is plan key s entry irqs e f = ap (λ (t : State). duties_of_irqs plan t irqs) e ∙ ap (λ (l : List ℕ). duties_of_irqs plan (irq_entry plan key s 0) l) f
 
 -- two tests with the same answers are equal
 pub same_test : (a b : Bool) → (a ≡ true → b ≡ true) → (b ≡ true → a ≡ true) → a ≡ b

@@ -15,8 +15,8 @@ use Rattle.value_domain.specs.declared.states.State.{State}
 use Rattle.value_domain.specs.Limits.{Limits}
 use Rattle.value_domain.specs.Values.{any_val, word_val}
 use Rattle.vd_transfer.specs.Operations.{value_of}
-use Rattle.vd_transfer.specs.Registers.{slot, reg_of, set_at, set_reg, write_reg, is_lower_register, RegisterHasValue, set_arg, HasBaseValue, WritesNoFixedRegister, is_operand_register}
-use Rattle.vd_transfer.specs.EffectsOnStates.{with_base, transfer_of}
+use Rattle.vd_transfer.specs.Registers.{slot, reg_of, set_slot, set_reg, write_reg, is_lower_register, RegisterHasValue, set_arg, HasBaseValue, WritesNoFixedRegister, is_operand_register}
+use Rattle.vd_transfer.specs.EffectsOnStates.{state_with_base, transfer_of}
 use Rattle.vd_transfer.specs.Branches.{side_with_register, side_with_operands, state_on_side, with_lowered_counter, refine_of}
 use Rattle.vd_transfer.specs.EffectsOnWords.{words_with_register, with_base_word, words_after}
 use Rattle.vd_transfer.specs.Soundness.{StaysPlain}
@@ -51,7 +51,7 @@ valueless_set : (word : ℕ → ℕ) (dst w r : ℕ) → RegisterHasValue dst �
 valueless_set word dst w r has none = set_word-other word dst w r (without_value dst r has none)
 
 -- ---- accesses
-keeps_base : (b : Limits) (plan : PlanData) (s : State) (word : ℕ → ℕ) (base : Arg) (offset : ℕ) (after : Bool) → KeepsLower word (with_base_word word base offset after) s (with_base b plan s base offset after)
+keeps_base : (b : Limits) (plan : PlanData) (s : State) (word : ℕ → ℕ) (base : Arg) (offset : ℕ) (after : Bool) → KeepsLower word (with_base_word word base offset after) s (state_with_base b plan s base offset after)
 keeps_base b plan s word (Word w) offset after = same_keeps word s
 keeps_base b plan s word (Reg r) offset false = same_keeps word s
 keeps_base b plan s word (Reg r) offset true = keeps_write word word s s r ((word r + offset) % 2 ^ 32) (value_of b Add (reg_of plan s r) (word_val offset)) (same_keeps word s)
@@ -61,11 +61,11 @@ valueless_base word (Word w) offset after r has none = refl
 valueless_base word (Reg x) offset false r has none = refl
 valueless_base word (Reg x) offset true r has none = valueless_set word x ((word x + offset) % 2 ^ 32) r (has refl) none
 
-written_locals : (s : State) (v : Val) (o : Option ℕ) → (set_at s v o).locals.items ≡ s.locals.items
+written_locals : (s : State) (v : Val) (o : Option ℕ) → (set_slot s v o).locals.items ≡ s.locals.items
 written_locals s v (Some i) = refl
 written_locals s v None = refl
 
-base_locals : (b : Limits) (plan : PlanData) (s : State) (base : Arg) (offset : ℕ) (after : Bool) → (with_base b plan s base offset after).locals.items ≡ s.locals.items
+base_locals : (b : Limits) (plan : PlanData) (s : State) (base : Arg) (offset : ℕ) (after : Bool) → (state_with_base b plan s base offset after).locals.items ≡ s.locals.items
 base_locals b plan s (Word w) offset after = refl
 base_locals b plan s (Reg r) offset false = refl
 base_locals b plan s (Reg r) offset true = written_locals s (value_of b Add (reg_of plan s r) (word_val offset)) (slot r)
@@ -80,7 +80,7 @@ unfolding transfer_of words_after
 keeps_lower b plan (Compute op dst x y) s loaded word input goes = keeps_write word word s s dst _ any_val (same_keeps word s)
 keeps_lower b plan (Scaled dst base index n) s loaded word input goes = keeps_write word word s s dst _ any_val (same_keeps word s)
 keeps_lower b plan (Load dst base offset size signed after) s loaded word input goes =
-    keeps_write word (with_base_word word base offset after) s (with_base b plan s base offset after) dst input loaded (keeps_base b plan s word base offset after)
+    keeps_write word (with_base_word word base offset after) s (state_with_base b plan s base offset after) dst input loaded (keeps_base b plan s word base offset after)
 keeps_lower b plan (Store src base offset size after) s loaded word input goes = keeps_base b plan s word base offset after
 keeps_lower b plan Svlcx s loaded word input goes = absurd goes.0
 keeps_lower b plan (Bisr c) s loaded word input goes = absurd goes.0
@@ -106,7 +106,7 @@ pub keeps_locals : (b : Limits) (plan : PlanData) (shape : Shape) (s : State) (l
 unfolding transfer_of
 keeps_locals b plan (Compute op dst x y) s loaded goes = written_locals s _ (slot dst)
 keeps_locals b plan (Scaled dst base index n) s loaded goes = written_locals s _ (slot dst)
-keeps_locals b plan (Load dst base offset size signed after) s loaded goes = written_locals (with_base b plan s base offset after) loaded (slot dst) ∙ base_locals b plan s base offset after
+keeps_locals b plan (Load dst base offset size signed after) s loaded goes = written_locals (state_with_base b plan s base offset after) loaded (slot dst) ∙ base_locals b plan s base offset after
 keeps_locals b plan (Store src base offset size after) s loaded goes = base_locals b plan s base offset after
 keeps_locals b plan Svlcx s loaded goes = absurd goes.0
 keeps_locals b plan Rslcx s loaded goes = absurd goes.0
@@ -120,7 +120,7 @@ record IsNarrowed (s t : State) : Type 0 where
   pub lower : t.lower ≡ s.lower
   pub locals : t.locals.items ≡ s.locals.items
 
-set_lower : (s : State) (v : Val) (o : Option ℕ) → (set_at s v o).lower ≡ s.lower
+set_lower : (s : State) (v : Val) (o : Option ℕ) → (set_slot s v o).lower ≡ s.lower
 set_lower s v (Some i) = refl
 set_lower s v None = refl
 

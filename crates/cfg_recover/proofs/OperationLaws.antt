@@ -18,7 +18,7 @@ use Rattle.value_domain.specs.Values.{any_val, IsValue}
 use Rattle.value_domain.specs.State.{AreValues}
 use Rattle.vd_transfer.specs.declared.change.Change.{Change}
 use Rattle.vd_transfer.specs.Operations.{value_of}
-use Rattle.vd_transfer.specs.Registers.{slot, is_lower_register, register_value_at, arg_of, set_at, write_reg}
+use Rattle.vd_transfer.specs.Registers.{slot, is_lower_register, register_value_at, arg_of, set_slot, write_reg}
 use Rattle.vd_transfer.specs.EffectsOnStates.{transfer_of, EffectHasRoom, EffectLoadsValue}
 use Rattle.vd_transfer.specs.Changes.{state_after, reg_put, kept_in}
 use Rattle.vd_transfer.proofs.ChangeLaws.{written-is, written-values, value-second, length-changed}
@@ -104,7 +104,7 @@ hit_values b s o k c h values holds same =
 -- ---- a miss
 -- a data register has the value that was written last
 written : (s : State) (r : ℕ) (v : Val) → r < 16 → length s.regs ≡ 27 → get_or (write_reg s r v).regs r any_val ≡ v
-written s r v h len = ap (λ (o : Option ℕ). get_or (set_at s v o).regs r any_val) (data_slot r h) ∙ get_or-set_same s.regs r v any_val (omega (arith, len))
+written s r v h len = ap (λ (o : Option ℕ). get_or (set_slot s v o).regs r any_val) (data_slot r h) ∙ get_or-set_same s.regs r v any_val (omega (arith, len))
 
 apart : (o : Option ℕ) (r : ℕ) → o ≡ None → o ≡ Some r → ⊥
 apart o r n e = cc

@@ -21,24 +21,24 @@ use Rattle.cfg_recover.specs.LocalFaults.{IsFaultless}
 use Rattle.cfg_recover.specs.Duties.{Owed, owed, enter, resume, leave, jumps_to, duties_of}
 
 -- the duties of a jump
-abbrev pub told_jump : Option Jump → List Owed
-told_jump None = []
-told_jump (Some j) = jumps_to j.state j.targets.items
+abbrev pub duties_of_jump : Option Jump → List Owed
+duties_of_jump None = []
+duties_of_jump (Some j) = jumps_to j.state j.targets.items
 
 -- the duties of jumps
-abbrev pub told_jumps : List (Option Jump) → List Owed
-told_jumps jumps = flat_map told_jump jumps
+abbrev pub duties_of_jumps : List (Option Jump) → List Owed
+duties_of_jumps jumps = flat_map duties_of_jump jumps
 
 -- where an entered frame returns to, if it returns
-abbrev pub told_flow_return : Key → Option ℕ → List Owed
-told_flow_return key None = []
-told_flow_return key (Some q) = owed 4 (resume key q) ∷ []
+abbrev pub duties_of_flow_return : Key → Option ℕ → List Owed
+duties_of_flow_return key None = []
+duties_of_flow_return key (Some q) = owed 4 (resume key q) ∷ []
 
 -- an entry at each target, and the return from it; this rule asks for the entry
-abbrev pub told_entry : ℕ → Key → Option Enter → List Owed
-told_entry rule key None = []
-told_entry rule key (Some e) =
-    flat_map (λ t. owed rule (enter (entered_key key e.kind t) e.state) ∷ told_flow_return (entered_key key e.kind t) e.resume) e.targets.items
+abbrev pub duties_of_entry : ℕ → Key → Option Enter → List Owed
+duties_of_entry rule key None = []
+duties_of_entry rule key (Some e) =
+    flat_map (λ t. owed rule (enter (entered_key key e.kind t) e.state) ∷ duties_of_flow_return (entered_key key e.kind t) e.resume) e.targets.items
 
 -- K5 asks for the entries of calls, K12 for that of a system call
 abbrev pub rule_of_entry : Option Enter → ℕ
@@ -47,20 +47,20 @@ rule_of_entry (Some e) = if e.kind == call_kind then 5 else 12
 
 -- the duties by the interrupts of a Flow: each handler is entered with this state, in which CCPN is
 -- the interrupt's priority
-abbrev pub told_irqs : PlanData → State → List ℕ → List Owed
-told_irqs plan entry irqs = map (λ p. owed 11 (enter (irq_key plan p) (record entry { ccpn = p }))) irqs
+abbrev pub duties_of_irqs : PlanData → State → List ℕ → List Owed
+duties_of_irqs plan entry irqs = map (λ p. owed 11 (enter (irq_key plan p) (record entry { ccpn = p }))) irqs
 
 -- the duty in a Flow by how the frame is left, as a list: the exit of a function by RET (K6), or of
 -- the handler of system calls by RFE (K7); otherwise it is empty
-abbrev pub told_leaving : Key → State → Leave → List Owed
-told_leaving key s Stays = []
-told_leaving key s Ret = owed 6 (leave (exit_of s)) ∷ []
-told_leaving key s Rfe = if key.kind == sys_kind then owed 7 (leave (exit_of s)) ∷ [] else []
+abbrev pub duties_of_leaving : Key → State → Leave → List Owed
+duties_of_leaving key s Stays = []
+duties_of_leaving key s Ret = owed 6 (leave (exit_of s)) ∷ []
+duties_of_leaving key s Rfe = if key.kind == sys_kind then owed 7 (leave (exit_of s)) ∷ [] else []
 
 -- the duties of a point with this key and state, as the Flow has them
-abbrev pub told_by_flow : PlanData → Key → State → Flow → List Owed
-told_by_flow plan key s f =
-    told_jumps f.jumps ++ told_entry (rule_of_entry f.enter) key f.enter ++ told_entry 10 key f.aln ++ told_irqs plan f.irq_entry f.irqs.items ++ told_leaving key s f.leave
+abbrev pub duties_of_flow : PlanData → Key → State → Flow → List Owed
+duties_of_flow plan key s f =
+    duties_of_jumps f.jumps ++ duties_of_entry (rule_of_entry f.enter) key f.enter ++ duties_of_entry 10 key f.aln ++ duties_of_irqs plan f.irq_entry f.irqs.items ++ duties_of_leaving key s f.leave
 
 -- how an instruction of this shape leaves its frame
 unfoldable pub flow_leave_of : Shape → Leave
@@ -75,6 +75,6 @@ pub record FlowTellsDuties (b : Limits) (image : ImageData) (plan : PlanData) (k
   pub shape : Shape
   pub size : ℕ
   pub code : IsCode image plan p shape size
-  pub told : told_by_flow plan key s f ≡ duties_of b image plan key p s shape size
+  pub told : duties_of_flow plan key s f ≡ duties_of b image plan key p s shape size
   pub entry : f.irq_entry ≡ irq_entry plan key s 0
   pub leaves : f.leave ≡ flow_leave_of shape

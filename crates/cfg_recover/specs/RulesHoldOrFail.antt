@@ -27,15 +27,15 @@ limits_in plan cert = limits_for plan cert.version
 -- ---- points that cover a state, and duties that are met
 -- what a rule of certificates asks for, and fails without: the node has a point at this address,
 -- and that point's state covers this one
-abbrev pub HasPoint : NodeData → ℕ → State → Type 0
-HasPoint node q s = IsSomeAnd (find_point q node.points) (λ p. Covers p.state s)
+abbrev pub HasCoveringPoint : NodeData → ℕ → State → Type 0
+HasCoveringPoint node q s = IsSomeAnd (find_point q node.points) (λ p. Covers p.state s)
 
 -- a rule holds at a duty, else it fails: what a point with this state owes by the duty is in the
 -- certificate's nodes, points and exits
 abbrev pub IsMet : CertData → NodeData → State → Duty → Type 0
-IsMet cert node s (jump q t) = HasPoint node q t
-IsMet cert node s (enter k t) = IsSomeAnd (find_node k cert.nodes) (λ n. HasPoint n k.entry t)
-IsMet cert node s (resume k q) = IfSome (find_node k cert.nodes) (λ n. IfSome n.exit (λ x. HasPoint node q (state_after_exit s x k.kind)))
+IsMet cert node s (jump q t) = HasCoveringPoint node q t
+IsMet cert node s (enter k t) = IsSomeAnd (find_node k cert.nodes) (λ n. HasCoveringPoint n k.entry t)
+IsMet cert node s (resume k q) = IfSome (find_node k cert.nodes) (λ n. IfSome n.exit (λ x. HasCoveringPoint node q (state_after_exit s x k.kind)))
 IsMet cert node s (leave x) = IsSomeAnd node.exit (λ y. ExitCovers y x)
 
 -- ---- needs
@@ -79,7 +79,7 @@ pub record RuleHolds (image : ImageData) (plan : PlanData) (cert : CertData) (no
 -- K1 holds: the certificate has a node of the start frame, and its point at the entry covers the
 -- start state
 abbrev pub HoldsAtStart : ImageData → PlanData → CertData → Type 0
-HoldsAtStart image plan cert = IsSomeAnd (find_node (start_key image plan) cert.nodes) (λ n. HasPoint n image.entry (start_state plan))
+HoldsAtStart image plan cert = IsSomeAnd (find_node (start_key image plan) cert.nodes) (λ n. HasCoveringPoint n image.entry (start_state plan))
 
 -- K2 holds at a node's entry, else it fails: there is a point, and the values of the exit, if the
 -- node has one, are of the plan's lattice

@@ -4,7 +4,7 @@ ghost use Rattle.tc_isa.specs.Meanings.{shape_of};
 ghost use Rattle.value_domain.specs.State.{AreValues};
 ghost use Rattle.cfg_recover.specs.Duties.{entries_of, misaligned_of, leavings_of};
 ghost use Rattle.cfg_recover.specs.FlowStates.{EntersWithValues};
-ghost use Rattle.cfg_recover.specs.FlowDuties.{told_entry, rule_of_entry, told_leaving, flow_leave_of};
+ghost use Rattle.cfg_recover.specs.FlowDuties.{duties_of_entry, rule_of_entry, duties_of_leaving, flow_leave_of};
 
 use crate::decoded_inst::InstAt;
 use crate::entered::may_be_misaligned;
@@ -27,7 +27,7 @@ pub(crate) fn call_flow_entry(
     at: InstAt<'_>,
 ) -> Option<Enter>
     requires { AreValues b.now s.now.regs }
-    ensures entry { told_entry (rule_of_entry result) key.now result
+    ensures entry { duties_of_entry (rule_of_entry result) key.now result
         ≡ entries_of plan.now key.now at.entry.addr s.now
         (shape_of at.entry.inst.now) at.entry.size }
     ensures values { EntersWithValues b.now result }
@@ -59,7 +59,7 @@ pub(crate) fn misaligned_flow_entry(
     inst: &Inst,
 ) -> Option<Enter>
     requires { AreValues b.now s.now.regs }
-    ensures entry { told_entry 10 key.now result
+    ensures entry { duties_of_entry 10 key.now result
         ≡ misaligned_of b.now plan.now key.now s.now (shape_of inst.now) }
     ensures values { EntersWithValues b.now result }
 {
@@ -78,7 +78,7 @@ pub(crate) fn misaligned_flow_entry(
 /// frames: by RET, by RFE, or not at all.
 #[tactic(auto, unfolding(crate::specs::FlowDuties::flow_leave_of))]
 pub(crate) fn flow_leave(key: &Key, s: &State, inst: &Inst) -> Leave
-    ensures told { told_leaving key.now s.now result
+    ensures told { duties_of_leaving key.now s.now result
         ≡ leavings_of key.now s.now (shape_of inst.now) }
     ensures leave { result ≡ flow_leave_of (shape_of inst.now) }
 {

@@ -6,7 +6,7 @@ ghost use Rattle.vd_transfer.specs.EffectsOnStates.{EffectHasRoom};
 ghost use Rattle.cfg_recover.specs.Duties.{duties_of};
 ghost use Rattle.cfg_recover.specs.Entries.{irq_entry};
 ghost use Rattle.cfg_recover.specs.FlowStates.{FlowHasValues};
-ghost use Rattle.cfg_recover.specs.FlowDuties.{told_by_flow, flow_leave_of, FlowTellsDuties};
+ghost use Rattle.cfg_recover.specs.FlowDuties.{duties_of_flow, flow_leave_of, FlowTellsDuties};
 ghost use Rattle.cfg_recover.specs.LocalFaults.{IsLocalFault};
 
 use crate::Flow;
@@ -58,7 +58,7 @@ fn flow_of_point(
     requires values { AreValues b.now s.now.regs }
     requires room { EffectHasRoom b.now (shape_of at.inst.now) s.now }
     ensures values { FlowHasValues b.now result }
-    ensures told { told_by_flow plan.now key.now s.now result
+    ensures told { duties_of_flow plan.now key.now s.now result
         ≡ duties_of b.now image.now plan.now key.now at.entry.addr s.now
         (shape_of at.entry.inst.now) at.entry.size }
     ensures entry { result.irq_entry ≡ irq_entry plan.now key.now s.now 0 }

@@ -10,7 +10,7 @@ ghost use Rattle.vd_transfer.specs.EffectsOnStates.{EffectHasRoom, address_of, t
 ghost use Rattle.vd_transfer.specs.Branches.{refine_of};
 ghost use Rattle.cfg_recover.specs.Duties.{jump_on, loaded_for_duties, next_of, successors_of};
 ghost use Rattle.cfg_recover.specs.FlowStates.{JumpsWithValues};
-ghost use Rattle.cfg_recover.specs.FlowDuties.{told_jump, told_jumps};
+ghost use Rattle.cfg_recover.specs.FlowDuties.{duties_of_jump, duties_of_jumps};
 
 use crate::Jump;
 use crate::decoded_inst::InstAt;
@@ -36,7 +36,7 @@ pub(crate) fn successors(
     requires values { AreValues b.now s.now.regs }
     requires room { EffectHasRoom b.now (shape_of at.inst.now) s.now }
     ensures values { All (JumpsWithValues b.now) result }
-    ensures jumps { told_jumps result
+    ensures jumps { duties_of_jumps result
         ≡ successors_of b.now image.now plan.now at.entry.addr s.now
         (shape_of at.entry.inst.now) at.entry.size }
 {
@@ -99,7 +99,7 @@ fn successor_on_side(
 ) -> Option<Jump>
     requires { AreValues b.now s.now.regs }
     ensures values { JumpsWithValues b.now result }
-    ensures jump { told_jump result
+    ensures jump { duties_of_jump result
         ≡ jump_on to (refine_of b.now plan.now (shape_of inst.now) s.now taken) }
 {
     let state = refine(b, plan, inst, s, taken)?;
@@ -114,7 +114,7 @@ fn successor_by_step(b: &Bounds, image: &Image, plan: &Plan, s: &State, at: Inst
     requires values { AreValues b.now s.now.regs }
     requires room { EffectHasRoom b.now (shape_of at.inst.now) s.now }
     ensures values { JumpsWithValues b.now (Some result) }
-    ensures jump { told_jump (Some result)
+    ensures jump { duties_of_jump (Some result)
         ≡ next_of b.now image.now plan.now at.entry.addr s.now
         (shape_of at.entry.inst.now) at.entry.size }
 {

@@ -6,12 +6,12 @@ use Rattle.tcd_plan.specs.PlanData.{PlanData, IsPlan}
 use Rattle.depth_cert.specs.Nodes.{NodeData, need_of, find_node}
 use Rattle.depth_cert.specs.Certs.{CertData}
 use Rattle.cfg_recover.specs.Entries.{start_key, start_state}
-use Rattle.cfg_recover.specs.RulesHoldOrFail.{HasPoint, Accepts, certified_need}
+use Rattle.cfg_recover.specs.RulesHoldOrFail.{HasCoveringPoint, Accepts, certified_need}
 use Rattle.cfg_recover.proofs.FaultLaws.{fails_refutes, first_faults_say}
 use Rattle.depth_check.specs.AnswerLaws.{YesSays, AnswersSay}
 
 yes_says : (image : ImageData) (plan : PlanData) (cert : CertData) (n : ℕ) (o : Option NodeData) → IsPlan plan → Accepts image plan cert → n ≡ certified_need image plan cert → n ≤ plan.areas - plan.reserve
-    → find_node (start_key image plan) cert.nodes ≡ o → IsSomeAnd o (λ n. HasPoint n image.entry (start_state plan)) → YesSays image plan cert n
+    → find_node (start_key image plan) cert.nodes ≡ o → IsSomeAnd o (λ n. HasCoveringPoint n image.entry (start_state plan)) → YesSays image plan cert n
 yes_says image plan cert n None is_plan accepts need room found start = absurd start
 yes_says image plan cert n (Some node) is_plan accepts need room found start = record {
   node = node;

@@ -23,7 +23,7 @@ use Rattle.depth_cert.specs.declared.points.Point.{Point}
 use Rattle.depth_cert.specs.Exits.{state_after_exit}
 use Rattle.depth_cert.specs.Nodes.{NodeData, find_node}
 use Rattle.depth_cert.specs.Certs.{CertData}
-use Rattle.cfg_recover.specs.RulesHoldOrFail.{HasPoint}
+use Rattle.cfg_recover.specs.RulesHoldOrFail.{HasCoveringPoint}
 use Rattle.cfg_recover.specs.Entries.{call_key, call_entry}
 use Rattle.cfg_recover.specs.LocalRules.{targets_named_by}
 use Rattle.cfg_recover.specs.Duties.{Owed, owed, enter, resume, entered_and_back}
@@ -33,17 +33,17 @@ use Rattle.depth_check.specs.CheckedRegisters.{calls_by, RegisterCallsHold, Regi
 use Rattle.depth_check.specs.DutiesHold.{HasPointWithState, DutyHolds, DutiesHold}
 
 -- points with the same state cover the same states
-cover_alike : (node : NodeData) (a b : ℕ) (s t : State) → HasPointWithState node a s → HasPointWithState node b s → HasPoint node a t → HasPoint node b t
+cover_alike : (node : NodeData) (a b : ℕ) (s t : State) → HasPointWithState node a s → HasPointWithState node b s → HasCoveringPoint node a t → HasCoveringPoint node b t
 cover_alike node a b s t here there h =
     let covers : Covers s t = subst (λ (o : Option Point). IsSomeAnd o (λ p. Covers p.state t)) here h in
     subst (λ (o : Option Point). IsSomeAnd o (λ p. Covers p.state t)) (sym there) covers
 
-exit_alike : (node : NodeData) (a b kind : ℕ) (s : State) (o : Option Exit) → HasPointWithState node a s → HasPointWithState node b s → IfSome o (λ x. HasPoint node a (state_after_exit s x kind)) → IfSome o (λ x. HasPoint node b (state_after_exit s x kind))
+exit_alike : (node : NodeData) (a b kind : ℕ) (s : State) (o : Option Exit) → HasPointWithState node a s → HasPointWithState node b s → IfSome o (λ x. HasCoveringPoint node a (state_after_exit s x kind)) → IfSome o (λ x. HasCoveringPoint node b (state_after_exit s x kind))
 exit_alike node a b kind s None here there h = tt
 exit_alike node a b kind s (Some x) here there h = cover_alike node a b s (state_after_exit s x kind) here there h
 
 back_alike : (node : NodeData) (a b kind : ℕ) (s : State) (o : Option NodeData) → HasPointWithState node a s → HasPointWithState node b s
-    → IfSome o (λ n. IfSome n.exit (λ x. HasPoint node a (state_after_exit s x kind))) → IfSome o (λ n. IfSome n.exit (λ x. HasPoint node b (state_after_exit s x kind)))
+    → IfSome o (λ n. IfSome n.exit (λ x. HasCoveringPoint node a (state_after_exit s x kind))) → IfSome o (λ n. IfSome n.exit (λ x. HasCoveringPoint node b (state_after_exit s x kind)))
 back_alike node a b kind s None here there h = tt
 back_alike node a b kind s (Some n) here there h = exit_alike node a b kind s n.exit here there h
 
@@ -96,7 +96,7 @@ holds_next plan cert node w s (Some a) rs e f h = λ p after split.
     subst (λ (t : State). RegistersHold plan cert node t rs) (e ∙ ap (λ (q : Point). q.state) (first_same (record { addr = a; state = w.current }) p (drop 1 w.left) after (sym f ∙ split))) h
 
 -- ---- nodes that are entered alike
-state_covers : (a b : ℕ) (n m : NodeData) (t : State) → node_state a n ≡ node_state b m → HasPoint n a t → HasPoint m b t
+state_covers : (a b : ℕ) (n m : NodeData) (t : State) → node_state a n ≡ node_state b m → HasCoveringPoint n a t → HasCoveringPoint m b t
 state_covers a b n m t e h = covers (find_point b m.points) (subst (λ (o : Option State). IsSomeAnd o (λ s. Covers s t)) e (states (find_point a n.points) h))
   where
     states : (o : Option Point) → IsSomeAnd o (λ p. Covers p.state t) → IsSomeAnd (option_map (λ p. p.state) o) (λ s. Covers s t)
@@ -109,12 +109,12 @@ state_covers a b n m t e h = covers (find_point b m.points) (subst (λ (o : Opti
 
 -- what a call asks of the called node, if the call of another node holds that is entered alike
 met_alike : (cert : CertData) (node : NodeData) (s t : State) (h k : Key) (back : ℕ) (m : NodeData) (o : Option NodeData) → h.kind ≡ k.kind → AreEnteredAlike cert.nodes h k → find_node k cert.nodes ≡ Some m → find_node h cert.nodes ≡ o
-    → IsSomeAnd o (λ n. HasPoint n h.entry t) → IfSome o (λ n. IfSome n.exit (λ x. HasPoint node back (state_after_exit s x h.kind))) → HasPoint m k.entry t × IfSome m.exit (λ x. HasPoint node back (state_after_exit s x k.kind))
+    → IsSomeAnd o (λ n. HasCoveringPoint n h.entry t) → IfSome o (λ n. IfSome n.exit (λ x. HasCoveringPoint node back (state_after_exit s x h.kind))) → HasCoveringPoint m k.entry t × IfSome m.exit (λ x. HasCoveringPoint node back (state_after_exit s x k.kind))
 met_alike cert node s t h k back m None kind alike found other into on = absurd into
 met_alike cert node s t h k back m (Some n) kind alike found other into on =
     let same = alike n m other found in (
       state_covers h.entry k.entry n m t same.0 into,
-      subst (λ (d : ℕ). IfSome m.exit (λ x. HasPoint node back (state_after_exit s x d))) kind (subst (λ (e : Option Exit). IfSome e (λ x. HasPoint node back (state_after_exit s x h.kind))) same.1 on),
+      subst (λ (d : ℕ). IfSome m.exit (λ x. HasCoveringPoint node back (state_after_exit s x d))) kind (subst (λ (e : Option Exit). IfSome e (λ x. HasCoveringPoint node back (state_after_exit s x h.kind))) same.1 on),
     )
 
 lesser_none : (o : Option ℕ) → lesser_broken_rule o None ≡ o

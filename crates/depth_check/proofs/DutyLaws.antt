@@ -24,11 +24,11 @@ use Rattle.cfg_recover.specs.LocalFaults.{StandsFaultless}
 use Rattle.cfg_recover.specs.Entries.{irq_key, irq_entry, irqs_of, entered_key}
 use Rattle.depth_cert.specs.Exits.{exit_of}
 use Rattle.cfg_recover.specs.Duties.{Owed, owed, jump, enter, resume, leave, jumps_to, successors_of, entries_of, misaligned_of, interrupts_of, leavings_of, duties_of}
-use Rattle.cfg_recover.specs.FlowDuties.{told_flow_return, told_irqs, told_leaving, flow_leave_of}
-use Rattle.cfg_recover.specs.RulesHoldOrFail.{HasPoint}
+use Rattle.cfg_recover.specs.FlowDuties.{duties_of_flow_return, duties_of_irqs, duties_of_leaving, flow_leave_of}
+use Rattle.cfg_recover.specs.RulesHoldOrFail.{HasCoveringPoint}
 use Rattle.cfg_recover.proofs.AccessDuties.{owes_no_access}
 use Rattle.depth_check.specs.LeastBroken.{FindsLeastBroken, lesser_broken_rule, broken_rule_unless}
-use Rattle.depth_check.specs.DutiesHold.{DutyHolds, DutiesHold, HasPoints, GoesOn, HasExit, LeavingHolds}
+use Rattle.depth_check.specs.DutiesHold.{DutyHolds, DutiesHold, HasCoveringPoints, GoesOn, HasExit, LeavingHolds}
 use Rattle.depth_check.proofs.LeastLaws.{found_by, found_both, found_same}
 
 -- a property of an appended list holds of its parts
@@ -48,31 +48,31 @@ duties_append cert node s xs ys a b f g =
 
 -- ---- jumps
 -- duties that are all jumps, of one rule
-jump_part : (cert : CertData) (node : NodeData) (s t : State) (q x : ℕ) (xs : List ℕ) → (4 ≡ q → HasPoints node t (x ∷ xs)) → DutiesHold cert node s (jumps_to t xs) q → DutiesHold cert node s (jumps_to t (x ∷ xs)) q
+jump_part : (cert : CertData) (node : NodeData) (s t : State) (q x : ℕ) (xs : List ℕ) → (4 ≡ q → HasCoveringPoints node t (x ∷ xs)) → DutiesHold cert node s (jumps_to t xs) q → DutiesHold cert node s (jumps_to t (x ∷ xs)) q
 jump_part cert node s t q x xs h rest =
-    All-cons (DutyHolds cert node s q) (owed 4 (jump x t)) (jumps_to t xs) (record { met = λ e. All-head (λ y. HasPoint node y t) x xs (h e); need = λ e. tt }) rest
+    All-cons (DutyHolds cert node s q) (owed 4 (jump x t)) (jumps_to t xs) (record { met = λ e. All-head (λ y. HasCoveringPoint node y t) x xs (h e); need = λ e. tt }) rest
 
-jump_to : (cert : CertData) (node : NodeData) (s t : State) (q : ℕ) (xs : List ℕ) → (4 ≡ q → HasPoints node t xs) → DutiesHold cert node s (jumps_to t xs) q
+jump_to : (cert : CertData) (node : NodeData) (s t : State) (q : ℕ) (xs : List ℕ) → (4 ≡ q → HasCoveringPoints node t xs) → DutiesHold cert node s (jumps_to t xs) q
 jump_to cert node s t q [] h = All-nil (DutyHolds cert node s q)
-jump_to cert node s t q (x ∷ xs) h = jump_part cert node s t q x xs h (jump_to cert node s t q xs (λ e. All-tail (λ y. HasPoint node y t) x xs (h e)))
+jump_to cert node s t q (x ∷ xs) h = jump_part cert node s t q x xs h (jump_to cert node s t q xs (λ e. All-tail (λ y. HasCoveringPoint node y t) x xs (h e)))
 
-jump_from : (cert : CertData) (node : NodeData) (s t : State) (q : ℕ) (xs : List ℕ) → 4 ≡ q → DutiesHold cert node s (jumps_to t xs) q → HasPoints node t xs
-jump_from cert node s t q [] e h = All-nil (λ y. HasPoint node y t)
+jump_from : (cert : CertData) (node : NodeData) (s t : State) (q : ℕ) (xs : List ℕ) → 4 ≡ q → DutiesHold cert node s (jumps_to t xs) q → HasCoveringPoints node t xs
+jump_from cert node s t q [] e h = All-nil (λ y. HasCoveringPoint node y t)
 jump_from cert node s t q (x ∷ xs) e h =
-    All-cons (λ y. HasPoint node y t) x xs ((All-head (DutyHolds cert node s q) (owed 4 (jump x t)) (jumps_to t xs) h).met e)
+    All-cons (λ y. HasCoveringPoint node y t) x xs ((All-head (DutyHolds cert node s q) (owed 4 (jump x t)) (jumps_to t xs) h).met e)
     (jump_from cert node s t q xs e (All-tail (DutyHolds cert node s q) (owed 4 (jump x t)) (jumps_to t xs) h))
 
 -- jumps with one state, from the test of all of them
-pub points_found : (cert : CertData) (node : NodeData) (s t : State) (xs : List ℕ) (b : Bool) → (IsTrue b ↔ HasPoints node t xs) → FindsLeastBroken (DutiesHold cert node s (jumps_to t xs)) (broken_rule_unless b 4)
+pub points_found : (cert : CertData) (node : NodeData) (s t : State) (xs : List ℕ) (b : Bool) → (IsTrue b ↔ HasCoveringPoints node t xs) → FindsLeastBroken (DutiesHold cert node s (jumps_to t xs)) (broken_rule_unless b 4)
 points_found cert node s t xs b d =
-    found_same (λ q. 4 ≡ q → HasPoints node t xs) (DutiesHold cert node s (jumps_to t xs)) (broken_rule_unless b 4) (λ q h. jump_to cert node s t q xs h) (λ q h e. jump_from cert node s t q xs e h)
-    (found_by b 4 (HasPoints node t xs) (omega arith) d)
+    found_same (λ q. 4 ≡ q → HasCoveringPoints node t xs) (DutiesHold cert node s (jumps_to t xs)) (broken_rule_unless b 4) (λ q h. jump_to cert node s t q xs h) (λ q h e. jump_from cert node s t q xs e h)
+    (found_by b 4 (HasCoveringPoints node t xs) (omega arith) d)
 
 -- a single jump
-pub point_found : (cert : CertData) (node : NodeData) (s t : State) (x : ℕ) (b : Bool) → (IsTrue b ↔ HasPoint node x t) → FindsLeastBroken (DutiesHold cert node s (owed 4 (jump x t) ∷ [])) (broken_rule_unless b 4)
+pub point_found : (cert : CertData) (node : NodeData) (s t : State) (x : ℕ) (b : Bool) → (IsTrue b ↔ HasCoveringPoint node x t) → FindsLeastBroken (DutiesHold cert node s (owed 4 (jump x t) ∷ [])) (broken_rule_unless b 4)
 point_found cert node s t x b d =
     points_found cert node s t (x ∷ []) b
-    ((λ y. All-cons (λ y. HasPoint node y t) x [] (d.0 y) (All-nil (λ y. HasPoint node y t))), (λ h. d.1 (All-head (λ y. HasPoint node y t) x [] h)))
+    ((λ y. All-cons (λ y. HasCoveringPoint node y t) x [] (d.0 y) (All-nil (λ y. HasCoveringPoint node y t))), (λ h. d.1 (All-head (λ y. HasCoveringPoint node y t) x [] h)))
 
 -- no duty
 pub nothing_found : (cert : CertData) (node : NodeData) (s : State) → FindsLeastBroken (DutiesHold cert node s []) None
@@ -82,52 +82,52 @@ nothing_found cert node s = λ q. All-nil (DutyHolds cert node s q)
 -- what the rules ask of an entry of a node n that exists, and of its return
 abbrev pub EntryHolds : NodeData → State → ℕ → Key → State → Option ℕ → NodeData → ℕ → Type 0
 EntryHolds node s rule key entry back n q =
-    ((rule ≡ q → HasPoint n key.entry entry) × (14 ≡ q → length s.locals.items + 1 + n.need ≤ node.need)) × (4 ≡ q → GoesOn node s n key.kind back)
+    ((rule ≡ q → HasCoveringPoint n key.entry entry) × (14 ≡ q → length s.locals.items + 1 + n.need ≤ node.need)) × (4 ≡ q → GoesOn node s n key.kind back)
 
 enter_to : (cert : CertData) (node : NodeData) (s : State) (rule : ℕ) (key : Key) (entry : State) (back : Option ℕ) (n : NodeData) (q : ℕ) → find_node key cert.nodes ≡ Some n
     → EntryHolds node s rule key entry back n q → DutyHolds cert node s q (owed rule (enter key entry))
 enter_to cert node s rule key entry back n q found h = record { met = λ e. rw found ((h.0).0 e); need = λ e. rw found ((h.0).1 (sym e)) }
 
 back_to : (cert : CertData) (node : NodeData) (s : State) (rule : ℕ) (key : Key) (entry : State) (back : Option ℕ) (n : NodeData) (q : ℕ) → find_node key cert.nodes ≡ Some n
-    → EntryHolds node s rule key entry back n q → DutiesHold cert node s (told_flow_return key back) q
+    → EntryHolds node s rule key entry back n q → DutiesHold cert node s (duties_of_flow_return key back) q
 back_to cert node s rule key entry None n q found h = All-nil (DutyHolds cert node s q)
 back_to cert node s rule key entry (Some at) n q found h =
     All-cons (DutyHolds cert node s q) (owed 4 (resume key at)) [] (record { met = λ e. rw found (h.1 e); need = λ e. tt }) (All-nil (DutyHolds cert node s q))
 
-back_from : (cert : CertData) (node : NodeData) (s : State) (key : Key) (back : Option ℕ) (n : NodeData) (q : ℕ) → find_node key cert.nodes ≡ Some n → DutiesHold cert node s (told_flow_return key back) q
+back_from : (cert : CertData) (node : NodeData) (s : State) (key : Key) (back : Option ℕ) (n : NodeData) (q : ℕ) → find_node key cert.nodes ≡ Some n → DutiesHold cert node s (duties_of_flow_return key back) q
     → 4 ≡ q → GoesOn node s n key.kind back
 back_from cert node s key None n q found h e = tt
 back_from cert node s key (Some at) n q found h e = rw found at ((All-head (DutyHolds cert node s q) (owed 4 (resume key at)) [] h).met e)
 
 -- the entered node exists
 pub entry_found : (cert : CertData) (node : NodeData) (s : State) (rule : ℕ) (key : Key) (entry : State) (back : Option ℕ) (n : NodeData) (into need on : Bool) → find_node key cert.nodes ≡ Some n
-    → rule ≤ 14 → (IsTrue into ↔ HasPoint n key.entry entry) → (IsTrue need ↔ (length s.locals.items + 1 + n.need ≤ node.need)) → (IsTrue on ↔ GoesOn node s n key.kind back)
-    → FindsLeastBroken (DutiesHold cert node s (owed rule (enter key entry) ∷ told_flow_return key back)) (lesser_broken_rule (lesser_broken_rule (broken_rule_unless into rule) (broken_rule_unless need 14)) (broken_rule_unless on 4))
+    → rule ≤ 14 → (IsTrue into ↔ HasCoveringPoint n key.entry entry) → (IsTrue need ↔ (length s.locals.items + 1 + n.need ≤ node.need)) → (IsTrue on ↔ GoesOn node s n key.kind back)
+    → FindsLeastBroken (DutiesHold cert node s (owed rule (enter key entry) ∷ duties_of_flow_return key back)) (lesser_broken_rule (lesser_broken_rule (broken_rule_unless into rule) (broken_rule_unless need 14)) (broken_rule_unless on 4))
 entry_found cert node s rule key entry back n into need on found small i d a =
-    found_same (EntryHolds node s rule key entry back n) (DutiesHold cert node s (owed rule (enter key entry) ∷ told_flow_return key back)) (lesser_broken_rule (lesser_broken_rule (broken_rule_unless into rule) (broken_rule_unless need 14)) (broken_rule_unless on 4))
-    (λ q h. All-cons (DutyHolds cert node s q) (owed rule (enter key entry)) (told_flow_return key back) (enter_to cert node s rule key entry back n q found h) (back_to cert node s rule key entry back n q found h))
+    found_same (EntryHolds node s rule key entry back n) (DutiesHold cert node s (owed rule (enter key entry) ∷ duties_of_flow_return key back)) (lesser_broken_rule (lesser_broken_rule (broken_rule_unless into rule) (broken_rule_unless need 14)) (broken_rule_unless on 4))
+    (λ q h. All-cons (DutyHolds cert node s q) (owed rule (enter key entry)) (duties_of_flow_return key back) (enter_to cert node s rule key entry back n q found h) (back_to cert node s rule key entry back n q found h))
     (λ q h.
-    let first = All-head (DutyHolds cert node s q) (owed rule (enter key entry)) (told_flow_return key back) h in
-    let rest = All-tail (DutyHolds cert node s q) (owed rule (enter key entry)) (told_flow_return key back) h in
+    let first = All-head (DutyHolds cert node s q) (owed rule (enter key entry)) (duties_of_flow_return key back) h in
+    let rest = All-tail (DutyHolds cert node s q) (owed rule (enter key entry)) (duties_of_flow_return key back) h in
     (((λ e. rw found at (first.met e)), (λ e. rw found at (first.need (sym e)))), back_from cert node s key back n q found rest))
-    (found_both (λ q. (rule ≡ q → HasPoint n key.entry entry) × (14 ≡ q → length s.locals.items + 1 + n.need ≤ node.need)) (λ q. 4 ≡ q → GoesOn node s n key.kind back)
+    (found_both (λ q. (rule ≡ q → HasCoveringPoint n key.entry entry) × (14 ≡ q → length s.locals.items + 1 + n.need ≤ node.need)) (λ q. 4 ≡ q → GoesOn node s n key.kind back)
     (lesser_broken_rule (broken_rule_unless into rule) (broken_rule_unless need 14)) (broken_rule_unless on 4)
-    (found_both (λ q. rule ≡ q → HasPoint n key.entry entry) (λ q. 14 ≡ q → length s.locals.items + 1 + n.need ≤ node.need) (broken_rule_unless into rule) (broken_rule_unless need 14)
-    (found_by into rule (HasPoint n key.entry entry) small i) (found_by need 14 (length s.locals.items + 1 + n.need ≤ node.need) (omega arith) d))
+    (found_both (λ q. rule ≡ q → HasCoveringPoint n key.entry entry) (λ q. 14 ≡ q → length s.locals.items + 1 + n.need ≤ node.need) (broken_rule_unless into rule) (broken_rule_unless need 14)
+    (found_by into rule (HasCoveringPoint n key.entry entry) small i) (found_by need 14 (length s.locals.items + 1 + n.need ≤ node.need) (omega arith) d))
     (found_by on 4 (GoesOn node s n key.kind back) (omega arith) a))
 
 -- the entered node doesn't exist
-back_missing : (cert : CertData) (node : NodeData) (s : State) (key : Key) (back : Option ℕ) (q : ℕ) → find_node key cert.nodes ≡ None → DutiesHold cert node s (told_flow_return key back) q
+back_missing : (cert : CertData) (node : NodeData) (s : State) (key : Key) (back : Option ℕ) (q : ℕ) → find_node key cert.nodes ≡ None → DutiesHold cert node s (duties_of_flow_return key back) q
 back_missing cert node s key None q missing = All-nil (DutyHolds cert node s q)
 back_missing cert node s key (Some at) q missing =
     All-cons (DutyHolds cert node s q) (owed 4 (resume key at)) [] (record { met = λ e. rw missing tt; need = λ e. tt }) (All-nil (DutyHolds cert node s q))
 
 pub entry_missing : (cert : CertData) (node : NodeData) (s : State) (rule : ℕ) (key : Key) (entry : State) (back : Option ℕ) → find_node key cert.nodes ≡ None → rule ≤ 14
-    → FindsLeastBroken (DutiesHold cert node s (owed rule (enter key entry) ∷ told_flow_return key back)) (Some rule)
+    → FindsLeastBroken (DutiesHold cert node s (owed rule (enter key entry) ∷ duties_of_flow_return key back)) (Some rule)
 entry_missing cert node s rule key entry back missing small = record {
-  broken = λ h. rw missing at ((All-head (DutyHolds cert node s rule) (owed rule (enter key entry)) (told_flow_return key back) h).met refl);
+  broken = λ h. rw missing at ((All-head (DutyHolds cert node s rule) (owed rule (enter key entry)) (duties_of_flow_return key back) h).met refl);
   least = λ q lt.
-      All-cons (DutyHolds cert node s q) (owed rule (enter key entry)) (told_flow_return key back) (record { met = λ e. absurd (omega arith); need = λ e. rw missing tt })
+      All-cons (DutyHolds cert node s q) (owed rule (enter key entry)) (duties_of_flow_return key back) (record { met = λ e. absurd (omega arith); need = λ e. rw missing tt })
       (back_missing cert node s key back q missing);
   known = small;
 }
@@ -137,22 +137,22 @@ abbrev pub called : State → List ℕ → ℕ → Enter
 called t targets back = record { kind = 1; targets = record { items = targets }; state = t; resume = Some back }
 
 -- the entries of a list of targets
-abbrev pub told_to : ℕ → Key → Enter → List ℕ → List Owed
-told_to rule key e targets = flat_map (λ t. owed rule (enter (entered_key key e.kind t) e.state) ∷ told_flow_return (entered_key key e.kind t) e.resume) targets
+abbrev pub duties_of_entry_to : ℕ → Key → Enter → List ℕ → List Owed
+duties_of_entry_to rule key e targets = flat_map (λ t. owed rule (enter (entered_key key e.kind t) e.state) ∷ duties_of_flow_return (entered_key key e.kind t) e.resume) targets
 
-abbrev told_at : ℕ → Key → Enter → ℕ → List Owed
-told_at rule key e t = owed rule (enter (entered_key key e.kind t) e.state) ∷ told_flow_return (entered_key key e.kind t) e.resume
+abbrev duties_of_entry_at : ℕ → Key → Enter → ℕ → List Owed
+duties_of_entry_at rule key e t = owed rule (enter (entered_key key e.kind t) e.state) ∷ duties_of_flow_return (entered_key key e.kind t) e.resume
 
-told_to_more : (rule : ℕ) (key : Key) (e : Enter) (targets : List ℕ) (i : ℕ) → i < length targets → told_to rule key e (take (i + 1) targets) ≡ told_to rule key e (take i targets) ++ told_at rule key e (get_or targets i 0)
-told_to_more rule key e targets i lt =
-    ap (told_to rule key e) (take_more targets i 0 lt)
-    ∙ flat_map-append (told_at rule key e) (take i targets) (get_or targets i 0 ∷ [])
-    ∙ ap (λ (l : List Owed). told_to rule key e (take i targets) ++ l) (append-nil (told_at rule key e (get_or targets i 0)))
+duties_of_entry_to_more : (rule : ℕ) (key : Key) (e : Enter) (targets : List ℕ) (i : ℕ) → i < length targets → duties_of_entry_to rule key e (take (i + 1) targets) ≡ duties_of_entry_to rule key e (take i targets) ++ duties_of_entry_at rule key e (get_or targets i 0)
+duties_of_entry_to_more rule key e targets i lt =
+    ap (duties_of_entry_to rule key e) (take_more targets i 0 lt)
+    ∙ flat_map-append (duties_of_entry_at rule key e) (take i targets) (get_or targets i 0 ∷ [])
+    ∙ ap (λ (l : List Owed). duties_of_entry_to rule key e (take i targets) ++ l) (append-nil (duties_of_entry_at rule key e (get_or targets i 0)))
 
-told_irqs_more : (plan : PlanData) (entry : State) (irqs : List ℕ) (i : ℕ) → i < length irqs
-    → told_irqs plan entry (take (i + 1) irqs) ≡ told_irqs plan entry (take i irqs) ++ owed 11 (enter (irq_key plan (get_or irqs i 0)) (record entry { ccpn = get_or irqs i 0 })) ∷ []
-told_irqs_more plan entry irqs i lt =
-    ap (told_irqs plan entry) (take_more irqs i 0 lt)
+duties_of_irqs_more : (plan : PlanData) (entry : State) (irqs : List ℕ) (i : ℕ) → i < length irqs
+    → duties_of_irqs plan entry (take (i + 1) irqs) ≡ duties_of_irqs plan entry (take i irqs) ++ owed 11 (enter (irq_key plan (get_or irqs i 0)) (record entry { ccpn = get_or irqs i 0 })) ∷ []
+duties_of_irqs_more plan entry irqs i lt =
+    ap (duties_of_irqs plan entry) (take_more irqs i 0 lt)
     ∙ map-append (λ p. owed 11 (enter (irq_key plan p) (record entry { ccpn = p }))) (take i irqs) (get_or irqs i 0 ∷ [])
 
 -- a further part of a list
@@ -162,28 +162,28 @@ duties_more cert node s xs ys zs found one o same is f g =
     subst (λ l. FindsLeastBroken (DutiesHold cert node s l) o) (sym same) (subst (λ u. FindsLeastBroken (DutiesHold cert node s (xs ++ ys)) u) (sym is) (duties_append cert node s xs ys found one f g))
 
 pub entries_more : (cert : CertData) (node : NodeData) (s : State) (rule : ℕ) (key entered : Key) (e : Enter) (targets : List ℕ) (i : ℕ) (found one o : Option ℕ) → i < length targets
-    → entered ≡ entered_key key e.kind (get_or targets i 0) → o ≡ lesser_broken_rule found one → FindsLeastBroken (DutiesHold cert node s (told_to rule key e (take i targets))) found
-    → FindsLeastBroken (DutiesHold cert node s (owed rule (enter entered e.state) ∷ told_flow_return entered e.resume)) one → FindsLeastBroken (DutiesHold cert node s (told_to rule key e (take (i + 1) targets))) o
+    → entered ≡ entered_key key e.kind (get_or targets i 0) → o ≡ lesser_broken_rule found one → FindsLeastBroken (DutiesHold cert node s (duties_of_entry_to rule key e (take i targets))) found
+    → FindsLeastBroken (DutiesHold cert node s (owed rule (enter entered e.state) ∷ duties_of_flow_return entered e.resume)) one → FindsLeastBroken (DutiesHold cert node s (duties_of_entry_to rule key e (take (i + 1) targets))) o
 entries_more cert node s rule key entered e targets i found one o lt k is f g =
-    duties_more cert node s (told_to rule key e (take i targets)) (told_at rule key e (get_or targets i 0)) (told_to rule key e (take (i + 1) targets)) found one o (told_to_more rule key e targets i lt) is f
-    (subst (λ (j : Key). FindsLeastBroken (DutiesHold cert node s (owed rule (enter j e.state) ∷ told_flow_return j e.resume)) one) k g)
+    duties_more cert node s (duties_of_entry_to rule key e (take i targets)) (duties_of_entry_at rule key e (get_or targets i 0)) (duties_of_entry_to rule key e (take (i + 1) targets)) found one o (duties_of_entry_to_more rule key e targets i lt) is f
+    (subst (λ (j : Key). FindsLeastBroken (DutiesHold cert node s (owed rule (enter j e.state) ∷ duties_of_flow_return j e.resume)) one) k g)
 
 pub entries_done : (cert : CertData) (node : NodeData) (s : State) (rule : ℕ) (key : Key) (e : Enter) (targets : List ℕ) (i : ℕ) (found : Option ℕ) → length targets ≤ i
-    → FindsLeastBroken (DutiesHold cert node s (told_to rule key e (take i targets))) found → FindsLeastBroken (DutiesHold cert node s (told_to rule key e targets)) found
-entries_done cert node s rule key e targets i found le f = subst (λ (l : List ℕ). FindsLeastBroken (DutiesHold cert node s (told_to rule key e l)) found) (take_all i targets le) f
+    → FindsLeastBroken (DutiesHold cert node s (duties_of_entry_to rule key e (take i targets))) found → FindsLeastBroken (DutiesHold cert node s (duties_of_entry_to rule key e targets)) found
+entries_done cert node s rule key e targets i found le f = subst (λ (l : List ℕ). FindsLeastBroken (DutiesHold cert node s (duties_of_entry_to rule key e l)) found) (take_all i targets le) f
 
 pub interrupts_more : (cert : CertData) (node : NodeData) (s : State) (plan : PlanData) (entry now : State) (key : Key) (irqs : List ℕ) (i : ℕ) (found one o : Option ℕ) → i < length irqs
-    → key ≡ irq_key plan (get_or irqs i 0) → record now { ccpn = 0 } ≡ record entry { ccpn = 0 } → o ≡ lesser_broken_rule found one → FindsLeastBroken (DutiesHold cert node s (told_irqs plan entry (take i irqs))) found
-    → FindsLeastBroken (DutiesHold cert node s (owed 11 (enter key (record now { ccpn = get_or irqs i 0 })) ∷ [])) one → FindsLeastBroken (DutiesHold cert node s (told_irqs plan entry (take (i + 1) irqs))) o
+    → key ≡ irq_key plan (get_or irqs i 0) → record now { ccpn = 0 } ≡ record entry { ccpn = 0 } → o ≡ lesser_broken_rule found one → FindsLeastBroken (DutiesHold cert node s (duties_of_irqs plan entry (take i irqs))) found
+    → FindsLeastBroken (DutiesHold cert node s (owed 11 (enter key (record now { ccpn = get_or irqs i 0 })) ∷ [])) one → FindsLeastBroken (DutiesHold cert node s (duties_of_irqs plan entry (take (i + 1) irqs))) o
 interrupts_more cert node s plan entry now key irqs i found one o lt k same is f g =
-    duties_more cert node s (told_irqs plan entry (take i irqs)) (owed 11 (enter (irq_key plan (get_or irqs i 0)) (record entry { ccpn = get_or irqs i 0 })) ∷ []) (told_irqs plan entry (take (i + 1) irqs)) found one o
-    (told_irqs_more plan entry irqs i lt) is f
+    duties_more cert node s (duties_of_irqs plan entry (take i irqs)) (owed 11 (enter (irq_key plan (get_or irqs i 0)) (record entry { ccpn = get_or irqs i 0 })) ∷ []) (duties_of_irqs plan entry (take (i + 1) irqs)) found one o
+    (duties_of_irqs_more plan entry irqs i lt) is f
     (subst (λ (j : Key). FindsLeastBroken (DutiesHold cert node s (owed 11 (enter j (record entry { ccpn = get_or irqs i 0 })) ∷ [])) one) k
     (subst (λ (t : State). FindsLeastBroken (DutiesHold cert node s (owed 11 (enter key t) ∷ [])) one) (ap (λ (t : State). record t { ccpn = get_or irqs i 0 }) same) g))
 
 pub interrupts_done : (cert : CertData) (node : NodeData) (s : State) (plan : PlanData) (entry : State) (irqs : List ℕ) (i : ℕ) (found : Option ℕ) → length irqs ≤ i
-    → FindsLeastBroken (DutiesHold cert node s (told_irqs plan entry (take i irqs))) found → FindsLeastBroken (DutiesHold cert node s (told_irqs plan entry irqs)) found
-interrupts_done cert node s plan entry irqs i found le f = subst (λ (l : List ℕ). FindsLeastBroken (DutiesHold cert node s (told_irqs plan entry l)) found) (take_all i irqs le) f
+    → FindsLeastBroken (DutiesHold cert node s (duties_of_irqs plan entry (take i irqs))) found → FindsLeastBroken (DutiesHold cert node s (duties_of_irqs plan entry irqs)) found
+interrupts_done cert node s plan entry irqs i found le f = subst (λ (l : List ℕ). FindsLeastBroken (DutiesHold cert node s (duties_of_irqs plan entry l)) found) (take_all i irqs le) f
 
 -- ---- leavings
 leave_to : (cert : CertData) (node : NodeData) (s : State) (rule q : ℕ) → (rule ≡ q → HasExit node s) → DutiesHold cert node s (owed rule (leave (exit_of s)) ∷ []) q
@@ -192,7 +192,7 @@ leave_to cert node s rule q h = All-cons (DutyHolds cert node s q) (owed rule (l
 leave_from : (cert : CertData) (node : NodeData) (s : State) (rule q : ℕ) → DutiesHold cert node s (owed rule (leave (exit_of s)) ∷ []) q → rule ≡ q → HasExit node s
 leave_from cert node s rule q h = (All-head (DutyHolds cert node s q) (owed rule (leave (exit_of s))) [] h).met
 
-leaving_to : (cert : CertData) (node : NodeData) (s : State) (l : Leave) (q : ℕ) → LeavingHolds node s l q → DutiesHold cert node s (told_leaving node.key s l) q
+leaving_to : (cert : CertData) (node : NodeData) (s : State) (l : Leave) (q : ℕ) → LeavingHolds node s l q → DutiesHold cert node s (duties_of_leaving node.key s l) q
 leaving_to cert node s Stays q h = All-nil (DutyHolds cert node s q)
 leaving_to cert node s Ret q h = leave_to cert node s 6 q h
 leaving_to cert node s Rfe q h =
@@ -201,17 +201,17 @@ leaving_to cert node s Rfe q h =
       | inr other ↦ rw other (All-nil (DutyHolds cert node s q))
     ]
 
-leaving_from : (cert : CertData) (node : NodeData) (s : State) (l : Leave) (q : ℕ) → DutiesHold cert node s (told_leaving node.key s l) q → LeavingHolds node s l q
+leaving_from : (cert : CertData) (node : NodeData) (s : State) (l : Leave) (q : ℕ) → DutiesHold cert node s (duties_of_leaving node.key s l) q → LeavingHolds node s l q
 leaving_from cert node s Stays q h = tt
 leaving_from cert node s Ret q h = leave_from cert node s 6 q h
 leaving_from cert node s Rfe q h = λ sys. leave_from cert node s 7 q (rw (eq-eqb _ _ sys) at h)
 
-pub leaving_found : (cert : CertData) (node : NodeData) (s : State) (l : Leave) (o : Option ℕ) → FindsLeastBroken (LeavingHolds node s l) o → FindsLeastBroken (DutiesHold cert node s (told_leaving node.key s l)) o
+pub leaving_found : (cert : CertData) (node : NodeData) (s : State) (l : Leave) (o : Option ℕ) → FindsLeastBroken (LeavingHolds node s l) o → FindsLeastBroken (DutiesHold cert node s (duties_of_leaving node.key s l)) o
 leaving_found cert node s l o f =
-    found_same (LeavingHolds node s l) (DutiesHold cert node s (told_leaving node.key s l)) o (λ q h. leaving_to cert node s l q h) (λ q h. leaving_from cert node s l q h) f
+    found_same (LeavingHolds node s l) (DutiesHold cert node s (duties_of_leaving node.key s l)) o (λ q h. leaving_to cert node s l q h) (λ q h. leaving_from cert node s l q h) f
 
 -- from an instruction's shape
-leavings-is : (key : Key) (s : State) (shape : Shape) → told_leaving key s (flow_leave_of shape) ≡ leavings_of key s shape
+leavings-is : (key : Key) (s : State) (shape : Shape) → duties_of_leaving key s (flow_leave_of shape) ≡ leavings_of key s shape
 unfolding flow_leave_of
 leavings-is key s (Compute op dst x y) = refl
 leavings-is key s _ = refl

@@ -16,7 +16,7 @@ use Rattle.depth_cert.specs.Certs.{CertData, IsCert}
 use Rattle.value_domain.specs.State.{Covers}
 use Rattle.cfg_recover.specs.LocalFaults.{IsFaultless}
 use Rattle.cfg_recover.specs.Entries.{start_key, start_state}
-use Rattle.cfg_recover.specs.RulesHoldOrFail.{limits_in, RuleHolds, HasPoint, HoldsAtStart, HoldsAtEntry, HoldsAtNode, Accepts, RuleFails, at_start, at_entry, at_point, fault_number, IsFirstFault}
+use Rattle.cfg_recover.specs.RulesHoldOrFail.{limits_in, RuleHolds, HasCoveringPoint, HoldsAtStart, HoldsAtEntry, HoldsAtNode, Accepts, RuleFails, at_start, at_entry, at_point, fault_number, IsFirstFault}
 use Rattle.cfg_recover.proofs.FaultLaws as faults
 use Rattle.depth_check.specs.NodeFaults.{IsNodeFault}
 use Rattle.depth_check.proofs.NodeLaws.{place_of}
@@ -92,5 +92,5 @@ need_small image plan cert node entry is_cert accepts found =
     let at = found_in (λ (n : NodeData). number_of_key n.key == number_of_key (start_key image plan)) cert.nodes node found in
     let of_node = All-contains (IsNode cert.version) cert.nodes node is_cert.nodes at.0 in
     let key = one_number node.key (start_key image plan) of_node.key (record { kind = omega arith; entry = entry; prio = omega arith }) (eqb-true _ _ at.1) in
-    let start : HasPoint node image.entry (start_state plan) = rw found at accepts.start in
+    let start : HasCoveringPoint node image.entry (start_state plan) = rw found at accepts.start in
     point_holds image plan cert node (find_point image.entry node.points) refl start (All-contains (HoldsAtNode image plan cert) cert.nodes node accepts.nodes at.0) key

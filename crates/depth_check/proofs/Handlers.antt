@@ -13,7 +13,7 @@ use Rattle.tc_machine.proofs.Words.{register_lt, AreRegisters-set}
 use Rattle.value_domain.specs.declared.states.State.{State}
 use Rattle.value_domain.specs.declared.values.Val.{Val}
 use Rattle.value_domain.specs.Values.{IsMember, any_val, word_val}
-use Rattle.vd_transfer.specs.Registers.{slot, set_at}
+use Rattle.vd_transfer.specs.Registers.{slot, set_slot}
 use Rattle.depth_cert.specs.Nodes.{NodeData}
 use Rattle.depth_cert.specs.Certs.{CertData, IsCert}
 use Rattle.cfg_recover.specs.Entries.{irq_key, sys_key, aln_key, irq_entry, sys_entry, aln_entry, entry_stack_of, entry_state_with, handler_key}
@@ -33,7 +33,7 @@ handler_is psw = eq-eqb _ _ (bit psw)
     bit psw = omega arith
 
 -- the states at entries have no lower contexts
-set_none : (s : State) (v : Val) (o : Option ℕ) → length (set_at s v o).locals.items ≡ length s.locals.items
+set_none : (s : State) (v : Val) (o : Option ℕ) → length (set_slot s v o).locals.items ≡ length s.locals.items
 set_none s v (Some i) = refl
 set_none s v None = refl
 

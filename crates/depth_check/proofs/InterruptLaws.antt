@@ -28,8 +28,8 @@ use Rattle.cfg_recover.specs.Code.{HasCode}
 use Rattle.cfg_recover.specs.Entries.{irq_key, irq_entry, entry_state_with, entry_stack_of, irqs_of, entry_stack_with}
 use Rattle.cfg_recover.specs.LocalFaults.{IsFaultless}
 use Rattle.cfg_recover.specs.Duties.{Owed, owed, enter, successors_of, entries_of, misaligned_of, interrupts_of, leavings_of, duties_of}
-use Rattle.cfg_recover.specs.FlowDuties.{told_irqs}
-use Rattle.cfg_recover.specs.RulesHoldOrFail.{limits_in, HasPoint, RuleHolds}
+use Rattle.cfg_recover.specs.FlowDuties.{duties_of_irqs}
+use Rattle.cfg_recover.specs.RulesHoldOrFail.{limits_in, HasCoveringPoint, RuleHolds}
 use Rattle.cfg_recover.proofs.EntryLaws.{entry_length}
 use Rattle.cfg_recover.proofs.EntryChanges.{handler-is}
 use Rattle.depth_check.specs.declared.last_interrupts.InterruptContext.{InterruptContext}
@@ -94,14 +94,14 @@ own_holds plan cert node s t v w e lt at same holds =
 
 -- the duties of the entries with another A10
 told_stack : (plan : PlanData) (is : Bool) (s entry : State) (sp : Val) (n : ℕ) (irqs : List ℕ) → entry ≡ entry_state_with sp false n true → irqs ≡ irqs_of plan s → IsTrue is
-    → told_irqs plan entry irqs ≡ map (λ p. owed 11 (enter (irq_key plan p) (entry_state_with (if is then sp else word_val plan.isp) false p true))) (irqs_of plan s)
+    → duties_of_irqs plan entry irqs ≡ map (λ p. owed 11 (enter (irq_key plan p) (entry_state_with (if is then sp else word_val plan.isp) false p true))) (irqs_of plan s)
 unfolding slot
-told_stack plan true s entry sp n irqs e f on = ap (λ (t : State). told_irqs plan t irqs) e ∙ ap (λ (l : List ℕ). told_irqs plan (entry_state_with sp false n true) l) f
+told_stack plan true s entry sp n irqs e f on = ap (λ (t : State). duties_of_irqs plan t irqs) e ∙ ap (λ (l : List ℕ). duties_of_irqs plan (entry_state_with sp false n true) l) f
 told_stack plan false s entry sp n irqs e f on = absurd (let no : false ≡ true = on in cc)
 
 -- so the entries hold with it
 pub other_stack : (plan : PlanData) (cert : CertData) (node : NodeData) (s entry : State) (sp : Val) (n : ℕ) (irqs : List ℕ) → entry ≡ entry_state_with sp false n true → irqs ≡ irqs_of plan s → IsTrue (node.key).is
-    → FindsLeastBroken (DutiesHold cert node s (told_irqs plan entry irqs)) None → InterruptsHoldWith plan cert node s sp
+    → FindsLeastBroken (DutiesHold cert node s (duties_of_irqs plan entry irqs)) None → InterruptsHoldWith plan cert node s sp
 other_stack plan cert node s entry sp n irqs e f on h q = subst (λ (l : List Owed). DutiesHold cert node s l q) (told_stack plan (node.key).is s entry sp n irqs e f on) (h q)
 
 -- a change that puts A10 alone, over unknown values, gives the state at an entry
@@ -150,7 +150,7 @@ need_there (Some n) m k room need there le more h =
     so
 
 -- a point that covers one state covers another
-met_less : (o : Option NodeData) (e : ℕ) (s t : State) → ((upper : State) → Covers upper s → Covers upper t) → IsSomeAnd o (λ n. HasPoint n e s) → IsSomeAnd o (λ n. HasPoint n e t)
+met_less : (o : Option NodeData) (e : ℕ) (s t : State) → ((upper : State) → Covers upper s → Covers upper t) → IsSomeAnd o (λ n. HasCoveringPoint n e s) → IsSomeAnd o (λ n. HasCoveringPoint n e t)
 met_less None e s t f h = absurd h
 met_less (Some n) e s t f h = found_more (find_point e n.points) s t f h
 

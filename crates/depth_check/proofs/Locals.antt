@@ -139,7 +139,7 @@ module _ (image : ImageData) (plan : PlanData) (ok : IsPlan plan) (cert : CertDa
       pub flags : List Bool
       pub kept : Invariant image plan cert most (record (restored m false) { pc = pc; end = Running }) (with_locals frame areas flags) below
 
-    pub lower_popped : (pc : ℕ) → 1 ≤ length ((k.point).state).locals.items → length ((k.point).state).regs ≡ 27 → PointFor frame.node pc (effects.restored_lower (k.point).state) → Popped pc
+    pub lower_popped : (pc : ℕ) → 1 ≤ length ((k.point).state).locals.items → length ((k.point).state).regs ≡ 27 → PointFor frame.node pc (effects.state_restored_lower (k.point).state) → Popped pc
     lower_popped pc some long at =
         let count = counted image plan ok cert most few m frame below k in
         let top : Newest m.core m.mem m.pcxi (a11 m) frame.word0 frame.flags frame.locals =
@@ -165,7 +165,7 @@ module _ (image : ImageData) (plan : PlanData) (ok : IsPlan plan) (cert : CertDa
             point = at.point;
             found = at.found;
             inside =
-                holds_covered plan (at.point).state (effects.restored_lower (k.point).state) (reg_of (d_after_lower (last_context m) m.d) (a_after_lower (last_context m) m.a)) m.ie m.ccpn at.covers (length-forgotten 0 ((k.point).state).regs ∙ long)
+                holds_covered plan (at.point).state (effects.state_restored_lower (k.point).state) (reg_of (d_after_lower (last_context m) m.d) (a_after_lower (last_context m) m.a)) m.ie m.ccpn at.covers (length-forgotten 0 ((k.point).state).regs ∙ long)
                 (restore_holds plan (k.point).state (reg m) (reg_of (d_after_lower (last_context m) m.d) (a_after_lower (last_context m) m.a)) m.ie m.ccpn long (λ r lt. reg_lt (restored m false) after_words r)
                 (λ r lt high. elim (cases_eq r 27) [
                   | inl is ↦ subst (λ r. reg_of (d_after_lower (last_context m) m.d) (a_after_lower (last_context m) m.a) r ≡ reg m r) (sym is) same_a11

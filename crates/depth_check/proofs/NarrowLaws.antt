@@ -19,7 +19,7 @@ use Rattle.value_domain.specs.State.{AreValues, Covers}
 use Rattle.value_domain.proofs.CoverLaws.{cover_mono}
 use Rattle.vd_transfer.specs.Refinement.{refining_condition_holds, kept_left, kept_right, kept_both}
 use Rattle.value_domain.specs.Meets.{cover_of_meet}
-use Rattle.vd_transfer.specs.Registers.{slot, set_at, register_value_at, reg_of, arg_of, is_operand_register}
+use Rattle.vd_transfer.specs.Registers.{slot, set_slot, register_value_at, reg_of, arg_of, is_operand_register}
 use Rattle.vd_transfer.specs.Branches.{side_with_register, side_with_operands, state_on_side, with_lowered_counter, refine_of}
 use Rattle.value_domain.proofs.MeetLaws.{among_filter}
 use Rattle.depth_cert.specs.declared.points.Point.{Point}
@@ -27,7 +27,7 @@ use Rattle.depth_cert.specs.Points.{find_point}
 use Rattle.depth_cert.specs.Nodes.{NodeData}
 use Rattle.depth_cert.specs.Certs.{CertData}
 use Rattle.cfg_recover.specs.Duties.{jump_on}
-use Rattle.cfg_recover.specs.RulesHoldOrFail.{HasPoint}
+use Rattle.cfg_recover.specs.RulesHoldOrFail.{HasCoveringPoint}
 use Rattle.depth_check.specs.LeastBroken.{FindsLeastBroken}
 use Rattle.depth_check.specs.DutiesHold.{DutiesHold}
 use Rattle.depth_check.proofs.Deciding.{yes}
@@ -64,7 +64,7 @@ place_below b plan s r None z xs values there e = tt
 place_below b plan s r (Some i) z xs values there e = λ lt. cover_below b (get_or s.regs i any_val) z xs (values i lt) there e
 
 -- ---- states
-length_set_at : (t : State) (v : Val) (o : Option ℕ) → length (set_at t v o).regs ≡ length t.regs
+length_set_at : (t : State) (v : Val) (o : Option ℕ) → length (set_slot t v o).regs ≡ length t.regs
 length_set_at t v None = refl
 length_set_at t v (Some i) = length-set t.regs i v
 
@@ -88,7 +88,7 @@ value_covers s t v i r len c h lt =
           subst (λ (u : Val). IsBelow u (get_or s.regs r any_val)) (sym other) (c.regs r lt)
     ]
 
-set_covers : (s t : State) (v : Val) (o : Option ℕ) → length t.regs ≡ length s.regs → Covers s t → IfSome o (λ i. i < length s.regs → IsBelow v (get_or s.regs i any_val)) → Covers s (set_at t v o)
+set_covers : (s t : State) (v : Val) (o : Option ℕ) → length t.regs ≡ length s.regs → Covers s t → IfSome o (λ i. i < length s.regs → IsBelow v (get_or s.regs i any_val)) → Covers s (set_slot t v o)
 set_covers s t v None len c h = c
 set_covers s t v (Some i) len c h = record {
   regs = λ r lt. (let within : r < length (set t.regs i v) = lt in value_covers s t v i r len c h (omega (arith, within, length-set t.regs i v)));
@@ -106,7 +106,7 @@ two_covers b plan s x y xs ys None q values left right e f = tt
 two_covers b plan s x y xs ys (Some v) None values left right e f = tt
 two_covers b plan s x (Word k) xs ys (Some v) (Some w) values left right e f = one_covers b plan s x xs (Some v) values left e
 two_covers b plan s x (Reg r) xs ys (Some v) (Some w) values left right e f =
-    set_covers s (set_at s v (slot x)) w (slot r) (length_set_at s v (slot x)) (one_covers b plan s x xs (Some v) values left e) (place_below b plan s r (slot r) w ys values right f)
+    set_covers s (set_slot s v (slot x)) w (slot r) (length_set_at s v (slot x)) (one_covers b plan s x xs (Some v) values left e) (place_below b plan s r (slot r) w ys values right f)
 
 -- ---- sides
 left_within : (test : Cond) (side : Bool) (vs ws : List ℕ) → Within (kept_left test side vs ws) vs
@@ -142,6 +142,6 @@ branch_covers b plan test x y by false s side e values = unlowered b plan x (sta
 
 -- ---- duties
 -- a jump to a point that covers the state is met
-pub side_found : (cert : CertData) (node : NodeData) (s : State) (to : ℕ) (o : Option State) → IfSome o (λ t. length t.regs ≡ length s.regs) → IfSome o (Covers s) → HasPoint node to s → FindsLeastBroken (DutiesHold cert node s (jump_on to o)) None
+pub side_found : (cert : CertData) (node : NodeData) (s : State) (to : ℕ) (o : Option State) → IfSome o (λ t. length t.regs ≡ length s.regs) → IfSome o (Covers s) → HasCoveringPoint node to s → FindsLeastBroken (DutiesHold cert node s (jump_on to o)) None
 side_found cert node s to None len c h = nothing_found cert node s
 side_found cert node s to (Some t) len c h = point_found cert node s t to true (yes _ (found_more (find_point to node.points) s t (λ upper d. covers_trans upper s t len d c) h))

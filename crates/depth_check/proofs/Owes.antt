@@ -18,7 +18,7 @@ use Rattle.csa_chain.specs.MemoryBytes.{load_number, with_bytes, extend_loaded_b
 use Rattle.tc_machine.proofs.Saves.{then_-running}
 use Rattle.value_domain.specs.declared.states.State.{State}
 use Rattle.value_domain.specs.Limits.{Limits}
-use Rattle.vd_transfer.specs.EffectsOnStates.{saved_lower, restored_lower, transfer_of}
+use Rattle.vd_transfer.specs.EffectsOnStates.{state_saved_lower, state_restored_lower, transfer_of}
 use Rattle.depth_cert.specs.declared.keys.Key.{Key}
 use Rattle.cfg_recover.specs.Entries.{sys_key, sys_entry}
 use Rattle.depth_cert.specs.Exits.{exit_of}
@@ -29,15 +29,15 @@ use Rattle.depth_check.proofs.Handlers.{handler_a}
 
 -- ---- duties
 module _ (b : Limits) (image : ImageData) (plan : PlanData) (key : Key) (p : ℕ) (s : State) (n : ℕ) where
-  pub owes-svlcx : Contains (duties_of b image plan key p s Svlcx n) (owed 4 (jump (machine_address_ahead p n) (saved_lower s)))
+  pub owes-svlcx : Contains (duties_of b image plan key p s Svlcx n) (owed 4 (jump (machine_address_ahead p n) (state_saved_lower s)))
   unfolding transfer_of
   owes-svlcx = duty_listed b image plan key p s n Svlcx _ (goes_next Svlcx (λ t. refl))
 
-  pub owes-bisr : (c : ℕ) → Contains (duties_of b image plan key p s (Bisr c) n) (owed 4 (jump (machine_address_ahead p n) (record (saved_lower s) { ie = true; ccpn = c })))
+  pub owes-bisr : (c : ℕ) → Contains (duties_of b image plan key p s (Bisr c) n) (owed 4 (jump (machine_address_ahead p n) (record (state_saved_lower s) { ie = true; ccpn = c })))
   unfolding transfer_of
   owes-bisr c = duty_listed b image plan key p s n (Bisr c) _ (goes_next (Bisr c) (λ t. refl))
 
-  pub owes-rslcx : Contains (duties_of b image plan key p s Rslcx n) (owed 4 (jump (machine_address_ahead p n) (restored_lower s)))
+  pub owes-rslcx : Contains (duties_of b image plan key p s Rslcx n) (owed 4 (jump (machine_address_ahead p n) (state_restored_lower s)))
   unfolding transfer_of
   owes-rslcx = duty_listed b image plan key p s n Rslcx _ (goes_next Rslcx (λ t. refl))
 

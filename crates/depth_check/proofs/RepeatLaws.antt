@@ -17,7 +17,7 @@ use Rattle.tcd_plan.specs.PlanData.{PlanData}
 use Rattle.depth_check.specs.declared.points.CurrentPoint.{CurrentPoint}
 use Rattle.depth_check.specs.Interrupts.{InterruptsHold}
 use Rattle.depth_cert.proofs.FindLaws.{non_decreasing, found}
-use Rattle.cfg_recover.specs.RulesHoldOrFail.{HasPoint}
+use Rattle.cfg_recover.specs.RulesHoldOrFail.{HasCoveringPoint}
 use Rattle.packed_cert.specs.Walks.{WalkData, RepeatsAt, KeepsOthers}
 use Rattle.packed_cert.proofs.NodeFinds.{covers_same}
 use Rattle.packed_cert.proofs.WalkedPoints.{split_more}
@@ -55,10 +55,10 @@ next_stands node done left rest p q rising split next =
 stands_covers : (points : List Point) (q : Point) (t : State) → find_point q.addr points ≡ Some q → Covers q.state t → IsSomeAnd (find_point q.addr points) (λ z. Covers z.state t)
 stands_covers points q t is covers = subst (λ (o : Option Point). IsSomeAnd o (λ z. Covers z.state t)) (sym is) covers
 
-pub same_covers : (node : NodeData) (a : ℕ) (s : State) → HasPointWithState node a s → HasPoint node a s
+pub same_covers : (node : NodeData) (a : ℕ) (s : State) → HasPointWithState node a s → HasCoveringPoint node a s
 same_covers node a s is = stands_covers node.points (record { addr = a; state = s }) s is (covers_same s)
 
-pub known_covers : (node : NodeData) (known : Option ℕ) (a : ℕ) (s : State) → known ≡ Some a → IfSome known (λ x. HasPointWithState node x s) → HasPoint node a s
+pub known_covers : (node : NodeData) (known : Option ℕ) (a : ℕ) (s : State) → known ≡ Some a → IfSome known (λ x. HasPointWithState node x s) → HasCoveringPoint node a s
 known_covers node known a s e h = same_covers node a s (subst (λ (o : Option ℕ). IfSome o (λ x. HasPointWithState node x s)) e h)
 
 -- so a walk looks ahead

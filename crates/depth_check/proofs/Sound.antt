@@ -21,7 +21,7 @@ use Rattle.depth_cert.specs.Nodes.{NodeData, need_of, find_node}
 use Rattle.depth_cert.specs.Certs.{CertData, IsCert}
 use Rattle.cfg_recover.specs.Entries.{start_key, start_state}
 use Rattle.cfg_recover.specs.Frames.{Standing, frames_after, frames_from, frames}
-use Rattle.cfg_recover.specs.RulesHoldOrFail.{limits_in, HasPoint, Accepts, certified_need}
+use Rattle.cfg_recover.specs.RulesHoldOrFail.{limits_in, HasCoveringPoint, Accepts, certified_need}
 use Rattle.cfg_recover.proofs.MoveLaws.{stores_held}
 use Rattle.cfg_recover.proofs.EntryLaws.{holds_covered, holds_start, entry_length}
 use Rattle.depth_check.specs.AcceptedPromises.{AcceptedIsSafe}
@@ -44,7 +44,7 @@ module _ (image : ImageData) (plan : PlanData) (ok : IsPlan plan) (cert : CertDa
     pub at : PointFor node image.entry (start_state plan)
     pub need : most ≡ node.need
 
-  begun : IsKey (start_key image plan) → (o : Option NodeData) → find_node (start_key image plan) cert.nodes ≡ o → IsSomeAnd o (λ n. HasPoint n image.entry (start_state plan)) → Begun (need_of o)
+  begun : IsKey (start_key image plan) → (o : Option NodeData) → find_node (start_key image plan) cert.nodes ≡ o → IsSomeAnd o (λ n. HasCoveringPoint n image.entry (start_state plan)) → Begun (need_of o)
   begun small None e h = absurd h
   begun small (Some n) e h = record { node = n; found = node_found image plan cert is_cert accepted (start_key image plan) n small e; at = point_for n image.entry (start_state plan) (find_point image.entry n.points) refl h; need = refl }
 

@@ -28,7 +28,7 @@ use Rattle.tc_machine.proofs.ShapeWords.{IsShape, IsTarget, shape_of-suits}
 use Rattle.tc_machine.proofs.Stays.{irq_lt}
 use Rattle.tc_machine.proofs.Steps.{done-is, step-is, with_event}
 use Rattle.value_domain.specs.declared.states.State.{State}
-use Rattle.vd_transfer.specs.EffectsOnStates.{saved_lower, restored_lower}
+use Rattle.vd_transfer.specs.EffectsOnStates.{state_saved_lower, state_restored_lower}
 use Rattle.depth_cert.specs.declared.keys.Key.{Key}
 use Rattle.depth_cert.specs.declared.points.Exit.{Exit}
 use Rattle.depth_cert.specs.Keys.{IsKey}
@@ -41,7 +41,7 @@ use Rattle.depth_cert.specs.Exits.{exit_of, state_after_exit, ExitCovers}
 use Rattle.cfg_recover.specs.Duties.{Owed, jump, enter, resume, leave, owed}
 use Rattle.cfg_recover.specs.EdgesAreOwed.{OwesEntry, IsEdgeWayOwed}
 use Rattle.cfg_recover.specs.Frames.{IsReturn, Standing, frames_at, frames_entered, frames_left, frames_by, frames_after}
-use Rattle.cfg_recover.specs.RulesHoldOrFail.{limits_in, HasPoint, Accepts}
+use Rattle.cfg_recover.specs.RulesHoldOrFail.{limits_in, HasCoveringPoint, Accepts}
 use Rattle.cfg_recover.specs.StepEdges.{EdgeWay, to, call, irq, sys, aln, edge_way_of_shape, edge_way_by_trap, edge_way_in_fetch}
 use Rattle.cfg_recover.specs.MovesAreOwed.{IsAtPoint, StaysInFrame}
 use Rattle.cfg_recover.proofs.MoveLaws.{moves_in_frame, traps_owed, calls_owed, interrupts_owed}
@@ -149,7 +149,7 @@ Invariant-event image plan cert most m e frame below k = record {
   running = k.running;
 }
 
-points_for : (node : NodeData) (q : ℕ) (s : State) (kind : ℕ) (o : Option Exit) → IfSome o (λ x. HasPoint node q (state_after_exit s x kind)) → IfSome o (λ x. PointFor node q (state_after_exit s x kind))
+points_for : (node : NodeData) (q : ℕ) (s : State) (kind : ℕ) (o : Option Exit) → IfSome o (λ x. HasCoveringPoint node q (state_after_exit s x kind)) → IfSome o (λ x. PointFor node q (state_after_exit s x kind))
 points_for node q s kind None h = tt
 points_for node q s kind (Some x) h = point_for node q (state_after_exit s x kind) (find_point q node.points) refl h
 
@@ -172,7 +172,7 @@ module _ (image : ImageData) (plan : PlanData) (ok : IsPlan plan) (cert : CertDa
     pub at : PointFor node key.entry t
     pub room : length s.locals.items + 1 + node.need ≤ (frame.node).need
 
-  node_for : (frame : Frame) (s : State) (key : Key) (t : State) → IsKey key → (o : Option NodeData) → find_node key cert.nodes ≡ o → IsSomeAnd o (λ n. HasPoint n key.entry t) → IfSome o (λ n. length s.locals.items + 1 + n.need ≤ (frame.node).need) → NodeFor frame s key t
+  node_for : (frame : Frame) (s : State) (key : Key) (t : State) → IsKey key → (o : Option NodeData) → find_node key cert.nodes ≡ o → IsSomeAnd o (λ n. HasCoveringPoint n key.entry t) → IfSome o (λ n. length s.locals.items + 1 + n.need ≤ (frame.node).need) → NodeFor frame s key t
   node_for frame s key t small None e h fits = absurd h
   node_for frame s key t small (Some n) e h fits =
       record { node = n; is = e; found = node_found image plan cert is_cert accepted key n small e; at = point_for n key.entry t (find_point key.entry n.points) refl h; room = fits }
@@ -222,7 +222,7 @@ module _ (image : ImageData) (plan : PlanData) (ok : IsPlan plan) (cert : CertDa
           → IfSome (f.node).exit (λ x. PointFor frame.node q (state_after_exit (k.point).state x key.kind))
       resuming rule key t q f owes =
           points_for frame.node q (k.point).state key.kind (f.node).exit
-          (if_some (λ n. IfSome n.exit (λ x. HasPoint frame.node q (state_after_exit (k.point).state x key.kind))) (find_node key cert.nodes) f.node (h.met (owed rule (resume key q)) owes) f.is)
+          (if_some (λ n. IfSome n.exit (λ x. HasCoveringPoint frame.node q (state_after_exit (k.point).state x key.kind))) (find_node key cert.nodes) f.node (h.met (owed rule (resume key q)) owes) f.is)
 
       jumping : (q : ℕ) (t : State) → Contains (duties_at image plan cert frame.node m.pc (k.point).state shape n) (owed 4 (jump q t)) → PointFor frame.node q t
       jumping q t owes = point_for frame.node q t (find_point q (frame.node).points) refl (h.met (owed 4 (jump q t)) owes)
@@ -355,10 +355,10 @@ module _ (image : ImageData) (plan : PlanData) (ok : IsPlan plan) (cert : CertDa
 
     -- ---- lower contexts
     saves_lower : (e : Event) (shape : Shape) (n : ℕ) (h : PointHolds image plan cert frame.node m.pc (k.point).state shape n) (pc : ℕ) (ie : Bool) (ccpn : ℕ) →
-        Contains (duties_at image plan cert frame.node m.pc (k.point).state shape n) (owed 4 (jump pc (record (saved_lower (k.point).state) { ie = ie; ccpn = ccpn }))) → (ie2 : Bool) (ccpn2 : ℕ) → (ie2 ≡ true → ie ≡ true) → ccpn ≤ ccpn2 →
+        Contains (duties_at image plan cert frame.node m.pc (k.point).state shape n) (owed 4 (jump pc (record (state_saved_lower (k.point).state) { ie = ie; ccpn = ccpn }))) → (ie2 : Bool) (ccpn2 : ℕ) → (ie2 ≡ true → ie ≡ true) → ccpn ≤ ccpn2 →
         (n2 : Machine) → (save m false ≡ saved m false → n2 ≡ record (saved m false) { pc = pc; ie = ie2; ccpn = ccpn2; end = Running }) → Steps image plan cert most m frame below (duties_at image plan cert frame.node m.pc (k.point).state shape n) e n (to n2.pc) n2
     saves_lower e shape n h pc ie ccpn owes ie2 ccpn2 enabled priority n2 is =
-        let at = jumping m words frame below k shape n h pc (record (saved_lower (k.point).state) { ie = ie; ccpn = ccpn }) owes in
+        let at = jumping m words frame below k shape n h pc (record (state_saved_lower (k.point).state) { ie = ie; ccpn = ccpn }) owes in
         let next = (rules_at image plan cert is_cert accepted frame.node pc at.point k.stands at.found).holds in
         let fits = next.locals in
         let same = length-ImpliedBy ((at.point).state).locals.items (((k.point).state).locals.items ++ ((k.point).state).lower ∷ []) (at.covers).locals in
@@ -369,21 +369,21 @@ module _ (image : ImageData) (plan : PlanData) (ok : IsPlan plan) (cert : CertDa
           goes = record {
             frame = with_locals frame (link_in m.fcx ∷ frame.locals) (((k.point).state).lower ∷ frame.flags);
             below = below;
-            kept = lower_pushed image plan ok cert most few m words frame below k free pc ie2 ccpn2 (record (saved_lower (k.point).state) { ie = ie; ccpn = ccpn }) refl refl h.regs
-                (holds_same plan (k.point).state (record (saved_lower (k.point).state) { ie = ie; ccpn = ccpn }) (reg m) (reg m) m.ie ie2 m.ccpn ccpn2 refl enabled priority (reg_lt m words 27) (λ r lt other. refl) k.inside) at;
+            kept = lower_pushed image plan ok cert most few m words frame below k free pc ie2 ccpn2 (record (state_saved_lower (k.point).state) { ie = ie; ccpn = ccpn }) refl refl h.regs
+                (holds_same plan (k.point).state (record (state_saved_lower (k.point).state) { ie = ie; ccpn = ccpn }) (reg m) (reg m) m.ie ie2 m.ccpn ccpn2 refl enabled priority (reg_lt m words 27) (λ r lt other. refl) k.inside) at;
             stands = locals_standing pc m.pc frame (link_in m.fcx ∷ frame.locals) (((k.point).state).lower ∷ frame.flags) below;
           };
-          owes = (record (saved_lower (k.point).state) { ie = ie; ccpn = ccpn }, owes);
+          owes = (record (state_saved_lower (k.point).state) { ie = ie; ccpn = ccpn }, owes);
         })
 
     restores_lower : (e : Event) (n : ℕ) → PointHolds image plan cert frame.node m.pc (k.point).state Rslcx n → Steps image plan cert most m frame below (duties_at image plan cert frame.node m.pc (k.point).state Rslcx n) e n (to (does m e Rslcx n).pc) (does m e Rslcx n)
     restores_lower e n h =
-        let at = jumping m words frame below k Rslcx n h (machine_address_ahead m.pc n) (restored_lower (k.point).state) (owes-rslcx (limits_in plan cert) image plan (frame.node).key m.pc (k.point).state n) in
+        let at = jumping m words frame below k Rslcx n h (machine_address_ahead m.pc n) (state_restored_lower (k.point).state) (owes-rslcx (limits_in plan cert) image plan (frame.node).key m.pc (k.point).state n) in
         let p = lower_popped image plan ok cert most few m words frame below k (machine_address_ahead m.pc n) ((h.own 8).room refl) h.regs at in
         subst (λ x. Steps image plan cert most m frame below (duties_at image plan cert frame.node m.pc (k.point).state Rslcx n) e n (to x.pc) x) (sym (rslcx-is m k.running p.restores e n))
         (record {
           goes = record { frame = with_locals frame p.areas p.flags; below = below; kept = p.kept; stands = locals_standing (machine_address_ahead m.pc n) m.pc frame p.areas p.flags below };
-          owes = (restored_lower (k.point).state, owes-rslcx (limits_in plan cert) image plan (frame.node).key m.pc (k.point).state n);
+          owes = (state_restored_lower (k.point).state, owes-rslcx (limits_in plan cert) image plan (frame.node).key m.pc (k.point).state n);
         })
 
     -- ---- what the instruction at pc does

@@ -15,7 +15,7 @@ use Rattle.cfg_recover.specs.LocalRules.{targets_named_by}
 use Rattle.cfg_recover.specs.Duties.{Owed, entered_and_back}
 use Rattle.depth_check.specs.declared.fast_paths.CheckedRegisters.{CheckedRegisters}
 use Rattle.depth_check.specs.PointCheckData.{PointCheckData}
-use Rattle.depth_check.specs.DutiesHold.{HasPointWithState, HasPoints, DutiesHold}
+use Rattle.depth_check.specs.DutiesHold.{HasPointWithState, HasCoveringPoints, DutiesHold}
 
 -- the calls to all functions that a checked register names in a state: duties to enter them and,
 -- after each, to go on at one address
@@ -28,7 +28,7 @@ RegisterCallsHold plan cert node s r = (back : ℕ) → HasPointWithState node b
 
 -- the node has points for jumps by a register in a state
 abbrev pub RegisterJumpsHold : PlanData → NodeData → State → ℕ → Type 0
-RegisterJumpsHold plan node s r = HasPoints node s (unwrap_or (targets_named_by (reg_of plan s r)) [])
+RegisterJumpsHold plan node s r = HasCoveringPoints node s (unwrap_or (targets_named_by (reg_of plan s r)) [])
 
 -- calls and jumps by these registers hold in a state
 pub record RegistersHold (plan : PlanData) (cert : CertData) (node : NodeData) (s : State) (registers : CheckedRegisters) : Type 0 where

@@ -13,7 +13,7 @@ use Rattle.cfg_recover.specs.declared.flow_types.Leave.TheVariants.{Stays, Ret, 
 use Rattle.cfg_recover.specs.Entries.{start_key}
 use Rattle.depth_cert.specs.Exits.{exit_of, state_after_exit, ExitCovers}
 use Rattle.cfg_recover.specs.Duties.{Owed}
-use Rattle.cfg_recover.specs.RulesHoldOrFail.{HasPoint, IsMet, EntryNeedRuleHolds}
+use Rattle.cfg_recover.specs.RulesHoldOrFail.{HasCoveringPoint, IsMet, EntryNeedRuleHolds}
 
 -- what the checker tests of a point's duty for rule q: that it is met, if q is its rule, and for
 -- K14 that the need has room for the entered node
@@ -32,12 +32,12 @@ DutiesHold cert node s duties q = All (DutyHolds cert node s q) duties
 
 -- what the duties to jump to all these addresses ask for: the node has points there that cover the
 -- state
-abbrev pub HasPoints : NodeData → State → List ℕ → Type 0
-HasPoints node s targets = All (λ t. HasPoint node t s) targets
+abbrev pub HasCoveringPoints : NodeData → State → List ℕ → Type 0
+HasCoveringPoints node s targets = All (λ t. HasCoveringPoint node t s) targets
 
 -- the node goes on where a frame of the entered node returns
 abbrev pub GoesOn : NodeData → State → NodeData → ℕ → Option ℕ → Type 0
-GoesOn node s entered kind back = IfSome back (λ q. IfSome entered.exit (λ x. HasPoint node q (state_after_exit s x kind)))
+GoesOn node s entered kind back = IfSome back (λ q. IfSome entered.exit (λ x. HasCoveringPoint node q (state_after_exit s x kind)))
 
 -- the node has an exit that covers the exit of the state
 abbrev pub HasExit : NodeData → State → Type 0

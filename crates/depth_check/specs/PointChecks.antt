@@ -6,7 +6,7 @@ use Rattle.depth_cert.specs.Nodes.{NodeData}
 use Rattle.depth_cert.specs.Certs.{CertData}
 use Rattle.tcd_plan.specs.PlanData.{PlanData}
 use Rattle.packed_cert.specs.Walks.{WalkData, CoversNext}
-use Rattle.cfg_recover.specs.RulesHoldOrFail.{limits_in, HasPoint}
+use Rattle.cfg_recover.specs.RulesHoldOrFail.{limits_in, HasCoveringPoint}
 use Rattle.depth_check.specs.declared.points.PointCheck.TheInside.{Inside}
 use Rattle.depth_check.specs.PointCheckData.{PointCheckData}
 use Rattle.depth_check.specs.DutiesHold.{HasPointWithState}
@@ -19,7 +19,7 @@ use Rattle.depth_check.specs.declared.points.CurrentPoint.{CurrentPoint}
 pub record LooksAhead (node : NodeData) (s : State) (w : WalkData) : Type 0 where
   pub points : w.points ≡ node.points
   pub current : w.current ≡ s
-  pub ahead : (addr : ℕ) (t : State) → CoversNext w addr t → HasPoint node addr t
+  pub ahead : (addr : ℕ) (t : State) → CoversNext w addr t → HasCoveringPoint node addr t
 
 -- what is known of a point for the fast paths: the entries of its interrupts hold if this is known,
 -- the node has its state at the next address, and the walk is at the point

@@ -7,7 +7,7 @@ ghost use Rattle.tc_machine.specs.Safe.{Safe};
 ghost use Rattle.cfg_recover.specs.Entries as entries;
 
 use crate::Verdict;
-use crate::node_covers::has_point;
+use crate::node_covers::has_covering_point;
 use crate::verdicts::judge;
 use cfg_recover::{start_key, start_state};
 use elf_image::Image;
@@ -39,7 +39,7 @@ pub(crate) fn start_node<'a>(image: &Image, plan: &Plan, cert: &'a Cert) -> Opti
 {
     let _sp = plan.sp;
     let node = cert.node(&start_key(image, plan))?;
-    if has_point(&node, image.entry, &start_state(plan)) {
+    if has_covering_point(&node, image.entry, &start_state(plan)) {
         Some(node)
     } else {
         None

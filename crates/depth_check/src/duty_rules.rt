@@ -11,7 +11,7 @@ ghost use Rattle.cfg_recover.specs.LocalFaults.{StandsFaultless};
 ghost use Rattle.cfg_recover.specs.Entries.{call_key, irqs_of};
 ghost use Rattle.cfg_recover.specs.LocalRules.{targets_of};
 ghost use Rattle.cfg_recover.specs.Duties.{owed, enter, entered_and_back, entries_of, misaligned_of, interrupts_of, duties_of};
-ghost use Rattle.cfg_recover.specs.FlowDuties.{told_flow_return, told_irqs};
+ghost use Rattle.cfg_recover.specs.FlowDuties.{duties_of_flow_return, duties_of_irqs};
 ghost use Rattle.cfg_recover.specs.SetOperations.{HoldsCachedResults};
 ghost use Rattle.depth_check.specs.CheckedRegisters.{IsHeldCall, RegisterCallsHoldAt, RegistersHoldAt};
 ghost use Rattle.cfg_recover.specs.Entries as entries;
@@ -91,7 +91,7 @@ pub(crate) fn broken_by_interrupts(at: &PointCheck<'_, '_>) -> Option<u8>
 pub(crate) fn broken_by_irqs(at: &PointCheck<'_, '_>, irqs: &[u8], entry: Change) -> Option<u8>
     requires { AreWell (state_after at.now.point.state entry).regs }
     ensures { LeastBrokenByDuties at.now
-        (told_irqs at.now.plan (state_after at.now.point.state entry) irqs.now) result }
+        (duties_of_irqs at.now.plan (state_after at.now.point.state entry) irqs.now) result }
 {
     let mut entry = entry;
     let mut found = None;
@@ -318,7 +318,7 @@ fn broken_by_entry(
     requires entry { AreWell (state_after at.now.point.state entry.now).regs }
     ensures { LeastBrokenByDuties at.now
         (owed rule (enter key.now (state_after at.now.point.state entry.now))
-        ∷ told_flow_return key.now back) result }
+        ∷ duties_of_flow_return key.now back) result }
 {
     let cert = at.cert;
     let node = at.node;

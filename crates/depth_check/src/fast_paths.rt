@@ -16,7 +16,7 @@ ghost use Rattle.value_domain.specs.Limits.{Limits};
 ghost use Rattle.vd_transfer.specs.Branches.{refine_of};
 ghost use Rattle.cfg_recover.specs.Duties.{owed, jump};
 
-use crate::node_covers::has_next;
+use crate::node_covers::is_own_state_covered;
 use crate::points::PointCheck;
 use crate::rules::NO_POINT;
 use cfg_recover::{KnownCodes, direct_target, rule_unless};
@@ -137,5 +137,5 @@ pub(crate) const NO_REGISTERS: CheckedRegisters = CheckedRegisters {
 pub(crate) fn broken_by_pass(at: &PointCheck<'_, '_>, next: u32) -> Option<u8>
     ensures { LeastBrokenByDuties at.now (owed 4 (jump next at.now.point.state) ∷ []) result }
 {
-    rule_unless(has_next(at, next), NO_POINT)
+    rule_unless(is_own_state_covered(at, next), NO_POINT)
 }

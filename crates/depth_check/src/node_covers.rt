@@ -1,7 +1,7 @@
 // Whether the points and the exit of a node cover states.
 ghost use Rattle.std.specs.Prelude.{IfSome, ◌↔◌, IsTrue};
-ghost use Rattle.cfg_recover.specs.RulesHoldOrFail.{HasPoint};
-ghost use Rattle.depth_check.specs.DutiesHold.{HasPoints, HasExit};
+ghost use Rattle.cfg_recover.specs.RulesHoldOrFail.{HasCoveringPoint};
+ghost use Rattle.depth_check.specs.DutiesHold.{HasCoveringPoints, HasExit};
 ghost use Rattle.value_domain.specs.State.{AreWell};
 ghost use Rattle.vd_transfer.specs.Changes.{state_after};
 ghost use Rattle.depth_cert.specs.Exits.{state_after_exit};
@@ -13,9 +13,9 @@ use value_domain::State;
 use vd_transfer::Change;
 
 /// Whether the node has a point at this address that covers the state.
-pub(crate) fn has_point(node: &Node<'_>, addr: u32, s: &State) -> bool
+pub(crate) fn has_covering_point(node: &Node<'_>, addr: u32, s: &State) -> bool
     requires { AreWell s.now.regs }
-    ensures { IsTrue result ↔ HasPoint node.now addr s.now }
+    ensures { IsTrue result ↔ HasCoveringPoint node.now addr s.now }
 {
     match node.point(addr) {
         Some(upper) => upper.covers(s),
@@ -25,11 +25,11 @@ pub(crate) fn has_point(node: &Node<'_>, addr: u32, s: &State) -> bool
 
 /// Returns true if the node has points at all these addresses that cover the checked point's own
 /// state.
-pub(crate) fn has_points(at: &PointCheck<'_, '_>, targets: &[u32]) -> bool
-    ensures { IsTrue result ↔ HasPoints at.now.node at.now.point.state targets.now }
+pub(crate) fn has_covering_points(at: &PointCheck<'_, '_>, targets: &[u32]) -> bool
+    ensures { IsTrue result ↔ HasCoveringPoints at.now.node at.now.point.state targets.now }
 {
     for t in targets {
-        if !has_next(at, *t) {
+        if !is_own_state_covered(at, *t) {
             return false;
         }
     }
@@ -38,8 +38,8 @@ pub(crate) fn has_points(at: &PointCheck<'_, '_>, targets: &[u32]) -> bool
 
 /// Returns true if the node has a point at this address that covers the checked point's own state.
 /// If both have the same state in the file, a walk compares no values.
-pub(crate) fn has_next(at: &PointCheck<'_, '_>, addr: u32) -> bool
-    ensures { IsTrue result ↔ HasPoint at.now.node addr at.now.point.state }
+pub(crate) fn is_own_state_covered(at: &PointCheck<'_, '_>, addr: u32) -> bool
+    ensures { IsTrue result ↔ HasCoveringPoint at.now.node addr at.now.point.state }
 {
     if at.point.next == Some(addr) {
         return true;
@@ -49,20 +49,20 @@ pub(crate) fn has_next(at: &PointCheck<'_, '_>, addr: u32) -> bool
 
 /// Returns true if the node has a point at this address that covers the checked point's state, kept
 /// as it is. `c` may be overwritten with the change that keeps it.
-pub(crate) fn has_kept_next(at: &PointCheck<'_, '_>, addr: u32, c: &mut Change) -> bool
-    ensures { IsTrue result ↔ HasPoint at.now.node addr at.now.point.state }
+pub(crate) fn is_kept_state_covered(at: &PointCheck<'_, '_>, addr: u32, c: &mut Change) -> bool
+    ensures { IsTrue result ↔ HasCoveringPoint at.now.node addr at.now.point.state }
 {
     if at.point.next == Some(addr) {
         return true;
     }
     c.keep(at.point.state);
-    at.point.walk.covers_next(addr, c) || has_next(at, addr)
+    at.point.walk.covers_next(addr, c) || is_own_state_covered(at, addr)
 }
 
 /// Whether the node has a point at this address that covers the changed state.
 pub(crate) fn has_changed_point(node: &Node<'_>, addr: u32, s: &State, c: &Change) -> bool
     requires { AreWell (state_after s.now c.now).regs }
-    ensures { IsTrue result ↔ HasPoint node.now addr (state_after s.now c.now) }
+    ensures { IsTrue result ↔ HasCoveringPoint node.now addr (state_after s.now c.now) }
 {
     match node.point(addr) {
         Some(upper) => upper.covers_changed(s, c),
@@ -72,9 +72,10 @@ pub(crate) fn has_changed_point(node: &Node<'_>, addr: u32, s: &State, c: &Chang
 
 /// Returns true if the node has a point at this address that covers the changed state. The next
 /// point of the walk is tried first.
-pub(crate) fn has_changed_next(at: &PointCheck<'_, '_>, addr: u32, c: &Change) -> bool
+pub(crate) fn is_changed_state_covered(at: &PointCheck<'_, '_>, addr: u32, c: &Change) -> bool
     requires { AreWell (state_after at.now.point.state c.now).regs }
-    ensures { IsTrue result ↔ HasPoint at.now.node addr (state_after at.now.point.state c.now) }
+    ensures { IsTrue result
+        ↔ HasCoveringPoint at.now.node addr (state_after at.now.point.state c.now) }
 {
     at.point.walk.covers_next(addr, c) || has_changed_point(at.node, addr, at.point.state, c)
 }
@@ -90,7 +91,8 @@ pub(crate) fn has_point_after_return(
 ) -> bool
     requires { AreWell s.now.regs }
     ensures { IsTrue result
-        ↔ IfSome entered.now.exit (λ x. HasPoint node.now at (state_after_exit s.now x kind)) }
+        ↔ IfSome entered.now.exit
+        (λ x. HasCoveringPoint node.now at (state_after_exit s.now x kind)) }
 {
     let Some(exit) = entered.exit() else {
         return true;

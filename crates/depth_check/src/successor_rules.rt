@@ -11,7 +11,7 @@ ghost use Rattle.vd_transfer.specs.Registers.{reg_of};
 ghost use Rattle.vd_transfer.specs.Branches.{refine_of};
 
 use crate::fast_paths::{broken_by_pass, may_skip_change, may_skip_refinement};
-use crate::node_covers::{has_changed_next, has_kept_next, has_points};
+use crate::node_covers::{has_covering_points, is_changed_state_covered, is_kept_state_covered};
 use crate::points::{PointCheck, PointScratch, change_at};
 use crate::rules::{NO_POINT, lesser_broken_rule};
 use cfg_recover::{Located, rule_unless, targets};
@@ -124,7 +124,7 @@ fn broken_by_side(
 {
     let _bounds = at.bounds;
     if may_skip_refinement(shape) {
-        if has_kept_next(at, to, c) {
+        if is_kept_state_covered(at, to, c) {
             return None;
         }
     }
@@ -148,7 +148,7 @@ fn broken_by_change(
     if !change_on(at.bounds, at.plan, shape, at.point.state, taken, c) {
         return None;
     }
-    rule_unless(has_changed_next(at, to, c), NO_POINT)
+    rule_unless(is_changed_state_covered(at, to, c), NO_POINT)
 }
 
 /// The least rule that a jump to the targets of a register breaks. Jumps by the register `jumped`
@@ -167,7 +167,7 @@ fn broken_by_listed_jumps(at: &PointCheck<'_, '_>, r: u8, jumped: &mut Option<u8
     }
     let s = at.point.state;
     let targets = targets(at.plan, s, at.point.addr, Target::Reg(r));
-    if has_points(at, targets.as_slice()) {
+    if has_covering_points(at, targets.as_slice()) {
         *jumped = Some(r);
         None
     } else {
@@ -193,5 +193,8 @@ fn broken_by_step(
 {
     change_at(at, found, scratch);
     let next = at.point.addr.wrapping_add(found.size);
-    rule_unless(has_changed_next(at, next, &scratch.change), NO_POINT)
+    rule_unless(
+        is_changed_state_covered(at, next, &scratch.change),
+        NO_POINT,
+    )
 }

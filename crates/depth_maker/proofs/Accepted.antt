@@ -20,7 +20,7 @@ use Rattle.cfg_recover.specs.Code.{IsCode}
 use Rattle.cfg_recover.specs.Entries.{start_key, start_state}
 use Rattle.cfg_recover.specs.LocalFaults.{IsFaultless}
 use Rattle.cfg_recover.specs.Duties.{Duty, jump, enter, resume, leave, Owed, duties_of}
-use Rattle.cfg_recover.specs.RulesHoldOrFail.{IsSoundAlone, limits_in, HasPoint, IsMet, EntryNeedRuleHolds, RuleHolds, HoldsAtNode, Accepts}
+use Rattle.cfg_recover.specs.RulesHoldOrFail.{IsSoundAlone, limits_in, HasCoveringPoint, IsMet, EntryNeedRuleHolds, RuleHolds, HoldsAtNode, Accepts}
 use Rattle.cfg_recover.specs.Assignments.{Place, point, exit, known_at, known_in, CoversAt, asked_by_duty, HasDuty, Closed, first_place, AllFaultless}
 use Rattle.depth_cert.specs.Known.{Known, state, leaving}
 use Rattle.depth_cert.specs.WellFormed.{IsWellFormedState, IsWellFormedKnown}
@@ -227,7 +227,7 @@ module _ (image : ImageData) (plan : PlanData) (cert : CertData) (ground : IsGro
         subst (λ (w : Place × Known). CoversAt (known_in cert) w.0 w.1) f (record { known = state (m.0).state; at = known_point k a.node q m.0 a.found m.1; covers = m.2 })
     met_covers (enter j t) key met y v e =
         let f : (point j j.entry, state t) ≡ (y, v) = cc in
-        let n = some_and (λ (n : NodeData). HasPoint n j.entry t) (find_node j cert.nodes) met in
+        let n = some_and (λ (n : NodeData). HasCoveringPoint n j.entry t) (find_node j cert.nodes) met in
         let m = some_and (λ (p : Point). Covers p.state t) (find_point j.entry (n.0).points) n.2 in
         subst (λ (w : Place × Known). CoversAt (known_in cert) w.0 w.1) f
         (record { known = state (m.0).state; at = known_point j n.0 j.entry m.0 (agrees j key ∙ n.1) m.1; covers = m.2 })
@@ -237,9 +237,9 @@ module _ (image : ImageData) (plan : PlanData) (cert : CertData) (ground : IsGro
         let same : o.0 ≡ r.0 = (let g : leaving r.0 ≡ leaving o.0 = o.1 in cc) in
         let stands : find_node j cert.nodes ≡ Some (o.2).node = sym (agrees j (key_is j (o.2).node (o.2).member (o.2).key)) ∙ (o.2).found in
         let there : (o.2).node.exit ≡ Some r.0 = (o.2).is ∙ ap (λ (x : Exit). Some x) same in
-        let has : HasPoint a.node q (state_after_exit s r.0 j.kind) =
-        subst (λ (x : Option Exit). IfSome x (λ x. HasPoint a.node q (state_after_exit s x j.kind))) there
-        (subst (λ (x : Option NodeData). IfSome x (λ n. IfSome n.exit (λ x. HasPoint a.node q (state_after_exit s x j.kind)))) stands met)
+        let has : HasCoveringPoint a.node q (state_after_exit s r.0 j.kind) =
+        subst (λ (x : Option Exit). IfSome x (λ x. HasCoveringPoint a.node q (state_after_exit s x j.kind))) there
+        (subst (λ (x : Option NodeData). IfSome x (λ n. IfSome n.exit (λ x. HasCoveringPoint a.node q (state_after_exit s x j.kind)))) stands met)
         in
         let m = some_and (λ (p : Point). Covers p.state (state_after_exit s r.0 j.kind)) (find_point q (a.node).points) has in
         let f : (point k q, state (state_after_exit s r.0 j.kind)) ≡ (y, v) = λ i. (r.2 i, r.3 i) in
@@ -287,7 +287,7 @@ module _ (image : ImageData) (plan : PlanData) (cert : CertData) (ground : IsGro
   accepted_start : CoversAt (known_in cert) (first_place image plan) (state (start_state plan))
   accepted_start =
       let k = start_key image plan in
-      let n = some_and (λ (n : NodeData). HasPoint n image.entry (start_state plan)) (find_node k cert.nodes) accepted.start in
+      let n = some_and (λ (n : NodeData). HasCoveringPoint n image.entry (start_state plan)) (find_node k cert.nodes) accepted.start in
       let m = some_and (λ (p : Point). Covers p.state (start_state plan)) (find_point image.entry (n.0).points) n.2 in
       record { known = state (m.0).state; at = known_point k n.0 image.entry m.0 (agrees k start_is ∙ n.1) m.1; covers = m.2 }
 
@@ -309,7 +309,7 @@ module _ (image : ImageData) (plan : PlanData) (cert : CertData) (ground : IsGro
 
   need_entered : (t : Key) (u s : State) (n : NodeData) (l : ℕ) → HasKey (enter t u) → IsMet cert n s (enter t u) → IfSome (find_node t cert.nodes) (λ m. l + 1 + m.need ≤ n.need) → l + 1 + need_in t ≤ n.need
   need_entered t u s n l key met above =
-      let o = some_and (λ (m : NodeData). HasPoint m t.entry u) (find_node t cert.nodes) met in
+      let o = some_and (λ (m : NodeData). HasCoveringPoint m t.entry u) (find_node t cert.nodes) met in
       let h : l + 1 + (o.0).need ≤ n.need = subst (λ (x : Option NodeData). IfSome x (λ m. l + 1 + m.need ≤ n.need)) o.1 above in
       omega (arith, ap need_of o.1)
 

@@ -23,7 +23,7 @@ use Rattle.vd_transfer.specs.Operations.{value_of}
 use Rattle.vd_transfer.specs.Refinement.{kept_left, kept_right, kept_both, refining_condition_holds}
 use Rattle.value_domain.specs.Meets.{cover_of_meet}
 use Rattle.vd_transfer.specs.Registers.{reg_of, arg_of, set_reg, write_reg, set_arg, is_operand_register}
-use Rattle.vd_transfer.specs.EffectsOnStates.{with_base, access_of, forgotten_from, transfer_of, address_of, saved_lower, restored_lower}
+use Rattle.vd_transfer.specs.EffectsOnStates.{state_with_base, access_of, forgotten_from, transfer_of, address_of, state_saved_lower, state_restored_lower}
 use Rattle.vd_transfer.specs.Branches.{side_with_register, side_with_operands, state_on_side, with_lowered_counter, refine_of}
 use Rattle.vd_transfer.specs.Soundness.{IsSoundSetting}
 use Rattle.vd_transfer.proofs.HoldLaws.{reg_value, arg_value}
@@ -62,7 +62,7 @@ module _ (b : Limits) (p : PlanData) (s t : State) (low : IsSoundSetting b p s) 
       (reg_value b p s base low) vs (reg_value b p t base high) vt (reg_grows p s t low.regs high.regs c.regs base) inner
 
   -- ---- accesses
-  pub base_covers : (base : Arg) (offset : ℕ) (after : Bool) → IsArg base → offset < 2 ^ 32 → Covers (with_base b p t base offset after) (with_base b p s base offset after)
+  pub base_covers : (base : Arg) (offset : ℕ) (after : Bool) → IsArg base → offset < 2 ^ 32 → Covers (state_with_base b p t base offset after) (state_with_base b p s base offset after)
   base_covers (Word w) offset after is small = c
   base_covers (Reg r) offset false is small = c
   base_covers (Reg r) offset true is small = write_covers s t r _ _ low.regs high.regs c (op_grows Add (Reg r) (Word offset) is small)
@@ -72,7 +72,7 @@ module _ (b : Limits) (p : PlanData) (s t : State) (low : IsSoundSetting b p s) 
   access_grows base offset false is small = op_grows Add base (Word offset) is small
 
 -- the base register that is increased leaves a setting
-pub base_setting : (b : Limits) (p : PlanData) (s : State) (base : Arg) (offset : ℕ) (after : Bool) → IsSoundSetting b p s → IsArg base → offset < 2 ^ 32 → IsSoundSetting b p (with_base b p s base offset after)
+pub base_setting : (b : Limits) (p : PlanData) (s : State) (base : Arg) (offset : ℕ) (after : Bool) → IsSoundSetting b p s → IsArg base → offset < 2 ^ 32 → IsSoundSetting b p (state_with_base b p s base offset after)
 base_setting b p s (Word w) offset after h is small = h
 base_setting b p s (Reg r) offset false h is small = h
 base_setting b p s (Reg r) offset true h is small = setting_write b p s r _ h (value_of_value b Add (reg_of p s r) (word_val offset) h.limits (reg_value b p s r h) (word_value b offset h.limits small))
@@ -83,13 +83,13 @@ access_value b p s base offset false h is small = value_of_value b Add (arg_of p
 
 -- ---- transfers
 module _ (b : Limits) (p : PlanData) (s t : State) (low : IsSoundSetting b p s) (high : IsSoundSetting b p t) (c : Covers t s) where
-  saved_covers : Covers (saved_lower t) (saved_lower s)
+  saved_covers : Covers (state_saved_lower t) (state_saved_lower s)
   saved_covers = record { regs = c.regs; context = c.context; locals = implied_last t.locals.items s.locals.items t.lower s.lower c.context.2 c.locals }
 
   last_flag : IsTrue (get_or t.locals.items (length t.locals.items - 1) false) → IsTrue (get_or s.locals.items (length s.locals.items - 1) false)
   last_flag e = implied_at t.locals.items s.locals.items (length s.locals.items - 1) c.locals (rw (← same_locals t s c) e)
 
-  restored_covers : Covers (restored_lower t) (restored_lower s)
+  restored_covers : Covers (state_restored_lower t) (state_restored_lower s)
   restored_covers = record {
     regs = forgotten_below s.regs t.regs (low.regs ∙ sym high.regs) c.regs;
     context = (c.context.0, c.context.1, last_flag);
@@ -101,7 +101,7 @@ module _ (b : Limits) (p : PlanData) (s t : State) (low : IsSoundSetting b p s) 
   transfer_covers (Compute op dst x y) v w is here = write_covers s t dst _ _ low.regs high.regs c (op_grows b p s t low high c op x y is.1 is.2)
   transfer_covers (Scaled dst base index n) v w is here = write_covers s t dst _ _ low.regs high.regs c (scaled_grows b p s t low high c base index n is.1 is.2 is.3)
   transfer_covers (Load dst base offset size signed after) v w is here =
-      write_covers (with_base b p s base offset after) (with_base b p t base offset after) dst v w (base_setting b p s base offset after low is.1 is.2).regs (base_setting b p t base offset after high is.1 is.2).regs
+      write_covers (state_with_base b p s base offset after) (state_with_base b p t base offset after) dst v w (base_setting b p s base offset after low is.1 is.2).regs (base_setting b p t base offset after high is.1 is.2).regs
       (base_covers b p s t low high c base offset after is.1 is.2) here
   transfer_covers (Store src base offset size after) v w is here = base_covers b p s t low high c base offset after is.1 is.2
   transfer_covers Svlcx v w is here = saved_covers

@@ -23,7 +23,7 @@ use Rattle.depth_cert.specs.Known.{Known, state, leaving, IsNoExit, exit_if_know
 use Rattle.depth_cert.specs.WellFormed.{IsWellFormedExit}
 use Rattle.depth_maker.specs.Needs.{need_by}
 use Rattle.depth_maker.specs.Rows.{IsRowSource}
-use Rattle.depth_maker.specs.SpelledCert.{AreSpelledFrames, AreSpelledPointsOf, IsSpelledFrameOf, HasSpelledCcpns, IsSpelledVersion, IsSpelledInOrder, IsSpelledOn, SpellsTablePoint, SpellsTablePoints, SpellsTableExit, SpellsTableNode, SpellsTableNodes, spelled_cert_on, spelled_exit_on, spelled_known_on, spelled_node_on, spelled_point_on, spelled_state_at}
+use Rattle.depth_maker.specs.SpelledCert.{AreSpelledFrames, AreSpelledPointsOf, IsSpelledFrameOf, HasSpelledCcpns, IsSpelledVersion, IsSpelledInOrder, IsSpelledOn, SpellsTablePoint, SpellsTablePoints, SpellsTableExit, SpellsTableNode, SpellsTableNodes, cert_from_table, exit_from_table, known_from_table, node_from_table, point_from_table, spelled_state_at}
 use Rattle.depth_maker.specs.SpotsAsPlaces.{spots_of, spots_on, place_of_spot, spot_of}
 use Rattle.frame_places.specs.Spots.{AreRangedSpots, is_point_of, spot_address}
 use Rattle.frame_places.specs.PointEntries.{is_in_frame, place_at, points_in}
@@ -49,11 +49,11 @@ well_values : (b : Limits) (vs : List Val) → AreValues b vs → All IsWell vs
 well_values b vs are k d lt = subst IsWell (sym (get_or_default vs k d any_val lt)) (are k lt).well
 
 -- ---- points
-pub writes_point : (s : Source) (k : Key) (p : ℕ) (u : State) (old mid new : List ℕ) → spelled_known_on s (point k p) ≡ Some (state u) → u.ccpn < 2 ^ 8 → mid ≡ old ++ bytes_of_word p → new ≡ mid ++ bytes_of_state u
+pub writes_point : (s : Source) (k : Key) (p : ℕ) (u : State) (old mid new : List ℕ) → known_from_table s (point k p) ≡ Some (state u) → u.ccpn < 2 ^ 8 → mid ≡ old ++ bytes_of_word p → new ≡ mid ++ bytes_of_state u
     → SpellsTablePoint s k p old new
 unfolding bytes_of_point
 writes_point s k p u old mid new at byte one two =
-    let same : spelled_state_at (spelled_known_on s (point k p)) ≡ u = ap spelled_state_at at in
+    let same : spelled_state_at (known_from_table s (point k p)) ≡ u = ap spelled_state_at at in
     record {
       bytes =
           two ∙ ap (λ (l : List ℕ). l ++ bytes_of_state u) one ∙ append_assoc old (bytes_of_word p) (bytes_of_state u)
@@ -68,14 +68,14 @@ pub points_more : (s : Source) (k : Key) (qs : List Spot) (i : ℕ) (d : Spot) (
     → SpellsTablePoints s k (take (i + 1) qs) old new
 points_more s k qs i d old mid new lt so one = record {
   bytes =
-      one.bytes ∙ ap (λ (l : List ℕ). l ++ bytes_of_point (spelled_point_on s k (spot_address (get_or qs i d)))) so.bytes
-      ∙ flat_map_more (λ q. bytes_of_point (spelled_point_on s k (spot_address q))) old (take i qs) (get_or qs i d)
-      ∙ ap (λ (l : List Spot). old ++ flat_map (λ q. bytes_of_point (spelled_point_on s k (spot_address q))) l) (sym (take_more qs i d lt));
-  ccpn = All-more (λ q. ((spelled_point_on s k (spot_address q)).state).ccpn < 2 ^ 8) qs i d lt so.ccpn one.ccpn;
+      one.bytes ∙ ap (λ (l : List ℕ). l ++ bytes_of_point (point_from_table s k (spot_address (get_or qs i d)))) so.bytes
+      ∙ flat_map_more (λ q. bytes_of_point (point_from_table s k (spot_address q))) old (take i qs) (get_or qs i d)
+      ∙ ap (λ (l : List Spot). old ++ flat_map (λ q. bytes_of_point (point_from_table s k (spot_address q))) l) (sym (take_more qs i d lt));
+  ccpn = All-more (λ q. ((point_from_table s k (spot_address q)).state).ccpn < 2 ^ 8) qs i d lt so.ccpn one.ccpn;
 }
 
 -- ---- exits
-pub exit_there : (s : Source) (k : Key) (w : Known) (x : exits.Exit) → value_for (s.table.now).places (Exit k) ≡ Some w → w ≡ leaving x → spelled_known_on s (exit k) ≡ Some (leaving x)
+pub exit_there : (s : Source) (k : Key) (w : Known) (x : exits.Exit) → value_for (s.table.now).places (Exit k) ≡ Some w → w ≡ leaving x → known_from_table s (exit k) ≡ Some (leaving x)
 unfolding seen
 exit_there s k w x at is = at ∙ ap (λ (v : Known). Some v) is
 
@@ -86,23 +86,23 @@ no_exit_there s source k w at none = of_kind w (derived_kinds _ _ _ (seen s.tabl
   of_kind (leaving y) h n = n
   of_kind (state u) h n = h
 
-pub exit_well : (s : Source) → IsRowSource s → (k : Key) (x : exits.Exit) → spelled_known_on s (exit k) ≡ Some (leaving x) → All IsWell x.lower
+pub exit_well : (s : Source) → IsRowSource s → (k : Key) (x : exits.Exit) → known_from_table s (exit k) ≡ Some (leaving x) → All IsWell x.lower
 unfolding seen
 exit_well s source k x at =
     let good : IsWellFormedExit (s.ground.now).bounds.now x = done_well_formed s.ground.now s.table.now source.done (Exit k) (leaving x) at in
     well_values (s.ground.now).bounds.now x.lower good.values
 
-pub writes_exit : (s : Source) (k : Key) (x : exits.Exit) (old new : List ℕ) → spelled_known_on s (exit k) ≡ Some (leaving x) → x.ccpn < 2 ^ 8 → new ≡ old ++ bytes_of_exit (Some x) → SpellsTableExit s k old new
+pub writes_exit : (s : Source) (k : Key) (x : exits.Exit) (old new : List ℕ) → known_from_table s (exit k) ≡ Some (leaving x) → x.ccpn < 2 ^ 8 → new ≡ old ++ bytes_of_exit (Some x) → SpellsTableExit s k old new
 writes_exit s k x old new at byte is =
-    let same : exit_if_known (spelled_known_on s (exit k)) ≡ Some x = ap exit_if_known at in
+    let same : exit_if_known (known_from_table s (exit k)) ≡ Some x = ap exit_if_known at in
     record {
       bytes = is ∙ ap (λ (o : Option exits.Exit). old ++ bytes_of_exit o) (sym same);
       ccpn = subst (λ (o : Option exits.Exit). IfSome o (λ e. e.ccpn < 2 ^ 8)) (sym same) byte;
     }
 
-pub writes_no_exit : (s : Source) (k : Key) (old new : List ℕ) → spelled_known_on s (exit k) ≡ None → new ≡ old ++ bytes_of_exit None → SpellsTableExit s k old new
+pub writes_no_exit : (s : Source) (k : Key) (old new : List ℕ) → known_from_table s (exit k) ≡ None → new ≡ old ++ bytes_of_exit None → SpellsTableExit s k old new
 writes_no_exit s k old new at is =
-    let same : exit_if_known (spelled_known_on s (exit k)) ≡ None = ap exit_if_known at in
+    let same : exit_if_known (known_from_table s (exit k)) ≡ None = ap exit_if_known at in
     record {
       bytes = is ∙ ap (λ (o : Option exits.Exit). old ++ bytes_of_exit o) (sym same);
       ccpn = subst (λ (o : Option exits.Exit). IfSome o (λ e. e.ccpn < 2 ^ 8)) (sym same) tt;
@@ -160,11 +160,11 @@ five_from o a b c d n k h e l p one two three four last =
     last ∙ ap (λ (x : List ℕ). x ++ p) (four ∙ ap (λ (x : List ℕ). x ++ l) (three ∙ ap (λ (x : List ℕ). x ++ e) (two ∙ ap (λ (x : List ℕ). x ++ h) one))) ∙ five o k h e l p
 
 -- a node's points, from places
-spelled_points : (s : Source) (k : Key) (qs : List Spot) → flat_map (λ q. bytes_of_point (spelled_point_on s k (spot_address q))) qs ≡ flat_map bytes_of_point (map (spelled_point_on s k) (map spot_address qs))
-spelled_points s k qs = sym (flat_twice bytes_of_point (spelled_point_on s k) (map spot_address qs) ∙ flat_twice (λ p. bytes_of_point (spelled_point_on s k p)) spot_address qs)
+spelled_points : (s : Source) (k : Key) (qs : List Spot) → flat_map (λ q. bytes_of_point (point_from_table s k (spot_address q))) qs ≡ flat_map bytes_of_point (map (point_from_table s k) (map spot_address qs))
+spelled_points s k qs = sym (flat_twice bytes_of_point (point_from_table s k) (map spot_address qs) ∙ flat_twice (λ p. bytes_of_point (point_from_table s k p)) spot_address qs)
 
-spelled_count : (s : Source) (k : Key) (qs : List Spot) → length (map (spelled_point_on s k) (map spot_address qs)) ≡ length qs
-spelled_count s k qs = length-map (map spot_address qs) (spelled_point_on s k) ∙ length-map qs spot_address
+spelled_count : (s : Source) (k : Key) (qs : List Spot) → length (map (point_from_table s k) (map spot_address qs)) ≡ length qs
+spelled_count s k qs = length-map (map spot_address qs) (point_from_table s k) ∙ length-map qs spot_address
 
 abbrev own_need : Ordered → Key → ℕ
 own_need o k = need_by ((o.source.now).table.now).frames.items o.needs.now k
@@ -174,16 +174,16 @@ pub writes_node : (o : Ordered) (k : Key) (need n : ℕ) (qs : List Spot) (old a
 unfolding bytes_of_node
 writes_node o k need n qs old a b c d new is needs count one two left four so = record {
   bytes =
-      five_from old a b c d new (bytes_of_key k) (bytes_of_half need) (bytes_of_exit (spelled_exit_on o.source.now k)) (bytes_of_word n) (flat_map (λ q. bytes_of_point (spelled_point_on o.source.now k (spot_address q))) qs) one two left.bytes four so.bytes
-      ∙ ap (λ (m : ℕ). old ++ (bytes_of_key k ++ (bytes_of_half m ++ (bytes_of_exit (spelled_exit_on o.source.now k) ++ (bytes_of_word n ++ flat_map (λ q. bytes_of_point (spelled_point_on o.source.now k (spot_address q))) qs))))) needs
-      ∙ ap (λ (m : ℕ). old ++ (bytes_of_key k ++ (bytes_of_half (own_need o k) ++ (bytes_of_exit (spelled_exit_on o.source.now k) ++ (bytes_of_word m ++ flat_map (λ q. bytes_of_point (spelled_point_on o.source.now k (spot_address q))) qs))))) (count ∙ sym (spelled_count o.source.now k qs))
-      ∙ ap (λ (l : List ℕ). old ++ (bytes_of_key k ++ (bytes_of_half (own_need o k) ++ (bytes_of_exit (spelled_exit_on o.source.now k) ++ (bytes_of_word (length (map (spelled_point_on o.source.now k) (map spot_address qs))) ++ l))))) (spelled_points o.source.now k qs)
-      ∙ ap (λ (l : List Spot). old ++ (bytes_of_key k ++ (bytes_of_half (own_need o k) ++ (bytes_of_exit (spelled_exit_on o.source.now k) ++ (bytes_of_word (length (map (spelled_point_on o.source.now k) (map spot_address l))) ++ flat_map bytes_of_point (map (spelled_point_on o.source.now k) (map spot_address l))))))) is;
+      five_from old a b c d new (bytes_of_key k) (bytes_of_half need) (bytes_of_exit (exit_from_table o.source.now k)) (bytes_of_word n) (flat_map (λ q. bytes_of_point (point_from_table o.source.now k (spot_address q))) qs) one two left.bytes four so.bytes
+      ∙ ap (λ (m : ℕ). old ++ (bytes_of_key k ++ (bytes_of_half m ++ (bytes_of_exit (exit_from_table o.source.now k) ++ (bytes_of_word n ++ flat_map (λ q. bytes_of_point (point_from_table o.source.now k (spot_address q))) qs))))) needs
+      ∙ ap (λ (m : ℕ). old ++ (bytes_of_key k ++ (bytes_of_half (own_need o k) ++ (bytes_of_exit (exit_from_table o.source.now k) ++ (bytes_of_word m ++ flat_map (λ q. bytes_of_point (point_from_table o.source.now k (spot_address q))) qs))))) (count ∙ sym (spelled_count o.source.now k qs))
+      ∙ ap (λ (l : List ℕ). old ++ (bytes_of_key k ++ (bytes_of_half (own_need o k) ++ (bytes_of_exit (exit_from_table o.source.now k) ++ (bytes_of_word (length (map (point_from_table o.source.now k) (map spot_address qs))) ++ l))))) (spelled_points o.source.now k qs)
+      ∙ ap (λ (l : List Spot). old ++ (bytes_of_key k ++ (bytes_of_half (own_need o k) ++ (bytes_of_exit (exit_from_table o.source.now k) ++ (bytes_of_word (length (map (point_from_table o.source.now k) (map spot_address l))) ++ flat_map bytes_of_point (map (point_from_table o.source.now k) (map spot_address l))))))) is;
   ccpn = record {
     exit = left.ccpn;
     points =
-        subst (λ (l : List Spot). All (λ (p : located.Point). (p.state).ccpn < 2 ^ 8) (map (spelled_point_on o.source.now k) (map spot_address l))) is
-        (All-map (λ (p : located.Point). (p.state).ccpn < 2 ^ 8) (spelled_point_on o.source.now k) (map spot_address qs) (All-map (λ p. ((spelled_point_on o.source.now k p).state).ccpn < 2 ^ 8) spot_address qs so.ccpn));
+        subst (λ (l : List Spot). All (λ (p : located.Point). (p.state).ccpn < 2 ^ 8) (map (point_from_table o.source.now k) (map spot_address l))) is
+        (All-map (λ (p : located.Point). (p.state).ccpn < 2 ^ 8) (point_from_table o.source.now k) (map spot_address qs) (All-map (λ p. ((point_from_table o.source.now k p).state).ccpn < 2 ^ 8) spot_address qs so.ccpn));
   };
 }
 
@@ -193,34 +193,34 @@ nodes_none o out = record { bytes = sym (append-nil out); ccpn = All-nil _ }
 pub nodes_more : (o : Ordered) (ks : List Key) (i : ℕ) (d : Key) (old mid new : List ℕ) → i < length ks → SpellsTableNodes o (take i ks) old mid → SpellsTableNode o (get_or ks i d) mid new → SpellsTableNodes o (take (i + 1) ks) old new
 nodes_more o ks i d old mid new lt so one = record {
   bytes =
-      one.bytes ∙ ap (λ (l : List ℕ). l ++ bytes_of_node (spelled_node_on o.source.now o.needs.now (spots_of o) (get_or ks i d))) so.bytes
-      ∙ flat_map_more (λ k. bytes_of_node (spelled_node_on o.source.now o.needs.now (spots_of o) k)) old (take i ks) (get_or ks i d)
-      ∙ ap (λ (l : List Key). old ++ flat_map (λ k. bytes_of_node (spelled_node_on o.source.now o.needs.now (spots_of o) k)) l) (sym (take_more ks i d lt));
-  ccpn = All-more (λ k. HasSpelledCcpns (spelled_node_on o.source.now o.needs.now (spots_of o) k)) ks i d lt so.ccpn one.ccpn;
+      one.bytes ∙ ap (λ (l : List ℕ). l ++ bytes_of_node (node_from_table o.source.now o.needs.now (spots_of o) (get_or ks i d))) so.bytes
+      ∙ flat_map_more (λ k. bytes_of_node (node_from_table o.source.now o.needs.now (spots_of o) k)) old (take i ks) (get_or ks i d)
+      ∙ ap (λ (l : List Key). old ++ flat_map (λ k. bytes_of_node (node_from_table o.source.now o.needs.now (spots_of o) k)) l) (sym (take_more ks i d lt));
+  ccpn = All-more (λ k. HasSpelledCcpns (node_from_table o.source.now o.needs.now (spots_of o) k)) ks i d lt so.ccpn one.ccpn;
 }
 
 -- ---- the certificate
 abbrev all_nodes : Ordered → List Key → List ℕ
-all_nodes o ks = flat_map (λ k. bytes_of_node (spelled_node_on o.source.now o.needs.now (spots_of o) k)) ks
+all_nodes o ks = flat_map (λ k. bytes_of_node (node_from_table o.source.now o.needs.now (spots_of o) k)) ks
 
 pub writes_cert : (o : Ordered) (version count : ℕ) (ks : List Key) (out a b c new : List ℕ) → out ≡ [] → count ≡ length ks → a ≡ out ++ bytes_of_word 1128547156 → b ≡ a ++ bytes_of_half version → c ≡ b ++ bytes_of_half count
-    → SpellsTableNodes o ks c new → new ≡ bytes_of_cert (spelled_cert_on o.source.now version o.needs.now ks (spots_of o))
+    → SpellsTableNodes o ks c new → new ≡ bytes_of_cert (cert_from_table o.source.now version o.needs.now ks (spots_of o))
 unfolding bytes_of_cert
 writes_cert o version count ks out a b c new empty is one two three so =
     so.bytes ∙ ap (λ (x : List ℕ). x ++ all_nodes o ks) (three ∙ ap (λ (x : List ℕ). x ++ bytes_of_half count) (two ∙ ap (λ (x : List ℕ). x ++ bytes_of_half version) (one ∙ ap (λ (x : List ℕ). x ++ bytes_of_word 1128547156) empty)))
     ∙ append_assoc (bytes_of_word 1128547156 ++ bytes_of_half version) (bytes_of_half count) (all_nodes o ks) ∙ append_assoc (bytes_of_word 1128547156) (bytes_of_half version) (bytes_of_half count ++ all_nodes o ks)
-    ∙ ap (λ (m : ℕ). bytes_of_word 1128547156 ++ (bytes_of_half version ++ (bytes_of_half m ++ all_nodes o ks))) (is ∙ sym (length-map ks (spelled_node_on o.source.now o.needs.now (spots_of o))))
-    ∙ ap (λ (l : List ℕ). bytes_of_word 1128547156 ++ (bytes_of_half version ++ (bytes_of_half (length (map (spelled_node_on o.source.now o.needs.now (spots_of o)) ks)) ++ l))) (sym (flat_twice bytes_of_node (spelled_node_on o.source.now o.needs.now (spots_of o)) ks))
+    ∙ ap (λ (m : ℕ). bytes_of_word 1128547156 ++ (bytes_of_half version ++ (bytes_of_half m ++ all_nodes o ks))) (is ∙ sym (length-map ks (node_from_table o.source.now o.needs.now (spots_of o))))
+    ∙ ap (λ (l : List ℕ). bytes_of_word 1128547156 ++ (bytes_of_half version ++ (bytes_of_half (length (map (node_from_table o.source.now o.needs.now (spots_of o)) ks)) ++ l))) (sym (flat_twice bytes_of_node (node_from_table o.source.now o.needs.now (spots_of o)) ks))
 
 pub spelled_is : (o : Ordered) (version : ℕ) (ks : List Key) (c out : List ℕ) → IsSpelledInOrder o → AreSpelledFrames o ks → IsNonDecreasingBy (λ (k : Key). number_of_key k) ks → (version ≡ 1) ⊎ (version ≡ 2) → IsSpelledVersion o.source.now version
-    → out ≡ bytes_of_cert (spelled_cert_on o.source.now version o.needs.now ks (spots_of o)) → SpellsTableNodes o ks c out → IsSpelledOn o.source.now version out
+    → out ≡ bytes_of_cert (cert_from_table o.source.now version o.needs.now ks (spots_of o)) → SpellsTableNodes o ks c out → IsSpelledOn o.source.now version out
 unfolding seen
 spelled_is o version ks c out ordered frames rising known limits bytes so =
     let s = o.source.now in
     let done = (ordered.source).done in
     let t = s.table.now in
     let few = few_spots t.points.items t.frames.items (done.counted).few in (
-      spelled_cert_on s version o.needs.now ks (spots_of o),
+      cert_from_table s version o.needs.now ks (spots_of o),
       bytes,
       is_written _ _ _ (s.ground.now).sound (seen t).cells done.derived done.closed done.faultless t.frames.items (points_in t.places) (entries_counted t.places t.points.items t.frames.items ordered.unique done.counted)
           (entries_few t.places t.points.items t.frames.items ordered.unique done.counted) few.1 ks (spots_of o) frames ordered.points (rising_spots t.places o.points.now ordered.entries ordered.rising) rising version

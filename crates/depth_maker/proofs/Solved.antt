@@ -22,7 +22,7 @@ use Rattle.cfg_recover.specs.Entries.{start_key, start_state}
 use Rattle.depth_cert.specs.Exits.{state_after_exit, ExitCovers}
 use Rattle.cfg_recover.specs.LocalFaults.{IsFaultless}
 use Rattle.cfg_recover.specs.Duties.{Duty, jump, enter, resume, leave, Owed, duties_of}
-use Rattle.cfg_recover.specs.RulesHoldOrFail.{limits_in, HasPoint, IsMet, EntryNeedRuleHolds, NeedRuleHolds, RuleHolds, HoldsAtNode, Accepts}
+use Rattle.cfg_recover.specs.RulesHoldOrFail.{limits_in, HasCoveringPoint, IsMet, EntryNeedRuleHolds, NeedRuleHolds, RuleHolds, HoldsAtNode, Accepts}
 use Rattle.cfg_recover.specs.Assignments.{Place, point, exit, known_at, known_in, CoversAt, asked_by_duty, asked_by_resume, HasDuty}
 use Rattle.depth_cert.specs.Known.{Known, state, leaving, CoversKnown}
 use Rattle.depth_cert.specs.WellFormed.{IsWellFormedState}
@@ -65,14 +65,14 @@ module _ (image : ImageData) (plan : PlanData) (cert : CertData) (ground : IsGro
   agrees k key = find_agrees cert.version k cert.nodes key is_cert.nodes
 
   -- a node and a point of a known state
-  stands : (k : Key) (p : ℕ) (u : Known) (s : State) → IsKey k → known_in cert (point k p) ≡ Some u → CoversKnown u (state s) → IsSomeAnd (find_node k cert.nodes) (λ n. HasPoint n p s)
+  stands : (k : Key) (p : ℕ) (u : Known) (s : State) → IsKey k → known_in cert (point k p) ≡ Some u → CoversKnown u (state s) → IsSomeAnd (find_node k cert.nodes) (λ n. HasCoveringPoint n p s)
   stands k p u s key at covers =
       let a = at_point cert k p u at in
       let h : Covers a.0 s = subst (λ (w : Known). CoversKnown w (state s)) a.1 covers in
       let inner : IsSomeAnd (find_point p ((a.2).node).points) (λ q. Covers q.state s) =
       subst (λ (o : Option Point). IsSomeAnd o (λ q. Covers q.state s)) (sym (a.2).at) (subst (λ (z : State). Covers z s) (sym (a.2).is) h)
       in
-      subst (λ (o : Option NodeData). IsSomeAnd o (λ n. HasPoint n p s)) (sym (sym (agrees k key) ∙ (a.2).found)) inner
+      subst (λ (o : Option NodeData). IsSomeAnd o (λ n. HasCoveringPoint n p s)) (sym (sym (agrees k key) ∙ (a.2).found)) inner
 
   module _ (n : NodeData) (member : Contains cert.nodes n) (q : Point) (inside : Contains n.points q) where
     key : IsKey n.key
@@ -93,9 +93,9 @@ module _ (image : ImageData) (plan : PlanData) (cert : CertData) (ground : IsGro
     well_formed = solution.well_formed (point n.key q.addr) (state q.state) known
 
     -- what is known at a place of this node
-    here : (p : ℕ) (u : Known) (s : State) → known_in cert (point n.key p) ≡ Some u → CoversKnown u (state s) → HasPoint n p s
+    here : (p : ℕ) (u : Known) (s : State) → known_in cert (point n.key p) ≡ Some u → CoversKnown u (state s) → HasCoveringPoint n p s
     here p u s at covers =
-        subst (λ (o : Option NodeData). IsSomeAnd o (λ m. HasPoint m p s)) (node_found n member) (stands n.key p u s key at covers)
+        subst (λ (o : Option NodeData). IsSomeAnd o (λ m. HasCoveringPoint m p s)) (node_found n member) (stands n.key p u s key at covers)
 
     module _ (shape : Shape) (size : ℕ) (code : IsCode image plan q.addr shape size) where
       duty : (d : Owed) → Contains (duties_of (limits_in plan cert) image plan n.key q.addr q.state shape size) d → HasDuty (limits_in plan cert) image plan (known_in cert) n.key q.addr q.state d.duty
@@ -110,10 +110,10 @@ module _ (image : ImageData) (plan : PlanData) (cert : CertData) (ground : IsGro
       covered d h y v e = solution.closed.duties y v (record { key = n.key; addr = q.addr; before = q.state; duty = d; has = h; asks = e })
 
       resumed_met : (j : Key) (p : ℕ) → HasKey (resume j p) → HasDuty (limits_in plan cert) image plan (known_in cert) n.key q.addr q.state (resume j p)
-          → (o : Option NodeData) → find_node j cert.nodes ≡ o → IfSome o (λ m. IfSome m.exit (λ x. HasPoint n p (state_after_exit q.state x j.kind)))
+          → (o : Option NodeData) → find_node j cert.nodes ≡ o → IfSome o (λ m. IfSome m.exit (λ x. HasCoveringPoint n p (state_after_exit q.state x j.kind)))
       resumed_met j p is h None e = tt
       resumed_met j p is h (Some m) e = at m.exit refl where
-        at : (o : Option Exit) → m.exit ≡ o → IfSome o (λ x. HasPoint n p (state_after_exit q.state x j.kind))
+        at : (o : Option Exit) → m.exit ≡ o → IfSome o (λ x. HasCoveringPoint n p (state_after_exit q.state x j.kind))
         at None f = tt
         at (Some x) f =
             let there : known_in cert (exit j) ≡ Some (leaving x) = ap (option_and_then (known_at (exit j))) (agrees j is ∙ e) ∙ ap (option_map leaving) f in

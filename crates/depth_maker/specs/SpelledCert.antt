@@ -70,24 +70,24 @@ abbrev pub IsSpelledVersion : Source → ℕ → Type 0
 IsSpelledVersion s version = (s.ground.now).bounds.now ≡ limits_for (s.ground.now).plan.now version
 
 -- what is known at a place of the table
-abbrev pub spelled_known_on : Source → Place → Option Known
-spelled_known_on s y = (seen s.table.now).cells y
+abbrev pub known_from_table : Source → Place → Option Known
+known_from_table s y = (seen s.table.now).cells y
 
 -- the exit of a frame, if it is known
-abbrev pub spelled_exit_on : Source → Key → Option exits.Exit
-spelled_exit_on s k = exit_if_known ((seen s.table.now).cells (exit k))
+abbrev pub exit_from_table : Source → Key → Option exits.Exit
+exit_from_table s k = exit_if_known ((seen s.table.now).cells (exit k))
 
 -- the point of a frame at an address, with its known state
-abbrev pub spelled_point_on : Source → Key → ℕ → points.Point
-spelled_point_on s k p = spelled_point_at (seen s.table.now).cells k p
+abbrev pub point_from_table : Source → Key → ℕ → points.Point
+point_from_table s k p = spelled_point_at (seen s.table.now).cells k p
 
 -- the node of a frame, with the points of a list
-abbrev pub spelled_node_on : Source → List ℕ → List Spot → Key → NodeData
-spelled_node_on s needs ps k = spelled_node_at (seen s.table.now).cells (need_by (s.table.now).frames.items needs) (spelled_addresses_in ps) k
+abbrev pub node_from_table : Source → List ℕ → List Spot → Key → NodeData
+node_from_table s needs ps k = spelled_node_at (seen s.table.now).cells (need_by (s.table.now).frames.items needs) (spelled_addresses_in ps) k
 
 -- the certificate with the nodes of these frames
-abbrev pub spelled_cert_on : Source → ℕ → List ℕ → List Key → List Spot → CertData
-spelled_cert_on s version needs ks ps = spelled_cert_with version (seen s.table.now).cells (need_by (s.table.now).frames.items needs) (spelled_addresses_in ps) ks
+abbrev pub cert_from_table : Source → ℕ → List ℕ → List Key → List Spot → CertData
+cert_from_table s version needs ks ps = spelled_cert_with version (seen s.table.now).cells (need_by (s.table.now).frames.items needs) (spelled_addresses_in ps) ks
 
 -- a table without work, the least needs of its frames, and its points in order
 pub record IsSpelledInOrder (o : Ordered) : Type 0 where
@@ -101,28 +101,28 @@ pub record IsSpelledInOrder (o : Ordered) : Type 0 where
 -- ---- what is appended
 -- a point, whose CCPN is a byte
 pub record SpellsTablePoint (s : Source) (k : Key) (p : ℕ) (old new : List ℕ) : Type 0 where
-  pub bytes : new ≡ old ++ bytes_of_point (spelled_point_on s k p)
-  pub ccpn : ((spelled_point_on s k p).state).ccpn < 2 ^ 8
+  pub bytes : new ≡ old ++ bytes_of_point (point_from_table s k p)
+  pub ccpn : ((point_from_table s k p).state).ccpn < 2 ^ 8
 
 -- these points of frame k
 pub record SpellsTablePoints (s : Source) (k : Key) (qs : List Spot) (old new : List ℕ) : Type 0 where
-  pub bytes : new ≡ old ++ flat_map (λ q. bytes_of_point (spelled_point_on s k (spot_address q))) qs
-  pub ccpn : All (λ q. ((spelled_point_on s k (spot_address q)).state).ccpn < 2 ^ 8) qs
+  pub bytes : new ≡ old ++ flat_map (λ q. bytes_of_point (point_from_table s k (spot_address q))) qs
+  pub ccpn : All (λ q. ((point_from_table s k (spot_address q)).state).ccpn < 2 ^ 8) qs
 
 -- the exit of frame k, or that none is known
 pub record SpellsTableExit (s : Source) (k : Key) (old new : List ℕ) : Type 0 where
-  pub bytes : new ≡ old ++ bytes_of_exit (spelled_exit_on s k)
-  pub ccpn : IfSome (spelled_exit_on s k) (λ e. e.ccpn < 2 ^ 8)
+  pub bytes : new ≡ old ++ bytes_of_exit (exit_from_table s k)
+  pub ccpn : IfSome (exit_from_table s k) (λ e. e.ccpn < 2 ^ 8)
 
 -- the node of frame k
 pub record SpellsTableNode (o : Ordered) (k : Key) (old new : List ℕ) : Type 0 where
-  pub bytes : new ≡ old ++ bytes_of_node (spelled_node_on o.source.now o.needs.now (spots_of o) k)
-  pub ccpn : HasSpelledCcpns (spelled_node_on o.source.now o.needs.now (spots_of o) k)
+  pub bytes : new ≡ old ++ bytes_of_node (node_from_table o.source.now o.needs.now (spots_of o) k)
+  pub ccpn : HasSpelledCcpns (node_from_table o.source.now o.needs.now (spots_of o) k)
 
 -- the nodes of these frames
 pub record SpellsTableNodes (o : Ordered) (ks : List Key) (old new : List ℕ) : Type 0 where
-  pub bytes : new ≡ old ++ flat_map (λ k. bytes_of_node (spelled_node_on o.source.now o.needs.now (spots_of o) k)) ks
-  pub ccpn : All (λ k. HasSpelledCcpns (spelled_node_on o.source.now o.needs.now (spots_of o) k)) ks
+  pub bytes : new ≡ old ++ flat_map (λ k. bytes_of_node (node_from_table o.source.now o.needs.now (spots_of o) k)) ks
+  pub ccpn : All (λ k. HasSpelledCcpns (node_from_table o.source.now o.needs.now (spots_of o) k)) ks
 
 -- these frames are the table's
 abbrev pub AreSpelledFrames : Ordered → List Key → Type 0

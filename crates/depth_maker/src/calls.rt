@@ -100,11 +100,11 @@ fn join_listed_call_entries(
         (JoinedBy v.now table.old table.new (enters_by v.now targets.now.items)) }
     ensures err { IfErr result (RefusalIsRight v.now.ground.now) }
 {
-    if has_noted_call(&*table, v, entry, targets) {
+    if is_call_covered(&*table, v, entry, targets) {
         return Ok(());
     }
     join_each_entry(alloc, table, v, entry, targets.as_slice())?;
-    note_call(alloc, table, v, entry, targets)?;
+    store_last_call(alloc, table, v, entry, targets)?;
     Ok(())
 }
 
@@ -129,9 +129,9 @@ fn join_call_returns(
     Ok(())
 }
 
-/// Returns true only if the visited point's call joins no new entries: the last noted call of
+/// Returns true only if the visited point's call joins no new entries: the last stored call of
 /// several functions shows that the entries of these are covered.
-fn has_noted_call(table: &Table, v: &Visit, entry: &Change, targets: &ArrayVec<u32, 128>) -> bool
+fn is_call_covered(table: &Table, v: &Visit, entry: &Change, targets: &ArrayVec<u32, 128>) -> bool
     requires visited { VisitedBy v.now table.now }
     requires entry { state_after v.now.state.now entry.now ≡ entries.call_entry v.now.state.now }
     ensures { IsTrue result
@@ -146,10 +146,10 @@ fn has_noted_call(table: &Table, v: &Visit, entry: &Change, targets: &ArrayVec<u
     }
 }
 
-/// Notes a call of several functions, unless the point has new work: then some entries may have
-/// been skipped.
+/// Stores a call of several functions as the last one, unless the point has new work: then some
+/// entries may have been skipped.
 #[inline(never)]
-fn note_call(
+fn store_last_call(
     alloc: Global,
     table: &mut Table,
     v: &Visit,

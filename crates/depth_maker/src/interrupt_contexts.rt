@@ -124,11 +124,11 @@ pub(crate) fn has_noted_interrupts(table: &Table, is: bool, ccpn: u8) -> bool
     }
 }
 
-/// Notes the context of these interrupts, unless the point has new work: then some entries may have
-/// been skipped. If it differs from the last one at most in A10, both are joined. It is a call of
-/// its own, since it has room for a value.
+/// Stores the context of these interrupts as the last one, unless the point has new work: then some
+/// entries may have been skipped. If it differs from the last one at most in A10, both are joined.
+/// It is a call of its own, since it has room for a value.
 #[inline(never)]
-pub(crate) fn note_interrupts(table: &mut Table, v: &Visit)
+pub(crate) fn store_last_interrupts(table: &mut Table, v: &Visit)
     requires fine { TableHolds v.now.ground.now table.old }
     requires near { PlaceHasNumber table.old.places table.old.near (Point v.now.key v.now.addr) }
     requires well_formed { IsWellFormedState v.now.ground.now.bounds.now v.now.state.now }

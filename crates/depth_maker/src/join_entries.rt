@@ -3,7 +3,7 @@ ghost use Rattle.std.specs.Prelude.{◌≡◌, OnOk, IfErr, [], ◌∷◌, ℕ};
 ghost use Rattle.tc_isa.specs.InBounds.{IsShape};
 ghost use Rattle.vd_transfer.specs.Changes.{state_after};
 ghost use Rattle.cfg_recover.specs.Entries.{irqs_of};
-ghost use Rattle.cfg_recover.specs.FlowDuties.{told_irqs};
+ghost use Rattle.cfg_recover.specs.FlowDuties.{duties_of_irqs};
 ghost use Rattle.frame_places.specs.declared.places.Spot.TheVariants.{Point, Exit};
 ghost use Rattle.depth_maker.specs.Answers.{RefusalIsRight};
 ghost use Rattle.depth_maker.specs.VisitDuties.{OwesAll, JoinedBy, OwesDutiesOf, access_by, entries_by, interrupts_by, misaligned_by, system_by, enters_by, OwesDuty};
@@ -16,7 +16,7 @@ ghost use Rattle.depth_cert.specs.Known.{state};
 use crate::calls::join_call;
 use crate::entered_frames::may_enter_misaligned_handler;
 use crate::inputs_and_limits::Visit;
-use crate::interrupt_contexts::{is_interrupt_context_noted, note_interrupts};
+use crate::interrupt_contexts::{is_interrupt_context_noted, store_last_interrupts};
 use crate::join_place::join_at_place;
 use crate::join_successors::join_return;
 use crate::table::Table;
@@ -93,7 +93,7 @@ pub(crate) fn join_interrupts(alloc: Global, table: &mut Table, v: &Visit) -> Re
         return Ok(());
     }
     join_interrupt_entries(alloc, table, v, irqs.as_slice())?;
-    note_interrupts(table, v);
+    store_last_interrupts(table, v);
     Ok(())
 }
 
@@ -250,10 +250,10 @@ fn join_each_handler_entry(
 ) -> Result<(), Refusal>
     requires visited { VisitedBy v.now table.old }
     requires owes { OwesAll v.now
-        (told_irqs v.now.ground.now.plan.now (state_after v.now.state.now entry) irqs.now) }
+        (duties_of_irqs v.now.ground.now.plan.now (state_after v.now.state.now entry) irqs.now) }
     ensures ok { OnOk result
         (JoinedBy v.now table.old table.new
-        (told_irqs v.now.ground.now.plan.now (state_after v.now.state.now entry) irqs.now)) }
+        (duties_of_irqs v.now.ground.now.plan.now (state_after v.now.state.now entry) irqs.now)) }
     ensures err { IfErr result (RefusalIsRight v.now.ground.now) }
 {
     let mut entry = entry;

@@ -4,13 +4,13 @@ use Rattle.tc_isa.specs.declared.table.Form.{Form}
 use Rattle.tc_isa.specs.declared.table.Form.TheVariants.{Rlc}
 use Rattle.tc_isa.specs.declared.fields.Fields.{Fields}
 use Rattle.tc_isa.specs.Forms.{bounds}
-use Rattle.tc_isa.specs.InBounds.{IsBelow}
+use Rattle.tc_isa.specs.InBounds.{AreFieldsBelow}
 use Rattle.tc_stmt.specs.declared.want.Field.{Field}
 use Rattle.tc_stmt.specs.declared.want.Field.TheVariants.{C, S1, S2, N, K}
 use Rattle.tc_stmt.specs.RowFields.{field_of}
 
 -- a field is below its bound
-pub field_of-below : (field : Field) (f b : Fields) → IsBelow f b → field_of field f < field_of field b
+pub field_of-below : (field : Field) (f b : Fields) → AreFieldsBelow f b → field_of field f < field_of field b
 unfolding field_of
 field_of-below C f b h = h.c
 field_of-below S1 f b h = h.s1

@@ -10,7 +10,7 @@ use Rattle.tc_lex.specs.Bytes.{is_digit}
 use Rattle.tc_isa.specs.Rows.{RowData}
 use Rattle.tc_isa.specs.declared.fields.Fields.{Fields}
 use Rattle.tc_isa.specs.Forms.{bounds}
-use Rattle.tc_isa.specs.InBounds.{IsBelow}
+use Rattle.tc_isa.specs.InBounds.{AreFieldsBelow}
 use Rattle.tc_stmt.specs.declared.want.Want.{Want}
 use Rattle.tc_stmt.specs.declared.want.Want.TheVariants.{Reg, A10, Number, Target, Absolute, Memory}
 use Rattle.tc_stmt.specs.RowFields.{field_of}
@@ -70,7 +70,7 @@ lexes-base false n rest ps small h =
 below_16 : (n b : ℕ) → n < b → b ≤ 16 → n < 2 ^ 64
 below_16 n b h most = omega arith
 
-pub lexes-operand : (r : RowData) (f : Fields) (w : Want) (rest : List ℕ) (ps : List PieceData) → suits r.form w ≡ true → IsBelow f (bounds r.form) → IsListingStop rest → Lexes rest ps
+pub lexes-operand : (r : RowData) (f : Fields) (w : Want) (rest : List ℕ) (ps : List PieceData) → suits r.form w ≡ true → AreFieldsBelow f (bounds r.form) → IsListingStop rest → Lexes rest ps
     → Lexes (operand_text r.form f w ++ rest) (operand_tokens r.form f w ++ ps)
 unfolding suits operand_text operand_tokens is_name_byte is_name_first is_digit
 lexes-operand r f (Reg bank field) rest ps s h stop go =
@@ -114,7 +114,7 @@ unfolding is_name_byte is_name_first is_digit
 others-stop r f [] rest stop = stop
 others-stop r f (w ∷ ws) rest stop = refl
 
-lexes-others : (r : RowData) (f : Fields) (ws : List Want) (rest : List ℕ) (ps : List PieceData) → list_all (suits r.form) ws ≡ true → IsBelow f (bounds r.form) → IsListingStop rest → Lexes rest ps
+lexes-others : (r : RowData) (f : Fields) (ws : List Want) (rest : List ℕ) (ps : List PieceData) → list_all (suits r.form) ws ≡ true → AreFieldsBelow f (bounds r.form) → IsListingStop rest → Lexes rest ps
     → Lexes (other_texts r f ws ++ rest) (other_tokens r f ws ++ ps)
 lexes-others r f [] rest ps s h stop go = go
 lexes-others r f (w ∷ ws) rest ps s h stop go =
@@ -132,7 +132,7 @@ abbrev pub row_tokens : RowData → Fields → List Want → List PieceData
 row_tokens r f [] = []
 row_tokens r f (w ∷ ws) = operand_tokens r.form f w ++ other_tokens r f ws
 
-pub lexes-operands : (r : RowData) (f : Fields) (ws : List Want) (rest : List ℕ) (ps : List PieceData) → list_all (suits r.form) ws ≡ true → IsBelow f (bounds r.form) → IsListingStop rest → Lexes rest ps
+pub lexes-operands : (r : RowData) (f : Fields) (ws : List Want) (rest : List ℕ) (ps : List PieceData) → list_all (suits r.form) ws ≡ true → AreFieldsBelow f (bounds r.form) → IsListingStop rest → Lexes rest ps
     → Lexes (operands_text r.form f ws ++ rest) (row_tokens r f ws ++ ps)
 unfolding operands_text
 lexes-operands r f [] rest ps s h stop go = go

@@ -7,7 +7,7 @@ use Rattle.std.proofs.lemmas.Bool.Decides.{nat_tests}
 use Rattle.tc_isa.specs.Rows.{RowData}
 use Rattle.tc_isa.specs.declared.fields.Fields.{Fields}
 use Rattle.tc_isa.specs.Forms.{bounds, form_index}
-use Rattle.tc_isa.specs.InBounds.{IsBelow}
+use Rattle.tc_isa.specs.InBounds.{AreFieldsBelow}
 use Rattle.tc_isa.specs.FromFields.{address_in_constant, code_address_in_constant}
 use Rattle.tc_lex.specs.declared.operand.Shape.TheVariants as shape
 use Rattle.tc_stmt.specs.declared.want.Field.TheVariants.{S2, K}
@@ -61,7 +61,7 @@ address-small r f = by_form (form_index r.form == 8)
     by_form false = omega arith
 
 -- the constant of an absolute address, by the form
-put_absolute-printed : (r : RowData) (f : Fields) (acc : RowFieldsData) → suits r.form Absolute ≡ true → IsBelow f (bounds r.form) → put_absolute r.form false (absolute_operand_address r.form f) acc ≡ with_value K f.k acc
+put_absolute-printed : (r : RowData) (f : Fields) (acc : RowFieldsData) → suits r.form Absolute ≡ true → AreFieldsBelow f (bounds r.form) → put_absolute r.form false (absolute_operand_address r.form f) acc ≡ with_value K f.k acc
 unfolding put_absolute absolute_operand_address suits
 put_absolute-printed r f acc s h = by_form (form_index r.form == 8) ((bounds r.form).k == 2 ^ 18) ((bounds r.form).k == 2 ^ 24) refl refl s
   where
@@ -79,7 +79,7 @@ put_absolute-printed r f acc s h = by_form (form_index r.form == 8) ((bounds r.f
     by_form true b d eb ed e = place-put f acc (short (eb ∙ e))
     by_form false b d eb ed e = code_place-put f acc (long (ed ∙ e))
 
-fill-absolute : (r : RowData) (f : Fields) (acc : RowFieldsData) → suits r.form Absolute ≡ true → IsBelow f (bounds r.form) → fill r Absolute (operand (operand_tokens r.form f Absolute)) acc ≡ Some (with_value K f.k acc)
+fill-absolute : (r : RowData) (f : Fields) (acc : RowFieldsData) → suits r.form Absolute ≡ true → AreFieldsBelow f (bounds r.form) → fill r Absolute (operand (operand_tokens r.form f Absolute)) acc ≡ Some (with_value K f.k acc)
 unfolding operand_tokens fill fill_plain fill_absolute shape_index absolute_text
 fill-absolute r f acc s h =
     ap (λ o. fill r Absolute o acc) (operand-one (48 ∷ 120 ∷ hex_word (absolute_operand_address r.form f)))
@@ -112,7 +112,7 @@ fill-offset r plus n v acc h below bound =
     put_number-offset x = unfold field_of in put_number-printed r true K v x below (even_of (bounds r.form).k bound)
 
 -- ---- each operand
-pub fill-printed : (r : RowData) (f : Fields) (w : Want) (acc : RowFieldsData) → suits r.form w ≡ true → IsBelow f (bounds r.form) → fill r w (operand (operand_tokens r.form f w)) acc ≡ Some (record acc { fields = with_wanted_fields f acc.fields w })
+pub fill-printed : (r : RowData) (f : Fields) (w : Want) (acc : RowFieldsData) → suits r.form w ≡ true → AreFieldsBelow f (bounds r.form) → fill r w (operand (operand_tokens r.form f w)) acc ≡ Some (record acc { fields = with_wanted_fields f acc.fields w })
 unfolding suits operand_tokens with_wanted_fields fill fill_plain fill_a10 shape_index
 fill-printed r f (Reg bank field) acc s h =
     let below = field_of-below field f (bounds r.form) h in
@@ -136,7 +136,7 @@ fill-printed r f (Memory plus false) acc s h =
     fill-base r plus f.s2 acc (omega arith)
 
 -- ---- all operands
-pub fill_all-printed : (r : RowData) (f : Fields) (ws : List Want) (acc : RowFieldsData) → list_all (suits r.form) ws ≡ true → IsBelow f (bounds r.form)
+pub fill_all-printed : (r : RowData) (f : Fields) (ws : List Want) (acc : RowFieldsData) → list_all (suits r.form) ws ≡ true → AreFieldsBelow f (bounds r.form)
     → fill_all r ws (map (λ w. operand (operand_tokens r.form f w)) ws) acc ≡ Some (record acc { fields = fold (with_wanted_fields f) acc.fields ws })
 unfolding fill_all
 fill_all-printed r f [] acc s h = refl

@@ -8,7 +8,7 @@ use Rattle.std.proofs.lemmas.Bool.Decides.{nat_tests}
 use Rattle.tc_isa.specs.Rows.{RowData, listed}
 use Rattle.tc_isa.specs.declared.fields.Fields.{Fields}
 use Rattle.tc_isa.specs.Forms.{bounds, fields}
-use Rattle.tc_isa.specs.InBounds.{IsBelow, AreSmall}
+use Rattle.tc_isa.specs.InBounds.{AreFieldsBelow, AreSmall}
 use Rattle.tc_isa.specs.ValidRowFields.{uses_of, are_unused_fields_zero, FieldsFitRow}
 use Rattle.tc_isa.specs.Insts.{InstData, IsInst, fields_in}
 use Rattle.tc_isa.proofs.Shaped.{small}
@@ -65,7 +65,7 @@ fields_back f ws small rest =
     ap (λ x. fields x g.s1 g.s2 g.n g.k) c ∙ ap (λ x. fields f.c x g.s2 g.n g.k) s1 ∙ ap (λ x. fields f.c f.s1 x g.n g.k) s2 ∙ ap (λ x. fields f.c f.s1 f.s2 x g.k) n ∙ ap (λ x. fields f.c f.s1 f.s2 f.n x) k
 
 -- ---- the text printed for each want
-printed_one : (r : RowData) (f : Fields) (w : Want) → suits r.form w ≡ true → IsBelow f (bounds r.form) → Prints w (operand (operand_tokens r.form f w))
+printed_one : (r : RowData) (f : Fields) (w : Want) → suits r.form w ≡ true → AreFieldsBelow f (bounds r.form) → Prints w (operand (operand_tokens r.form f w))
 unfolding suits operand_tokens
 printed_one r f (Reg bank field) s h =
     let below = field_of-below field f (bounds r.form) h in
@@ -91,7 +91,7 @@ printed_one r f (Memory plus true) s h =
     (f.s2, _, operand-offset plus (is_printed_minus true (bounds r.form).k f.k) f.s2 (printed_size true (bounds r.form).k f.k))
 printed_one r f (Memory plus false) s h = (f.s2, _, ap operand (append-nil (base_tokens plus f.s2)) ∙ operand-base plus f.s2)
 
-printed_all : (r : RowData) (f : Fields) (ws : List Want) → list_all (suits r.form) ws ≡ true → IsBelow f (bounds r.form) → AllPrint ws (map (λ w. operand (operand_tokens r.form f w)) ws)
+printed_all : (r : RowData) (f : Fields) (ws : List Want) → list_all (suits r.form) ws ≡ true → AreFieldsBelow f (bounds r.form) → AllPrint ws (map (λ w. operand (operand_tokens r.form f w)) ws)
 printed_all r f [] s h = tt
 printed_all r f (w ∷ ws) s h =
     let two = and_parts (suits r.form w) (list_all (suits r.form) ws) s in

@@ -10,7 +10,7 @@ use Rattle.elf_image.specs.Images.{SegmentData}
 use Rattle.tc_isa.specs.Rows.{RowData}
 use Rattle.tc_isa.specs.declared.fields.Fields.{Fields}
 use Rattle.tc_isa.specs.Forms.{bounds}
-use Rattle.tc_isa.specs.InBounds.{IsBelow}
+use Rattle.tc_isa.specs.InBounds.{AreFieldsBelow}
 use Rattle.tc_isa.specs.Insts.{InstData, IsInst, fields_in}
 use Rattle.tc_encode.specs.declared.errors.DecodeErr.{DecodeErr}
 use Rattle.tc_encode.specs.Decoding.{decoded_of}
@@ -73,7 +73,7 @@ length-hex_word x = omega arith
 within_16 : (n b : ℕ) → n < b → b ≤ 16 → n < 16
 within_16 n b h most = omega arith
 
-short-operand : (r : RowData) (f : Fields) (w : Want) → suits r.form w ≡ true → IsBelow f (bounds r.form) → length (operand_text r.form f w) ≤ 17
+short-operand : (r : RowData) (f : Fields) (w : Want) → suits r.form w ≡ true → AreFieldsBelow f (bounds r.form) → length (operand_text r.form f w) ≤ 17
 unfolding suits operand_text
 short-operand r f (Reg bank field) s h =
     let d = short-register bank (field_of field f) (within_16 (field_of field f) (field_of field (bounds r.form)) (field_of-below field f (bounds r.form) h) (at_most (field_of field (bounds r.form)) 16 s)) in
@@ -94,7 +94,7 @@ short-operand r f (Memory plus false) s h =
     let base = short-base plus f.s2 (within_16 f.s2 (bounds r.form).s2 h.s2 (at_most (bounds r.form).s2 16 s)) in
     omega (arith, length-append (base_text plus f.s2) [])
 
-short-others : (r : RowData) (f : Fields) (ws : List Want) → list_all (suits r.form) ws ≡ true → IsBelow f (bounds r.form) → length (other_texts r f ws) ≤ 19 * length ws
+short-others : (r : RowData) (f : Fields) (ws : List Want) → list_all (suits r.form) ws ≡ true → AreFieldsBelow f (bounds r.form) → length (other_texts r f ws) ≤ 19 * length ws
 short-others r f [] s h = omega arith
 short-others r f (w ∷ ws) s h =
     let two = and_parts (suits r.form w) (list_all (suits r.form) ws) s in
@@ -102,7 +102,7 @@ short-others r f (w ∷ ws) s h =
     let rest = short-others r f ws two.1 h in
     omega (arith, length-append (operand_text r.form f w) (other_texts r f ws))
 
-short-operands : (r : RowData) (f : Fields) (ws : List Want) → list_all (suits r.form) ws ≡ true → IsBelow f (bounds r.form) → length (operands_text r.form f ws) ≤ 19 * length ws
+short-operands : (r : RowData) (f : Fields) (ws : List Want) → list_all (suits r.form) ws ≡ true → AreFieldsBelow f (bounds r.form) → length (operands_text r.form f ws) ≤ 19 * length ws
 unfolding operands_text
 short-operands r f [] s h = omega arith
 short-operands r f (w ∷ ws) s h =
@@ -111,7 +111,7 @@ short-operands r f (w ∷ ws) s h =
     let rest = short-others r f ws two.1 h in
     omega (arith, length-append (operand_text r.form f w) (other_texts r f ws))
 
-short-row : (r : RowData) (f : Fields) → length r.name ≤ 16 → length (wants_of r) ≤ 4 → list_all (suits r.form) (wants_of r) ≡ true → IsBelow f (bounds r.form) → length (row_text r f) ≤ 92
+short-row : (r : RowData) (f : Fields) → length r.name ≤ 16 → length (wants_of r) ≤ 4 → list_all (suits r.form) (wants_of r) ≡ true → AreFieldsBelow f (bounds r.form) → length (row_text r f) ≤ 92
 unfolding row_text
 short-row r f name few s h =
     let operands = short-operands r f (wants_of r) s h in

@@ -1,7 +1,7 @@
 // Appends the text of an operand.
 ghost use Rattle.std.specs.Prelude.{◌≡◌, ◌≤◌, ◌*◌, ◌++◌, OnOk, string_bytes, ◌<◌, ◌^◌, codes};
 ghost use Rattle.tc_isa.specs.Forms.{bounds};
-ghost use Rattle.tc_isa.specs.InBounds.{IsBelow};
+ghost use Rattle.tc_isa.specs.InBounds.{AreFieldsBelow};
 ghost use Rattle.tc_isa.specs.FromFields.{code_address_in_constant};
 ghost use Rattle.tc_stmt.specs.declared.want.Want.TheVariants.{Memory};
 ghost use Rattle.tc_stmt.specs.RowFields.{field_of};
@@ -23,7 +23,7 @@ pub(crate) fn append_operand(
     f: &Fields,
     want: Want,
 ) -> Result<(), NoMemory>
-    requires { IsBelow f.now (bounds form) }
+    requires { AreFieldsBelow f.now (bounds form) }
     ensures { OnOk result
         (string_bytes text.new ≡ string_bytes text.old ++ operand_text form f.now want) }
 {
@@ -45,7 +45,7 @@ pub(crate) fn append_operands(
     f: &Fields,
     wants: &[Want],
 ) -> Result<(), NoMemory>
-    requires { IsBelow f.now (bounds form) }
+    requires { AreFieldsBelow f.now (bounds form) }
     ensures { OnOk result
         (string_bytes text.new ≡ string_bytes text.old ++ operands_text form f.now wants.now) }
 {
@@ -75,7 +75,7 @@ fn append_field(
     form: Form,
     f: &Fields,
 ) -> Result<(), NoMemory>
-    requires { IsBelow f.now (bounds form) }
+    requires { AreFieldsBelow f.now (bounds form) }
     ensures { OnOk result
         (string_bytes text.new
         ≡ string_bytes text.old
@@ -141,7 +141,7 @@ fn append_memory(
     plus: bool,
     offset: bool,
 ) -> Result<(), NoMemory>
-    requires { IsBelow f.now (bounds form) }
+    requires { AreFieldsBelow f.now (bounds form) }
     ensures { OnOk result
         (string_bytes text.new
         ≡ string_bytes text.old ++ operand_text form f.now (Memory plus offset)) }
@@ -200,7 +200,7 @@ fn append_other_operands(
     f: &Fields,
     wants: &[Want],
 ) -> Result<(), NoMemory>
-    requires { IsBelow f.now (bounds form) }
+    requires { AreFieldsBelow f.now (bounds form) }
     ensures { OnOk result
         (string_bytes text.new
         ≡ string_bytes text.old
@@ -214,7 +214,7 @@ fn append_other_operands(
 
 // Appends a comma and an operand.
 fn append_next(text: &mut String, form: Form, f: &Fields, want: Want) -> Result<(), NoMemory>
-    requires { IsBelow f.now (bounds form) }
+    requires { AreFieldsBelow f.now (bounds form) }
     ensures { OnOk result
         (string_bytes text.new
         ≡ string_bytes text.old ++ (codes ", " ++ operand_text form f.now want)) }

@@ -12,7 +12,7 @@ use Rattle.tc_isa.specs.declared.fields.Fields.{Fields}
 use Rattle.tc_isa.specs.declared.table.Form.{Form}
 use Rattle.tc_isa.specs.Rows.{RowData, listed}
 use Rattle.tc_isa.specs.Forms.{bounds, fields_of, second_code_by_form, form_index, is_long_form}
-use Rattle.tc_isa.specs.InBounds.{IsBelow}
+use Rattle.tc_isa.specs.InBounds.{AreFieldsBelow}
 use Rattle.tc_isa.specs.ValidRowFields.{FieldsFitRow, uses_of, are_unused_fields_zero, are_registers_apart}
 use Rattle.tc_isa.specs.Spelling.{word_of}
 use Rattle.tc_isa.specs.Insts.{InstData, IsInst, fields_in}
@@ -126,7 +126,7 @@ makes_of place w r f at is word short first second full rest apart =
     let row = row_at place r at in
     let small : is_long_form r.form ≡ false → w < 2 ^ 16 = λ e. short (even_of r.op1 w (row.size ∙ e) first) in
     record {
-      inst = record { row = r; at = at; fits = record { below = subst (λ (g : Fields). IsBelow g (bounds r.form)) (sym is) (fields_below r.form w word); zero = rest; apart = apart } };
+      inst = record { row = r; at = at; fits = record { below = subst (λ (g : Fields). AreFieldsBelow g (bounds r.form)) (sym is) (fields_below r.form w word); zero = rest; apart = apart } };
       is = ap (word_of r) is ∙ word_back r.form r.op1 r.op2 w word small first second full;
     }
 
@@ -174,7 +174,7 @@ one_plain : (u : Bool) (x b : ℕ) → (u || b == 1) ≡ true → x < b → (u |
 one_plain true x b e low = refl
 one_plain false x b e low = let one : b ≡ 1 = eqb-true b 1 e in eq-eqb x 0 (omega arith)
 
-pub plain_zero : (u : Uses) (f b : Fields) → names_or_lacks u b ≡ true → IsBelow f b → are_unused_fields_zero u f ≡ true
+pub plain_zero : (u : Uses) (f b : Fields) → names_or_lacks u b ≡ true → AreFieldsBelow f b → are_unused_fields_zero u f ≡ true
 plain_zero u f b e low =
     let p = and_parts _ _ e in let q = and_parts _ _ p.0 in let r = and_parts _ _ q.0 in let s = and_parts _ _ r.0 in
     and_from _ _ (and_from _ _ (and_from _ _ (and_from _ _

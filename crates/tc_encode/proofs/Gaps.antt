@@ -6,10 +6,10 @@ use Rattle.tc_isa.specs.declared.table.Form.{Form}
 use Rattle.tc_isa.specs.declared.table.Form.TheVariants.{Rlc, Rr, Sys, Sr, Sc, Sb, Sbr, Src, Srr, Slr, Ssr}
 use Rattle.tc_isa.specs.Forms.{bounds, second_bound, fields_of, second_code_by_form, is_long_form}
 use Rattle.tc_isa.specs.Spelling.{word_by_form}
-use Rattle.tc_isa.specs.InBounds.{IsBelow}
+use Rattle.tc_isa.specs.InBounds.{AreFieldsBelow}
 use Rattle.tc_encode.specs.WordSearch.{has_zero_word_gaps}
 
-pub fields_below : (form : Form) (w : ℕ) → w < 2 ^ 32 → IsBelow (fields_of form w) (bounds form)
+pub fields_below : (form : Form) (w : ℕ) → w < 2 ^ 32 → AreFieldsBelow (fields_of form w) (bounds form)
 unfolding fields_of bounds
 fields_below Rlc w h = record { c = omega arith; s1 = omega arith; s2 = omega arith; n = omega arith; k = omega arith }
 fields_below _ w h = record { c = omega arith; s1 = omega arith; s2 = omega arith; n = omega arith; k = omega arith }
@@ -28,7 +28,7 @@ word_back Slr op1 op2 w h short first second full = let small = short refl in om
 word_back Ssr op1 op2 w h short first second full = let small = short refl in omega arith
 word_back _ op1 op2 w h short first second full = omega arith
 
-pub full_word : (form : Form) (op1 op2 : ℕ) (f : Fields) → op1 < 256 → op2 < second_bound form → IsBelow f (bounds form) → has_zero_word_gaps form (word_by_form form op1 op2 f) ≡ true
+pub full_word : (form : Form) (op1 op2 : ℕ) (f : Fields) → op1 < 256 → op2 < second_bound form → AreFieldsBelow f (bounds form) → has_zero_word_gaps form (word_by_form form op1 op2 f) ≡ true
 unfolding word_by_form bounds second_bound has_zero_word_gaps
 full_word Rr op1 op2 f first second below = let w = word_by_form Rr op1 op2 f in eq-eqb (w / 2 ^ 18 % 4) 0 (omega arith)
 full_word Sys op1 op2 f first second below = let w = word_by_form Sys op1 op2 f in and_from _ _ (eq-eqb (w / 2 ^ 28) 0 (omega arith)) (eq-eqb (w / 2 ^ 8 % 2 ^ 14) 0 (omega arith))

@@ -6,7 +6,7 @@ use Rattle.tc_isa.specs.declared.fields.Fields.{Fields}
 use Rattle.tc_isa.specs.Rows.{RowData, listed}
 use Rattle.tc_isa.specs.Forms.{bounds, fields_of}
 use Rattle.tc_isa.specs.ValidRowFields.{uses_of, are_unused_fields_zero, are_registers_apart, least_fields}
-use Rattle.tc_isa.specs.InBounds.{is_below_test}
+use Rattle.tc_isa.specs.InBounds.{are_fields_below}
 use Rattle.tc_isa.specs.Spelling.{spelling, Spells}
 use Rattle.tc_isa.specs.Insts.{InstData}
 use Rattle.tc_encode.specs.declared.errors.DecodeErr.{DecodeErr}
@@ -24,7 +24,7 @@ decoded_row_length r = decoded_length r.op1
 -- decoded fields fit the row: they are below the bounds of its form, those that the row doesn't
 -- have are 0, and its registers are apart
 abbrev pub are_fitting_fields : RowData → Fields → Bool
-are_fitting_fields r f = is_below_test f (bounds r.form) && are_unused_fields_zero (uses_of r) f && are_registers_apart r f
+are_fitting_fields r f = are_fields_below f (bounds r.form) && are_unused_fields_zero (uses_of r) f && are_registers_apart r f
 
 -- the fields at the front of the bytes, in the row's form
 abbrev pub fields_at : List ℕ → RowData → Fields

@@ -2,7 +2,7 @@
 ghost use Rattle.std.specs.Prelude.{◌≡◌, ◌<◌, ◌^◌, ◌↔◌, IsTrue};
 ghost use Rattle.tc_isa.specs.Forms.{bounds, second_bound, fields_of, second_code_by_form};
 ghost use Rattle.tc_isa.specs.Spelling.{word_by_form};
-ghost use Rattle.tc_isa.specs.InBounds.{IsBelow};
+ghost use Rattle.tc_isa.specs.InBounds.{AreFieldsBelow};
 
 use tc_isa::{Fields, Form};
 
@@ -139,7 +139,7 @@ pub fn second_code(form: Form, w: u32) -> u8
 #[tactic(auto, unfolding(tc_isa::specs::Spelling::word_by_form, tc_isa::specs::Forms::bounds, tc_isa::specs::Forms::second_bound))]
 pub fn word_of_fields(form: Form, op1: u8, op2: u8, f: &Fields) -> u32
     requires second { op2 < second_bound form }
-    requires below { IsBelow f.now (bounds form) }
+    requires below { AreFieldsBelow f.now (bounds form) }
     ensures { result ≡ word_by_form form op1 op2 f.now }
 {
     let op1 = u32::from(op1);

@@ -2,7 +2,7 @@
 ghost use Rattle.std.specs.Prelude.{◌≡◌, ◌<◌, ◌%◌, ◌^◌, ℕ, IfSome, IfNone, slice_get, Some};
 ghost use Rattle.tc_isa.specs.Rows.{RowData, row_of, listed};
 ghost use Rattle.tc_isa.specs.Forms.{second_code_by_form, bounds};
-ghost use Rattle.tc_isa.specs.InBounds.{IsBelow};
+ghost use Rattle.tc_isa.specs.InBounds.{AreFieldsBelow};
 ghost use Rattle.tc_isa.specs.ValidRowFields.{uses_of, are_unused_fields_zero};
 ghost use Rattle.tc_isa.specs.Insts.{InstData};
 ghost use Rattle.tc_encode.specs.WordSearch.{Makes, has_zero_word_gaps};
@@ -10,7 +10,7 @@ ghost use Rattle.tc_encode.specs.WordSearch.{Makes, has_zero_word_gaps};
 use crate::forms::{fields_of_word, second_code};
 use crate::index::{form_by, index_by_codes, place_in_code_index, plain_rows};
 use tc_isa::{
-    Fields, Form, Inst, ROW_COUNT, Row, are_registers_apart, is_zero_elsewhere, rows, uses,
+    Fields, Form, Inst, ROW_COUNT, Row, are_registers_apart, is_zero_elsewhere, rows, uses_by_row,
 };
 
 /// Returns the instruction of a word, which has 16 bits if its lowest byte is even.
@@ -104,9 +104,9 @@ fn has_zero_word_gaps(form: Form, w: u32) -> bool
 fn has_zero_other_fields(place: u8, row: &Row, f: &Fields) -> bool
     requires place { slice_get listed place ≡ Some (row_of row.now) }
     requires within { place < ROW_COUNT }
-    requires below { IsBelow f.now (bounds row.now.form) }
+    requires below { AreFieldsBelow f.now (bounds row.now.form) }
     ensures { result ≡ are_unused_fields_zero (uses_of (row_of row.now)) f.now }
 {
     let at = usize::from(place);
-    plain_rows()[at] || is_zero_elsewhere(&uses()[at], f)
+    plain_rows()[at] || is_zero_elsewhere(&uses_by_row()[at], f)
 }

@@ -11,13 +11,13 @@ use Rattle.tc_isa.specs.declared.table.Form.{Form}
 use Rattle.tc_isa.specs.declared.table.Form.TheVariants.{Rlc}
 use Rattle.tc_isa.specs.Rows.{listed}
 use Rattle.tc_isa.specs.Forms.{bounds}
-use Rattle.tc_isa.specs.InBounds.{IsBelow, AreSmall}
+use Rattle.tc_isa.specs.InBounds.{AreFieldsBelow, AreSmall}
 use Rattle.tc_isa.specs.Insts.{InstData, IsInst, fields_in}
 use Rattle.tc_isa.specs.Meanings.{MeaningLine, meanings, meaning_by_line, shape_of}
 use Rattle.tc_isa.specs.FromFields.{shape_from_fields}
 
 -- bounds of the fields of a form
-small_in : (form : Form) (f : Fields) → IsBelow f (bounds form) → AreSmall f
+small_in : (form : Form) (f : Fields) → AreFieldsBelow f (bounds form) → AreSmall f
 unfolding bounds
 small_in Rlc f b = record { c = omega arith; s1 = omega arith; s2 = omega arith; n = omega arith; k = omega arith }
 small_in _ f b = record { c = omega arith; s1 = omega arith; s2 = omega arith; n = omega arith; k = omega arith }

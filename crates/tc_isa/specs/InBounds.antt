@@ -59,7 +59,7 @@ pub record AreSmall (f : Fields) : Type 0 where
   pub k : f.k < 2 ^ 24
 
 -- each field is below its bound; a field that the form doesn't have has the bound 1
-pub record IsBelow (f bounds : Fields) : Type 0 where
+pub record AreFieldsBelow (f bounds : Fields) : Type 0 where
   pub c : f.c < bounds.c
   pub s1 : f.s1 < bounds.s1
   pub s2 : f.s2 < bounds.s2
@@ -67,5 +67,5 @@ pub record IsBelow (f bounds : Fields) : Type 0 where
   pub k : f.k < bounds.k
 
 -- each field is below its bound
-abbrev pub is_below_test : Fields → Fields → Bool
-is_below_test f b = nat_lt f.c b.c && nat_lt f.s1 b.s1 && nat_lt f.s2 b.s2 && nat_lt f.n b.n && nat_lt f.k b.k
+abbrev pub are_fields_below : Fields → Fields → Bool
+are_fields_below f b = nat_lt f.c b.c && nat_lt f.s1 b.s1 && nat_lt f.s2 b.s2 && nat_lt f.n b.n && nat_lt f.k b.k

@@ -5,7 +5,7 @@ use Rattle.tc_isa.specs.Rows.{RowData, is_long}
 use Rattle.tc_isa.specs.declared.fields.Fields.{Fields}
 use Rattle.tc_isa.specs.declared.fields.Uses.{Uses}
 use Rattle.tc_isa.specs.Forms.{bounds, second_bound, fields, is_long_form, form_index}
-use Rattle.tc_isa.specs.InBounds.{IsBelow, is_below_test}
+use Rattle.tc_isa.specs.InBounds.{AreFieldsBelow, are_fields_below}
 
 -- these two characters stand side by side in the text of a row's operands: s1 or s2 for the field
 -- of that name, or k4 for a constant, which is in s2
@@ -42,7 +42,7 @@ are_registers_apart r f = not ((r.op1 == 9 || r.op1 == 137) && r.op2 == 6) || no
 -- the fields are valid for the row: below the bounds of its form, 0 if the row doesn't have them,
 -- and with its registers apart
 pub record FieldsFitRow (r : RowData) (f : Fields) : Type 0 where
-  pub below : IsBelow f (bounds r.form)
+  pub below : AreFieldsBelow f (bounds r.form)
   pub zero : are_unused_fields_zero (uses_of r) f ≡ true
   pub apart : are_registers_apart r f ≡ true
 
@@ -64,7 +64,7 @@ pub record IsRow (r : RowData) : Type 0 where
 
 -- the test of IsRow
 unfoldable pub is_row : RowData → Bool
-is_row r = nat_lt r.op1 256 && nat_lt r.op2 (second_bound r.form) && is_below_test (least_fields r) (bounds r.form) && are_unused_fields_zero (uses_of r) (least_fields r) && are_registers_apart r (least_fields r) && are_bools_equal (is_long r) (is_long_form r.form)
+is_row r = nat_lt r.op1 256 && nat_lt r.op2 (second_bound r.form) && are_fields_below (least_fields r) (bounds r.form) && are_unused_fields_zero (uses_of r) (least_fields r) && are_registers_apart r (least_fields r) && are_bools_equal (is_long r) (is_long_form r.form)
 
 -- two rows clash if some word could be both: they have one first code, and different forms or equal
 -- second codes

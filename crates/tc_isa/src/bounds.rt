@@ -1,7 +1,7 @@
 // The bounds of the operand fields, form by form.
 ghost use Rattle.std.specs.Prelude.{◌≡◌, ◌↔◌, IsTrue};
 ghost use Rattle.tc_isa.specs.Forms.{bounds};
-ghost use Rattle.tc_isa.specs.InBounds.{IsBelow};
+ghost use Rattle.tc_isa.specs.InBounds.{AreFieldsBelow};
 
 use crate::{Fields, Form};
 
@@ -115,7 +115,7 @@ pub fn bounds_of(form: Form) -> Fields
 
 /// Returns true if each field is below its bound.
 pub fn are_below_bounds(f: &Fields, bounds: &Fields) -> bool
-    ensures { IsTrue result ↔ IsBelow f.now bounds.now }
+    ensures { IsTrue result ↔ AreFieldsBelow f.now bounds.now }
 {
     f.c < bounds.c && f.s1 < bounds.s1 && f.s2 < bounds.s2 && f.n < bounds.n && f.k < bounds.k
 }

@@ -5,7 +5,7 @@ ghost use Rattle.tc_isa.specs.ValidRowFields.{FieldsFitRow, uses_of, are_registe
 ghost use Rattle.tc_isa.specs.Insts.{IsInst};
 
 use crate::bounds::{are_below_bounds, bounds_of};
-use crate::row_uses::{is_zero_elsewhere, uses};
+use crate::row_uses::{is_zero_elsewhere, uses_by_row};
 use crate::{Fields, Inst, Row, Uses, rows};
 
 /// The first code of loads with a base and an offset of 10 bits, post-increment among them.
@@ -31,7 +31,7 @@ pub fn inst(row: u8, c: u8, s1: u8, s2: u8, n: u8, k: u32) -> Option<Inst>
         return None;
     }
     let fields = Fields { c, s1, s2, n, k };
-    if !are_fitting_fields(&rows[place], &uses()[place], &fields) {
+    if !are_fitting_fields(&rows[place], &uses_by_row()[place], &fields) {
         return None;
     }
     Some(Inst {

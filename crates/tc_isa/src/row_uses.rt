@@ -247,7 +247,7 @@ static USES: [Uses; ROW_COUNT] = [
 ];
 
 /// Returns the fields that each row has, in the order of the rows.
-pub fn uses() -> &'static [Uses]
+pub fn uses_by_row() -> &'static [Uses]
     ensures { result.now ≡ map uses_of listed }
 {
     &USES

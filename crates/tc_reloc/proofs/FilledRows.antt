@@ -11,7 +11,7 @@ use Rattle.tc_isa.specs.declared.table.Form.TheVariants.{Rlc, Bol, Brr, Brc, B}
 use Rattle.tc_isa.specs.Rows.{RowData, listed, is_long}
 use Rattle.tc_isa.specs.Forms.{bounds, second_bound}
 use Rattle.tc_isa.specs.Spelling.{word_by_form, spelling_of, spelling, word_of}
-use Rattle.tc_isa.specs.InBounds.{IsBelow}
+use Rattle.tc_isa.specs.InBounds.{AreFieldsBelow}
 use Rattle.tc_isa.specs.declared.fields.Uses.{Uses}
 use Rattle.tc_isa.specs.ValidRowFields.{uses_of, are_unused_fields_zero, FieldsFitRow, IsRow}
 use Rattle.tc_isa.proofs.TableFacts.{row_at}
@@ -25,7 +25,7 @@ unfolding bits_outside_reloc_field reloc_field_bits word_by_form
 jump_word kind op1 op2 n f less (inl e) = let P : ℕ → Type 0 = λ k. bits_outside_reloc_field k (word_by_form B op1 op2 f) + reloc_field_bits k n ≡ word_by_form B op1 op2 (record f { k = n }) in subst P (sym e) (omega arith)
 jump_word kind op1 op2 n f less (inr e) = let P : ℕ → Type 0 = λ k. bits_outside_reloc_field k (word_by_form B op1 op2 f) + reloc_field_bits k n ≡ word_by_form B op1 op2 (record f { k = n }) in subst P (sym e) (omega arith)
 
-filled_word : (form : Form) (kind op1 op2 n : ℕ) (f : Fields) → can_relocation_fill form kind ≡ true → op1 < 2 ^ 8 → op2 < second_bound form → IsBelow f (bounds form) →
+filled_word : (form : Form) (kind op1 op2 n : ℕ) (f : Fields) → can_relocation_fill form kind ≡ true → op1 < 2 ^ 8 → op2 < second_bound form → AreFieldsBelow f (bounds form) →
     bits_outside_reloc_field kind (word_by_form form op1 op2 f) + reloc_field_bits kind n ≡ word_by_form form op1 op2 (record f { k = n })
 unfolding bits_outside_reloc_field reloc_field_bits word_by_form bounds second_bound can_relocation_fill
 filled_word B kind op1 op2 n f e less small below = by (or_cases (kind == 1) (kind == 2) e)
@@ -70,7 +70,7 @@ word_bytes w small =
     ap (λ n. w % 256 ∷ w / 2 ^ 8 % 256 ∷ w / 2 ^ 16 % 256 ∷ n ∷ []) last
 
 -- a word with a number that the field holds is a word
-room_below : (form : Form) (kind op1 op2 n : ℕ) (f : Fields) → can_relocation_fill form kind ≡ true → op1 < 2 ^ 8 → op2 < second_bound form → IsBelow f (bounds form) → n < reloc_field_bound kind → word_by_form form op1 op2 (record f { k = n }) < 2 ^ 32
+room_below : (form : Form) (kind op1 op2 n : ℕ) (f : Fields) → can_relocation_fill form kind ≡ true → op1 < 2 ^ 8 → op2 < second_bound form → AreFieldsBelow f (bounds form) → n < reloc_field_bound kind → word_by_form form op1 op2 (record f { k = n }) < 2 ^ 32
 unfolding word_by_form bounds second_bound can_relocation_fill reloc_field_bound
 room_below B kind op1 op2 n f e less small below room = by (or_cases (kind == 1) (kind == 2) e)
   where

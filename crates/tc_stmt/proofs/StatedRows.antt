@@ -11,7 +11,7 @@ use Rattle.tc_isa.specs.declared.fields.Fields.{Fields}
 use Rattle.tc_isa.specs.declared.fields.Uses.{Uses}
 use Rattle.tc_isa.specs.Rows.{RowData, listed, is_long}
 use Rattle.tc_isa.specs.Forms.{bounds, form_index}
-use Rattle.tc_isa.specs.InBounds.{IsBelow}
+use Rattle.tc_isa.specs.InBounds.{AreFieldsBelow}
 use Rattle.tc_isa.specs.ValidRowFields.{IsRow, uses_of, are_unused_fields_zero, are_registers_apart}
 use Rattle.tc_isa.proofs.TableFacts.{row_at}
 use Rattle.tc_lex.specs.declared.operand.Shape.{Shape}
@@ -70,7 +70,7 @@ row_suit k r at = and_parts (list_all (suits r) (wants_of r)) (halves_long r) (o
 
 -- ---- the fields so far
 pub record Sound (r : RowData) (f : RowFieldsData) : Type 0 where
-  pub below : IsBelow f.fields (bounds r.form)
+  pub below : AreFieldsBelow f.fields (bounds r.form)
   pub zero : are_unused_fields_zero (uses_of r) f.fields ≡ true
   pub symbols : TakesAnySymbol r f.reference
 
@@ -121,7 +121,7 @@ zero_put K u f v h z = by u.k (f.k == 0) (v == 0) (u.c || f.c == 0) (u.s1 || f.s
 byte_below : (v b : ℕ) → v < b → v % 256 < b
 byte_below v b h = omega arith
 
-below_put : (field : Field) (b f : Fields) (v : ℕ) → v < field_of field b → IsBelow f b → IsBelow (set_field field v f) b
+below_put : (field : Field) (b f : Fields) (v : ℕ) → v < field_of field b → AreFieldsBelow f b → AreFieldsBelow (set_field field v f) b
 unfolding set_field field_of
 below_put C b f v h s = record { c = byte_below v b.c h; s1 = s.s1; s2 = s.s2; n = s.n; k = s.k }
 below_put S1 b f v h s = record { c = s.c; s1 = byte_below v b.s1 h; s2 = s.s2; n = s.n; k = s.k }
@@ -136,7 +136,7 @@ sound_put r field v f used less s = record {
   symbols = s.symbols;
 }
 
-more_than_none : (field : Field) (b f : Fields) → IsBelow f b → 0 < field_of field b
+more_than_none : (field : Field) (b f : Fields) → AreFieldsBelow f b → 0 < field_of field b
 unfolding field_of
 more_than_none C b f s = let h = s.c in omega arith
 more_than_none S1 b f s = let h = s.s1 in omega arith

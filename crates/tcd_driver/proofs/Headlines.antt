@@ -30,7 +30,7 @@ use Rattle.depth_cert.specs.Certs.{CertData, IsCert}
 use Rattle.depth_cert.specs.Spelling.{bytes_of_cert}
 use Rattle.depth_cert.proofs.BackLaws.{written_is_read}
 use Rattle.cfg_recover.specs.Entries.{start_key, start_state}
-use Rattle.cfg_recover.specs.RulesHoldOrFail.{HasPoint, Accepts, IsFirstFault, certified_need}
+use Rattle.cfg_recover.specs.RulesHoldOrFail.{HasCoveringPoint, Accepts, IsFirstFault, certified_need}
 use Rattle.cfg_recover.proofs.FaultLaws.{fails_refutes}
 use Rattle.depth_maker.specs.LeastCertMade.{IsMade}
 use Rattle.depth_maker.specs.Answers.{NoneAccepted}
@@ -136,12 +136,12 @@ each_said form most Is tells place m (name ∷ names) next r good (inr s) =
     (s.0 ∷ rest.0, (tells place m name s.0 s.1, rest.1), rest.2)
 
 -- a file that isn't in its form: it is too long, or it has a fault
-too_long_of : {A : Type 0} (form : FormSeen A) (m : FileMap) (name line plain : List ℕ) → form.long_line ≡ plain → (o : Option (List ℕ)) → get m name ≡ o → IsSomeAnd o (λ bytes. form.limit < length bytes) → line ≡ form.long_line →
+too_long_of : {A : Type 0} (form : FormSeen A) (m : FileMap) (name line plain : List ℕ) → form.too_long_line ≡ plain → (o : Option (List ℕ)) → get m name ≡ o → IsSomeAnd o (λ bytes. form.limit < length bytes) → line ≡ form.too_long_line →
     IsBadFile m name form.limit plain form.IsBad line
 too_long_of form m name line plain is None held long e = absurd long
 too_long_of form m name line plain is (Some bytes) held long e = too_long bytes held long (e ∙ is)
 
-pub bad_file : {A : Type 0} (form : FormSeen A) (m : FileMap) (name line plain : List ℕ) → form.long_line ≡ plain → IsInputRefusal form (Some m) name line → IsBadFile m name form.limit plain form.IsBad line
+pub bad_file : {A : Type 0} (form : FormSeen A) (m : FileMap) (name line plain : List ℕ) → form.too_long_line ≡ plain → IsInputRefusal form (Some m) name line → IsBadFile m name form.limit plain form.IsBad line
 bad_file form m name line plain is (inputs.long long e) = too_long_of form m name line plain is (get m name) refl long e
 bad_file form m name line plain is (inputs.bad bytes held short why) = faulty (record { bytes = bytes; held = held; short = short; form = why })
 
@@ -157,7 +157,7 @@ a_node (Some n) P h = (n, refl)
 
 pub accepted_of : (i : ImageData) (p : PlanData) (c : CertData) → Accepts i p c → IsAcceptedWithNeed i p c (certified_need i p c)
 accepted_of i p c accepted =
-    let n = a_node (find_node (start_key i p) c.nodes) (λ n. HasPoint n i.entry (start_state p)) accepted.start in
+    let n = a_node (find_node (start_key i p) c.nodes) (λ n. HasCoveringPoint n i.entry (start_state p)) accepted.start in
     record { accepted = accepted; start = n.0; start_is = n.1; need_is = ap need_of n.1 }
 
 -- the certificate that is made for a format is the least of this format

@@ -16,7 +16,7 @@ use Rattle.tcd_driver.specs.BadInputLines.{bad_cells_line, bad_tasks_line}
 abbrev pub cells_form : PlanData → FormSeen (List Cell)
 cells_form p = record {
   limit = 2 ^ 24;
-  long_line = long_cells_line;
+  too_long_line = long_cells_line;
   Is = λ bytes cells. Reads p bytes (Ok cells);
   IsBad = λ bytes text. (e : CellsErr) × Reads p bytes (Err e) × (text ≡ bad_cells_line e);
 }
@@ -25,7 +25,7 @@ cells_form p = record {
 abbrev pub tasks_form : PlanData → FormSeen TasksData
 tasks_form p = record {
   limit = 2 ^ 24;
-  long_line = long_tasks_line;
+  too_long_line = long_tasks_line;
   Is = λ bytes list. tasks.Reads p (text_lines bytes) (Ok list);
   IsBad = λ bytes text. (e : TasksErr) × tasks.Reads p (text_lines bytes) (Err e) × (text ≡ bad_tasks_line e);
 }

@@ -67,9 +67,9 @@ HoldEachFile m most Is (name ∷ names) (x ∷ xs) = HoldsFile m name most (λ b
 
 -- In the headlines: the file has more than `most` bytes, or its bytes have a fault. `line` is the
 -- line that says so.
-pub data IsBadFile (m : FileMap) (name : List ℕ) (most : ℕ) (long_line : List ℕ) (HasFault : List ℕ → List ℕ → Type 0) (line : List ℕ) : Type 0 where
-  too_long : (bytes : List ℕ) → get m name ≡ Some bytes → most < length bytes → line ≡ long_line → IsBadFile m name most long_line HasFault line
-  faulty : HoldsFile m name most (λ bytes. HasFault bytes line) → IsBadFile m name most long_line HasFault line
+pub data IsBadFile (m : FileMap) (name : List ℕ) (most : ℕ) (too_long_line : List ℕ) (HasFault : List ℕ → List ℕ → Type 0) (line : List ℕ) : Type 0 where
+  too_long : (bytes : List ℕ) → get m name ≡ Some bytes → most < length bytes → line ≡ too_long_line → IsBadFile m name most too_long_line HasFault line
+  faulty : HoldsFile m name most (λ bytes. HasFault bytes line) → IsBadFile m name most too_long_line HasFault line
 
 -- an executable and its plan
 pub record AreFirmwareFiles (before : FileMap) (elf_name plan_name : List ℕ) (image : ImageData) (plan : PlanData) : Type 0 where

@@ -29,7 +29,7 @@ impl<'a> Form for CellsFile<'a> {
         LIMIT
     }
 
-    fn long_line(&self, alloc: Global) -> Result<Vec<u8>, NoMemory> {
+    fn too_long_line(&self, alloc: Global) -> Result<Vec<u8>, NoMemory> {
         copy_printed_line(alloc, long_cells_line())
     }
 
@@ -62,7 +62,7 @@ impl<'a> Form for TasksFile<'a> {
         LIMIT
     }
 
-    fn long_line(&self, alloc: Global) -> Result<Vec<u8>, NoMemory> {
+    fn too_long_line(&self, alloc: Global) -> Result<Vec<u8>, NoMemory> {
         copy_printed_line(alloc, long_tasks_line())
     }
 

@@ -29,7 +29,7 @@ use Rattle.tcd_forms.specs.Lines.{long_elf_line, bad_elf_line, long_plan_line, b
 abbrev pub elf_form : FormSeen ImageData
 elf_form = record {
   limit = 2 ^ 24;
-  long_line = long_elf_line;
+  too_long_line = long_elf_line;
   Is = λ bytes image. image_of_file bytes ≡ Ok image;
   IsBad = λ bytes text. (e : ImageErr) × (image_of_file bytes ≡ Err e) × (text ≡ bad_elf_line e);
 }
@@ -38,7 +38,7 @@ elf_form = record {
 abbrev pub plan_form : FormSeen PlanData
 plan_form = record {
   limit = 2 ^ 24;
-  long_line = long_plan_line;
+  too_long_line = long_plan_line;
   Is = λ bytes p. GivesPlan bytes (Ok p);
   IsBad = λ bytes text. (e : PlanErr) × AnswersPlan bytes (Err e) × (e ≢ plan.NoMemory) × (text ≡ bad_plan_line e);
 }
@@ -47,7 +47,7 @@ plan_form = record {
 abbrev pub cert_form : FormSeen CertData
 cert_form = record {
   limit = 2 ^ 30;
-  long_line = long_cert_line;
+  too_long_line = long_cert_line;
   Is = λ bytes cert. certificate_of bytes ≡ Ok cert;
   IsBad = λ bytes text. (e : FormErr) × (certificate_of bytes ≡ Err e) × (text ≡ bad_cert_line e);
 }
@@ -56,7 +56,7 @@ cert_form = record {
 abbrev pub script_form : PlanData → FormSeen ScriptData
 script_form p = record {
   limit = 2 ^ 24;
-  long_line = long_script_line;
+  too_long_line = long_script_line;
   Is = λ bytes script. script_of p bytes ≡ Ok script;
   IsBad = λ bytes text. (e : ScriptErr) × (script_of p bytes ≡ Err e) × (text ≡ bad_script_line e);
 }
@@ -71,7 +71,7 @@ pub record IsSource (bytes : List ℕ) (object : ObjectData) : Type 0 where
 abbrev pub source_form : FormSeen ObjectData
 source_form = record {
   limit = 2 ^ 24;
-  long_line = long_source_line 0;
+  too_long_line = long_source_line 0;
   Is = λ bytes object. IsSource bytes object;
   IsBad = λ bytes text. (line : ℕ) × (rule : ℕ) × IsLeastBrokenLine (lines_in bytes) line rule × (text ≡ bad_source_line 0 rule line);
 }
@@ -85,7 +85,7 @@ pub record SourceData : Type 0 where
 abbrev pub placed_source_form : ℕ → FormSeen SourceData
 placed_source_form place = record {
   limit = 2 ^ 24;
-  long_line = long_source_line place;
+  too_long_line = long_source_line place;
   Is = λ bytes source. (source.text ≡ bytes) × IsSource bytes source.object;
   IsBad = λ bytes text. (line : ℕ) × (rule : ℕ) × IsLeastBrokenLine (lines_in bytes) line rule × (text ≡ bad_source_line place rule line);
 }
@@ -94,7 +94,7 @@ placed_source_form place = record {
 abbrev pub layout_form : FormSeen LayoutData
 layout_form = record {
   limit = 2 ^ 24;
-  long_line = long_layout_line;
+  too_long_line = long_layout_line;
   Is = λ bytes l. layout_of bytes ≡ Ok l;
   IsBad = λ bytes text. (e : LayoutErr) × (layout_of bytes ≡ Err e) × (text ≡ bad_layout_line e);
 }
@@ -103,7 +103,7 @@ layout_form = record {
 abbrev pub object_form : ℕ → FormSeen ObjectData
 object_form place = record {
   limit = 2 ^ 24;
-  long_line = long_object_line place;
+  too_long_line = long_object_line place;
   Is = λ bytes object. grammar.object_of bytes ≡ Ok object;
   IsBad = λ bytes text. (e : FormErr) × (grammar.object_of bytes ≡ Err e) × (text ≡ bad_object_line place e);
 }

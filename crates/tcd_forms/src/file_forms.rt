@@ -41,7 +41,7 @@ impl Form for ElfFile {
         LIMIT
     }
 
-    fn long_line(&self, alloc: Global) -> Result<Vec<u8>, NoMemory> {
+    fn too_long_line(&self, alloc: Global) -> Result<Vec<u8>, NoMemory> {
         copy_printed_line(alloc, long_elf_line())
     }
 
@@ -70,7 +70,7 @@ impl Form for PlanFile {
         LIMIT
     }
 
-    fn long_line(&self, alloc: Global) -> Result<Vec<u8>, NoMemory> {
+    fn too_long_line(&self, alloc: Global) -> Result<Vec<u8>, NoMemory> {
         copy_printed_line(alloc, long_plan_line())
     }
 
@@ -99,7 +99,7 @@ impl Form for CertFile {
         CERT_LIMIT
     }
 
-    fn long_line(&self, alloc: Global) -> Result<Vec<u8>, NoMemory> {
+    fn too_long_line(&self, alloc: Global) -> Result<Vec<u8>, NoMemory> {
         copy_printed_line(alloc, long_cert_line())
     }
 
@@ -133,7 +133,7 @@ impl<'a> Form for ScriptFile<'a> {
         LIMIT
     }
 
-    fn long_line(&self, alloc: Global) -> Result<Vec<u8>, NoMemory> {
+    fn too_long_line(&self, alloc: Global) -> Result<Vec<u8>, NoMemory> {
         copy_printed_line(alloc, long_script_line())
     }
 
@@ -162,7 +162,7 @@ impl Form for SourceFile {
         LIMIT
     }
 
-    fn long_line(&self, alloc: Global) -> Result<Vec<u8>, NoMemory> {
+    fn too_long_line(&self, alloc: Global) -> Result<Vec<u8>, NoMemory> {
         long_source_line(alloc, 0)
     }
 
@@ -216,7 +216,7 @@ impl Form for PlacedSourceFile {
         LIMIT
     }
 
-    fn long_line(&self, alloc: Global) -> Result<Vec<u8>, NoMemory> {
+    fn too_long_line(&self, alloc: Global) -> Result<Vec<u8>, NoMemory> {
         long_source_line(alloc, self.place)
     }
 
@@ -251,7 +251,7 @@ impl Form for LayoutFile {
         LIMIT
     }
 
-    fn long_line(&self, alloc: Global) -> Result<Vec<u8>, NoMemory> {
+    fn too_long_line(&self, alloc: Global) -> Result<Vec<u8>, NoMemory> {
         copy_printed_line(alloc, long_layout_line())
     }
 
@@ -285,7 +285,7 @@ impl<'a> Form for ObjectFile<'a> {
         LIMIT
     }
 
-    fn long_line(&self, alloc: Global) -> Result<Vec<u8>, NoMemory> {
+    fn too_long_line(&self, alloc: Global) -> Result<Vec<u8>, NoMemory> {
         long_object_line(alloc, self.place)
     }
 

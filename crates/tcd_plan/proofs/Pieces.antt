@@ -9,7 +9,7 @@ use Rattle.tcd_plan.specs.ValueForms.{are_irqs_above, has_value_form, is_range_l
 use Rattle.tcd_plan.specs.PlanData.{is_device, is_range}
 use Rattle.tcd_plan.specs.PlanReader.{plan_device_of, irq_of, plan_range_of}
 use Rattle.tcd_plan.specs.JsonValues.{is_object, json_number_at, json_number_of, json_word_at}
-use Rattle.tcd_plan.specs.declared.key_table.Form.TheVariants.{At, Len, Hi}
+use Rattle.tcd_plan.specs.declared.key_table.ValueForm.TheVariants.{At, Len, Hi}
 use Rattle.tcd_plan.proofs.Small.{passes-unwrap_or}
 use Rattle.tcd_plan.proofs.Words.{word_at-lt}
 

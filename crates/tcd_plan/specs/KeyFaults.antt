@@ -9,11 +9,11 @@ use Rattle.tcd_plan.specs.declared.key_table.Holder.{Holder}
 use Rattle.tcd_plan.specs.ValueForms.{has_value_form}
 use Rattle.tcd_plan.specs.Objects.{plan_objects_of}
 use Rattle.tcd_plan.specs.declared.plans.PlanKey.{PlanKey}
-use Rattle.tcd_plan.specs.declared.key_table.Form.{Form}
-use Rattle.tcd_plan.specs.declared.key_table.Form.TheVariants.{CoreText}
+use Rattle.tcd_plan.specs.declared.key_table.ValueForm.{ValueForm}
+use Rattle.tcd_plan.specs.declared.key_table.ValueForm.TheVariants.{CoreText}
 
 -- a key whose value has this form is not missing if it is absent: only `core`
-abbrev pub may_key_be_absent : Form → Bool
+abbrev pub may_key_be_absent : ValueForm → Bool
 may_key_be_absent CoreText = true
 may_key_be_absent _ = false
 

@@ -3,8 +3,8 @@ use Rattle.std.specs.Prelude.{ℕ, ◌==◌, Bool, List, ◌∷◌, ◌++◌, co
 use Rattle.std.specs.Str.{bytes_eq}
 use Rattle.tcd_plan.specs.Keys.{key_text_of}
 use Rattle.tcd_plan.specs.declared.key_table.Row.{Row}
-use Rattle.tcd_plan.specs.declared.key_table.Form.{Form}
-use Rattle.tcd_plan.specs.declared.key_table.Form.TheVariants.{Ranges, Objects, Object, At, Len, Hi, Word, Byte, Truth, Irqs, Traps, CoreText}
+use Rattle.tcd_plan.specs.declared.key_table.ValueForm.{ValueForm}
+use Rattle.tcd_plan.specs.declared.key_table.ValueForm.TheVariants.{Ranges, Objects, Object, At, Len, Hi, Word, Byte, Truth, Irqs, Traps, CoreText}
 use Rattle.tcd_plan.specs.declared.key_table.Holder.{Holder}
 use Rattle.tcd_plan.specs.declared.key_table.Holder.TheVariants.{Root, Rom, Ram, Devices, Csa, Start, Globals}
 
@@ -14,50 +14,50 @@ pub record KeyRow : Type 0 where
   pub key : ℕ
   pub holder : Holder
   pub name : List ℕ
-  pub form : Form
+  pub form : ValueForm
 
 -- a row of the code, with its name as bytes
 abbrev pub row_of : Row → KeyRow
 row_of r = record { key = r.key; holder = r.holder; name = r.name.now; form = r.form }
 
 -- builds a row from the key's number, its object, its name there, and the form of its value
-abbrev pub row : ℕ → Holder → List ℕ → Form → KeyRow
-row key holder name form = record { key = key; holder = holder; name = name; form = form }
+abbrev pub key_row : ℕ → Holder → List ℕ → ValueForm → KeyRow
+key_row key holder name form = record { key = key; holder = holder; name = name; form = form }
 
 -- the keys in the order in which they are printed; `root` is in no object
 unfoldable pub key_rows : List KeyRow
 key_rows =
-    row 1 Root (codes "rom") Ranges ∷
-    row 2 Rom (codes "at") At ∷
-    row 3 Rom (codes "len") Len ∷
-    row 4 Root (codes "ram") Objects ∷
-    row 5 Ram (codes "at") At ∷
-    row 6 Ram (codes "len") Len ∷
-    row 7 Root (codes "devices") Objects ∷
-    row 8 Devices (codes "at") At ∷
-    row 9 Devices (codes "len") Len ∷
-    row 10 Devices (codes "lo") Word ∷
-    row 11 Devices (codes "hi") Hi ∷
-    row 12 Root (codes "csa") Object ∷
-    row 13 Csa (codes "at") Word ∷
-    row 14 Csa (codes "areas") Word ∷
-    row 15 Csa (codes "reserve") Word ∷
-    row 16 Root (codes "sp") Word ∷
-    row 17 Root (codes "isp") Word ∷
-    row 18 Root (codes "biv") Word ∷
-    row 19 Root (codes "btv") Word ∷
-    row 20 Root (codes "irqs") Irqs ∷
-    row 21 Root (codes "traps") Traps ∷
-    row 22 Root (codes "start") Object ∷
-    row 23 Start (codes "ie") Truth ∷
-    row 24 Start (codes "ccpn") Byte ∷
-    row 25 Start (codes "is") Truth ∷
-    row 26 Root (codes "globals") Object ∷
-    row 27 Globals (codes "a0") Word ∷
-    row 28 Globals (codes "a1") Word ∷
-    row 29 Globals (codes "a8") Word ∷
-    row 30 Globals (codes "a9") Word ∷
-    row 31 Root (codes "core") CoreText ∷
+    key_row 1 Root (codes "rom") Ranges ∷
+    key_row 2 Rom (codes "at") At ∷
+    key_row 3 Rom (codes "len") Len ∷
+    key_row 4 Root (codes "ram") Objects ∷
+    key_row 5 Ram (codes "at") At ∷
+    key_row 6 Ram (codes "len") Len ∷
+    key_row 7 Root (codes "devices") Objects ∷
+    key_row 8 Devices (codes "at") At ∷
+    key_row 9 Devices (codes "len") Len ∷
+    key_row 10 Devices (codes "lo") Word ∷
+    key_row 11 Devices (codes "hi") Hi ∷
+    key_row 12 Root (codes "csa") Object ∷
+    key_row 13 Csa (codes "at") Word ∷
+    key_row 14 Csa (codes "areas") Word ∷
+    key_row 15 Csa (codes "reserve") Word ∷
+    key_row 16 Root (codes "sp") Word ∷
+    key_row 17 Root (codes "isp") Word ∷
+    key_row 18 Root (codes "biv") Word ∷
+    key_row 19 Root (codes "btv") Word ∷
+    key_row 20 Root (codes "irqs") Irqs ∷
+    key_row 21 Root (codes "traps") Traps ∷
+    key_row 22 Root (codes "start") Object ∷
+    key_row 23 Start (codes "ie") Truth ∷
+    key_row 24 Start (codes "ccpn") Byte ∷
+    key_row 25 Start (codes "is") Truth ∷
+    key_row 26 Root (codes "globals") Object ∷
+    key_row 27 Globals (codes "a0") Word ∷
+    key_row 28 Globals (codes "a1") Word ∷
+    key_row 29 Globals (codes "a8") Word ∷
+    key_row 30 Globals (codes "a9") Word ∷
+    key_row 31 Root (codes "core") CoreText ∷
     []
 
 -- the objects that the rows of the table of keys are in, in the order in which their keys are

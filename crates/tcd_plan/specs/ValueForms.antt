@@ -5,8 +5,8 @@ use Rattle.std.specs.Option.{option_map_or}
 use Rattle.serde_json.specs.Data.{Data}
 use Rattle.serde_json.specs.Find.{get}
 use Rattle.tcd_plan.specs.JsonValues.{is_object, is_json_text, json_number_at, json_number_of, json_elements_at, json_word_at}
-use Rattle.tcd_plan.specs.declared.key_table.Form.{Form}
-use Rattle.tcd_plan.specs.declared.key_table.Form.TheVariants.{Ranges, Objects, Object, At, Len, Hi, Word, Byte, Truth, Irqs, Traps, CoreText}
+use Rattle.tcd_plan.specs.declared.key_table.ValueForm.{ValueForm}
+use Rattle.tcd_plan.specs.declared.key_table.ValueForm.TheVariants.{Ranges, Objects, Object, At, Len, Hi, Word, Byte, Truth, Irqs, Traps, CoreText}
 
 -- a value has its form: it is there, and passes the test of the form
 abbrev pub is_present_and_passing : {T : Type 0} → (T → Bool) → Option T → Bool
@@ -34,7 +34,7 @@ abbrev pub is_core_text : Option Data → Bool
 is_core_text o = option_map_or (λ d. is_json_text (codes "1.3") d || is_json_text (codes "1.6") d) o true
 
 -- the value of a key in an object has the form
-abbrev pub has_value_form : Form → List ℕ → Data → Bool
+abbrev pub has_value_form : ValueForm → List ℕ → Data → Bool
 has_value_form Ranges name o = is_present_and_passing (λ ds. nat_lt 0 (length ds) && list_all is_object ds) (json_elements_at name o)
 has_value_form Objects name o = is_present_and_passing (list_all is_object) (json_elements_at name o)
 has_value_form Object name o = is_present_and_passing is_object (get name o)

@@ -9,7 +9,9 @@ ghost use Rattle.tcd_plan.specs.Objects.{plan_objects_of};
 ghost use Rattle.tcd_plan.specs.ValueForms.{has_value_form};
 
 use crate::PlanKey;
-use crate::key_table::{Form, Holder, Row, holder_key, holders, is_row_of_key, key_table_rows};
+use crate::key_table::{
+    Holder, Row, ValueForm, holder_key, holders, is_row_of_key, key_table_rows,
+};
 use crate::object_forms::{has_value_form, plan_objects_of};
 use serde_json::{Map, Value};
 
@@ -54,10 +56,10 @@ pub fn lacks_key(row: &Row, object: &Value) -> bool
 }
 
 /// Returns true if no object is refused for lacking a key of this form: `core` alone may be absent.
-pub(crate) fn may_key_be_absent(form: Form) -> bool
+pub(crate) fn may_key_be_absent(form: ValueForm) -> bool
     ensures { result ≡ may_key_be_absent form }
 {
-    matches!(form, Form::CoreText)
+    matches!(form, ValueForm::CoreText)
 }
 
 /// Returns the key that a refusal names: that of the first row of the table that has the fault, if

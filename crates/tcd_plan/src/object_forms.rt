@@ -9,7 +9,7 @@ ghost use Rattle.tcd_plan.specs.JsonValues.{is_object, is_json_text, json_number
 use crate::json_values::{
     is_json_text, json_elements_at, json_number_at, json_number_of, json_word_at,
 };
-use crate::key_table::{Form, Holder};
+use crate::key_table::{Holder, ValueForm};
 use serde_json::Value;
 use std::slice;
 
@@ -30,26 +30,27 @@ pub fn plan_objects_of(holder: Holder, value: &Value) -> &[Value]
 }
 
 /// Returns true if the value of a key in an object has the form.
-pub fn has_value_form(form: Form, name: &str, object: &Value) -> bool
+pub fn has_value_form(form: ValueForm, name: &str, object: &Value) -> bool
     ensures { result ≡ has_value_form form name.now (view object.now) }
 {
     match form {
-        Form::Ranges => json_elements_at(object, name).is_some_and(|places| !places.is_empty()
+        ValueForm::Ranges => json_elements_at(object, name).is_some_and(|places| !places.is_empty()
             && are_objects(places)),
-        Form::Objects => json_elements_at(object, name).is_some_and(are_objects),
-        Form::Object => object.get(name).is_some_and(|inner| inner.is_object()),
-        Form::At => json_number_at(object, name).is_some_and(|at| at % 4 == 0),
-        Form::Len => json_number_at(object, name).is_some_and(|len| is_range_len(
+        ValueForm::Objects => json_elements_at(object, name).is_some_and(are_objects),
+        ValueForm::Object => object.get(name).is_some_and(|inner| inner.is_object()),
+        ValueForm::At => json_number_at(object, name).is_some_and(|at| at % 4 == 0),
+        ValueForm::Len => json_number_at(object, name).is_some_and(|len| is_range_len(
             json_word_at(object, "at"),
             len,
         )),
-        Form::Hi => json_number_at(object, name).is_some_and(|hi| json_word_at(object, "lo") <= hi),
-        Form::Word => json_number_at(object, name).is_some(),
-        Form::Byte => json_number_at(object, name).is_some_and(|byte| byte < 256),
-        Form::Truth => json_number_at(object, name).is_some_and(|truth| truth < 2),
-        Form::Irqs => json_elements_at(object, name).is_some_and(are_irqs),
-        Form::Traps => json_elements_at(object, name).is_some_and(are_traps),
-        Form::CoreText => is_core_text(object.get(name)),
+        ValueForm::Hi => json_number_at(object, name).is_some_and(|hi| json_word_at(object, "lo")
+            <= hi),
+        ValueForm::Word => json_number_at(object, name).is_some(),
+        ValueForm::Byte => json_number_at(object, name).is_some_and(|byte| byte < 256),
+        ValueForm::Truth => json_number_at(object, name).is_some_and(|truth| truth < 2),
+        ValueForm::Irqs => json_elements_at(object, name).is_some_and(are_irqs),
+        ValueForm::Traps => json_elements_at(object, name).is_some_and(are_traps),
+        ValueForm::CoreText => is_core_text(object.get(name)),
     }
 }
 

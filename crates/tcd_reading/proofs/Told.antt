@@ -40,8 +40,8 @@ stopped P Q F G stop.NoMemory h p f = tt
 
 -- ---- one input
 -- a file above the limit, and bytes that are none
-pub long_line : {A : Type 0} (form : FormSeen A) (held : Option FileMap) (name : List ℕ) (limit : ℕ) (t : List ℕ) → limit ≡ form.limit → IsFileTooLong held name limit → t ≡ form.long_line → IsInputRefusal form held name t
-long_line form held name limit t e h is = long (subst (λ (n : ℕ). IsFileTooLong held name n) e h) is
+pub too_long_line : {A : Type 0} (form : FormSeen A) (held : Option FileMap) (name : List ℕ) (limit : ℕ) (t : List ℕ) → limit ≡ form.limit → IsFileTooLong held name limit → t ≡ form.too_long_line → IsInputRefusal form held name t
+too_long_line form held name limit t e h is = long (subst (λ (n : ℕ). IsFileTooLong held name n) e h) is
 
 pub bad_line : {A : Type 0} (form : FormSeen A) (held : Option FileMap) (name bytes : List ℕ) (limit : ℕ) (t : List ℕ) → limit ≡ form.limit → ReadsFile held name bytes → length bytes ≤ limit → form.IsBad bytes t → IsInputRefusal form held name t
 bad_line form held name bytes limit t l holds short is = bad bytes holds (subst (λ (n : ℕ). length bytes ≤ n) l short) is

@@ -10,7 +10,7 @@ use Rattle.tcd_base.specs.FailingCalls.{FaultCounted}
 -- lines for bytes without a value.
 pub record FormSeen (A : Type 0) : Type 1 where
   pub limit : ℕ
-  pub long_line : List ℕ
+  pub too_long_line : List ℕ
   pub Is : List ℕ → A → Type 0
   pub IsBad : List ℕ → List ℕ → Type 0
 
@@ -28,13 +28,13 @@ pub record IsHeldAs {A : Type 0} (form : FormSeen A) (m : FileMap) (name : List 
 -- the files hold an input of a command that isn't in its form, and this is a line for it: the one
 -- for bytes above the limit, or one of those for bytes without a value
 pub data IsHeldBad {A : Type 0} (form : FormSeen A) (m : FileMap) (name line : List ℕ) : Type 0 where
-  above_limit : (bytes : List ℕ) → get m name ≡ Some bytes → form.limit < length bytes → line ≡ form.long_line → IsHeldBad form m name line
+  above_limit : (bytes : List ℕ) → get m name ≡ Some bytes → form.limit < length bytes → line ≡ form.too_long_line → IsHeldBad form m name line
   without_value : (bytes : List ℕ) → get m name ≡ Some bytes → length bytes ≤ form.limit → form.IsBad bytes line → IsHeldBad form m name line
 
 -- why an input of a command is rejected when it is read: this is the line for a file above its
 -- form's limit, or one of the lines for a file that isn't in its form
 pub data IsInputRefusal {A : Type 0} (form : FormSeen A) (held : Option FileMap) (name text : List ℕ) : Type 0 where
-  long : IsFileTooLong held name form.limit → text ≡ form.long_line → IsInputRefusal form held name text
+  long : IsFileTooLong held name form.limit → text ≡ form.too_long_line → IsInputRefusal form held name text
   bad : (bytes : List ℕ) → ReadsFile held name bytes → length bytes ≤ form.limit → form.IsBad bytes text → IsInputRefusal form held name text
 
 -- ---- the inputs of a command

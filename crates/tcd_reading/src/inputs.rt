@@ -25,8 +25,8 @@ pub trait Form {
         ensures { result ≡ (form self.now).limit };
 
     /// The line that is printed for a file above the limit.
-    fn long_line(&self, alloc: Global) -> Result<Vec<u8>, NoMemory>
-        ensures { IfOk result (λ line. line.items ≡ (form self.now).long_line) };
+    fn too_long_line(&self, alloc: Global) -> Result<Vec<u8>, NoMemory>
+        ensures { IfOk result (λ line. line.items ≡ (form self.now).too_long_line) };
 
     /// The value of these bytes, or the line that says why there is none.
     fn value(&self, alloc: Global, bytes: Vec<u8>) -> Result<Self::Out, Stop>
@@ -59,12 +59,12 @@ pub fn read_input<I: Form, F: Files>(
 
 // Why a command stops at a file that wasn't read: it is too large, or reading failed.
 fn unread_file<I: Form>(form: &I, alloc: Global, e: FileErr) -> Stop
-    ensures { IsBadInputStop (λ t. (e ≡ FileErr.TooLong) × (t ≡ (I.form form.now).long_line))
+    ensures { IsBadInputStop (λ t. (e ≡ FileErr.TooLong) × (t ≡ (I.form form.now).too_long_line))
         (e ≡ FileErr.Failed) result }
 {
     match e {
         FileErr::Failed => Stop::Unread,
-        FileErr::TooLong => bad_input(form.long_line(alloc)),
+        FileErr::TooLong => bad_input(form.too_long_line(alloc)),
         FileErr::NoMemory => Stop::NoMemory,
     }
 }

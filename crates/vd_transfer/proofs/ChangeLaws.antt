@@ -14,20 +14,20 @@ use Rattle.vd_transfer.specs.declared.change.Base.{Base}
 use Rattle.vd_transfer.specs.declared.change.Base.TheVariants.{Same, Forgotten, Any}
 use Rattle.vd_transfer.specs.declared.change.Put.{Put}
 use Rattle.vd_transfer.specs.declared.change.Change.{Change}
-use Rattle.vd_transfer.specs.Registers.{slot, set_at, set_reg, write_reg, is_lower_register, set_arg, arg_slot}
+use Rattle.vd_transfer.specs.Registers.{slot, set_slot, set_reg, write_reg, is_lower_register, set_arg, arg_slot}
 use Rattle.vd_transfer.specs.EffectsOnStates.{forgotten_from}
 use Rattle.vd_transfer.specs.Changes.{base_of, values_changed_at, put_in, state_after, reg_put, kept_in}
 use Rattle.vd_transfer.proofs.HoldLaws.{set_values_at}
 use Rattle.vd_transfer.proofs.RegisterLaws.{length-forgotten, get_or-forgotten}
 
 -- a state with a value at a place
-set_at-is : (s : State) (v : Val) (o : Option ℕ) → set_at s v o ≡ record s { regs = values_changed_at s.regs v o }
-set_at-is s v None = refl
-set_at-is s v (Some i) = refl
+set_slot-is : (s : State) (v : Val) (o : Option ℕ) → set_slot s v o ≡ record s { regs = values_changed_at s.regs v o }
+set_slot-is s v None = refl
+set_slot-is s v (Some i) = refl
 
 -- ---- writes
 pub written-is : (s : State) (c : Change) (r : ℕ) (v : Val) → state_after s (record (kept_in c s) { second = reg_put r v; lower = s.lower && not (is_lower_register r) }) ≡ write_reg s r v
-written-is s c r v = ap (λ (t : State). record t { lower = s.lower && not (is_lower_register r) }) (sym (set_at-is s v (slot r)))
+written-is s c r v = ap (λ (t : State). record t { lower = s.lower && not (is_lower_register r) }) (sym (set_slot-is s v (slot r)))
 
 pub written-values : (b : Limits) (s : State) (c : Change) (r : ℕ) (v : Val) → AreValues b s.regs → IsValue b v
     → AreValues b (state_after s (record (kept_in c s) { second = reg_put r v; lower = s.lower && not (is_lower_register r) })).regs
@@ -56,7 +56,7 @@ pub written_last-is : (s : State) (c : Change) (r : ℕ) → c.third.at ≡ None
     → state_after s (record c { third = record c.third { at = slot r }; lower = c.lower && not (is_lower_register r) }) ≡ write_reg (state_after s c) r c.third.value
 written_last-is s c r free =
     sym
-    (ap (λ (t : State). record t { lower = c.lower && not (is_lower_register r) }) (set_at-is (state_after s c) c.third.value (slot r))
+    (ap (λ (t : State). record t { lower = c.lower && not (is_lower_register r) }) (set_slot-is (state_after s c) c.third.value (slot r))
     ∙ ap (λ (vs : List Val). record (state_after s c) { regs = values_changed_at vs c.third.value (slot r); lower = c.lower && not (is_lower_register r) }) (free-regs s c free))
 
 pub written_last-values : (b : Limits) (s : State) (c : Change) (r : ℕ) → AreValues b (state_after s c).regs → c.third.at ≡ None → IsValue b c.third.value
@@ -69,7 +69,7 @@ bare-regs : (s : State) (c : Change) → c.second.at ≡ None → c.third.at ≡
 bare-regs s c none free = free-regs s c free ∙ ap (λ (o : Option ℕ). values_changed_at (put_in (base_of c.base s.regs) c.first) c.second.value o) none
 
 pub one-is : (s : State) (c : Change) (x : ℕ) (v : Val) → state_after s (record (kept_in c s) { first = reg_put x v }) ≡ set_reg s x v
-one-is s c x v = sym (set_at-is s v (slot x))
+one-is s c x v = sym (set_slot-is s v (slot x))
 
 -- a second value, if no later one is put at its place
 pub second-is : (s : State) (c : Change) (y : Arg) (w : Val) → c.second.at ≡ None → c.third.at ≡ None
@@ -79,7 +79,7 @@ second-is s c (Word z) w none free =
 second-is s c (Reg r) w none free =
     ap (λ (o : Option ℕ). record (state_after s c) { regs = values_changed_at (values_changed_at (put_in (base_of c.base s.regs) c.first) w (slot r)) c.third.value o }) free
     ∙ ap (λ (vs : List Val). record (state_after s c) { regs = values_changed_at vs w (slot r) }) (sym (bare-regs s c none free))
-    ∙ sym (set_at-is (state_after s c) w (slot r))
+    ∙ sym (set_slot-is (state_after s c) w (slot r))
 
 arg_values : (b : Limits) (s : State) (y : Arg) (v : Val) → AreValues b s.regs → IsValue b v → AreValues b (set_arg s y v).regs
 arg_values b s (Reg r) v values value = set_values_at b s v (slot r) values value

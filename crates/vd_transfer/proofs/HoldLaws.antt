@@ -24,8 +24,8 @@ use Rattle.value_domain.proofs.RangeLaws.{one_value, cover_value, members_below}
 use Rattle.vd_transfer.specs.Operations.{value_of}
 use Rattle.vd_transfer.specs.Refinement.{kept_left, kept_right, kept_both, refining_condition_holds}
 use Rattle.value_domain.specs.Meets.{cover_of_meet}
-use Rattle.vd_transfer.specs.Registers.{slot, reg_of, arg_of, register_value_at, fixed_of, set_at, set_reg, write_reg, is_lower_register, RegisterHasValue, set_arg, HasBaseValue, is_operand_register}
-use Rattle.vd_transfer.specs.EffectsOnStates.{with_base, access_of, saved_lower, restored_lower, transfer_of, address_of}
+use Rattle.vd_transfer.specs.Registers.{slot, reg_of, arg_of, register_value_at, fixed_of, set_slot, set_reg, write_reg, is_lower_register, RegisterHasValue, set_arg, HasBaseValue, is_operand_register}
+use Rattle.vd_transfer.specs.EffectsOnStates.{state_with_base, access_of, state_saved_lower, state_restored_lower, transfer_of, address_of}
 use Rattle.vd_transfer.specs.EffectsOnWords.{ie_after, words_with_register, word_of, access_word, with_base_word, words_after, ccpn_after}
 use Rattle.vd_transfer.specs.Branches.{side_with_register, side_with_operands, state_on_side, with_lowered_counter, refine_of}
 use Rattle.vd_transfer.specs.Holding.{Holds}
@@ -38,33 +38,33 @@ use Rattle.vd_transfer.proofs.ValueLaws.{value_of_value}
 
 -- ---- one register
 -- what a set register leaves as it was
-same_ie : (s : State) (v : Val) (o : Option ℕ) → (set_at s v o).ie ≡ s.ie
+same_ie : (s : State) (v : Val) (o : Option ℕ) → (set_slot s v o).ie ≡ s.ie
 same_ie s v (Some i) = refl
 same_ie s v None = refl
 
-same_ccpn : (s : State) (v : Val) (o : Option ℕ) → (set_at s v o).ccpn ≡ s.ccpn
+same_ccpn : (s : State) (v : Val) (o : Option ℕ) → (set_slot s v o).ccpn ≡ s.ccpn
 same_ccpn s v (Some i) = refl
 same_ccpn s v None = refl
 
-pub same_length : (s : State) (v : Val) (o : Option ℕ) → length (set_at s v o).regs ≡ length s.regs
+pub same_length : (s : State) (v : Val) (o : Option ℕ) → length (set_slot s v o).regs ≡ length s.regs
 same_length s v (Some i) = length-set s.regs i v
 same_length s v None = refl
 
 -- the value of another register is as before
-pub reg_of-other : (p : PlanData) (s : State) (r q : ℕ) (v : Val) (o o2 : Option ℕ) → o ≡ slot r → o2 ≡ slot q → (q ≡ r → ⊥) → register_value_at p (set_at s v o) q o2 ≡ register_value_at p s q o2
+pub reg_of-other : (p : PlanData) (s : State) (r q : ℕ) (v : Val) (o o2 : Option ℕ) → o ≡ slot r → o2 ≡ slot q → (q ≡ r → ⊥) → register_value_at p (set_slot s v o) q o2 ≡ register_value_at p s q o2
 reg_of-other p s r q v None o2 e f apart = refl
 reg_of-other p s r q v (Some i) None e f apart = refl
 reg_of-other p s r q v (Some i) (Some j) e f apart =
     get_or-set_other s.regs i j v any_val (λ same. apart (slot_apart q r i j (sym f) (sym e) (sym same)))
 
 -- the register itself has the value that was set, if it has a place
-pub reg_of-here : (p : PlanData) (s : State) (r : ℕ) (v : Val) (o : Option ℕ) → length s.regs ≡ 27 → o ≡ slot r → IsSome o → register_value_at p (set_at s v o) r o ≡ v
+pub reg_of-here : (p : PlanData) (s : State) (r : ℕ) (v : Val) (o : Option ℕ) → length s.regs ≡ 27 → o ≡ slot r → IsSome o → register_value_at p (set_slot s v o) r o ≡ v
 reg_of-here p s r v (Some i) len e some = get_or-set_same s.regs i v any_val (omega (arith, (slot_is r i (sym e)).within))
 reg_of-here p s r v None len e some = absurd (let f : false ≡ true = some in cc)
 
 -- a state with register r set holds the words if r's new word is held and the others are as they
 -- were
-held_set : (p : PlanData) (s : State) (word word2 : ℕ → ℕ) (ie : Bool) (ccpn r : ℕ) (v : Val) → IsMember (word2 r) (register_value_at p (set_at s v (slot r)) r (slot r))
+held_set : (p : PlanData) (s : State) (word word2 : ℕ → ℕ) (ie : Bool) (ccpn r : ℕ) (v : Val) → IsMember (word2 r) (register_value_at p (set_slot s v (slot r)) r (slot r))
     → ((q : ℕ) → (q ≡ r → ⊥) → word2 q ≡ word q) → Holds p word ie ccpn s → Holds p word2 ie ccpn (set_reg s r v)
 held_set p s word word2 ie ccpn r v here others h = record {
   regs = λ q small.
@@ -92,7 +92,7 @@ holds_set p s word ie ccpn r w v len has m h =
     (rw (set_word-here word r w) (subst (λ (u : Val). IsMember w u) (sym (reg_of-here p s r v (slot r) len refl has)) m))
     (set_word-other word r w) h
 
-narrow_here : (p : PlanData) (s : State) (w r : ℕ) (v : Val) (o : Option ℕ) → length s.regs ≡ 27 → o ≡ slot r → IsMember w v → IsMember w (register_value_at p s r o) → IsMember w (register_value_at p (set_at s v o) r o)
+narrow_here : (p : PlanData) (s : State) (w r : ℕ) (v : Val) (o : Option ℕ) → length s.regs ≡ 27 → o ≡ slot r → IsMember w v → IsMember w (register_value_at p s r o) → IsMember w (register_value_at p (set_slot s v o) r o)
 narrow_here p s w r v None len e m old = old
 narrow_here p s w r v (Some i) len e m old = subst (λ (u : Val). IsMember w u) (sym (reg_of-here p s r v (Some i) len e refl)) m
 
@@ -145,7 +145,7 @@ holds_write : (p : PlanData) (s : State) (word : ℕ → ℕ) (ie : Bool) (ccpn 
 holds_write p s word ie ccpn r w v len has m h = written p s (words_with_register word r w) ie ccpn r v (holds_set p s word ie ccpn r w v len has m h)
 
 base_holds : (b : Limits) (p : PlanData) (s : State) (word : ℕ → ℕ) (ie : Bool) (ccpn : ℕ) (base : Arg) (offset : ℕ) (after : Bool) → IsSoundSetting b p s → IsArg base → offset < 2 ^ 32 → HasBaseValue base after
-    → Holds p word ie ccpn s → Holds p (with_base_word word base offset after) ie ccpn (with_base b p s base offset after)
+    → Holds p word ie ccpn s → Holds p (with_base_word word base offset after) ie ccpn (state_with_base b p s base offset after)
 base_holds b p s word ie ccpn (Word w) offset after set small off has h = h
 base_holds b p s word ie ccpn (Reg r) offset false set small off has h = h
 base_holds b p s word ie ccpn (Reg r) offset true set small off has h =
@@ -155,7 +155,7 @@ base_holds b p s word ie ccpn (Reg r) offset true set small off has h =
 write_length : (s : State) (r : ℕ) (v : Val) → length (write_reg s r v).regs ≡ length s.regs
 write_length s r v = same_length s v (slot r)
 
-base_length : (b : Limits) (p : PlanData) (s : State) (base : Arg) (offset : ℕ) (after : Bool) → length (with_base b p s base offset after).regs ≡ length s.regs
+base_length : (b : Limits) (p : PlanData) (s : State) (base : Arg) (offset : ℕ) (after : Bool) → length (state_with_base b p s base offset after).regs ≡ length s.regs
 base_length b p s (Word w) offset after = refl
 base_length b p s (Reg r) offset false = refl
 base_length b p s (Reg r) offset true = write_length s r (value_of b Add (reg_of p s r) (word_val offset))
@@ -191,13 +191,13 @@ transfer_holds b p (Compute op dst x y) s loaded word ie ccpn input set is write
 transfer_holds b p (Scaled dst base index n) s loaded word ie ccpn input set is writes stays small reads h =
     holds_write p s word ie ccpn dst _ _ set.regs writes (scaled_member b p s word ie ccpn base index n set is.1 is.2 is.3 h) h
 transfer_holds b p (Load dst base offset size signed after) s loaded word ie ccpn input set is writes stays small reads h =
-    holds_write p (with_base b p s base offset after) (with_base_word word base offset after) ie ccpn dst input loaded (base_length b p s base offset after ∙ set.regs) writes.0 reads
+    holds_write p (state_with_base b p s base offset after) (with_base_word word base offset after) ie ccpn dst input loaded (base_length b p s base offset after ∙ set.regs) writes.0 reads
     (base_holds b p s word ie ccpn base offset after set is.1 is.2 writes.1 h)
 transfer_holds b p (Store src base offset size after) s loaded word ie ccpn input set is writes stays small reads h =
     base_holds b p s word ie ccpn base offset after set is.1 is.2 writes h
-transfer_holds b p Svlcx s loaded word ie ccpn input set is writes stays small reads h = moved p s (saved_lower s) word ie ie ccpn ccpn refl h.enabled h.priority h
+transfer_holds b p Svlcx s loaded word ie ccpn input set is writes stays small reads h = moved p s (state_saved_lower s) word ie ie ccpn ccpn refl h.enabled h.priority h
 transfer_holds b p (Bisr c) s loaded word ie ccpn input set is writes stays small reads h =
-    moved p s (record (saved_lower s) { ie = true; ccpn = c }) word ie true ccpn c refl (λ t. refl) (omega arith) h
+    moved p s (record (state_saved_lower s) { ie = true; ccpn = c }) word ie true ccpn c refl (λ t. refl) (omega arith) h
 transfer_holds b p Enable s loaded word ie ccpn input set is writes stays small reads h = moved p s (record s { ie = true }) word ie true ccpn ccpn refl (λ t. refl) h.priority h
 transfer_holds b p Disable s loaded word ie ccpn input set is writes stays small reads h = moved p s (record s { ie = false }) word ie false ccpn ccpn refl (λ t. t) h.priority h
 transfer_holds b p (Mfcr dst number) s loaded word ie ccpn input set is writes stays small reads h =
@@ -208,7 +208,7 @@ transfer_holds b p _ s loaded word ie ccpn input set is writes stays small reads
 
 -- ---- restoring
 restored_at : (p : PlanData) (s : State) (word word2 : ℕ → ℕ) (q : ℕ) (o : Option ℕ) → length s.regs ≡ 27 → o ≡ slot q → word2 q < 2 ^ 32 → (is_lower_register q ≡ false → word2 q ≡ word q) → (o ≡ None → word2 q ≡ word q)
-    → IsMember (word q) (register_value_at p s q o) → IsMember (word2 q) (register_value_at p (restored_lower s) q o)
+    → IsMember (word q) (register_value_at p s q o) → IsMember (word2 q) (register_value_at p (state_restored_lower s) q o)
 restored_at p s word word2 q None len e small same none m = subst (λ (w : ℕ). IsMember w (fixed_of p q)) (sym (none refl)) m
 restored_at p s word word2 q (Some i) len e small same none m =
     let is = slot_is q i (sym e) in
@@ -277,7 +277,7 @@ unfolding kept_both
 both_has b cond side v x limits vv mx e =
     kept_has b _ x limits (filter_has (λ z. refining_condition_holds cond side z z) x (members v) (among_member v x (has_step v vv.well) mx) (goes cond side x x e)) (λ z i. members_below v vv.well z (among_filter _ z (members v) i).0)
 
-pub set_values_at : (b : Limits) (s : State) (v : Val) (o : Option ℕ) → AreValues b s.regs → IsValue b v → AreValues b (set_at s v o).regs
+pub set_values_at : (b : Limits) (s : State) (v : Val) (o : Option ℕ) → AreValues b s.regs → IsValue b v → AreValues b (set_slot s v o).regs
 set_values_at b s v None values value r h = values r h
 set_values_at b s v (Some i) values value r h =
     let len : length (set s.regs i v) ≡ length s.regs = length-set s.regs i v in

@@ -25,7 +25,7 @@ use Rattle.tc_isa.specs.declared.shapes.Op.{Op}
 use Rattle.tc_isa.specs.declared.shapes.Op.TheVariants.{Second, Add, Sub, And, Nand, Or, Nor, Xor, Xnor, Andn, Orn, Eq, Ne, Lt, LtU, Ge, GeU, Sh, Sha}
 use Rattle.tc_isa.specs.Arithmetic.{alu_of, shift_by, shifted_signed, complement, one_if, signed_order_place}
 use Rattle.vd_transfer.specs.Operations.{results, operation_row, pairs, gives_truth, value_of, HasMetResults}
-use Rattle.vd_transfer.specs.Intervals.{whole, whole_interval_words, runs, interval_bounds, by_count, IntervalShift, differences, sums, shifts, signed_shifts, range_of}
+use Rattle.vd_transfer.specs.Intervals.{whole, whole_interval_words, interval_of_row, interval_bounds, by_count, IntervalShift, differences, sums, shifts, signed_shifts, range_of}
 use Rattle.vd_transfer.specs.OperationLaws.{OperationsAreMonotone, OperationsAreSound}
 use Rattle.vd_transfer.proofs.Rows.{Lies, sums_have, sums_grow, differences_have, differences_grow, ands_have, ands_grow, shifts_have, shifts_grow, shifts_below}
 
@@ -116,7 +116,7 @@ signed_word x n h =
       ]
     ]
 
--- the two forms of a signed shift's run
+-- the two forms of a signed shift's interval
 as_logical : (a b p n : ℕ) → (n < 32) ⊎ (b < 2 ^ 31) → signed_shifts a b p n ≡ shifts a b p n
 unfolding signed_shifts
 as_logical a b p n h = elim h [ inl left ↦ rw (lt-ltb n 32 left) refl | inr small ↦ rw (lt-ltb b (2 ^ 31) small, or_true (ltb n 32)) refl ]
@@ -193,7 +193,7 @@ pub and_below : (x y : ℕ) → x < 2 ^ 32 → bit_and x y < 2 ^ 32
 and_below x y h = omega (arith, and_le_l x y)
 
 pub row_has : (op : Op) (v w : Val) → IsWell v → IsWell w → (x y : ℕ) → Among x (members v) → Among y (members w) → Among (alu_of op x y) (operation_row op v w)
-unfolding operation_row runs gives_truth alu_of
+unfolding operation_row interval_of_row gives_truth alu_of
 row_has Second v w wv ww x y i j = j
 row_has Add v w wv ww x y i j =
     let l = lies v wv x i in
@@ -321,7 +321,7 @@ by_grows {shift} are b v w v2 (Span lo last s) vv vw vv2 vw2 there here = into_a
 
 pub row_grows : (b : Limits) (op : Op) (v w v2 w2 : Val) → IsValue b v → IsValue b w → IsValue b v2 → IsValue b w2 → Within (members v) (members v2) → Within (members w) (members w2)
     → Within (operation_row op v w) (operation_row op v2 w2)
-unfolding operation_row runs gives_truth
+unfolding operation_row interval_of_row gives_truth
 row_grows b Second v w v2 w2 vv vw vv2 vw2 there here = here
 row_grows b Add v w v2 w2 vv vw vv2 vw2 there here =
     let n = narrower v v2 vv.well vv2.well there in
@@ -391,16 +391,16 @@ same_bounds e v w h =
     ∙ ap (λ n. record { least = low v; greatest = n; step = e.step }) only.1
     ∙ ap (λ n. record { least = low v; greatest = high v; step = n }) only.2
 
-pub row_runs : (op : Op) (v w : Val) (e f : Extent) → (op ≡ Second → ⊥) → gives_truth op ≡ false → e ≡ interval_bounds v → f ≡ interval_bounds w → range_of (runs op e f w) ≡ operation_row op v w
+pub row_intervals : (op : Op) (v w : Val) (e f : Extent) → (op ≡ Second → ⊥) → gives_truth op ≡ false → e ≡ interval_bounds v → f ≡ interval_bounds w → range_of (interval_of_row op e f w) ≡ operation_row op v w
 unfolding operation_row gives_truth
-row_runs Second v w e f n t a c = absurd (n refl)
-row_runs Eq v w e f n t a c = cc
-row_runs Ne v w e f n t a c = cc
-row_runs Lt v w e f n t a c = cc
-row_runs LtU v w e f n t a c = cc
-row_runs Ge v w e f n t a c = cc
-row_runs GeU v w e f n t a c = cc
-row_runs _ v w e f n t a c = rw (a, c) refl
+row_intervals Second v w e f n t a c = absurd (n refl)
+row_intervals Eq v w e f n t a c = cc
+row_intervals Ne v w e f n t a c = cc
+row_intervals Lt v w e f n t a c = cc
+row_intervals LtU v w e f n t a c = cc
+row_intervals Ge v w e f n t a c = cc
+row_intervals GeU v w e f n t a c = cc
+row_intervals _ v w e f n t a c = rw (a, c) refl
 
 sums_step : (a b c d m : ℕ) → (sums a b c d m).step ≡ m
 unfolding sums
@@ -422,17 +422,17 @@ by_count_step : {shift : IntervalShift} {by : ℕ → ℕ → ℕ} (are : AreShi
 by_count_step are a b p (Set (y ∷ [])) = are.small a b p (y % 64)
 by_count_step are a b p _ = omega arith
 
-pub runs_step : (op : Op) (e f : Extent) (w : Val) → e.step ≤ 2 → f.step ≤ 2 → (runs op e f w).step ≤ 2
-unfolding runs
-runs_step Add e f w a b = omega (arith, sums_step e.least e.greatest f.least f.greatest (min e.step f.step))
-runs_step Sub e f w a b = omega (arith, differences_step e.least e.greatest f.least f.greatest (min e.step f.step))
-runs_step Sh e f w a b = by_count_step logical e.least e.greatest e.step w
-runs_step Sha e f w a b = by_count_step arithmetic e.least e.greatest e.step w
-runs_step _ e f w a b = omega arith
+pub interval_of_row_step : (op : Op) (e f : Extent) (w : Val) → e.step ≤ 2 → f.step ≤ 2 → (interval_of_row op e f w).step ≤ 2
+unfolding interval_of_row
+interval_of_row_step Add e f w a b = omega (arith, sums_step e.least e.greatest f.least f.greatest (min e.step f.step))
+interval_of_row_step Sub e f w a b = omega (arith, differences_step e.least e.greatest f.least f.greatest (min e.step f.step))
+interval_of_row_step Sh e f w a b = by_count_step logical e.least e.greatest e.step w
+interval_of_row_step Sha e f w a b = by_count_step arithmetic e.least e.greatest e.step w
+interval_of_row_step _ e f w a b = omega arith
 
--- a run that a row covers isn't empty
-pub run_some : (r : StridedInterval) (op : Op) (v w : Val) → IsWell v → IsWell w → range_of r ≡ operation_row op v w → 1 ≤ count_in r.first r.last r.step
-run_some r op v w wv ww e =
+-- the interval that a row covers isn't empty
+pub interval_some : (r : StridedInterval) (op : Op) (v w : Val) → IsWell v → IsWell w → range_of r ≡ operation_row op v w → 1 ≤ count_in r.first r.last r.step
+interval_some r op v w wv ww e =
     let i = row_has op v w wv ww (low v) (low w) (bounds_of v wv).low_in (bounds_of w ww).low_in in
     let j : Among (alu_of op (low v) (low w)) (range_of r) = rw e i in
     omega (arith, some_length (range_of r) (alu_of op (low v) (low w)) j, length-multiples (count_in r.first r.last r.step) (first_in_span r.first r.step) (2 ^ r.step))

@@ -13,7 +13,7 @@ use Rattle.value_domain.specs.Limits.{Limits}
 use Rattle.value_domain.specs.Values.{cover, members, IsValue, any_val, word_val}
 use Rattle.value_domain.proofs.ExtentLaws.{some_length}
 use Rattle.value_domain.proofs.Loops.{among_get}
-use Rattle.vd_transfer.specs.Registers.{slot, set_at, set_reg, reg_of, arg_of, register_value_at, set_arg}
+use Rattle.vd_transfer.specs.Registers.{slot, set_slot, set_reg, reg_of, arg_of, register_value_at, set_arg}
 use Rattle.vd_transfer.specs.Refinement.{refining_condition_holds, kept_left, kept_right, kept_both}
 use Rattle.value_domain.specs.Meets.{cover_of_meet}
 use Rattle.vd_transfer.specs.Branches.{self_holds, possible_side, side_with_register, side_with_operands}
@@ -21,12 +21,12 @@ use Rattle.value_domain.proofs.MeetLaws.{among_filter, filter_has, any_among, am
 use Rattle.vd_transfer.proofs.RelationLaws.{both_all, both_none}
 
 -- a register that takes its own value
-set_at-own : (p : PlanData) (s : State) (r : ℕ) (o : Option ℕ) → set_at s (register_value_at p s r o) o ≡ s
-set_at-own p s r None = refl
-set_at-own p s r (Some i) = ap (λ (vs : List Val). record s { regs = vs }) (set-get_or s.regs i any_val)
+set_slot-own : (p : PlanData) (s : State) (r : ℕ) (o : Option ℕ) → set_slot s (register_value_at p s r o) o ≡ s
+set_slot-own p s r None = refl
+set_slot-own p s r (Some i) = ap (λ (vs : List Val). record s { regs = vs }) (set-get_or s.regs i any_val)
 
 pub set_reg-own : (p : PlanData) (s : State) (r : ℕ) → set_reg s r (reg_of p s r) ≡ s
-set_reg-own p s r = set_at-own p s r (slot r)
+set_reg-own p s r = set_slot-own p s r (slot r)
 
 pub set_arg-own : (p : PlanData) (s : State) (y : Arg) → set_arg s y (arg_of p s y) ≡ s
 set_arg-own p s (Reg r) = set_reg-own p s r

@@ -15,9 +15,9 @@ use Rattle.value_domain.proofs.ExtentLaws.{append_left, among_append}
 use Rattle.value_domain.proofs.RangeLaws.{members_below, cover_value}
 use Rattle.value_domain.proofs.WordLaws.{among_place}
 use Rattle.vd_transfer.specs.Operations.{results, pairs, operation_row, gives_truth, value_of}
-use Rattle.vd_transfer.specs.Intervals.{runs, interval_bounds, sums, differences, range_of, whole, run}
+use Rattle.vd_transfer.specs.Intervals.{interval_of_row, interval_bounds, sums, differences, range_of, whole, interval}
 use Rattle.vd_transfer.specs.declared.strided_interval.StridedInterval.{StridedInterval}
-use Rattle.vd_transfer.proofs.OpLaws.{logical, arithmetic, complement_below, and_below, pairs_among, some_results, runs_step, bounds_of, high_below, by_below}
+use Rattle.vd_transfer.proofs.OpLaws.{logical, arithmetic, complement_below, and_below, pairs_among, some_results, interval_of_row_step, bounds_of, high_below, by_below}
 
 truth_below : (b : Bool) → one_if b < 2 ^ 32
 truth_below true = omega arith
@@ -67,28 +67,28 @@ differences_last a b c d m h =
       ])
     ]
 
--- the words of a run whose last is a word
-run_below : (r : StridedInterval) (z : ℕ) → r.step ≤ 2 → r.last < 2 ^ 32 → Among z (range_of r) → z < 2 ^ 32
-run_below r z small last i = let m = range_among z r.first r.last r.step small i in omega (arith, m.1)
+-- the words of an interval whose last is a word
+interval_below : (r : StridedInterval) (z : ℕ) → r.step ≤ 2 → r.last < 2 ^ 32 → Among z (range_of r) → z < 2 ^ 32
+interval_below r z small last i = let m = range_among z r.first r.last r.step small i in omega (arith, m.1)
 
 all_words : (z : ℕ) → Among z (range_of (whole 0)) → z < 2 ^ 32
-all_words z i = run_below (whole 0) z (omega arith) (omega arith) i
+all_words z i = interval_below (whole 0) z (omega arith) (omega arith) i
 
 bit_word : (z : ℕ) → Among z (0 ∷ 1 ∷ []) → z < 2 ^ 32
 bit_word z i = elim i [ inl e ↦ let f : z ≡ 0 = e in omega arith | inr j ↦ elim j [ inl e ↦ let f : z ≡ 1 = e in omega arith | inr n ↦ absurd n ] ]
 
 -- the words of a row are words
 row_below : (op : Op) (v w : Val) → IsWell v → IsWell w → (z : ℕ) → Among z (operation_row op v w) → z < 2 ^ 32
-unfolding operation_row runs gives_truth
+unfolding operation_row interval_of_row gives_truth
 row_below Second v w wv ww z i = members_below w ww z i
 row_below Add v w wv ww z i =
-    run_below (sums (low v) (high v) (low w) (high w) (min (step v) (step w))) z (runs_step Add (interval_bounds v) (interval_bounds w) w (bounds_of v wv).small (bounds_of w ww).small)
+    interval_below (sums (low v) (high v) (low w) (high w) (min (step v) (step w))) z (interval_of_row_step Add (interval_bounds v) (interval_bounds w) w (bounds_of v wv).small (bounds_of w ww).small)
     (sums_last (low v) (high v) (low w) (high w) (min (step v) (step w)) (high_below v wv) (high_below w ww)) i
 row_below Sub v w wv ww z i =
-    run_below (differences (low v) (high v) (low w) (high w) (min (step v) (step w))) z (runs_step Sub (interval_bounds v) (interval_bounds w) w (bounds_of v wv).small (bounds_of w ww).small)
+    interval_below (differences (low v) (high v) (low w) (high w) (min (step v) (step w))) z (interval_of_row_step Sub (interval_bounds v) (interval_bounds w) w (bounds_of v wv).small (bounds_of w ww).small)
     (differences_last (low v) (high v) (low w) (high w) (min (step v) (step w)) (high_below v wv)) i
 row_below And v w wv ww z i =
-    run_below (run 0 (min (high v) (high w)) (max (step v) (step w))) z (runs_step And (interval_bounds v) (interval_bounds w) w (bounds_of v wv).small (bounds_of w ww).small) (omega (arith, high_below v wv)) i
+    interval_below (interval 0 (min (high v) (high w)) (max (step v) (step w))) z (interval_of_row_step And (interval_bounds v) (interval_bounds w) w (bounds_of v wv).small (bounds_of w ww).small) (omega (arith, high_below v wv)) i
 row_below Eq v w wv ww z i = bit_word z i
 row_below Ne v w wv ww z i = bit_word z i
 row_below Lt v w wv ww z i = bit_word z i

@@ -15,12 +15,12 @@ abbrev pub range_of : StridedInterval → List ℕ
 range_of r = range r.first r.last r.step
 
 -- the multiples of 2 ^ step from the first word to the last
-abbrev pub run : ℕ → ℕ → ℕ → StridedInterval
-run first last step = record { first = first; last = last; step = step }
+abbrev pub interval : ℕ → ℕ → ℕ → StridedInterval
+interval first last step = record { first = first; last = last; step = step }
 
 -- all words that are multiples of 2 ^ s
 abbrev pub whole : ℕ → StridedInterval
-whole s = run 0 (2 ^ 32 - 1) s
+whole s = interval 0 (2 ^ 32 - 1) s
 
 -- the words that are multiples of 2 ^ s
 abbrev pub whole_interval_words : ℕ → List ℕ
@@ -29,15 +29,15 @@ whole_interval_words s = range_of (whole s)
 -- sums of a..=b and c..=d of step m, modulo 2 ^ 32
 unfoldable pub sums : ℕ → ℕ → ℕ → ℕ → ℕ → StridedInterval
 sums a b c d m =
-    if nat_lt (b + d) (2 ^ 32) then run (a + c) (b + d) m
-    else if nat_le (2 ^ 32) (a + c) then run (a + c - 2 ^ 32) (b + d - 2 ^ 32) m
+    if nat_lt (b + d) (2 ^ 32) then interval (a + c) (b + d) m
+    else if nat_le (2 ^ 32) (a + c) then interval (a + c - 2 ^ 32) (b + d - 2 ^ 32) m
     else whole m
 
 -- differences, modulo 2 ^ 32
 unfoldable pub differences : ℕ → ℕ → ℕ → ℕ → ℕ → StridedInterval
 differences a b c d m =
-    if nat_le d a then run (a - d) (b - c) m
-    else if nat_lt b c then run (a + 2 ^ 32 - d) (b + 2 ^ 32 - c) m
+    if nat_le d a then interval (a - d) (b - c) m
+    else if nat_lt b c then interval (a + 2 ^ 32 - d) (b + 2 ^ 32 - c) m
     else whole m
 
 -- shifts of a..=b of step p by the six bits n: to the left by n if it is below 32, else to the
@@ -45,8 +45,8 @@ differences a b c d m =
 unfoldable pub shifts : ℕ → ℕ → ℕ → ℕ → StridedInterval
 shifts a b p n =
     if nat_lt n 32
-    then (if nat_lt (b * 2 ^ n) (2 ^ 32) then run (a * 2 ^ n) (b * 2 ^ n) (min 2 (p + n)) else whole (min 2 (p + n)))
-    else run (a / 2 ^ (64 - n)) (b / 2 ^ (64 - n)) 0
+    then (if nat_lt (b * 2 ^ n) (2 ^ 32) then interval (a * 2 ^ n) (b * 2 ^ n) (min 2 (p + n)) else whole (min 2 (p + n)))
+    else interval (a / 2 ^ (64 - n)) (b / 2 ^ (64 - n)) 0
 
 -- shifts of a..=b of step p by the six bits n: to the left by n if it is below 32, else to the
 -- right by 64 - n, filled with the sign bit
@@ -58,34 +58,34 @@ signed_shifts a b p n = if nat_lt n 32 || nat_lt b (2 ^ 31) then shifts a b p n 
 abbrev pub IntervalShift : Type 0
 IntervalShift = ℕ → ℕ → ℕ → ℕ → StridedInterval
 
--- the run of shifts by the count, if the count's value is one word; else all words
+-- the interval of shifts by the count, if the count's value is one word; else all words
 abbrev pub by_count : IntervalShift → ℕ → ℕ → ℕ → Val → StridedInterval
 by_count shift a b p (Set (y ∷ [])) = shift a b p (y % 64)
 by_count shift a b p (Set []) = whole 0
 by_count shift a b p (Set (x ∷ y ∷ ys)) = whole 0
 by_count shift a b p (Span lo last s) = whole 0
 
--- the run that a row covers, by the bounds e and f of its operands
-unfoldable pub runs : Op → Extent → Extent → Val → StridedInterval
-runs Second e f w = whole 0
-runs Add e f w = sums e.least e.greatest f.least f.greatest (min e.step f.step)
-runs Sub e f w = differences e.least e.greatest f.least f.greatest (min e.step f.step)
-runs And e f w = run 0 (min e.greatest f.greatest) (max e.step f.step)
-runs Nand e f w = whole 0
-runs Or e f w = whole 0
-runs Nor e f w = whole 0
-runs Xor e f w = whole 0
-runs Xnor e f w = whole 0
-runs Andn e f w = whole 0
-runs Orn e f w = whole 0
-runs Eq e f w = whole 0
-runs Ne e f w = whole 0
-runs Lt e f w = whole 0
-runs LtU e f w = whole 0
-runs Ge e f w = whole 0
-runs GeU e f w = whole 0
-runs Sh e f w = by_count shifts e.least e.greatest e.step w
-runs Sha e f w = by_count signed_shifts e.least e.greatest e.step w
+-- the interval that a row covers, by the bounds e and f of its operands
+unfoldable pub interval_of_row : Op → Extent → Extent → Val → StridedInterval
+interval_of_row Second e f w = whole 0
+interval_of_row Add e f w = sums e.least e.greatest f.least f.greatest (min e.step f.step)
+interval_of_row Sub e f w = differences e.least e.greatest f.least f.greatest (min e.step f.step)
+interval_of_row And e f w = interval 0 (min e.greatest f.greatest) (max e.step f.step)
+interval_of_row Nand e f w = whole 0
+interval_of_row Or e f w = whole 0
+interval_of_row Nor e f w = whole 0
+interval_of_row Xor e f w = whole 0
+interval_of_row Xnor e f w = whole 0
+interval_of_row Andn e f w = whole 0
+interval_of_row Orn e f w = whole 0
+interval_of_row Eq e f w = whole 0
+interval_of_row Ne e f w = whole 0
+interval_of_row Lt e f w = whole 0
+interval_of_row LtU e f w = whole 0
+interval_of_row Ge e f w = whole 0
+interval_of_row GeU e f w = whole 0
+interval_of_row Sh e f w = by_count shifts e.least e.greatest e.step w
+interval_of_row Sha e f w = by_count signed_shifts e.least e.greatest e.step w
 
 -- the bounds of a value
 abbrev pub interval_bounds : Val → Extent

@@ -9,7 +9,7 @@ use Rattle.value_domain.specs.declared.values.Val.{Val}
 use Rattle.value_domain.specs.declared.values.Val.TheVariants.{Set, Span}
 use Rattle.value_domain.specs.Limits.{Limits}
 use Rattle.value_domain.specs.Values.{IsMember, cover, members}
-use Rattle.vd_transfer.specs.Intervals.{interval_bounds, range_of, runs}
+use Rattle.vd_transfer.specs.Intervals.{interval_bounds, range_of, interval_of_row}
 
 -- an operation on values has only the results 1 and 0, as comparisons have
 unfoldable pub gives_truth : Op → Bool
@@ -33,10 +33,10 @@ gives_truth GeU = true
 gives_truth Sh = false
 gives_truth Sha = false
 
--- the set that a row covers: the second operand, a truth value, or a run
+-- the set that a row covers: the second operand, a truth value, or an interval
 abbrev pub operation_row_of : Bool → Op → Val → Val → List ℕ
 operation_row_of true op v w = 0 ∷ 1 ∷ []
-operation_row_of false op v w = range_of (runs op (interval_bounds v) (interval_bounds w) w)
+operation_row_of false op v w = range_of (interval_of_row op (interval_bounds v) (interval_bounds w) w)
 
 -- the set that an operation's row gives, if an operand is a Span
 unfoldable pub operation_row : Op → Val → Val → List ℕ

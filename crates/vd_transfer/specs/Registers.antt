@@ -39,13 +39,13 @@ arg_of p s (Reg r) = reg_of p s r
 arg_of p s (Word w) = word_val w
 
 -- the state with a value at a register's place, if it has one
-abbrev pub set_at : State → Val → Option ℕ → State
-set_at s v (Some i) = record s { regs = slice_set s.regs i v }
-set_at s v None = s
+abbrev pub set_slot : State → Val → Option ℕ → State
+set_slot s v (Some i) = record s { regs = slice_set s.regs i v }
+set_slot s v None = s
 
 -- the state with a register's value, if it has one
 abbrev pub set_reg : State → ℕ → Val → State
-set_reg s r v = set_at s v (slot r)
+set_reg s r v = set_slot s v (slot r)
 
 -- the register of a state with this number, 0 to 15 for D and 16 to 31 for A, is a lower one:
 -- D0..D7 or A2..A7

@@ -13,7 +13,7 @@ use Rattle.value_domain.specs.Limits.{Limits, AreLimits}
 use Rattle.value_domain.specs.Values.{IsMember}
 use Rattle.value_domain.specs.State.{AreValues}
 use Rattle.vd_transfer.specs.Registers.{is_lower_register, WritesNoFixedRegister}
-use Rattle.vd_transfer.specs.EffectsOnStates.{transfer_of, address_of, restored_lower}
+use Rattle.vd_transfer.specs.EffectsOnStates.{transfer_of, address_of, state_restored_lower}
 use Rattle.vd_transfer.specs.EffectsOnWords.{ie_after, word_of, access_word, words_after, ccpn_after}
 use Rattle.vd_transfer.specs.Branches.{refine_of}
 use Rattle.vd_transfer.specs.Holding.{Holds}
@@ -53,7 +53,7 @@ TransferIsSound =
 abbrev pub RestoreIsSound : Type 0
 RestoreIsSound =
     (p : PlanData) (s : State) (word word2 : ℕ → ℕ) (ie : Bool) (ccpn : ℕ) → length s.regs ≡ 27 → ((r : ℕ) → r < 32 → word2 r < 2 ^ 32)
-    → ((r : ℕ) → r < 32 → is_lower_register r ≡ false → word2 r ≡ word r) → Holds p word ie ccpn s → Holds p word2 ie ccpn (restored_lower s)
+    → ((r : ℕ) → r < 32 → is_lower_register r ≡ false → word2 r ≡ word r) → Holds p word ie ccpn s → Holds p word2 ie ccpn (state_restored_lower s)
 
 -- the side that a branch takes is possible, and its state holds the words
 abbrev pub BranchIsSound : Type 0

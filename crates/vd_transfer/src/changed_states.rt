@@ -28,7 +28,7 @@ pub fn changed_value<'a>(s: &'a State, c: &'a Change, any: &'a Val, i: usize) ->
     if is_changed_at(&c.first, i) {
         return &c.first.value;
     }
-    changed_base_value(s, c.base, any, i)
+    base_value_at(s, c.base, any, i)
 }
 
 /// Returns the value of a register in a changed state.
@@ -59,7 +59,7 @@ fn is_changed_at(put: &Put, i: usize) -> bool
 
 /// Returns the value that a change starts from at a place.
 #[inline(always)]
-fn changed_base_value<'a>(s: &'a State, base: Base, any: &'a Val, i: usize) -> &'a Val
+fn base_value_at<'a>(s: &'a State, base: Base, any: &'a Val, i: usize) -> &'a Val
     requires place { i < 27 }
     requires any { any.now ≡ any_val }
     ensures { result.now ≡ slice_index_or (base_of base s.now.regs) i any_val }

@@ -1,6 +1,6 @@
 // The sets that the rows of the table of operations cover: multiples of a power of two in a range.
 ghost use Rattle.std.specs.Prelude.{◌≡◌, ◌<◌, ◌≤◌, ◌||◌, min, max, ◌^◌};
-ghost use Rattle.vd_transfer.specs.Intervals.{sums, differences, shifts, signed_shifts, runs};
+ghost use Rattle.vd_transfer.specs.Intervals.{sums, differences, shifts, signed_shifts, interval_of_row};
 
 use tc_isa::Op;
 use value_domain::{Extent, Val};
@@ -23,11 +23,11 @@ const ANY: StridedInterval = StridedInterval {
 };
 
 /// Returns the multiples that a row covers.
-#[tactic(auto, unfolding(crate::specs::Intervals::runs))]
+#[tactic(auto, unfolding(crate::specs::Intervals::interval_of_row))]
 pub(crate) fn interval_of_row(op: Op, e: &Extent, f: &Extent, w: &Val) -> StridedInterval
     requires left { e.now.least ≤ e.now.greatest }
     requires right { f.now.least ≤ f.now.greatest }
-    ensures { result ≡ runs op e.now f.now w.now }
+    ensures { result ≡ interval_of_row op e.now f.now w.now }
 {
     match op {
         Op::Add => sum(e, f),

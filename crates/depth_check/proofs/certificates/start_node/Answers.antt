@@ -5,5 +5,5 @@ use Rattle.value_domain.specs.State.{AreWell}
 use Rattle.depth_check.proofs.WellLaws.{well_start}
 use Rattle.depth_check.proofs.certificates.start_node.Goals as goal
 
-pub has_point-requires : goal.has_point-requires
-has_point-requires c = subst (λ (t : State). AreWell t.regs) (sym c.start_state.ensures) (well_start c.args.plan.now (subst IsPlan c.plan.view_is c.plan.invariant))
+pub has_covering_point-requires : goal.has_covering_point-requires
+has_covering_point-requires c = subst (λ (t : State). AreWell t.regs) (sym c.start_state.ensures) (well_start c.args.plan.now (subst IsPlan c.plan.view_is c.plan.invariant))

@@ -3,7 +3,7 @@ use Rattle.depth_cert.specs.declared.keys.Key.{Key}
 use Rattle.depth_cert.specs.Nodes.{NodeData}
 use Rattle.cfg_recover.specs.Entries.{irq_entry}
 use Rattle.cfg_recover.specs.Duties.{Owed}
-use Rattle.cfg_recover.proofs.FlowDuties.{told_irqs-is}
+use Rattle.cfg_recover.proofs.FlowDuties.{duties_of_irqs-is}
 use Rattle.depth_check.specs.LeastBroken.{LeastBrokenByDuties}
 use Rattle.depth_check.specs.PointChecks.{point_check_data}
 use Rattle.depth_check.proofs.RuleLaws.{values_well}
@@ -18,5 +18,5 @@ returns c =
     let same = ap (λ (n : NodeData). n.key) c.node.view_is in
     rw (← c.at.view_is)
     (subst (λ (l : List Owed). LeastBrokenByDuties t l c.broken_by_irqs.result)
-    (told_irqs-is t.plan (t.node).key t.point.state _ _ (c.handler_change-entry.ensures.entry ∙ ap (λ (k : Key). irq_entry t.plan k t.point.state 0) same) (rw (← c.at.view_is) at c.requires))
+    (duties_of_irqs-is t.plan (t.node).key t.point.state _ _ (c.handler_change-entry.ensures.entry ∙ ap (λ (k : Key). irq_entry t.plan k t.point.state 0) same) (rw (← c.at.view_is) at c.requires))
     (rw (← c.at.view_is) at c.broken_by_irqs.ensures))

@@ -9,8 +9,8 @@ use Rattle.depth_check.proofs.DutyLaws.{nothing_found, point_found}
 use Rattle.depth_check.proofs.RuleLaws.{values_well}
 use Rattle.depth_check.proofs.successor_rules.broken_by_change.Goals as goal
 
-pub has_changed_next-requires : goal.has_changed_next-requires
-has_changed_next-requires c = rw (← c.at.view_is) (values_well c.at.inside.bounds.now _ c.change_on.ensures.values)
+pub is_changed_state_covered-requires : goal.is_changed_state_covered-requires
+is_changed_state_covered-requires c = rw (← c.at.view_is) (values_well c.at.inside.bounds.now _ c.change_on.ensures.values)
 
 pub returns-then-not-change_on : goal.returns-then-not-change_on
 returns-then-not-change_on c =
@@ -25,5 +25,5 @@ returns c =
     let s = t.point.state in
     let told = ap (λ (b : Bool). possible_side b (state_after s c.change_on.new.c)) (sym c.if-not-change_on.false) ∙ c.change_on.ensures.refine in
     rw (c.rule_unless.ensures, ← c.at.view_is)
-    (subst (λ (o : Option State). LeastBrokenByDuties t (jump_on c.args.to o) (broken_rule_unless c.has_changed_next.result 4)) told
-    (point_found t.cert t.node s (state_after s c.change_on.new.c) c.args.to c.has_changed_next.result (rw (← c.at.view_is) at c.has_changed_next.ensures)))
+    (subst (λ (o : Option State). LeastBrokenByDuties t (jump_on c.args.to o) (broken_rule_unless c.is_changed_state_covered.result 4)) told
+    (point_found t.cert t.node s (state_after s c.change_on.new.c) c.args.to c.is_changed_state_covered.result (rw (← c.at.view_is) at c.is_changed_state_covered.ensures)))

@@ -5,13 +5,13 @@ use Rattle.cfg_recover.specs.LocalRules.{targets_named_by}
 use Rattle.cfg_recover.specs.Duties.{jumps_to}
 use Rattle.depth_check.specs.CheckedRegisters.{RegisterJumpsHold}
 use Rattle.depth_check.specs.LeastBroken.{FindsLeastBroken}
-use Rattle.depth_check.specs.DutiesHold.{DutiesHold, HasPoints}
+use Rattle.depth_check.specs.DutiesHold.{DutiesHold, HasCoveringPoints}
 use Rattle.cfg_recover.proofs.OperationLaws.{same_word}
 use Rattle.depth_check.specs.PointChecks.{point_check_data}
 use Rattle.depth_check.proofs.Deciding.{yes}
 use Rattle.depth_check.proofs.DutyLaws.{points_found}
 use Rattle.depth_check.proofs.successor_rules.broken_by_listed_jumps.Goals as goal
-use Rattle.depth_check.proofs.successor_rules.broken_by_listed_jumps.Goals.{Then-has_points}
+use Rattle.depth_check.proofs.successor_rules.broken_by_listed_jumps.Goals.{Then-has_covering_points}
 
 pub returns-then-eq-clause-found : goal.returns-then-eq-clause-found
 returns-then-eq-clause-found c =
@@ -22,25 +22,25 @@ returns-then-eq-clause-found c =
     points_found t.cert t.node s s (unwrap_or (targets_named_by (reg_of t.plan s c.args.r)) []) true (yes _ holds)
 
 -- all targets have points
-found_all : (c : Then-has_points) → RegisterJumpsHold c.args.at.now.plan c.args.at.now.node c.args.at.now.point.state c.args.r
+found_all : (c : Then-has_covering_points) → RegisterJumpsHold c.args.at.now.plan c.args.at.now.node c.args.at.now.point.state c.args.r
 found_all c =
     let t = point_check_data c.at.inside in
     rw (← c.at.view_is)
-    (subst (λ (l : List ℕ). HasPoints t.node t.point.state l) (c.as_slice.ensures.value ∙ c.targets-targets.ensures) ((rw (← c.at.view_is) at c.has_points.ensures).0 c.if-has_points.true))
+    (subst (λ (l : List ℕ). HasCoveringPoints t.node t.point.state l) (c.as_slice.ensures.value ∙ c.targets-targets.ensures) ((rw (← c.at.view_is) at c.has_covering_points.ensures).0 c.if-has_covering_points.true))
 
-pub returns-then-has_points-clause-found : goal.returns-then-has_points-clause-found
-returns-then-has_points-clause-found c =
+pub returns-then-has_covering_points-clause-found : goal.returns-then-has_covering_points-clause-found
+returns-then-has_covering_points-clause-found c =
     let t = c.args.at.now in
     let s = t.point.state in
     points_found t.cert t.node s s (unwrap_or (targets_named_by (reg_of t.plan s c.args.r)) []) true (yes _ (found_all c))
 
-pub returns-then-has_points-clause-jumped : goal.returns-then-has_points-clause-jumped
-returns-then-has_points-clause-jumped c = found_all c
+pub returns-then-has_covering_points-clause-jumped : goal.returns-then-has_covering_points-clause-jumped
+returns-then-has_covering_points-clause-jumped c = found_all c
 
-pub returns-else-has_points-clause-found : goal.returns-else-has_points-clause-found
-returns-else-has_points-clause-found c =
+pub returns-else-has_covering_points-clause-found : goal.returns-else-has_covering_points-clause-found
+returns-else-has_covering_points-clause-found c =
     let t = point_check_data c.at.inside in
     let s = t.point.state in
     rw (← c.at.view_is)
     (subst (λ (l : List ℕ). FindsLeastBroken (DutiesHold t.cert t.node s (jumps_to s l)) (Some 4)) (c.as_slice.ensures.value ∙ c.targets-targets.ensures)
-    (rw c.if-has_points.false at (points_found t.cert t.node s s c.as_slice.result.now c.has_points.result (rw (← c.at.view_is) at c.has_points.ensures))))
+    (rw c.if-has_covering_points.false at (points_found t.cert t.node s s c.as_slice.result.now c.has_covering_points.result (rw (← c.at.view_is) at c.has_covering_points.ensures))))

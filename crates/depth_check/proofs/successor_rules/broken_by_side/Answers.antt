@@ -2,9 +2,9 @@ use Rattle.cfg_recover.proofs.EntryLaws.{refine_length}
 use Rattle.depth_check.proofs.NarrowLaws.{side_found}
 use Rattle.depth_check.proofs.successor_rules.broken_by_side.Goals as goal
 
-pub returns-then-has_kept_next : goal.returns-then-has_kept_next
-returns-then-has_kept_next c =
+pub returns-then-is_kept_state_covered : goal.returns-then-is_kept_state_covered
+returns-then-is_kept_state_covered c =
     let t = c.args.at.now in
     let s = t.point.state in
     side_found t.cert t.node s c.args.to _ (refine_length t.bounds t.plan c.args.shape s c.args.taken)
-    (c.may_skip_refinement.ensures c.if-may_skip_refinement.true t.bounds t.plan s c.args.taken (rw (← c.at.view_is) c.at.invariant.values)) (c.has_kept_next.ensures.0 c.if-has_kept_next.true)
+    (c.may_skip_refinement.ensures c.if-may_skip_refinement.true t.bounds t.plan s c.args.taken (rw (← c.at.view_is) c.at.invariant.values)) (c.is_kept_state_covered.ensures.0 c.if-is_kept_state_covered.true)

@@ -9,8 +9,8 @@ use Rattle.depth_check.proofs.DutyLaws.{point_found}
 use Rattle.depth_check.proofs.RuleLaws.{values_well}
 use Rattle.depth_check.proofs.successor_rules.broken_by_step.Goals as goal
 
-pub has_changed_next-requires : goal.has_changed_next-requires
-has_changed_next-requires c = values_well c.args.at.now.bounds _ c.change_at.ensures.values
+pub is_changed_state_covered-requires : goal.is_changed_state_covered-requires
+is_changed_state_covered-requires c = values_well c.args.at.now.bounds _ c.change_at.ensures.values
 
 pub returns-clause-found : goal.returns-clause-found
 returns-clause-found c =
@@ -18,5 +18,5 @@ returns-clause-found c =
     let s = t.point.state in
     let there = machine_address_ahead t.point.addr c.args.found.now.size in
     rw (c.rule_unless.ensures, ← c.at.view_is)
-    (subst (λ (u : State). LeastBrokenByDuties t (owed 4 (jump there u) ∷ []) (broken_rule_unless c.has_changed_next.result 4)) (rw (← c.at.view_is) at c.change_at.ensures.change)
-    (point_found t.cert t.node s (state_after s c.change_at.new.scratch.change) there c.has_changed_next.result (rw (← c.at.view_is) at c.has_changed_next.ensures)))
+    (subst (λ (u : State). LeastBrokenByDuties t (owed 4 (jump there u) ∷ []) (broken_rule_unless c.is_changed_state_covered.result 4)) (rw (← c.at.view_is) at c.change_at.ensures.change)
+    (point_found t.cert t.node s (state_after s c.change_at.new.scratch.change) there c.is_changed_state_covered.result (rw (← c.at.view_is) at c.is_changed_state_covered.ensures)))

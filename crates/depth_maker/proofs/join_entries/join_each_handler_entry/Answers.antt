@@ -6,7 +6,7 @@ use Rattle.vd_transfer.specs.Changes.{state_after}
 use Rattle.depth_cert.specs.declared.keys.Key.{Key}
 use Rattle.cfg_recover.specs.Entries as entries
 use Rattle.cfg_recover.specs.Duties.{owed, enter}
-use Rattle.cfg_recover.specs.FlowDuties.{told_irqs}
+use Rattle.cfg_recover.specs.FlowDuties.{duties_of_irqs}
 use Rattle.depth_maker.specs.VisitDuties.{OwesDuty, JoinedBy}
 use Rattle.depth_maker.proofs.Lawful.{lawful}
 use Rattle.depth_maker.proofs.PartLemmas.{owes_at_map, duties_more_map, duties_none, visited_after}
@@ -50,4 +50,4 @@ loop-p-preserved c =
 pub returns-clause-ok : goal.returns-clause-ok
 returns-clause-ok c =
     let v = c.args.v.now in
-    subst (λ (l : List ℕ). JoinedBy v c.args.table.now c.loop-p.table (told_irqs v.ground.now.plan.now (state_after v.state.now c.args.entry) l)) (take_all c.loop-p.p-index c.args.irqs.now c.loop-p-test.false) c.loop-p.invariant.paid
+    subst (λ (l : List ℕ). JoinedBy v c.args.table.now c.loop-p.table (duties_of_irqs v.ground.now.plan.now (state_after v.state.now c.args.entry) l)) (take_all c.loop-p.p-index c.args.irqs.now c.loop-p-test.false) c.loop-p.invariant.paid

@@ -1,7 +1,7 @@
 use Rattle.std.proofs.Common.{sym, subst, List}
 use Rattle.std.specs.Prelude.{OnOk}
 use Rattle.cfg_recover.specs.Duties.{Owed}
-use Rattle.cfg_recover.proofs.FlowDuties.{told_irqs-is}
+use Rattle.cfg_recover.proofs.FlowDuties.{duties_of_irqs-is}
 use Rattle.depth_maker.specs.VisitDuties.{OwesAll, JoinedBy}
 use Rattle.depth_maker.proofs.join_entries.join_interrupt_entries.Goals as goal
 
@@ -9,10 +9,10 @@ pub join_each_handler_entry-requires-clause-owes : goal.join_each_handler_entry-
 join_each_handler_entry-requires-clause-owes c =
     let v = c.args.v.now in
     subst (λ (l : List Owed). OwesAll v l)
-    (sym (told_irqs-is v.ground.now.plan.now v.key v.state.now _ _ c.handler_change-entry.ensures.entry c.requires.irqs)) c.requires.owes
+    (sym (duties_of_irqs-is v.ground.now.plan.now v.key v.state.now _ _ c.handler_change-entry.ensures.entry c.requires.irqs)) c.requires.owes
 
 pub returns-clause-ok : goal.returns-clause-ok
 returns-clause-ok c =
     let v = c.args.v.now in
     subst (λ (l : List Owed). OnOk c.join_each_handler_entry.result (JoinedBy v c.args.table.now c.join_each_handler_entry.new.table l))
-    (told_irqs-is v.ground.now.plan.now v.key v.state.now _ _ c.handler_change-entry.ensures.entry c.requires.irqs) c.join_each_handler_entry.ensures.ok
+    (duties_of_irqs-is v.ground.now.plan.now v.key v.state.now _ _ c.handler_change-entry.ensures.entry c.requires.irqs) c.join_each_handler_entry.ensures.ok

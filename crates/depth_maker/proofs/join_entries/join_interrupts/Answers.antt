@@ -25,11 +25,11 @@ returns-then-is_empty-clause-ok c =
 pub join_interrupt_entries-requires-clause-irqs : goal.join_interrupt_entries-requires-clause-irqs
 join_interrupt_entries-requires-clause-irqs c = c.as_slice.ensures.value ∙ c.interrupts-irqs.ensures
 
-pub note_interrupts-requires-clause-on : goal.note_interrupts-requires-clause-on
-note_interrupts-requires-clause-on c = taken_on c.args.v.now.state.now.ie _ c.interrupts-irqs.result.items c.interrupts-irqs.ensures (sym c.is_empty.ensures ∙ c.if-is_empty.false)
+pub store_last_interrupts-requires-clause-on : goal.store_last_interrupts-requires-clause-on
+store_last_interrupts-requires-clause-on c = taken_on c.args.v.now.state.now.ie _ c.interrupts-irqs.result.items c.interrupts-irqs.ensures (sym c.is_empty.ensures ∙ c.if-is_empty.false)
 
-pub note_interrupts-requires-clause-fine : goal.note_interrupts-requires-clause-fine
-note_interrupts-requires-clause-fine c = c.in_ok-join_interrupt_entries.ensures.ok.fine
+pub store_last_interrupts-requires-clause-fine : goal.store_last_interrupts-requires-clause-fine
+store_last_interrupts-requires-clause-fine c = c.in_ok-join_interrupt_entries.ensures.ok.fine
 
 pub returns-clause-ok : goal.returns-clause-ok
-returns-clause-ok c = c.note_interrupts.ensures c.args.table.now c.in_ok-join_interrupt_entries.ensures.ok
+returns-clause-ok c = c.store_last_interrupts.ensures c.args.table.now c.in_ok-join_interrupt_entries.ensures.ok

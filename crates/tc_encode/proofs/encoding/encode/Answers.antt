@@ -1,7 +1,7 @@
 use Rattle.std.proofs.Common.{◌<◌, ◌∙◌, sym, ap, subst, length}
 use Rattle.tc_isa.specs.Rows.{RowData}
 use Rattle.tc_isa.specs.Forms.{bounds, fields}
-use Rattle.tc_isa.specs.InBounds.{IsBelow}
+use Rattle.tc_isa.specs.InBounds.{AreFieldsBelow}
 use Rattle.tc_isa.specs.Spelling.{word_of}
 use Rattle.tc_isa.proofs.TableFacts.{row_at}
 use Rattle.tc_isa.proofs.Made.{at_listed, inst_within, row_of_inst}
@@ -16,7 +16,7 @@ pub word_of_fields-word-requires-clause-second : goal.word_of_fields-word-requir
 word_of_fields-word-requires-clause-second c = (row_at c.from.result _ (at_listed c.rows.result.now c.from.result _ c.rows.ensures.rows (subst (λ n. n < length c.rows.result.now) (sym c.from.ensures) (inst_within c.rows.result.now _ c.rows.ensures.rows c.inst.invariant)))).second
 
 pub word_of_fields-word-requires-clause-below : goal.word_of_fields-word-requires-clause-below
-word_of_fields-word-requires-clause-below c = subst (λ (r : RowData). IsBelow (fields c.inst.inside.c c.inst.inside.s1 c.inst.inside.s2 c.inst.inside.n c.inst.inside.k) (bounds r.form)) (row_of_inst c.rows.result.now c.from.result _ _ c.inst.invariant c.rows.ensures.rows c.from.ensures) c.inst.invariant.fits.below
+word_of_fields-word-requires-clause-below c = subst (λ (r : RowData). AreFieldsBelow (fields c.inst.inside.c c.inst.inside.s1 c.inst.inside.s2 c.inst.inside.n c.inst.inside.k) (bounds r.form)) (row_of_inst c.rows.result.now c.from.result _ _ c.inst.invariant c.rows.ensures.rows c.from.ensures) c.inst.invariant.fits.below
 
 pub returns-clause-spells : goal.returns-clause-spells
 returns-clause-spells c =

@@ -3,7 +3,7 @@ use Rattle.tc_isa.specs.declared.fields.Fields.{Fields}
 use Rattle.std.proofs.lemmas.Bool.{both_ways}
 use Rattle.tc_isa.specs.Rows.{row_of}
 use Rattle.tc_isa.specs.Forms.{bounds}
-use Rattle.tc_isa.specs.InBounds.{IsBelow}
+use Rattle.tc_isa.specs.InBounds.{AreFieldsBelow}
 use Rattle.tc_isa.specs.ValidRowFields.{are_unused_fields_zero, are_registers_apart, uses_of}
 use Rattle.tc_encode.proofs.Gaps.{fields_below}
 use Rattle.tc_encode.proofs.Finds.{stands, makes_of}
@@ -13,7 +13,7 @@ pub returns-then-not-has_zero_word_gaps-clause-none : goal.returns-then-not-has_
 returns-then-not-has_zero_word_gaps-clause-none c = λ i m same. both_ways _ (sym c.has_zero_word_gaps.ensures ∙ c.if-not-has_zero_word_gaps.true) (stands c.args.place c.args.w (row_of c.args.row.now) c.requires.place i m same).full
 
 pub has_zero_other_fields-requires-clause-below : goal.has_zero_other_fields-requires-clause-below
-has_zero_other_fields-requires-clause-below c = subst (λ (f : Fields). IsBelow f (bounds c.args.row.now.form)) (sym c.fields_of_word-f.ensures) (fields_below c.args.row.now.form c.args.w c.ranges.w.fits)
+has_zero_other_fields-requires-clause-below c = subst (λ (f : Fields). AreFieldsBelow f (bounds c.args.row.now.form)) (sym c.fields_of_word-f.ensures) (fields_below c.args.row.now.form c.args.w c.ranges.w.fits)
 
 pub returns-then-not-has_zero_other_fields-clause-none : goal.returns-then-not-has_zero_other_fields-clause-none
 returns-then-not-has_zero_other_fields-clause-none c = λ i m same.

@@ -15,4 +15,4 @@ returns-then-plain_rows-at c =
 
 pub returns-else-plain_rows-at : goal.returns-else-plain_rows-at
 returns-else-plain_rows-at c =
-    c.is_zero_elsewhere.ensures ∙ ap (λ (u : Uses). are_unused_fields_zero u c.args.f.now) (uses_at c.uses.result.now c.from-at.result _ (row_of c.args.row.now) c.uses.ensures (ap (slice_get listed) c.from-at.ensures ∙ c.requires.place))
+    c.is_zero_elsewhere.ensures ∙ ap (λ (u : Uses). are_unused_fields_zero u c.args.f.now) (uses_at c.uses_by_row.result.now c.from-at.result _ (row_of c.args.row.now) c.uses_by_row.ensures (ap (slice_get listed) c.from-at.ensures ∙ c.requires.place))

@@ -7,7 +7,7 @@ pub returns-then-place-rows-clause-listed : goal.returns-then-place-rows-clause-
 returns-then-place-rows-clause-listed c = (λ e. cc, λ is. let within = inst_within c.rows-rows.result.now _ c.rows-rows.ensures.rows is in absurd (omega arith))
 
 pub are_fitting_fields-requires : goal.are_fitting_fields-requires
-are_fitting_fields-requires c = uses_listed c.rows-rows.result.now c.uses.result.now c.from-place.result _ _ c.rows-rows.ensures.rows c.uses.ensures (omega arith)
+are_fitting_fields-requires c = uses_listed c.rows-rows.result.now c.uses_by_row.result.now c.from-place.result _ _ c.rows-rows.ensures.rows c.uses_by_row.ensures (omega arith)
 
 pub returns-then-not-are_fitting_fields-clause-listed : goal.returns-then-not-are_fitting_fields-clause-listed
 returns-then-not-are_fitting_fields-clause-listed c = (λ e. cc, λ is. absurd (both_ways _ c.if-not-are_fitting_fields.true (c.are_fitting_fields.ensures.1 (made_fits c.rows-rows.result.now c.from-place.result _ _ c.rows-rows.ensures.rows c.from-place.ensures (omega arith) is))))

@@ -7,21 +7,21 @@ use Rattle.vd_transfer.specs.declared.strided_interval.StridedInterval.{StridedI
 use Rattle.value_domain.specs.Values.{cover, members, IsWell}
 use Rattle.value_domain.specs.Sets.{IsExtent}
 use Rattle.vd_transfer.specs.Operations.{operation_row, gives_truth}
-use Rattle.vd_transfer.specs.Intervals.{range_of, runs}
-use Rattle.vd_transfer.proofs.OpLaws.{row-Second, same_bounds, row_runs, runs_step, run_some, row-truth}
+use Rattle.vd_transfer.specs.Intervals.{range_of, interval_of_row}
+use Rattle.vd_transfer.proofs.OpLaws.{row-Second, same_bounds, row_intervals, interval_of_row_step, interval_some, row-truth}
 use Rattle.vd_transfer.proofs.operations.write_operation_row.Goals as goal
 
 covered : (op : Op) (v w : Val) (e f : Extent) (run : StridedInterval) → IsWell v → IsWell w → (op ≡ Second → ⊥) → gives_truth op ≡ false → IsExtent (members v) e.least e.greatest e.step
-    → IsExtent (members w) f.least f.greatest f.step → run ≡ runs op e f w → range_of run ≡ operation_row op v w
-covered op v w e f run well_v well_w other truth left right is = ap range_of is ∙ row_runs op v w e f other truth (same_bounds e v well_v left) (same_bounds f w well_w right)
+    → IsExtent (members w) f.least f.greatest f.step → run ≡ interval_of_row op e f w → range_of run ≡ operation_row op v w
+covered op v w e f run well_v well_w other truth left right is = ap range_of is ∙ row_intervals op v w e f other truth (same_bounds e v well_v left) (same_bounds f w well_w right)
 
 pub interval_of_row-run-requires : goal.interval_of_row-run-requires
 interval_of_row-run-requires c = record { left = c.extent_of.ensures.low _ c.extent_of.ensures.high_in; right = c.extent_of-in_default.ensures.low _ c.extent_of-in_default.ensures.high_in }
 
 pub write_cover-requires : goal.write_cover-requires
 write_cover-requires c = record {
-  step = rw c.interval_of_row-run.ensures (runs_step c.args.op c.extent_of.result c.extent_of-in_default.result c.args.w.now c.extent_of.ensures.small c.extent_of-in_default.ensures.small);
-  some = run_some c.interval_of_row-run.result c.args.op c.args.v.now c.args.w.now c.requires.left.well c.requires.right.well
+  step = rw c.interval_of_row-run.ensures (interval_of_row_step c.args.op c.extent_of.result c.extent_of-in_default.result c.args.w.now c.extent_of.ensures.small c.extent_of-in_default.ensures.small);
+  some = interval_some c.interval_of_row-run.result c.args.op c.args.v.now c.args.w.now c.requires.left.well c.requires.right.well
       (covered c.args.op c.args.v.now c.args.w.now c.extent_of.result c.extent_of-in_default.result c.interval_of_row-run.result c.requires.left.well c.requires.right.well
       c.in_default.not-Second (sym c.gives_truth.ensures ∙ c.if-gives_truth.false) c.extent_of.ensures c.extent_of-in_default.ensures c.interval_of_row-run.ensures);
 }

@@ -6,8 +6,8 @@ use Rattle.depth_maker.specs.declared.interrupt_contexts.InterruptContext.{Inter
 use Rattle.depth_maker.specs.declared.table.Table as made
 use Rattle.depth_maker.proofs.Lawful.{lawful}
 use Rattle.depth_maker.proofs.NotedInterrupts.{joined_and_noted, joined_with_last}
-use Rattle.depth_maker.proofs.interrupt_contexts.note_interrupts.Goals.{in-Some+else-is_alike, in_default}
-use Rattle.depth_maker.proofs.interrupt_contexts.note_interrupts.Goals as goal
+use Rattle.depth_maker.proofs.interrupt_contexts.store_last_interrupts.Goals.{in-Some+else-is_alike, in_default}
+use Rattle.depth_maker.proofs.interrupt_contexts.store_last_interrupts.Goals as goal
 
 pub returns-then-has_queued_mark : goal.returns-then-has_queued_mark
 returns-then-has_queued_mark c before paid = paid

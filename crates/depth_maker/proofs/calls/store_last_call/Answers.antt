@@ -8,7 +8,7 @@ use Rattle.frame_places.proofs.NearbyLemmas.{had_at, nowhere}
 use Rattle.depth_maker.specs.Covered.{IsCallOf}
 use Rattle.depth_maker.specs.TableView.{seen}
 use Rattle.depth_maker.proofs.NotedCalls.{call_noted}
-use Rattle.depth_maker.proofs.calls.note_call.Goals as goal
+use Rattle.depth_maker.proofs.calls.store_last_call.Goals as goal
 
 pub apply-requires : goal.apply-requires
 unfolding seen

@@ -2,7 +2,7 @@ use Rattle.std.proofs.Common.{◌∙◌, sym, arith}
 use Rattle.std.proofs.lemmas.List.{get_or_default, get_or-replicate}
 use Rattle.value_domain.specs.Values.{any_val}
 use Rattle.vd_transfer.proofs.ChangeLaws.{forgotten-lower, forgotten-other}
-use Rattle.vd_transfer.proofs.changed_states.changed_base_value.Goals as goal
+use Rattle.vd_transfer.proofs.changed_states.base_value_at.Goals as goal
 
 pub returns-then-is_lower_slot : goal.returns-then-is_lower_slot
 returns-then-is_lower_slot c =

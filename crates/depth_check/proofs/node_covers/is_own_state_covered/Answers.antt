@@ -9,7 +9,7 @@ use Rattle.depth_check.specs.PointChecks.{point_check_data}
 use Rattle.depth_check.proofs.Deciding.{yes}
 use Rattle.depth_check.proofs.RepeatLaws.{known_covers}
 use Rattle.depth_check.proofs.RuleLaws.{values_well}
-use Rattle.depth_check.proofs.node_covers.has_next.Goals as goal
+use Rattle.depth_check.proofs.node_covers.is_own_state_covered.Goals as goal
 
 pub returns-then-eq : goal.returns-then-eq
 returns-then-eq c =

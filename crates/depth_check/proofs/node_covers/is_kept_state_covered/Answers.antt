@@ -2,13 +2,13 @@ use Rattle.std.proofs.Common.{sym, ap, ◌∙◌, subst}
 use Rattle.value_domain.specs.declared.states.State.{State}
 use Rattle.value_domain.specs.State.{AreWell}
 use Rattle.vd_transfer.specs.Changes.{state_after}
-use Rattle.cfg_recover.specs.RulesHoldOrFail.{HasPoint}
+use Rattle.cfg_recover.specs.RulesHoldOrFail.{HasCoveringPoint}
 use Rattle.cfg_recover.proofs.OperationLaws.{same_word}
 use Rattle.depth_check.specs.PointChecks.{point_check_data}
 use Rattle.depth_check.proofs.Deciding.{yes}
 use Rattle.depth_check.proofs.RepeatLaws.{known_covers}
 use Rattle.depth_check.proofs.RuleLaws.{values_well}
-use Rattle.depth_check.proofs.node_covers.has_kept_next.Goals as goal
+use Rattle.depth_check.proofs.node_covers.is_kept_state_covered.Goals as goal
 
 pub returns-then-eq : goal.returns-then-eq
 returns-then-eq c =
@@ -31,4 +31,4 @@ returns-then-covers_next c =
     let t = point_check_data c.at.inside in
     let ahead = c.at.invariant.facts.walk in
     let kept = ap (λ (s : State). state_after s c.keep.new.self) ahead.current ∙ c.keep.ensures.same in
-    rw (c.if-covers_next.true, ← c.at.view_is) (yes _ (subst (λ (s : State). HasPoint t.node c.args.addr s) kept (ahead.ahead c.args.addr _ (c.covers_next.ensures c.if-covers_next.true))))
+    rw (c.if-covers_next.true, ← c.at.view_is) (yes _ (subst (λ (s : State). HasCoveringPoint t.node c.args.addr s) kept (ahead.ahead c.args.addr _ (c.covers_next.ensures c.if-covers_next.true))))

@@ -2,11 +2,11 @@ use Rattle.std.proofs.Common.{subst, sym}
 use Rattle.value_domain.specs.declared.states.State.{State}
 use Rattle.value_domain.specs.State.{AreWell}
 use Rattle.vd_transfer.specs.Changes.{state_after}
-use Rattle.cfg_recover.specs.RulesHoldOrFail.{HasPoint}
+use Rattle.cfg_recover.specs.RulesHoldOrFail.{HasCoveringPoint}
 use Rattle.depth_check.specs.PointChecks.{point_check_data}
 use Rattle.depth_check.proofs.Deciding.{yes}
 use Rattle.depth_check.proofs.RuleLaws.{values_well}
-use Rattle.depth_check.proofs.node_covers.has_changed_next.Goals as goal
+use Rattle.depth_check.proofs.node_covers.is_changed_state_covered.Goals as goal
 
 pub covers_next-requires-clause-hand : goal.covers_next-requires-clause-hand
 covers_next-requires-clause-hand c =
@@ -24,5 +24,5 @@ returns-then-covers_next c =
     let ahead = c.at.invariant.facts.walk in
     rw (c.if-covers_next.true, ← c.at.view_is)
     (yes _
-    (subst (λ (s : State). HasPoint t.node c.args.addr (state_after s c.args.c.now)) ahead.current
+    (subst (λ (s : State). HasCoveringPoint t.node c.args.addr (state_after s c.args.c.now)) ahead.current
     (ahead.ahead c.args.addr _ (c.covers_next.ensures c.if-covers_next.true))))

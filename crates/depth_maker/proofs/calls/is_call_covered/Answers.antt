@@ -6,7 +6,7 @@ use Rattle.depth_maker.specs.Covered.{IsLastCallCovered, IsWithinCall}
 use Rattle.depth_maker.specs.TableView.{seen}
 use Rattle.depth_maker.proofs.Lawful.{lawful}
 use Rattle.depth_maker.proofs.NotedCalls.{enters_already, entry_well_formed}
-use Rattle.depth_maker.proofs.calls.has_noted_call.Goals as goal
+use Rattle.depth_maker.proofs.calls.is_call_covered.Goals as goal
 
 pub covers-requires-clause-own : goal.covers-requires-clause-own
 covers-requires-clause-own c =
