@@ -3,11 +3,11 @@ use Rattle.std.specs.Prelude.{◌∷◌, []}
 use Rattle.value_domain.specs.declared.values.Val.{Val}
 use Rattle.value_domain.specs.Values.{any_val}
 use Rattle.value_domain.specs.declared.values.Val.TheVariants.{Set, Span}
-use Rattle.small_states.specs.declared.small_value.Form.{Form}
-use Rattle.small_states.specs.declared.small_value.Form.TheVariants.{Any, One, Many, Range}
+use Rattle.small_states.specs.declared.small_value.SmallForm.{SmallForm}
+use Rattle.small_states.specs.declared.small_value.SmallForm.TheVariants.{Any, One, Many, Range}
 
 -- the value that one small value stands for, by its form
-abbrev pub small_value_of : Form → Val
+abbrev pub small_value_of : SmallForm → Val
 small_value_of Any = any_val
 small_value_of (One x) = Set (x ∷ [])
 small_value_of (Many own) = own.value

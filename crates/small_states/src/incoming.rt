@@ -9,7 +9,7 @@ ghost use Rattle.depth_cert.specs.Exits.{ExitCovers, joined_exit};
 
 use crate::incoming_values::{are_incoming_covered, join_values};
 use crate::known::{KnownForm, SmallKnown};
-use crate::small_value::Form;
+use crate::small_value::SmallForm;
 use crate::{Small, SmallExit, SmallState, Values};
 use arrayvec::ArrayVec;
 use depth_cert::CALL;

@@ -12,7 +12,7 @@ ghost use Rattle.depth_cert.specs.Known.{state};
 
 use crate::SmallExit;
 use crate::incoming::{Given, Incoming};
-use crate::small_value::{Form, Small};
+use crate::small_value::{Small, SmallForm};
 use crate::values::Values;
 use depth_cert::lower_value;
 use std::alloc::{AllocError, Global};
@@ -27,7 +27,9 @@ use vd_transfer::{Base, Change, Put, is_lower_slot};
 pub(crate) fn compact_values(alloc: Global, incoming: &Incoming) -> Result<Values, AllocError>
     ensures { IfOk result (λ values. all_values values ≡ incoming_values incoming.now) }
 {
-    let any = Small { form: Form::Any };
+    let any = Small {
+        form: SmallForm::Any,
+    };
     let count = count_incoming(incoming);
     let mut values = Values {
         known: Vec::with_capacity(alloc, 0)?,
@@ -67,7 +69,9 @@ pub(crate) fn are_incoming_covered(upper: &Values, incoming: &Incoming) -> bool
     ensures { IsTrue result ↔ AreBelow (incoming_values incoming.now) (all_values upper.now) }
 {
     let _count = count_incoming(incoming);
-    let any = Small { form: Form::Any };
+    let any = Small {
+        form: SmallForm::Any,
+    };
     let known = upper.known.as_slice();
     let mut at = 0;
     for n in 0..known.len() {
@@ -99,7 +103,9 @@ pub(crate) fn join_values(
         ≡ joined_regs b.now (all_values left.now) (incoming_values incoming.now)) }
 {
     let _count = count_incoming(incoming);
-    let any = Small { form: Form::Any };
+    let any = Small {
+        form: SmallForm::Any,
+    };
     let known = left.known.as_slice();
     let mut values = Values {
         known: Vec::with_capacity(alloc, known.len())?,

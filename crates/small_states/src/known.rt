@@ -10,7 +10,7 @@ use crate::incoming::{
     is_incoming_state_covered, is_leaving, join_incoming_exit, join_incoming_state,
 };
 use crate::incoming_values::{compact_for, compact_values};
-use crate::small_value::{Form, Small};
+use crate::small_value::{Small, SmallForm};
 use crate::values::are_all_below;
 use crate::{ScratchState, SmallExit, SmallState};
 use std::alloc::{AllocError, Global};
@@ -75,7 +75,9 @@ fn has_known_grown(known: &SmallState, put: &Put) -> bool {
     let Some(at) = put.at else {
         return true;
     };
-    let any = Small { form: Form::Any };
+    let any = Small {
+        form: SmallForm::Any,
+    };
     match known.regs.as_ref().given_at(&any, at) {
         Given::Whole(_) => false,
         Given::Compact(low) => low.is_same(&put.value) || low.has_fewer(&put.value),

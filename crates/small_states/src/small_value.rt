@@ -22,7 +22,7 @@ use vd_transfer::only_register_word;
 /// All words, a single word, a whole value that copies share (a set of several words), or another
 /// range.
 #[derive(Drop)]
-pub(crate) enum Form {
+pub(crate) enum SmallForm {
     Any,
     One(u32),
     Many(Rc<Val>),
@@ -32,7 +32,7 @@ pub(crate) enum Form {
 /// A value that takes no more room than its words need.
 #[derive(Drop)]
 pub struct Small {
-    pub(crate) form: Form,
+    pub(crate) form: SmallForm,
 }
 
 impl Model for Small {
@@ -142,10 +142,10 @@ fn is_word_in_range(x: u32, lo: u32, last: u32, step: u8) -> bool
 /// Returns a range that isn't all words. Since this is a call, the test before it stays a jump, and
 /// most tested values are all words.
 #[inline(never)]
-fn small_range_form(lo: u32, last: u32, step: u8) -> Form
+fn small_range_form(lo: u32, last: u32, step: u8) -> SmallForm
     ensures { small_value_of result ≡ Span lo last step }
 {
-    Form::Range { lo, last, step }
+    SmallForm::Range { lo, last, step }
 }
 
 /// Returns true only if a small value's words begin with the words of another. It compares all of
@@ -178,7 +178,7 @@ impl Small {
             Val::Set(words) => {
                 let first = words.as_slice()[0];
                 if is_single_word(words, first) {
-                    let form = Form::One(first);
+                    let form = SmallForm::One(first);
                     return Ok(Small { form });
                 }
                 Small::of_many(alloc, v)
@@ -186,7 +186,9 @@ impl Small {
             Val::Span { lo, last, step } => {
                 // All words have a form of their own, which is recognised at once.
                 if *lo == 0 && *last == u32::MAX && *step == 0 {
-                    return Ok(Small { form: Form::Any });
+                    return Ok(Small {
+                        form: SmallForm::Any,
+                    });
                 }
                 let form = small_range_form(*lo, *last, *step);
                 Ok(Small { form })
@@ -200,10 +202,10 @@ impl Small {
         ensures { result ≡ self.now }
     {
         match &self.form {
-            Form::Any => Val::any(),
-            Form::One(x) => Val::one(*x),
-            Form::Many(own) => own.as_ref().copy(),
-            Form::Range { lo, last, step } => Val::Span {
+            SmallForm::Any => Val::any(),
+            SmallForm::One(x) => Val::one(*x),
+            SmallForm::Many(own) => own.as_ref().copy(),
+            SmallForm::Range { lo, last, step } => Val::Span {
                 lo: *lo,
                 last: *last,
                 step: *step,
@@ -217,13 +219,13 @@ impl Small {
         ensures { IsTrue result ↔ (self.now ≡ any_val) }
     {
         match &self.form {
-            Form::Any => true,
-            Form::One(_) => false,
-            Form::Many(own) => match own.as_ref() {
+            SmallForm::Any => true,
+            SmallForm::One(_) => false,
+            SmallForm::Many(own) => match own.as_ref() {
                 Val::Set(_) => false,
                 Val::Span { lo, last, step } => *lo == 0 && *last == u32::MAX && *step == 0,
             },
-            Form::Range { lo, last, step } => *lo == 0 && *last == u32::MAX && *step == 0,
+            SmallForm::Range { lo, last, step } => *lo == 0 && *last == u32::MAX && *step == 0,
         }
     }
 
@@ -233,13 +235,13 @@ impl Small {
         ensures { IsTrue result → v.now ≡ self.now }
     {
         match &self.form {
-            Form::Any => is_the_span(v, 0, u32::MAX, 0),
-            Form::One(x) => match v {
+            SmallForm::Any => is_the_span(v, 0, u32::MAX, 0),
+            SmallForm::One(x) => match v {
                 Val::Set(words) => is_single_word(words, *x),
                 Val::Span { .. } => false,
             },
-            Form::Many(own) => have_same_words(v, own.as_ref()),
-            Form::Range { lo, last, step } => is_the_span(v, *lo, *last, *step),
+            SmallForm::Many(own) => have_same_words(v, own.as_ref()),
+            SmallForm::Range { lo, last, step } => is_the_span(v, *lo, *last, *step),
         }
     }
 
@@ -249,7 +251,7 @@ impl Small {
         ensures { IfSome result (λ x. self.now ≡ Set (x ∷ [])) }
     {
         match &self.form {
-            Form::One(x) => Some(*x),
+            SmallForm::One(x) => Some(*x),
             _ => None,
         }
     }
@@ -260,7 +262,7 @@ impl Small {
     pub(crate) fn is_equal(&self, v: &Small) -> bool
         ensures { IsTrue result → v.now ≡ self.now }
     {
-        if let Form::One(x) = &v.form {
+        if let SmallForm::One(x) = &v.form {
             return self.word() == Some(*x);
         }
         self.is_equal_form(v)
@@ -272,10 +274,10 @@ impl Small {
         ensures { IfOk result (λ s. s ≡ self.now) }
     {
         let form = match &self.form {
-            Form::Any => Form::Any,
-            Form::One(x) => Form::One(*x),
-            Form::Many(own) => Form::Many(own.clone()?),
-            Form::Range { lo, last, step } => Form::Range {
+            SmallForm::Any => SmallForm::Any,
+            SmallForm::One(x) => SmallForm::One(*x),
+            SmallForm::Many(own) => SmallForm::Many(own.clone()?),
+            SmallForm::Range { lo, last, step } => SmallForm::Range {
                 lo: *lo,
                 last: *last,
                 step: *step,
@@ -301,13 +303,13 @@ impl Small {
         ensures { out.new ≡ self.now }
     {
         match &self.form {
-            Form::Any => write_any(out),
-            Form::One(x) => set_words(out, &[*x]),
-            Form::Many(own) => match own.as_ref() {
+            SmallForm::Any => write_any(out),
+            SmallForm::One(x) => set_words(out, &[*x]),
+            SmallForm::Many(own) => match own.as_ref() {
                 Val::Set(words) => set_words(out, words.as_slice()),
                 Val::Span { lo, last, step } => set_span(out, *lo, *last, *step),
             },
-            Form::Range { lo, last, step } => set_span(out, *lo, *last, *step),
+            SmallForm::Range { lo, last, step } => set_span(out, *lo, *last, *step),
         }
     }
 
@@ -331,18 +333,18 @@ impl Small {
             return self.has(x);
         }
         match &self.form {
-            Form::Many(own) => is_below_small_value(v, own.as_ref()),
-            Form::One(x) => match v.words() {
+            SmallForm::Many(own) => is_below_small_value(v, own.as_ref()),
+            SmallForm::One(x) => match v.words() {
                 Some(words) => count_held_words(&[*x], words) == words.len(),
                 None => is_below_range(v, *x, *x, 0),
             },
-            Form::Range { lo, last, step } => {
+            SmallForm::Range { lo, last, step } => {
                 if is_the_span(v, *lo, *last, *step) {
                     return true;
                 }
                 is_below_range(v, *lo, *last, *step)
             }
-            Form::Any => true,
+            SmallForm::Any => true,
         }
     }
 
@@ -353,8 +355,8 @@ impl Small {
             None => usize::MAX,
         };
         match &self.form {
-            Form::One(_) => 1 < most,
-            Form::Many(own) => match own.as_ref().words() {
+            SmallForm::One(_) => 1 < most,
+            SmallForm::Many(own) => match own.as_ref().words() {
                 Some(words) => words.len() < most,
                 None => false,
             },
@@ -437,7 +439,7 @@ impl Small {
     fn of_many(alloc: Global, v: &Val) -> Result<Small, AllocError>
         ensures { IfOk result (λ s. s ≡ v.now) }
     {
-        let form = Form::Many(Rc::new(alloc, v.copy())?);
+        let form = SmallForm::Many(Rc::new(alloc, v.copy())?);
         Ok(Small { form })
     }
 
@@ -447,13 +449,13 @@ impl Small {
         ensures { IsTrue result → v.now ≡ self.now }
     {
         match &v.form {
-            Form::Any => self.is_any(),
-            Form::One(x) => self.word() == Some(*x),
-            Form::Many(words) => match &self.form {
-                Form::Many(own) => have_same_words(words.as_ref(), own.as_ref()),
+            SmallForm::Any => self.is_any(),
+            SmallForm::One(x) => self.word() == Some(*x),
+            SmallForm::Many(words) => match &self.form {
+                SmallForm::Many(own) => have_same_words(words.as_ref(), own.as_ref()),
                 _ => false,
             },
-            Form::Range { lo, last, step } => self.has_ends(*lo, *last, *step),
+            SmallForm::Range { lo, last, step } => self.has_ends(*lo, *last, *step),
         }
     }
 
@@ -463,7 +465,7 @@ impl Small {
         ensures { IsTrue result → self.now ≡ Span lo last step }
     {
         match &self.form {
-            Form::Range {
+            SmallForm::Range {
                 lo: own_lo,
                 last: own_last,
                 step: own_step,
@@ -478,13 +480,13 @@ impl Small {
         ensures { IsTrue result ↔ IsMember x self.now }
     {
         match &self.form {
-            Form::Any => true,
-            Form::One(own) => x == *own,
-            Form::Many(own) => match own.as_ref() {
+            SmallForm::Any => true,
+            SmallForm::One(own) => x == *own,
+            SmallForm::Many(own) => match own.as_ref() {
                 Val::Set(words) => words.as_slice().contains(&x),
                 Val::Span { lo, last, step } => is_word_in_range(x, *lo, *last, *step),
             },
-            Form::Range { lo, last, step } => is_word_in_range(x, *lo, *last, *step),
+            SmallForm::Range { lo, last, step } => is_word_in_range(x, *lo, *last, *step),
         }
     }
 
@@ -497,15 +499,15 @@ impl Small {
         ensures { IsTrue result ↔ IsBelow v.now self.now }
     {
         match &v.form {
-            Form::One(x) => self.has(*x),
-            Form::Many(words) => self.covers(words.as_ref()),
-            Form::Range { lo, last, step } => {
+            SmallForm::One(x) => self.has(*x),
+            SmallForm::Many(words) => self.covers(words.as_ref()),
+            SmallForm::Range { lo, last, step } => {
                 if self.has_range(*lo, *last, *step) {
                     return true;
                 }
                 self.covers_as_whole(v)
             }
-            Form::Any => self.covers_as_whole(v),
+            SmallForm::Any => self.covers_as_whole(v),
         }
     }
 
@@ -515,7 +517,7 @@ impl Small {
         ensures { IsTrue result → IsBelow (Span lo last step) self.now }
     {
         match &self.form {
-            Form::Range {
+            SmallForm::Range {
                 lo: own_lo,
                 last: own_last,
                 step: own_step,
@@ -549,10 +551,10 @@ impl Small {
         requires words { v.now ≡ Set words.now }
         ensures { IfOk result (λ s. s ≡ join_of b.now self.now v.now) }
     {
-        if let Form::One(x) = &self.form {
+        if let SmallForm::One(x) = &self.form {
             return Small::with_others(alloc, b, words, &[*x]);
         }
-        let Form::Many(own) = &self.form else {
+        let SmallForm::Many(own) = &self.form else {
             return self.with_words(alloc, b, words);
         };
         let Some(held) = own.as_ref().words() else {
@@ -606,7 +608,7 @@ impl Small {
         set_words(&mut out, words);
         add_words(b, &mut out, others);
         if is_set(&out) {
-            let form = Form::Many(Rc::new(alloc, out)?);
+            let form = SmallForm::Many(Rc::new(alloc, out)?);
             return Ok(Small { form });
         }
         Small::of(alloc, &out)
@@ -622,7 +624,7 @@ impl Small {
         self.replace(&mut out);
         add_words(b, &mut out, words);
         if is_set(&out) {
-            let form = Form::Many(Rc::new(alloc, out)?);
+            let form = SmallForm::Many(Rc::new(alloc, out)?);
             return Ok(Small { form });
         }
         Small::of(alloc, &out)
@@ -655,7 +657,7 @@ impl Small {
         ensures { IfOk result (λ s. s ≡ v) }
     {
         if only_register_word(&v).is_none() && is_set(&v) {
-            let form = Form::Many(Rc::new(alloc, v)?);
+            let form = SmallForm::Many(Rc::new(alloc, v)?);
             return Ok(Small { form });
         }
         Small::of(alloc, &v)
@@ -667,8 +669,8 @@ impl Small {
         ensures { IsTrue result → IsBelow self.now (Span lo last step) }
     {
         match &self.form {
-            Form::One(x) => is_word_in_range(*x, lo, last, step),
-            Form::Range {
+            SmallForm::One(x) => is_word_in_range(*x, lo, last, step),
+            SmallForm::Range {
                 lo: own_lo,
                 last: own_last,
                 step: own_step,
@@ -686,13 +688,13 @@ impl Small {
         ensures { IfOk result (λ s. s ≡ join_of b.now self.now v.now) }
     {
         match &v.form {
-            Form::One(x) => {
+            SmallForm::One(x) => {
                 if self.has(*x) {
                     return self.copy();
                 }
                 self.with_words(alloc, b, &[*x])
             }
-            Form::Many(words) => self.join(alloc, b, words.as_ref()),
+            SmallForm::Many(words) => self.join(alloc, b, words.as_ref()),
             _ => self.join_as_whole(alloc, b, v),
         }
     }

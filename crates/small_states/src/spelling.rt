@@ -7,7 +7,7 @@ ghost use Rattle.depth_cert.specs.Spelling.{bytes_of_exit, bytes_of_state, bytes
 ghost use Rattle.small_states.specs.CompactForms.{all_values, exit_in, state_in};
 
 use crate::gathered::Gathered;
-use crate::small_value::{Form, Small};
+use crate::small_value::{Small, SmallForm};
 use crate::states::{SmallExit, SmallState};
 use crate::values::Values;
 use tcd_base::NoMemory;
@@ -50,12 +50,12 @@ fn spell_spaced_value(
         ≡ ((out.old.items ++ gathered.old) ++ replicate anys 0) ++ bytes_of_value v.now) }
 {
     gathered.put_anys(out, anys)?;
-    if let Form::Many(own) = &v.form {
+    if let SmallForm::Many(own) = &v.form {
         if let Some(words) = own.as_ref().words() {
             return gathered.put_set(out, words);
         }
     }
-    if let Form::Range { lo, last, step } = &v.form {
+    if let SmallForm::Range { lo, last, step } = &v.form {
         return gathered.put_range(out, *lo, *last, *step);
     }
     gathered.flush(out)?;

@@ -7,7 +7,7 @@ ghost use Rattle.small_states.specs.declared.values.SpacedValue as spaced;
 ghost use Rattle.value_domain.specs.State.{AreBelow, AreWell};
 
 use crate::incoming::Given;
-use crate::small_value::{Form, Small};
+use crate::small_value::{Small, SmallForm};
 use std::alloc::{AllocError, Global};
 use value_domain::{Val, write_any};
 
@@ -139,7 +139,9 @@ impl Values {
             let Some(x) = here.value.word() else {
                 break;
             };
-            let value = Small { form: Form::One(x) };
+            let value = Small {
+                form: SmallForm::One(x),
+            };
             known.push(SpacedValue { anys, value })?;
             n += 1;
         }
