@@ -80,6 +80,10 @@ pub record TakesRound (old new : WorkLists) (number : ℕ) : Type 0 where
   pub round : old.round ≡ new.round ++ number ∷ []
   pub waiting : new.waiting ≡ old.waiting
 
+-- the same places are listed, each as often
+abbrev pub HasSameWork : WorkLists → WorkLists → Type 0
+HasSameWork old new = IsPermutation (all_work old) (all_work new)
+
 -- this place is taken off the list
 abbrev pub Takes : WorkLists → WorkLists → ℕ → Type 0
 Takes old new number = IsPermutation (all_work old) (number ∷ all_work new)
@@ -88,4 +92,4 @@ Takes old new number = IsPermutation (all_work old) (number ∷ all_work new)
 pub record HasNoNext (old new : WorkLists) : Type 0 where
   pub first : new.first ≡ []
   pub next : new.next ≡ []
-  pub same : IsPermutation (all_work old) (all_work new)
+  pub same : HasSameWork old new

@@ -1,6 +1,6 @@
 // The work list.
-ghost use Rattle.std.specs.Prelude.{◌≡◌, ◌<◌, ◌^◌, ◌==◌, IfOk, IfSome, IfNone, OnOk, [], length};
-ghost use Rattle.frame_places.specs.Work.{BeginsRound, HasNoNext, PutsEntry, PutsNext, PutsWaiting, Takes, TakesFirst, TakesLast, TakesRound, Turns, all_work, PutsAs, PutsNew};
+ghost use Rattle.std.specs.Prelude.{◌≡◌, ◌<◌, ◌^◌, ◌==◌, IfOk, IfSome, IfNone, OnOk, OnErr, [], length};
+ghost use Rattle.frame_places.specs.Work.{BeginsRound, HasNoNext, HasSameWork, PutsEntry, PutsNext, PutsWaiting, Takes, TakesFirst, TakesLast, TakesRound, Turns, all_work, PutsAs, PutsNew};
 
 use std::alloc::{AllocError, Global};
 use std::marker::Model;
@@ -106,12 +106,13 @@ impl Work {
         Ok(())
     }
 
-    /// Takes a place.
+    /// Takes a place. If memory is short, the same places stay listed.
     #[inline(always)]
     pub fn pop(&mut self) -> Result<Option<usize>, AllocError>
         ensures some { IfOk result (λ o. IfSome o (Takes self.old self.new)) }
         ensures none { IfOk result (λ o. IfNone o (all_work self.old ≡ [])) }
         ensures empty { IfOk result (λ o. IfNone o (all_work self.new ≡ [])) }
+        ensures err { OnErr result (HasSameWork self.old self.new) }
     {
         if let Some(number) = self.pop_next() {
             return Ok(Some(number));
@@ -153,7 +154,8 @@ impl Work {
     /// Begins a round, if the last one is over, with the places that wait and were found first. The
     /// least number is the last, where places are taken.
     fn begin_round(&mut self) -> Result<(), AllocError>
-        ensures { OnOk result (BeginsRound self.old self.new) }
+        ensures round { OnOk result (BeginsRound self.old self.new) }
+        ensures err { OnErr result (HasSameWork self.old self.new) }
     {
         self.waiting
             .sort_unstable_by_key(|number| usize::MAX - *number);
