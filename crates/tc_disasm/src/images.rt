@@ -7,11 +7,11 @@ ghost use Rattle.tc_disasm.specs.LentSegments.{lent_segment_data};
 
 use crate::lines::append_lines;
 use crate::ordering::segments_in_listing_order;
-use crate::texts::{append_listing_decimal, append_listing_text};
+use crate::texts::append_listing_decimal;
 use elf_image::{Image, Segment};
 use std::alloc::Global;
 use tcd_base::NoMemory;
-use tcd_text::append_hex_word;
+use tcd_text::{append_hex_word, append_str};
 
 /// The listing of an image.
 ///
@@ -53,10 +53,10 @@ fn append_section(text: &mut String, number: u32, segment: &Segment) -> Result<(
         (string_bytes text.new
         ≡ string_bytes text.old ++ section_text number (segment_data segment.now)) }
 {
-    append_listing_text(text, ".section s")?;
+    append_str(text, ".section s")?;
     append_listing_decimal(text, number)?;
-    append_listing_text(text, " # ")?;
+    append_str(text, " # ")?;
     append_hex_word(text, segment.at)?;
-    append_listing_text(text, "\n")?;
+    append_str(text, "\n")?;
     append_lines(text, segment.at, &segment.bytes)
 }

@@ -7,10 +7,10 @@ ghost use Rattle.tc_stmt.specs.Wants.{wants_of};
 ghost use Rattle.tc_disasm.specs.Texts.{row_text, instruction_text};
 
 use crate::operands::append_operands;
-use crate::texts::append_listing_text;
 use tc_isa::{Fields, Form, Inst, Row, rows};
 use tc_stmt::{Want, wants};
 use tcd_base::NoMemory;
+use tcd_text::append_str;
 
 /// Appends the text of an instruction.
 pub(crate) fn append_instruction(text: &mut String, inst: &Inst) -> Result<(), NoMemory>
@@ -36,6 +36,6 @@ fn append_row(text: &mut String, row: &Row, wants: &[Want], f: &Fields) -> Resul
     ensures { OnOk result
         (string_bytes text.new ≡ string_bytes text.old ++ row_text (row_of row.now) f.now) }
 {
-    append_listing_text(text, row.name)?;
+    append_str(text, row.name)?;
     append_operands(text, row.form, f, wants)
 }

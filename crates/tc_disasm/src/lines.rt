@@ -6,10 +6,10 @@ ghost use Rattle.tc_disasm.specs.Listing.{listed_text_at, listed_size_at, listin
 ghost use Rattle.tc_disasm.specs.Texts.{data_text};
 
 use crate::instructions::append_instruction;
-use crate::texts::{append_listing_address, append_listing_text};
+use crate::texts::append_listing_address;
 use tc_encode::decode;
 use tcd_base::NoMemory;
-use tcd_text::{append_ascii, append_hex_byte, hex_byte, hex_word};
+use tcd_text::{append_ascii, append_hex_byte, append_str, hex_byte, hex_word};
 
 /// Appends the lines of bytes that begin at an address. The time is linear in their number.
 pub(crate) fn append_lines(text: &mut String, address: u32, bytes: &[u8]) -> Result<(), NoMemory>
@@ -101,11 +101,11 @@ fn append_data(text: &mut String, bytes: &[u8]) -> Result<(), NoMemory>
     match bytes {
         [] => Ok(()),
         [last] => {
-            append_listing_text(text, ".byte 0x")?;
+            append_str(text, ".byte 0x")?;
             append_hex_byte(text, u32::from(*last))
         }
         [low, high, ..] => {
-            append_listing_text(text, ".half 0x")?;
+            append_str(text, ".half 0x")?;
             append_hex_byte(text, u32::from(*high))?;
             append_hex_byte(text, u32::from(*low))
         }
@@ -160,7 +160,7 @@ fn append_long_remark(text: &mut String, address: u32, bytes: &[u8]) -> Result<(
 {
     append_listing_address(text, address)?;
     append_remark_bytes(text, bytes)?;
-    append_listing_text(text, "\n")
+    append_str(text, "\n")
 }
 
 // Appends bytes in hex digits.

@@ -9,11 +9,11 @@ ghost use Rattle.tc_disasm.specs.Texts.{register_text, number_text, target_text,
 ghost use Rattle.tc_stmt.specs.Displacements.{is_two_way};
 ghost use Rattle.std.specs.List.{flat_map};
 
-use crate::texts::{append_listing_decimal, append_listing_text};
+use crate::texts::append_listing_decimal;
 use tc_isa::{Fields, Form, bounds_of};
 use tc_stmt::{Field, Want, field_of, wants};
 use tcd_base::NoMemory;
-use tcd_text::append_hex_word;
+use tcd_text::{append_hex_word, append_str};
 
 /// Appends the operand that the row wants here.
 #[tactic(auto, unfolding(crate::specs::Texts::operand_text))]
@@ -29,7 +29,7 @@ pub(crate) fn append_operand(
 {
     match want {
         Want::Reg(bank, field) => append_register(text, bank, field_of(field, f)),
-        Want::A10 => append_listing_text(text, "a10"),
+        Want::A10 => append_str(text, "a10"),
         Want::Number(signed, field) => append_field(text, signed, field, form, f),
         Want::Target => append_target(text, is_two_way(form), bounds_of(form).k, f.k),
         Want::Absolute => append_absolute(text, form, f),
@@ -50,7 +50,7 @@ pub(crate) fn append_operands(
         (string_bytes text.new ≡ string_bytes text.old ++ operands_text form f.now wants.now) }
 {
     if let Some((first, others)) = wants.split_first() {
-        append_listing_text(text, " ")?;
+        append_str(text, " ")?;
         append_operand(text, form, f, *first)?;
         append_other_operands(text, form, f, others)?;
     }
@@ -63,7 +63,7 @@ fn append_register(text: &mut String, is_address: bool, n: u32) -> Result<(), No
     ensures { OnOk result
         (string_bytes text.new ≡ string_bytes text.old ++ register_text is_address n) }
 {
-    append_listing_text(text, if is_address { "a" } else { "d" })?;
+    append_str(text, if is_address { "a" } else { "d" })?;
     append_listing_decimal(text, n)
 }
 
@@ -98,10 +98,10 @@ fn append_target(text: &mut String, both: bool, bound: u32, k: u32) -> Result<()
         (string_bytes text.new ≡ string_bytes text.old ++ target_text both bound k) }
 {
     if both && k >= bound / 2 {
-        append_listing_text(text, ".-")?;
+        append_str(text, ".-")?;
         append_listing_decimal(text, 2 * (bound - k))
     } else {
-        append_listing_text(text, ".+")?;
+        append_str(text, ".+")?;
         append_listing_decimal(text, 2 * k)
     }
 }
@@ -127,7 +127,7 @@ fn append_absolute(text: &mut String, form: Form, f: &Fields) -> Result<(), NoMe
     ensures { OnOk result
         (string_bytes text.new ≡ string_bytes text.old ++ absolute_text form f.now) }
 {
-    append_listing_text(text, "0x")?;
+    append_str(text, "0x")?;
     append_hex_word(text, absolute_operand_address(form, f))
 }
 
@@ -146,9 +146,9 @@ fn append_memory(
         (string_bytes text.new
         ≡ string_bytes text.old ++ operand_text form f.now (Memory plus offset)) }
 {
-    append_listing_text(text, "[")?;
+    append_str(text, "[")?;
     append_register(text, true, u32::from(f.s2))?;
-    append_listing_text(text, if plus { "+]" } else { "]" })?;
+    append_str(text, if plus { "+]" } else { "]" })?;
     if offset {
         append_number(text, true, bounds_of(form).k, f.k)?;
     }
@@ -163,7 +163,7 @@ fn append_number(text: &mut String, signed: bool, bound: u32, value: u32) -> Res
         (string_bytes text.new ≡ string_bytes text.old ++ number_text signed bound value) }
 {
     if signed && value >= bound / 2 {
-        append_listing_text(text, "-")?;
+        append_str(text, "-")?;
         append_listing_decimal(text, bound - value)
     } else {
         append_listing_decimal(text, value)
@@ -219,6 +219,6 @@ fn append_next(text: &mut String, form: Form, f: &Fields, want: Want) -> Result<
         (string_bytes text.new
         ≡ string_bytes text.old ++ (codes ", " ++ operand_text form f.now want)) }
 {
-    append_listing_text(text, ", ")?;
+    append_str(text, ", ")?;
     append_operand(text, form, f, want)
 }

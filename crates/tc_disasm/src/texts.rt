@@ -7,14 +7,6 @@ use tc_isa::Form;
 use tcd_base::NoMemory;
 use tcd_text::{append_ascii, hex_word};
 
-/// Appends a text.
-pub(crate) fn append_listing_text(text: &mut String, more: &str) -> Result<(), NoMemory>
-    ensures { OnOk result (string_bytes text.new ≡ string_bytes text.old ++ more.now) }
-{
-    text.push_str(more)?;
-    Ok(())
-}
-
 /// Appends a decimal digit.
 pub(crate) fn append_listing_digit(text: &mut String, n: u32) -> Result<(), NoMemory>
     requires { n < 10 }

@@ -7,12 +7,12 @@ use crate::judged::Judged;
 use crate::reports::heights::heights;
 use crate::reports::longest_by_priority::{longest_by_priority, rows_below};
 use crate::reports::report_text::{need_of_start, nodes_value, rows_value, whole_value};
-use crate::texts::extend_text;
 use elf_image::Image;
 use packed_cert::Cert;
 use std::alloc::Global;
 use tcd_base::NoMemory;
 use tcd_plan::Plan;
+use tcd_text::append_str;
 use value_domain::Bounds;
 
 pub(crate) mod heights;
@@ -41,6 +41,6 @@ pub fn report(alloc: Global, image: &Image, plan: &Plan, cert: &Cert) -> Result<
     let nodes = nodes_value(alloc, cert)?;
     let value = whole_value(alloc, plan, need, calls, nodes)?;
     let mut text = value.to_string(alloc)?;
-    extend_text(&mut text, "\n")?;
+    append_str(&mut text, "\n")?;
     Ok(text)
 }

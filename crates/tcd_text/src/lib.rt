@@ -10,4 +10,5 @@ pub use hex_numbers::{
     append_ascii, append_hex_byte, append_hex_word, hex_byte, hex_number, hex_word,
 };
 pub use lines::cut_line;
+pub use text_parts::append_str;
 pub use words::{Words, cut_word, words_in};

@@ -1,5 +1,15 @@
-// The parts of a text before and after a byte.
-ghost use Rattle.std.specs.Prelude.{◌≡◌, ◌≤◌, ◌+◌, length, take, drop};
+// A text at the end of another, and the parts of a text before and after a byte.
+ghost use Rattle.std.specs.Prelude.{◌≡◌, ◌≤◌, ◌+◌, ◌++◌, OnOk, length, take, drop, string_bytes};
+
+use tcd_base::NoMemory;
+
+/// Appends a text to another.
+pub fn append_str(text: &mut String, more: &str) -> Result<(), NoMemory>
+    ensures { OnOk result (string_bytes text.new ≡ string_bytes text.old ++ more.now) }
+{
+    text.push_str(more)?;
+    Ok(())
+}
 
 /// Returns the bytes of a text before the place at which it is cut.
 pub(crate) fn cut_text_before(text: &[u8], place: usize) -> &[u8]

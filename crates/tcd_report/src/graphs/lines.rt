@@ -6,11 +6,11 @@ ghost use Rattle.std.specs.Str.{IsAscii};
 
 use crate::graphs::edges::Edges;
 use crate::graphs::handlers::append_handlers;
-use crate::texts::{append_key, extend_text};
+use crate::texts::append_key;
 use depth_cert::Key;
 use tc_isa::Shape;
 use tcd_base::NoMemory;
-use tcd_text::{append_ascii, append_hex_word, hex_word};
+use tcd_text::{append_ascii, append_hex_word, append_str, hex_word};
 
 /// Makes the front of all lines of a node.
 pub(crate) fn set_node_line_front(front: &mut String, key: &Key) -> Result<(), NoMemory>
@@ -22,7 +22,7 @@ pub(crate) fn set_node_line_front(front: &mut String, key: &Key) -> Result<(), N
     let _prio = key.prio;
     front.clear();
     append_key(front, key)?;
-    extend_text(front, ": ")
+    append_str(front, ": ")
 }
 
 /// Makes the front of all lines of a point from that of its node.
@@ -35,9 +35,9 @@ pub(crate) fn set_point_line_front(
         (string_bytes front.new ≡ key_front.now ++ (hex_word addr ++ 32 ∷ [])) }
 {
     front.clear();
-    extend_text(front, key_front)?;
+    append_str(front, key_front)?;
     append_hex_word(front, addr)?;
-    extend_text(front, " ")
+    append_str(front, " ")
 }
 
 /// Appends the lines of a point, except that of its own return.
@@ -64,12 +64,12 @@ pub(crate) fn append_leaving(text: &mut String, front: &str, shape: Shape) -> Re
 {
     match shape {
         Shape::Ret => {
-            extend_text(text, front)?;
-            extend_text(text, "ret\n")
+            append_str(text, front)?;
+            append_str(text, "ret\n")
         }
         Shape::Rfe => {
-            extend_text(text, front)?;
-            extend_text(text, "rfe\n")
+            append_str(text, front)?;
+            append_str(text, "rfe\n")
         }
         _ => Ok(()),
     }
@@ -81,8 +81,8 @@ fn append_lines(text: &mut String, front: &str, word: &str, targets: &[u32]) -> 
         ≡ string_bytes text.old ++ lines_to front.now word.now targets.now) }
 {
     for to in targets {
-        extend_text(text, front)?;
-        extend_text(text, word)?;
+        append_str(text, front)?;
+        append_str(text, word)?;
         append_target(text, *to)?;
     }
     Ok(())

@@ -36,5 +36,5 @@ returns c =
       rows = rows;
       prios = prios_are image plan cert is heights c.in_ok-heights.ensures.tells c.in_ok-heights.ensures.all row greatest priorities;
       longest = rows_longest image plan cert is heights c.in_ok-heights.ensures.tells c.in_ok-heights.ensures.all row greatest priorities;
-      is = c.in_ok-extend_text.ensures ∙ ap (λ l. l ++ 10 ∷ []) (c.in_ok-text.ensures.text plain ∙ ap compact_text value_is);
+      is = c.in_ok-append_str.ensures ∙ ap (λ l. l ++ 10 ∷ []) (c.in_ok-text.ensures.text plain ∙ ap compact_text value_is);
     }
