@@ -1,6 +1,6 @@
 -- Numbers in rom.
-use Rattle.std.proofs.Common.{◌≡◌, ℕ, zero, suc, ◌+◌, ◌*◌, ◌^◌, ◌<◌, ◌≤◌, inl, inr, true, false, List, [], ◌∷◌, Option, Some, None, refl, sym, ap, ◌∙◌, arith}
-use Rattle.std.specs.Prelude.{option_and_then}
+use Rattle.std.proofs.Common.{◌≡◌, ℕ, zero, suc, ◌+◌, ◌*◌, ◌^◌, ◌<◌, ◌≤◌, inl, inr, Bool, true, false, List, [], ◌∷◌, Option, Some, None, refl, sym, ap, ◌∙◌, subst, arith}
+use Rattle.std.specs.Prelude.{IsTrue, ◌↔◌, option_and_then}
 use Rattle.std.specs.Option.{option_map}
 use Rattle.std.specs.List.{list_any}
 use Rattle.std.proofs.lemmas.Bool.{or_cases, or_left, or_right}
@@ -25,6 +25,12 @@ pub one_any : (x n : ℕ) (rs : List Range) → IsInOneRange x n rs → list_any
 one_any x n [] i = absurd i
 one_any x n (r ∷ rs) (inl w) = or_left (is_within_range x n r) (list_any (is_within_range x n) rs) (true_within x n r w)
 one_any x n (r ∷ rs) (inr i) = or_right (is_within_range x n r) (list_any (is_within_range x n) rs) (one_any x n rs i)
+
+-- a test decides it, also of ranges that are known to be the same
+pub tests_one : (b : Bool) (x n : ℕ) (rs ss : List Range) → rs ≡ ss → b ≡ list_any (is_within_range x n) rs → IsTrue b ↔ IsInOneRange x n ss
+tests_one b x n rs ss same t =
+    let P : List Range → Type 0 = λ l. IsTrue b ↔ IsInOneRange x n l in
+    subst P same (λ h. any_one x n rs (sym t ∙ h), λ h. t ∙ one_any x n rs h)
 
 pub any_fits : (plan : PlanData) (x n : ℕ) → IsPlan plan → list_any (is_within_range x n) plan.rom ≡ true → x + n ≤ 2 ^ 32
 any_fits plan x n ok t = rom_fits ok x n (any_one x n plan.rom t)

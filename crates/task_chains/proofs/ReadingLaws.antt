@@ -1,12 +1,8 @@
 -- The tasks that a text names, and its error.
 use Rattle.std.proofs.Common.{◌≡◌, ℕ, zero, suc, ◌+◌, ◌^◌, ◌<◌, ◌≤◌, inl, inr, Bool, true, false, IsTrue, List, [], ◌∷◌, length, get_or, Option, Some, None, Ok, Err, refl, sym, ap, ◌∙◌, subst, arith}
-use Rattle.std.specs.List.{list_any}
 use Rattle.std.proofs.lemmas.Bool.{cases_lt}
 use Rattle.std.proofs.lemmas.List.{take_all}
 use Rattle.tcd_plan.specs.PlanData.{PlanData}
-use Rattle.tcd_base.specs.declared.range.Range.{Range}
-use Rattle.tcd_base.specs.Ranges.{is_within_range, IsInOneRange}
-use Rattle.store_ranges.proofs.RomLaws.{any_one, one_any}
 use Rattle.task_chains.specs.declared.lines.Places.{Places}
 use Rattle.task_chains.specs.declared.task_lists.Task.{Task}
 use Rattle.task_chains.specs.declared.task_lists.TasksErr.{TasksErr}
@@ -35,11 +31,6 @@ module _ (plan : PlanData) (lines : List (List ℕ)) where
   all_read tasks said are fit = record { said = said; are = are; fit = fit }
 
 -- ---- the tests under a plan
-pub in_one : (b : Bool) (at n : ℕ) (rs ss : List Range) → rs ≡ ss → b ≡ list_any (is_within_range at n) rs → (IsTrue b → IsInOneRange at n ss) × (IsInOneRange at n ss → IsTrue b)
-in_one b at n rs ss same t =
-    let P : List Range → Type 0 = λ l. (IsTrue b → IsInOneRange at n l) × (IsInOneRange at n l → IsTrue b) in
-    subst P same (λ h. any_one at n rs (sym t ∙ h), λ h. t ∙ one_any at n rs h)
-
 -- what a test denies doesn't hold
 pub denied : (b : Bool) (P : Type 0) → b ≡ false → (IsTrue b → P) × (P → IsTrue b) → P → ⊥
 denied b P fails both p = absurd (let f : false ≡ true = sym fails ∙ both.1 p in cc)

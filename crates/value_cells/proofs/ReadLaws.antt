@@ -1,13 +1,10 @@
 -- Cells read one line after another.
-use Rattle.std.proofs.Common.{◌≡◌, ℕ, zero, suc, ◌+◌, ◌<◌, ◌≤◌, inl, Bool, List, [], ◌∷◌, ◌++◌, length, take, map, IsTrue, refl, sym, ap, ◌∙◌, subst, arith, nat_lt, nat_le}
+use Rattle.std.proofs.Common.{◌≡◌, ℕ, zero, suc, ◌+◌, ◌<◌, ◌≤◌, inl, List, [], ◌∷◌, ◌++◌, length, take, map, IsTrue, refl, sym, ap, ◌∙◌, subst, arith, nat_lt, nat_le}
 use Rattle.std.specs.Prelude.{filter_map}
 use Rattle.std.proofs.lemmas.Bool.{ltb-true, lt-ltb, leb-true}
 use Rattle.std.proofs.lemmas.List.{length-append, length-map}
 use Rattle.std.proofs.lemmas.List.Elements.{All-push, filter_map-append}
-use Rattle.std.specs.List.{list_any}
 use Rattle.tcd_base.specs.declared.range.Range.{Range}
-use Rattle.tcd_base.specs.Ranges.{is_within_range, IsInOneRange}
-use Rattle.store_ranges.proofs.RomLaws.{any_one, one_any}
 use Rattle.tcd_plan.specs.PlanData.{PlanData}
 use Rattle.tcd_text.specs.Lines.{text_lines}
 use Rattle.value_cells.specs.declared.cells.Cell.{Cell}
@@ -105,9 +102,3 @@ pub read_all : (plan : PlanData) (bytes rest : List ℕ) (number : ℕ) (cells :
 unfolding text_lines
 read_all plan bytes [] number cells none so = subst (λ ls. AreRead plan ls cells) (sym (so.split ∙ append_no_lines so.before)) so.read
 read_all plan bytes (x ∷ xs) number cells none so = absurd (omega arith)
-
--- ---- a word in one range
-pub in_one : (b : Bool) (at : ℕ) (rs ss : List Range) → rs ≡ ss → b ≡ list_any (is_within_range at 4) rs → (IsTrue b → IsInOneRange at 4 ss) × (IsInOneRange at 4 ss → IsTrue b)
-in_one b at rs ss same t =
-    let P : List Range → Type 0 = λ l. (IsTrue b → IsInOneRange at 4 l) × (IsInOneRange at 4 l → IsTrue b) in
-    subst P same (λ h. any_one at 4 rs (sym t ∙ h), λ h. t ∙ one_any at 4 rs h)
