@@ -15,14 +15,13 @@ use Rattle.depth_cert.specs.declared.points.Point.{Point}
 use Rattle.depth_cert.specs.Nodes.{NodeData, find_node}
 use Rattle.depth_cert.specs.Certs.{CertData}
 use Rattle.cfg_recover.specs.Code.{IsCode}
-use Rattle.cfg_recover.specs.Duties.{Duty, jump, enter, resume, Owed, duties_of, entries_of, successors_of}
+use Rattle.cfg_recover.specs.Duties.{Duty, jump, enter, resume, Owed, duties_of, successors_of}
 use Rattle.cfg_recover.specs.RulesHoldOrFail.{limits_in}
 use Rattle.cfg_recover.specs.StepEdges.{EdgeWay, to, call, irq, sys, aln, ret, rfe}
 use Rattle.tcd_text.specs.HexNumbers.{hex_word}
 use Rattle.tcd_report.specs.Texts.{key_text}
-use Rattle.tc_isa.specs.declared.shapes.Shape.TheVariants.{Call, Ret, Rfe, Syscall}
+use Rattle.tc_isa.specs.declared.shapes.Shape.TheVariants.{Call, Ret, Rfe}
 use Rattle.value_domain.specs.declared.states.State.{State}
-use Rattle.cfg_recover.specs.Entries.{sys_key}
 use Rattle.cfg_recover.specs.LocalRules.{targets_of}
 use Rattle.tcd_report.specs.declared.graphs.edges.Edges.{Edges}
 use Rattle.cfg_recover.specs.declared.local_rules.Located.{Located}

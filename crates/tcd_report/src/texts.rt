@@ -1,6 +1,5 @@
 // Keys as text.
-ghost use Rattle.std.specs.Prelude.{◌≡◌, ◌++◌, ◌∷◌, [], OnOk, string_bytes, if◌then◌else◌};
-ghost use Rattle.std.specs.Fmt.{decimal};
+ghost use Rattle.std.specs.Prelude.{◌≡◌, ◌++◌, OnOk, string_bytes};
 ghost use Rattle.tcd_report.specs.Texts.{key_text};
 
 use depth_cert::{Key, key_kind_text};

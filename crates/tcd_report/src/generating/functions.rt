@@ -1,5 +1,5 @@
 // The functions of a generated image, its main program, and the handler of an interrupt.
-ghost use Rattle.std.specs.Prelude.{◌≡◌, ◌≤◌, ◌<◌, ◌+◌, ◌*◌, ◌++◌, OnOk, IfOk, ◌-◌, ◌/◌};
+ghost use Rattle.std.specs.Prelude.{◌≡◌, ◌≤◌, ◌<◌, ◌+◌, ◌*◌, ◌++◌, OnOk, IfOk, ◌-◌};
 ghost use Rattle.tcd_report.specs.Generated.{generated_function_at, call_if_below, function_code, generated_functions, main_code, generated_handler};
 
 use crate::generating::appending::{append_call, append_segment_bytes, append_zeros};

@@ -1,6 +1,6 @@
 // The table and the vectors of a generated image.
 ghost use Rattle.std.specs.Prelude.{◌≡◌, ◌≤◌, ◌<◌, ◌+◌, ◌*◌, IfOk};
-ghost use Rattle.tcd_report.specs.Generated.{generated_handler, generated_vectors, generated_function_at, generated_table};
+ghost use Rattle.tcd_report.specs.Generated.{generated_vectors, generated_function_at, generated_table};
 
 use crate::generating::appending::append_zeros;
 use crate::generating::functions::{append_handler, generated_function_at};

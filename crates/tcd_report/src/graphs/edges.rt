@@ -1,5 +1,5 @@
 // The addresses where a point goes on, by the words of its lines.
-ghost use Rattle.std.specs.Prelude.{◌≡◌, OnOk};
+ghost use Rattle.std.specs.Prelude.{OnOk};
 ghost use Rattle.tc_isa.specs.InBounds.{IsShape};
 ghost use Rattle.value_domain.specs.State.{AreValues};
 ghost use Rattle.tcd_report.specs.Graphs.{AreEdges};

@@ -1,5 +1,5 @@
 // The handlers of the interrupts that may come at a point, and their lines.
-ghost use Rattle.std.specs.Prelude.{◌≡◌, ◌+◌, ◌≤◌, OnOk, codes, length, ◌<◌, ◌++◌, string_bytes, ◌^◌, ◌∷◌, [], ℕ, slice_index};
+ghost use Rattle.std.specs.Prelude.{◌≡◌, ◌+◌, ◌≤◌, OnOk, codes, length, ◌<◌, ◌++◌, string_bytes, ◌^◌, ℕ, slice_index};
 ghost use Rattle.cfg_recover.specs.Entries.{irqs_of};
 ghost use Rattle.tcd_report.specs.Graphs.KnownHandlers.{irq_entry_vectors, HasHandlerLines, KnowsHandlers, with_handler_front};
 ghost use Rattle.tcd_report.specs.Graphs.{each_address_once, line_end_to, lines_to};

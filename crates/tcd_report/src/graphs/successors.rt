@@ -7,9 +7,6 @@ ghost use Rattle.cfg_recover.specs.LocalRules.{targets_of};
 ghost use Rattle.cfg_recover.specs.Duties.{jump_on, resume};
 ghost use Rattle.tcd_report.specs.Graphs.{successors_at, jumped_in, back_by, backs_after};
 ghost use Rattle.depth_cert.specs.Points.{point_of};
-ghost use Rattle.std.specs.List.{flat_map};
-ghost use Rattle.std.specs.Option.{option_map_or};
-ghost use Rattle.depth_cert.specs.Nodes.{find_node};
 
 use crate::judged::Judged;
 use cfg_recover::{Located, targets};
