@@ -1,7 +1,7 @@
 // Reads the fields of values.
 ghost use Rattle.std.specs.Prelude.{◌≡◌, ◌≤◌, ◌<◌, ◌^◌, ◌-◌, length, Ok, Err, OnOk, IfOk, IfErr, true};
 ghost use Rattle.tcd_base.specs.FieldReaders.{ReadsField};
-ghost use Rattle.value_domain.specs.declared.values.Val.TheVariants.{Set, Span};
+ghost use Rattle.value_domain.specs.declared.values.Val.TheVariants.{Set};
 ghost use Rattle.std.specs.List.Sorted.{IsStrictlyIncreasing};
 ghost use Rattle.depth_cert.specs.Grammar.{flag_at, set_word_after, set_at, span_at, value_at, values_at, is_above_last_read, is_cert_span, last_number_read};
 

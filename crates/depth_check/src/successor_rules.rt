@@ -4,7 +4,7 @@ ghost use Rattle.depth_check.specs.LeastBroken.{LeastBrokenByDuties};
 ghost use Rattle.tc_isa.specs.InBounds.{IsShape, IsTarget};
 ghost use Rattle.cfg_recover.specs.LocalFaults.{StandsFaultless};
 ghost use Rattle.cfg_recover.specs.LocalRules.{targets_of, targets_named_by};
-ghost use Rattle.cfg_recover.specs.Duties.{jump, jumps_to, jump_on, next_of, successors_of};
+ghost use Rattle.cfg_recover.specs.Duties.{jumps_to, jump_on, next_of, successors_of};
 ghost use Rattle.cfg_recover.specs.SetOperations.{HoldsCachedResults};
 ghost use Rattle.depth_check.specs.CheckedRegisters.{RegistersHoldAt, RegisterJumpsHoldAt};
 ghost use Rattle.vd_transfer.specs.Registers.{reg_of};

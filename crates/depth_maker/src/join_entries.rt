@@ -10,7 +10,6 @@ ghost use Rattle.depth_maker.specs.VisitDuties.{OwesAll, JoinedBy, OwesDutiesOf,
 ghost use Rattle.depth_maker.specs.Visits.{VisitedBy};
 ghost use Rattle.cfg_recover.specs.Entries as entries;
 ghost use Rattle.cfg_recover.specs.Duties.{owed, enter, resume, entered_and_back};
-ghost use Rattle.cfg_recover.specs.Assignments.{point};
 ghost use Rattle.depth_cert.specs.Known.{state};
 
 use crate::calls::join_call;

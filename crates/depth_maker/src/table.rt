@@ -1,5 +1,4 @@
 // The table of the worklist algorithm.
-ghost use Rattle.std.specs.Prelude.{None};
 
 use crate::covered::CoveredEntries;
 use depth_cert::Key;

@@ -1,5 +1,5 @@
 // The checks of an ELF file, in their order.
-ghost use Rattle.std.specs.Prelude.{◌≡◌, ◌+◌, ◌≤◌, ◌<◌, length, find, Option, Some, None, OnOk, ◌^◌, ◌-◌, true};
+ghost use Rattle.std.specs.Prelude.{◌≡◌, ◌+◌, ◌≤◌, ◌<◌, length, find, Option, Some, None, OnOk, ◌-◌, true};
 ghost use Rattle.std.specs.Result.{result_err};
 ghost use Rattle.std.specs.Option.{option_map};
 ghost use Rattle.elf_image.specs.ReadElf.{headers_of, is_bad_header, start_refusal, segment_refusal, has_overlap_with, overlap_refusal, passes_bounds, program_header_offset, header_at};

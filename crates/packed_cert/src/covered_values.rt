@@ -3,7 +3,7 @@ ghost use Rattle.std.specs.Prelude.{◌≡◌, ◌≤◌, ◌<◌, ◌↔◌, Is
 ghost use Rattle.value_domain.specs.Values.{any_val, IsBelow, IsWell};
 ghost use Rattle.value_domain.specs.State.{AreBelow, AreWell};
 ghost use Rattle.packed_cert.specs.ToCover.{values_to_cover};
-ghost use Rattle.packed_cert.specs.ValuesInBytes.{values_in, HaveValuesInBytes, value_in, HasValueInBytes, words_at, place_in_bytes};
+ghost use Rattle.packed_cert.specs.ValuesInBytes.{values_in, HaveValuesInBytes, value_in, HasValueInBytes, words_at};
 ghost use Rattle.tcd_base.specs.Bytes.{word_in_bytes};
 ghost use Rattle.value_domain.specs.declared.values.Val.{Val};
 ghost use Rattle.value_domain.specs.Sets.{Rising, Within};

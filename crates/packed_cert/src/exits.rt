@@ -2,7 +2,6 @@
 ghost use Rattle.std.specs.Prelude.{◌≡◌, ◌≤◌, ◌^◌, ◌↔◌, IsTrue, length, Ok, Err, OnOk, IfOk, IfErr, IfSome};
 ghost use Rattle.packed_cert.specs.NodesInBytes.{exit_in, HasExit, ExitStands};
 ghost use Rattle.std.specs.Option.{option_map};
-ghost use Rattle.tcd_base.specs.FieldReaders.{ReadsField};
 ghost use Rattle.depth_cert.specs.Grammar.{optional_exit_at, exit_at};
 
 use crate::certs::cert_bytes_below_256;

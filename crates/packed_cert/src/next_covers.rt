@@ -1,12 +1,11 @@
 // Fast path: does the state of the next point cover the one at hand, changed?
 // A point keeps the row of values outside which its state is that of the point before. So only what
 // is put, and the values of that row, are compared, and not all 27.
-ghost use Rattle.std.specs.Prelude.{◌≡◌, ◌≤◌, ◌<◌, ◌-◌, ◌↔◌, ℕ, IsTrue, Some, slice_index_or, false};
+ghost use Rattle.std.specs.Prelude.{◌≡◌, ◌≤◌, ◌<◌, ◌-◌, ℕ, IsTrue, Some, slice_index_or, false};
 ghost use Rattle.value_domain.specs.Values.{IsBelow, any_val};
-ghost use Rattle.value_domain.specs.State.{AreBelow, AreWell, Covers};
+ghost use Rattle.value_domain.specs.State.{AreWell, Covers};
 ghost use Rattle.vd_transfer.specs.Changes.{state_after};
 ghost use Rattle.vd_transfer.specs.declared.change.Base.TheVariants.{Same};
-ghost use Rattle.packed_cert.specs.ValuesInBytes.{values_in, HaveValuesInBytes};
 ghost use Rattle.packed_cert.specs.PointsInBytes.{state_in, HasState};
 ghost use Rattle.packed_cert.specs.Moves.{IsMoved};
 ghost use Rattle.packed_cert.specs.ToCover.{IsCoveredByOwn};

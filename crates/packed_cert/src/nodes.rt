@@ -1,5 +1,5 @@
 // The type `Node`: a node whose exit and states stay in the bytes of its certificate.
-ghost use Rattle.std.specs.Prelude.{◌≡◌, ◌<◌, nat_lt, ◌==◌, true, false, map, find, length};
+ghost use Rattle.std.specs.Prelude.{◌≡◌, ◌<◌, nat_lt, ◌==◌, true, false, map, length};
 ghost use Rattle.std.specs.Option.{option_map};
 ghost use Rattle.std.specs.List.Sorted.{IsStrictlyIncreasing, IsPartitionPoint};
 ghost use Rattle.packed_cert.specs.NodesInBytes.{node_of, HasPlaces};

@@ -1,8 +1,7 @@
 // Fast path: how many bytes are equal at two places?
 // From 1,024 bytes on they are compared as slices first. Where those differ, and below, they are
 // compared eight at a time: 64 in a turn, then 16. A turn of 64 takes some 28 instructions.
-ghost use Rattle.std.specs.Prelude.{◌≡◌, ◌≤◌, ◌<◌, ◌+◌, ◌*◌, IsTrue, length, slice_index, take, drop, ◌-◌, IsFalse};
-ghost use Rattle.tcd_base.specs.Bytes.{word_in_bytes};
+ghost use Rattle.std.specs.Prelude.{◌≡◌, ◌≤◌, ◌<◌, ◌+◌, IsTrue, length, take, ◌-◌, IsFalse};
 ghost use Rattle.packed_cert.specs.RepeatedBytes.{SameBytesAtPlaces, IsRepeated, MovesOverRepeated, eight_bytes_at_place};
 
 use crate::places::RepeatedState;

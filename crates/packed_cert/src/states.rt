@@ -80,7 +80,7 @@ impl<'a> StateAt<'a> {
 }
 
 impl<'a> StateAt<'a> {
-    ghost use Rattle.value_domain.specs.State.{AreWell, AreBelow, Covers};
+    ghost use Rattle.value_domain.specs.State.{AreWell, Covers};
     ghost use Rattle.depth_cert.specs.Exits.{state_after_exit};
     ghost use Rattle.vd_transfer.specs.Changes.{state_after};
 

@@ -4,7 +4,7 @@ ghost use Rattle.value_domain.specs.declared.values.Val.{Val};
 ghost use Rattle.value_domain.specs.declared.values.Val.TheVariants.{Set};
 ghost use Rattle.value_domain.specs.Sets.{AreWords};
 ghost use Rattle.value_domain.specs.Values.{IsWell, IsBelow, IsValue};
-ghost use Rattle.packed_cert.specs.ValuesInBytes.{words_at, value_in, HasValueInBytes, values_in, HaveValuesInBytes, place_in_bytes};
+ghost use Rattle.packed_cert.specs.ValuesInBytes.{words_at, value_in, HasValueInBytes, values_in, HaveValuesInBytes};
 ghost use Rattle.value_domain.specs.State.{AreValues};
 ghost use Rattle.tcd_base.specs.Bytes.{word_in_bytes};
 

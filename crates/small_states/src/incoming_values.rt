@@ -8,7 +8,6 @@ ghost use Rattle.small_states.specs.CompactForms.{all_values};
 ghost use Rattle.value_domain.specs.Values.{any_val};
 ghost use Rattle.value_domain.specs.State as states;
 ghost use Rattle.depth_cert.specs.Exits.{with_lower_from};
-ghost use Rattle.depth_cert.specs.Known.{state};
 
 use crate::SmallExit;
 use crate::incoming::{Given, Incoming};

@@ -1,5 +1,5 @@
 // The value that a load from the members of a value gives.
-ghost use Rattle.std.specs.Prelude.{◌≡◌, ◌≤◌, ◌<◌, ◌+◌, ◌-◌, ◌*◌, ◌^◌, ◌++◌, ◌&&◌, ◌==◌, if◌then◌else◌, find, length, List, ℕ, IfSome, false};
+ghost use Rattle.std.specs.Prelude.{◌≡◌, ◌≤◌, ◌<◌, ◌+◌, ◌-◌, ◌*◌, ◌^◌, ◌++◌, ◌&&◌, ◌==◌, if◌then◌else◌, find, length, IfSome, false};
 ghost use Rattle.std.specs.List.{flat_map};
 ghost use Rattle.csa_chain.specs.MemoryBytes as memory;
 ghost use Rattle.tcd_base.specs.Ranges.{is_within_range};

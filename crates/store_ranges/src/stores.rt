@@ -1,5 +1,5 @@
 // Checks of stores (is each in range?) and of accesses (is each aligned?).
-ghost use Rattle.std.specs.Prelude.{◌<◌, ◌-◌, ◌*◌, ◌/◌, ◌^◌, ◌↔◌, IsTrue};
+ghost use Rattle.std.specs.Prelude.{◌<◌, ◌-◌, ◌*◌, ◌↔◌, IsTrue};
 ghost use Rattle.value_domain.specs.Values.{IsWell};
 ghost use Rattle.value_domain.specs.declared.values.Val.TheVariants.{Set, Span};
 ghost use Rattle.store_ranges.specs.Accesses.{IsAccessSize, AreStoresInRange, AreAligned};

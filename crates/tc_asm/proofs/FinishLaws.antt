@@ -1,5 +1,5 @@
 -- The invariant of a draft's parts, for the types of the code.
-use Rattle.std.proofs.Common.{◌≡◌, ◌<◌, ◌≤◌, ◌+◌, ◌^◌, ◌&&◌, ◌++◌, ℕ, zero, suc, Bool, true, List, [], ◌∷◌, length, map, Option, None, Some, refl, ap, arith}
+use Rattle.std.proofs.Common.{◌≡◌, ◌<◌, ◌≤◌, ◌+◌, ◌^◌, ◌&&◌, ◌++◌, ℕ, zero, suc, Bool, true, List, [], ◌∷◌, length, map, Option, None, Some, ap, arith}
 use Rattle.std.specs.Prelude.{is_some, All}
 use Rattle.std.specs.Bool.{then_some}
 use Rattle.tc_object.specs.Names.{object_name_of, is_name_length}

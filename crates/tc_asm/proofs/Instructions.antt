@@ -1,5 +1,5 @@
 -- Instructions of a source that breaks no rule are statements, and spell their rows.
-use Rattle.std.proofs.Common.{◌≡◌, ◌≤◌, ◌+◌, ◌&&◌, ◌++◌, min, ℕ, Bool, true, cond, List, [], ◌∷◌, length, Option, Some, refl, ap, subst, ◌∙◌, arith}
+use Rattle.std.proofs.Common.{◌≡◌, ◌≤◌, ◌+◌, ◌&&◌, ◌++◌, min, ℕ, true, cond, List, [], ◌∷◌, length, Option, Some, ap, subst, ◌∙◌, arith}
 use Rattle.std.proofs.lemmas.Bool.{and_from}
 use Rattle.std.specs.Prelude.{slice_get, fold}
 use Rattle.tc_isa.specs.declared.fields.Fields.{Fields}

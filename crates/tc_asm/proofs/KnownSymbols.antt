@@ -2,7 +2,7 @@
 use Rattle.std.proofs.Common.{◌≡◌, ◌≤◌, ◌<◌, ◌+◌, ◌&&◌, ◌||◌, ◌==◌, min, ℕ, Bool, true, false, cond, List, [], ◌∷◌, ◌++◌, length, map, get_or, take, drop, replicate, Option, Some, None, refl, sym, ap, ◌∙◌, arith}
 use Rattle.std.specs.Prelude.{Result, Ok, Err, OnOk, IfOk, fold, is_some, nat_lt, not}
 use Rattle.std.proofs.lemmas.Bool.{and_parts, and_from}
-use Rattle.std.proofs.lemmas.List.{length-map, get_or-map, drop_all, take_all, drop_more}
+use Rattle.std.proofs.lemmas.List.{length-map, get_or-map, drop_all, take_all}
 use Rattle.std.proofs.lemmas.List.Sums.{fold_more}
 use Rattle.tc_isa.specs.declared.fields.Fields.{Fields}
 use Rattle.tc_isa.specs.Relocations.{is_reloc}
@@ -20,8 +20,8 @@ use Rattle.tc_asm.specs.AlikeDrafts.{Alike}
 use Rattle.tc_asm.specs.DraftInvariants.{EachInDraft}
 use Rattle.tc_asm.specs.Symbols.{SymbolData, entry_in, place_in, seen, labelled, made_global}
 use Rattle.tc_asm.specs.Drafts.{UseData, DraftData, part, start, draft_place, has_section, has_room, here, with_label, number_of_part, with_current_section, with_global, with_part_bytes, with_bytes, with_part_use, with_use, with_reference, with_content, label_distance, fields_with_label_distance, row_fields_with_target, assembled_code, code_bytes, draft_after_item}
-use Rattle.tc_asm.specs.DraftedSources.{draft_from_lines, with_line, symbols_of, symbols_in}
-use Rattle.tc_asm.specs.Rules.{has_symbol_room, label_rule, section_rule, name_rule, symbol_room, reloc_room, bytes_room, defined_rule, content_rule, item_rule, items_rule, line_rule}
+use Rattle.tc_asm.specs.DraftedSources.{draft_from_lines, with_line, symbols_of}
+use Rattle.tc_asm.specs.Rules.{has_symbol_room, section_rule, name_rule, symbol_room, reloc_room, bytes_room, defined_rule, content_rule, item_rule, items_rule, line_rule}
 use Rattle.tc_asm.specs.KnownSymbols.{nameless, kept, is_new, are_new, kept_rule}
 use Rattle.tc_asm.proofs.CodeLaws.{found_far}
 use Rattle.tc_asm.proofs.AlikeDrafts.{alike_same, step_alike, passes_agree}

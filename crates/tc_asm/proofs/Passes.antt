@@ -1,7 +1,7 @@
 -- A further line in both passes.
-use Rattle.std.proofs.Common.{◌≡◌, ◌≢◌, ◌<◌, ◌≤◌, ◌+◌, ℕ, Bool, List, [], ◌∷◌, map, length, get_or, take, drop, min, refl, ap, sym, subst, ◌∙◌, inl, inr, arith, length-drop, get_or-drop}
+use Rattle.std.proofs.Common.{◌≡◌, ◌≢◌, ◌<◌, ◌+◌, ℕ, Bool, List, [], ◌∷◌, map, length, get_or, take, drop, min, refl, ap, sym, subst, ◌∙◌, inl, inr, arith, length-drop, get_or-drop}
 use Rattle.std.specs.Prelude.{fold}
-use Rattle.std.proofs.lemmas.List.{length-map, get_or-map, drop_more, drop_all, drop-drop, take_all, take-map}
+use Rattle.std.proofs.lemmas.List.{length-map, get_or-map, drop_more, drop-drop, take-map}
 use Rattle.std.specs.List.{drop-map}
 use Rattle.std.proofs.lemmas.List.Sums.{fold_more}
 use Rattle.std.proofs.lemmas.Bool.{cases_lt}
@@ -18,7 +18,7 @@ use Rattle.tc_asm.specs.Symbols.{SymbolData}
 use Rattle.tc_asm.specs.Drafts.{DraftData, start, draft_after_item}
 use Rattle.tc_asm.specs.DraftedSources.{draft_from_lines, with_line, symbols_of}
 use Rattle.tc_asm.specs.KnownSymbols.{kept, kept_rule}
-use Rattle.tc_asm.specs.Rules.{rule_in, KeepsRules, IsLeastBrokenLine, item_rule, items_rule, line_rule}
+use Rattle.tc_asm.specs.Rules.{rule_in, KeepsRules, IsLeastBrokenLine, line_rule}
 
 -- the line at a place, with the lines after it
 module _ (ls : List LineData) (i : ℕ) (x : LineData) (zs : List LineData) (here : drop i ls ≡ x ∷ zs) where

@@ -3,7 +3,6 @@ ghost use Rattle.std.specs.Prelude.{◌≡◌, take, if◌then◌else◌, ◌==�
 ghost use Rattle.tc_isa.specs.Rows.{is_long, row_of};
 ghost use Rattle.tc_stmt.specs.RowFields.{row_fields_of};
 ghost use Rattle.tc_asm.specs.Drafts.{assembled_code_size as size_of_code, assembled_code, drafted_fields as found_in};
-ghost use Rattle.std.specs.Option.{option_map_or};
 ghost use Rattle.tc_stmt.specs.Items.{reference_of};
 
 use crate::draft::Draft;

@@ -1,5 +1,5 @@
 // Adds items to a draft, with the least rule that each of them breaks.
-ghost use Rattle.std.specs.Prelude.{◌≡◌, option_map, ◌<◌, map, min, IfOk, OnOk, fold};
+ghost use Rattle.std.specs.Prelude.{◌≡◌, ◌<◌, map, min, IfOk, OnOk, fold};
 ghost use Rattle.tc_stmt.specs.Items.{reference_of, item_of};
 ghost use Rattle.tc_asm.specs.Drafts.{draft_after_item};
 ghost use Rattle.tc_asm.specs.KnownSymbols.{kept, kept_rule};
@@ -13,7 +13,7 @@ use tc_isa::{Fields, WORD32};
 use tc_stmt::{Item, NO_RULE, Reference, is_source_name, reference_to};
 
 impl<'a> Draft<'a> {
-    ghost use Rattle.std.specs.Prelude.{option_map, length, None, Some, OnOk, IfOk};
+    ghost use Rattle.std.specs.Prelude.{length, None, Some, OnOk, IfOk};
     ghost use Rattle.tc_stmt.specs.Items.{reference_of, item_of, label, global, code};
     ghost use Rattle.tc_asm.specs.Drafts.{draft_after_item, with_bytes, with_reference, with_content};
     ghost use Rattle.tc_asm.specs.Rules.{content_rule, item_rule};

@@ -1,5 +1,5 @@
 // The words of instructions, form by form.
-ghost use Rattle.std.specs.Prelude.{◌≡◌, ◌<◌, ◌^◌, ◌↔◌, IsTrue};
+ghost use Rattle.std.specs.Prelude.{◌≡◌, ◌<◌, ◌^◌};
 ghost use Rattle.tc_isa.specs.Forms.{bounds, second_bound, fields_of, second_code_by_form};
 ghost use Rattle.tc_isa.specs.Spelling.{word_by_form};
 ghost use Rattle.tc_isa.specs.InBounds.{AreFieldsBelow};

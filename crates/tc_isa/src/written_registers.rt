@@ -1,7 +1,7 @@
 // The registers that an instruction writes by itself.
-ghost use Rattle.std.specs.Prelude.{◌≡◌, ◌<◌, ◌^◌, ℕ, ◌↔◌};
+ghost use Rattle.std.specs.Prelude.{◌≡◌, ◌<◌};
 ghost use Rattle.tc_isa.specs.InBounds.{IsArg};
-ghost use Rattle.tc_isa.specs.Writes.{written_registers, written_by, increased_base_bit, register_bit};
+ghost use Rattle.tc_isa.specs.Writes.{written_registers, increased_base_bit, register_bit};
 
 use crate::shape_of_instruction::shape;
 use crate::{Arg, Inst, Shape};

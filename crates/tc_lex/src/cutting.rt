@@ -1,5 +1,5 @@
 // Cuts a line into tokens.
-ghost use Rattle.std.specs.Prelude.{◌≡◌, ◌<◌, ◌≤◌, length};
+ghost use Rattle.std.specs.Prelude.{◌<◌};
 ghost use Rattle.tc_lex.specs.Cut.{tokens_of, Cuts, CutsInto, Reads};
 
 use crate::kinds::{Front, Token};

@@ -1,5 +1,5 @@
 // Reads the numbers that tokens spell.
-ghost use Rattle.std.specs.Prelude.{◌≡◌, ◌<◌, Some, length, true, ◌-◌, IsTrue};
+ghost use Rattle.std.specs.Prelude.{◌≡◌, ◌<◌, Some, length, ◌-◌, IsTrue};
 ghost use Rattle.tc_lex.specs.Numbers.{token_digit_value, add_digit, number_by_digits, token_number};
 ghost use Rattle.tc_lex.specs.Bytes.{is_hex};
 ghost use Rattle.tc_lex.specs.Cut.{has_hex_front};

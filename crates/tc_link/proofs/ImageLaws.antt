@@ -1,5 +1,5 @@
 -- The segments of places keep the limits of an image.
-use Rattle.std.proofs.Common.{◌≡◌, ◌+◌, ◌<◌, ◌≤◌, ◌^◌, ◌∷◌, ◌++◌, [], ℕ, Bool, true, false, cond, ◌&&◌, ◌||◌, max, min, List, length, map, refl, sym, ◌∙◌, subst, arith, leb, ltb}
+use Rattle.std.proofs.Common.{◌≡◌, ◌+◌, ◌<◌, ◌≤◌, ◌^◌, ◌∷◌, ◌++◌, [], ℕ, Bool, true, false, cond, ◌||◌, max, min, List, length, map, refl, sym, ◌∙◌, subst, arith, leb, ltb}
 use Rattle.std.specs.Prelude.{filter, IsTrue}
 use Rattle.std.specs.List.{sum_by, list_any, list_all}
 use Rattle.std.proofs.lemmas.Bool.{le-leb, leb-false, ltb-false, ltb-true, and_from}

@@ -1,8 +1,8 @@
 // Computes the addresses of symbols.
-ghost use Rattle.std.specs.Prelude.{◌≡◌, List, slice_index, map, IfOk, IfErr, ◌<◌, None};
-ghost use Rattle.tc_link.specs.Placing.{address_in_section, address_of};
+ghost use Rattle.std.specs.Prelude.{◌≡◌, List, slice_index, IfOk, IfErr, ◌<◌, None};
+ghost use Rattle.tc_link.specs.Placing.{address_in_section};
 ghost use Rattle.tc_link.specs.GlobalSymbols.{GlobalData, address_named, AreGlobals};
-ghost use Rattle.tc_link.specs.Relocated.{symbol_address, symbol_addresses};
+ghost use Rattle.tc_link.specs.Relocated.{symbol_addresses};
 ghost use Rattle.tc_link.specs.declared.errors.LinkErr.TheVariants.{NoMemory};
 
 use crate::LinkErr;

@@ -31,15 +31,13 @@ impl Model for Draft {
 }
 
 impl Draft {
-    ghost use Rattle.std.specs.Prelude.{◌≡◌, ◌≤◌, ◌<◌, ◌+◌, ◌++◌, ◌^◌, [], ◌∷◌, length, nat_lt, Some, None, Ok, OnOk, OnErr, IfOk, IfErr, IfNone, if◌then◌else◌, nat_le};
-    ghost use Rattle.std.specs.Bool.{then_some};
+    ghost use Rattle.std.specs.Prelude.{◌≡◌, ◌<◌, ◌+◌, ◌^◌, [], length, Some, None, Ok, OnOk, IfOk, IfErr, IfNone};
     ghost use Rattle.std.specs.List.{list_any};
-    ghost use Rattle.tc_object.specs.Names.{object_name_of};
     ghost use Rattle.tc_link.specs.Layouts.{IsPlace, IsPlaceAfter, is_placed, is_overlapping_place};
-    ghost use Rattle.tc_link.specs.LayoutLines.{layout_line_contents, place, IsGoodLayoutLine, layout_line_data};
+    ghost use Rattle.tc_link.specs.LayoutLines.{layout_line_contents, place};
     ghost use Rattle.tc_link.specs.LayoutFaults.{fault_of, IsFaultOf, IsFault};
     ghost use Rattle.tc_link.specs.LayoutDrafts.{with_entry, with_layout_line};
-    ghost use Rattle.tc_link.specs.declared.layout_errors.LayoutErr.TheVariants.{Twice, TooMany, Overlap, NoMemory};
+    ghost use Rattle.tc_link.specs.declared.layout_errors.LayoutErr.TheVariants.{Twice, TooMany, Overlap};
 
     /// A draft without lines.
     pub(crate) fn new(alloc: Global) -> Draft

@@ -1,8 +1,7 @@
 // A map of the global symbols of objects by name, so that each look-up is a few steps.
 ghost use Rattle.std.specs.Prelude.{◌≡◌, ◌+◌, ◌++◌, ◌∷◌, nat_lt, ◌==◌, ℕ, List, [], true, false, count_by, map, filter, slice_get, OnOk, IfOk, IfErr, if◌then◌else◌, Some, None};
-ghost use Rattle.tc_object.specs.Objects.{ObjectData};
 ghost use Rattle.tc_link.specs.Placing.{PlacedData};
-ghost use Rattle.tc_link.specs.GlobalSymbols.{GlobalData, is_global, global_data, has_global_name, globals_named, twice_at, twice_of_count, AreGlobals, CountsGlobals, DefinesGlobals};
+ghost use Rattle.tc_link.specs.GlobalSymbols.{GlobalData, is_global, global_data, has_global_name, twice_at, twice_of_count, AreGlobals, CountsGlobals, DefinesGlobals};
 ghost use Rattle.tc_link.specs.declared.errors.LinkErr.TheVariants.{NoMemory};
 
 use crate::LinkErr;

@@ -1,6 +1,6 @@
 // Reads the lines of a layout.
 ghost use Rattle.std.specs.Prelude.{◌≡◌, codes, if◌then◌else◌, IfSome, Some, None};
-ghost use Rattle.std.specs.Option.{option_map, option_copied};
+ghost use Rattle.std.specs.Option.{option_map};
 ghost use Rattle.std.specs.Str.{bytes_eq};
 ghost use Rattle.tc_object.specs.Names.{object_name_of};
 ghost use Rattle.tcd_text.specs.HexNumbers.{hex_number_of};

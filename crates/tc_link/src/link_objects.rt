@@ -1,15 +1,10 @@
 // Links objects to an image.
-ghost use Rattle.std.specs.Prelude.{◌≡◌, ◌≤◌, ◌<◌, ◌^◌, ℕ, length, slice_index_or, None, Ok, Err, OnOk, IfOk, IfErr, IfSome};
-ghost use Rattle.elf_image.specs.Images.{ImageData, AreSegmentBytes, IsImage};
-ghost use Rattle.tc_object.specs.Objects.{ObjectData, IsObject};
-ghost use Rattle.tc_link.specs.Layouts.{IsLayout};
-ghost use Rattle.tc_link.specs.GlobalSymbols.{globals_of, AreGlobals, CountsGlobals};
+ghost use Rattle.std.specs.Prelude.{◌≡◌, ◌≤◌, ◌<◌, length, Ok, Err, IfOk, IfErr, IfSome};
 ghost use Rattle.tc_link.specs.Segments.{segments_of};
-ghost use Rattle.tc_link.specs.Linked.{made_of, image_of_objects};
-ghost use Rattle.tc_link.specs.Refusals.{refused_early, no_room_after};
+ghost use Rattle.tc_link.specs.Linked.{image_of_objects};
 ghost use Rattle.tc_link.specs.Placing.{placed_of};
 ghost use Rattle.tc_link.specs.Relocated.{contents_of};
-ghost use Rattle.tc_link.specs.Errors.{IsRefusal, refusal_of};
+ghost use Rattle.tc_link.specs.Errors.{refusal_of};
 
 use crate::addresses::address_named;
 use crate::global_symbols::globals_by_name;

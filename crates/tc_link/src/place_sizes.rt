@@ -1,8 +1,7 @@
 // Computes the sizes of places.
-ghost use Rattle.std.specs.Prelude.{◌≡◌, ◌≤◌, ◌<◌, ◌+◌, ◌++◌, ◌∷◌, [], ◌*◌, ◌^◌, List, length, false, ℕ, IfOk, IfErr, slice_index};
+ghost use Rattle.std.specs.Prelude.{◌≡◌, ◌≤◌, ◌<◌, ◌+◌, ◌++◌, ◌∷◌, [], ◌*◌, ◌^◌, List, length, false};
 ghost use Rattle.tc_object.specs.Objects.{SectionData};
-ghost use Rattle.tc_link.specs.PlaceSizes.{round_up_place_size, place_size_with_section, AreTaken, AreSmallPlaceSizes, are_places_overfull};
-ghost use Rattle.tc_link.specs.declared.errors.LinkErr.TheVariants.{NoMemory};
+ghost use Rattle.tc_link.specs.PlaceSizes.{round_up_place_size, AreTaken, AreSmallPlaceSizes, are_places_overfull};
 
 use crate::{LinkErr, Place};
 use std::alloc::Global;

@@ -1,8 +1,7 @@
 // Joins sections to the segments of an image.
-ghost use Rattle.std.specs.Prelude.{◌≡◌, ◌≤◌, ◌<◌, ◌-◌, ◌++◌, ◌∷◌, length, nat_lt, map, filter, [], OnOk, IfOk, IfErr, replicate};
+ghost use Rattle.std.specs.Prelude.{◌≡◌, ◌≤◌, ◌<◌, ◌-◌, map, OnOk, IfOk, IfErr, replicate};
 ghost use Rattle.elf_image.specs.Images.{segment_data};
-ghost use Rattle.tc_link.specs.PlaceSizes.{round_up_place_size};
-ghost use Rattle.tc_link.specs.Segments.{with_segment_padding, joined_sections, segments_of, with_section};
+ghost use Rattle.tc_link.specs.Segments.{joined_sections, segments_of, with_section};
 ghost use Rattle.tc_link.specs.declared.errors.LinkErr.TheVariants.{NoMemory};
 
 use crate::written_sections::WrittenSection;

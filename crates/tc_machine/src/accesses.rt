@@ -1,5 +1,5 @@
 // Loads and stores of 1, 2 or 4 bytes. A byte that isn't mapped is read from the event's input.
-ghost use Rattle.std.specs.Prelude.{◌≡◌, ◌<◌, ◌%◌, ◌^◌, unwrap_or};
+ghost use Rattle.std.specs.Prelude.{◌≡◌, ◌%◌, ◌^◌, unwrap_or};
 ghost use Rattle.std.specs.Bool.{MatchBool};
 ghost use Rattle.std.specs.FinMap as map;
 ghost use Rattle.tc_isa.specs.InBounds.{IsShapeAccessSize};

@@ -1,6 +1,6 @@
 // Executes the instructions that save or restore a context: calls, returns, system calls and more.
 ghost use Rattle.std.specs.Prelude.{◌≡◌};
-ghost use Rattle.tc_isa.specs.InBounds.{IsShape, IsTarget};
+ghost use Rattle.tc_isa.specs.InBounds.{IsShape};
 ghost use Rattle.tc_machine.specs.declared.events.Event.{Event};
 ghost use Rattle.tc_machine.specs.Instructions.{does};
 ghost use Rattle.tc_machine.specs.InstructionKinds.{OnContextInstruction};

@@ -1,10 +1,9 @@
 // Saves and restores contexts.
-ghost use Rattle.std.specs.Prelude.{◌≡◌, ◌<◌, ◌%◌, ◌^◌, Some, None, if◌then◌else◌, slice_index, true, [], ◌∷◌, ◌+◌};
+ghost use Rattle.std.specs.Prelude.{◌≡◌, ◌<◌, ◌%◌, ◌^◌, Some, None, if◌then◌else◌, true, ◌+◌};
 ghost use Rattle.csa_chain.specs.MemoryBytes.{with_word};
-ghost use Rattle.csa_chain.specs.Chain.{link_in, link_address, is_area, area_word};
+ghost use Rattle.csa_chain.specs.Chain.{link_in, is_area, area_word};
 ghost use Rattle.csa_chain.specs.ContextWords.{pcxi_word_of};
-ghost use Rattle.tc_mem.specs.Areas.{memory_area_of};
-ghost use Rattle.tc_machine.specs.SavesAndRestores.{context_of, saved, save, saved_area_words, last_context, released, restored_upper, restored_lower, restored, restore};
+ghost use Rattle.tc_machine.specs.SavesAndRestores.{context_of, saved, save, saved_area_words, last_context, released, restored_upper, restored_lower, restore};
 
 use crate::{Cause, Machine};
 use csa_chain::{

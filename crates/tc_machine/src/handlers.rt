@@ -1,7 +1,5 @@
 // Enters handlers of interrupts and traps.
-ghost use Rattle.std.specs.Prelude.{◌≡◌, ◌<◌, ◌*◌, ◌^◌, slice_set, false};
-ghost use Rattle.tc_machine.specs.Machine.{is_interrupt_stack_used};
-ghost use Rattle.tc_machine.specs.Instructions.{machine_address_ahead};
+ghost use Rattle.std.specs.Prelude.{◌≡◌, ◌*◌, slice_set, false};
 ghost use Rattle.tc_machine.specs.Handlers.{handler_psw, handler_stack, trap, interrupt};
 
 use crate::{End, Machine};

@@ -1,6 +1,6 @@
 // Executes instructions, but for those that save or restore a context.
 ghost use Rattle.std.specs.Prelude.{◌≡◌, ◌<◌};
-ghost use Rattle.tc_isa.specs.InBounds.{IsShape, IsArg, IsTarget, IsShapeAccessSize};
+ghost use Rattle.tc_isa.specs.InBounds.{IsShape};
 ghost use Rattle.tc_machine.specs.declared.events.Event.{Event};
 ghost use Rattle.tc_machine.specs.Instructions.{does};
 ghost use Rattle.tc_machine.specs.InstructionKinds.{OnAccessInstruction, OnSystemInstruction};

@@ -2,7 +2,7 @@
 ghost use Rattle.std.specs.Prelude.{◌≡◌, ◌<◌};
 ghost use Rattle.tc_isa.specs.InBounds.{IsArg, IsTarget};
 ghost use Rattle.tc_machine.specs.Machine.{reg};
-ghost use Rattle.tc_machine.specs.Instructions.{machine_address_ahead, arg, access_address, with_base, target_of, lowered, does};
+ghost use Rattle.tc_machine.specs.Instructions.{machine_address_ahead, arg, access_address, with_base, target_of, lowered};
 
 use crate::Machine;
 use tc_isa::{Arg, Target};

@@ -1,5 +1,5 @@
 // The type `Mem`, a sorted list of pages, with its public functions.
-ghost use Rattle.std.specs.Prelude.{◌≡◌, ◌≤◌, ◌+◌, ◌%◌, ◌^◌, All, IfOk, length, ◌<◌, ◌/◌, None, ◌-◌, false};
+ghost use Rattle.std.specs.Prelude.{◌≡◌, ◌≤◌, ◌+◌, ◌%◌, ◌^◌, All, IfOk, length, ◌<◌, ◌-◌};
 ghost use Rattle.std.specs.Bool.{OnFalse};
 ghost use Rattle.std.specs.FinMap as finite;
 ghost use Rattle.csa_chain.specs.MemoryBytes.{is_mapped, are_mapped, with_byte, HasBytes};

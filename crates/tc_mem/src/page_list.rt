@@ -1,5 +1,5 @@
 // Reads and writes on the sorted list of pages of a `Mem`.
-ghost use Rattle.std.specs.Prelude.{◌≡◌, ◌≤◌, ◌+◌, ◌%◌, ◌^◌, IfOk, length, ◌<◌, ◌/◌, Some, None, if◌then◌else◌, ◌-◌, false, ◌*◌};
+ghost use Rattle.std.specs.Prelude.{◌≡◌, ◌≤◌, ◌+◌, ◌%◌, ◌^◌, IfOk, length, ◌<◌, ◌/◌, Some, None, ◌-◌, false, ◌*◌};
 ghost use Rattle.std.specs.Bool.{OnFalse};
 ghost use Rattle.std.specs.FinMap as finite;
 ghost use Rattle.csa_chain.specs.MemoryBytes.{are_mapped, with_byte, HasBytes, is_mapped as has_byte};

@@ -1,6 +1,6 @@
 // Counts the save areas in use, event by event.
 // A recount of the chain is needed only if the effect of an event isn't known.
-ghost use Rattle.std.specs.Prelude.{◌≡◌, ◌<◌, ◌^◌, ◌+◌, ◌*◌, true, false, IfOk};
+ghost use Rattle.std.specs.Prelude.{◌≡◌, ◌<◌, ◌+◌, ◌*◌, true, false, IfOk};
 ghost use Rattle.tc_isa.specs.InBounds.{IsShape, IsShapeAccessSize};
 ghost use Rattle.tc_encode.specs.Decoding.{decoded_of};
 ghost use Rattle.tc_machine.specs.declared.state.Machine.{Machine};

@@ -1,12 +1,11 @@
 // The values of `.byte`, `.half`, `.word` and `.space`.
-ghost use Rattle.std.specs.Prelude.{◌≡◌, ◌≤◌, ◌<◌, ◌+◌, ◌^◌, ◌*◌, take, true, if◌then◌else◌, ◌⊎◌, map, length, ◌==◌, ◌++◌, OnOk, IfOk, min};
+ghost use Rattle.std.specs.Prelude.{◌≡◌, ◌≤◌, ◌<◌, ◌+◌, ◌^◌, ◌*◌, true, if◌then◌else◌, ◌⊎◌, map, length, ◌==◌, ◌++◌, OnOk, IfOk, min};
 ghost use Rattle.tcd_base.specs.Bytes.{four_bytes};
 ghost use Rattle.tc_lex.specs.Operands.{operand_of};
-ghost use Rattle.tc_stmt.specs.Items.{reference_of, item_of};
+ghost use Rattle.tc_stmt.specs.Items.{item_of};
 ghost use Rattle.tc_stmt.specs.OperandForms.{shape_index, operand_number_modulo};
 ghost use Rattle.tc_stmt.specs.DataValues.{is_value_within_width, value_rule, value_item, space_rule, space_item, values_rule};
 ghost use Rattle.tc_stmt.specs.SourceRules.{no_rule};
-ghost use Rattle.tc_stmt.specs.SourceViews.{Adds};
 
 use crate::item::Item;
 use crate::shape_numbers::{HIGH, HUGE, LOW, NUMBER, SUM, WORD};

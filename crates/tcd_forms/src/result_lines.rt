@@ -1,5 +1,5 @@
 // The printed lines on results: runs, files that were written, certified needs, and refusals.
-ghost use Rattle.std.specs.Prelude.{◌≡◌, ◌++◌, ◌∷◌, [], length, codes, IfOk, ◌<◌, OnOk, if◌then◌else◌};
+ghost use Rattle.std.specs.Prelude.{◌≡◌, ◌++◌, length, codes, IfOk, ◌<◌, OnOk};
 ghost use Rattle.std.specs.Fmt.{decimal};
 ghost use Rattle.depth_cert.specs.Nodes.{count_points};
 ghost use Rattle.tcd_forms.specs.Lines.{boots_line, generated_boot_line, certified_cells_line, certified_tasks_line, generated_line, assembled_line, linked_line, printed_death_cause, run_end_text, run_line, certified_line, key_line, refused_line, refused_switch_line, line_with_task, refused_task_line, refused_sum_line};

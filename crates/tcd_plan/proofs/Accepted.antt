@@ -7,7 +7,7 @@ use Rattle.tcd_plan.specs.Objects.{plan_objects_of}
 use Rattle.tcd_plan.specs.JsonValues.{json_elements_of, json_word_in}
 use Rattle.tcd_plan.specs.PlanData.{PlanData, are_areas, are_ranges_few, has_areas, has_vectors, passed_limits, too_many_of, plan_range_overlap}
 use Rattle.tcd_plan.specs.PlanReader.{HasShortPlanArrays, plan_device_of, irq_of, plan_range_of, plan_refusal, refusals, plan_in}
-use Rattle.tcd_plan.specs.KeyFaults.{first_bad_key, refused_key}
+use Rattle.tcd_plan.specs.KeyFaults.{first_bad_key}
 use Rattle.tcd_plan.specs.declared.plans.PlanErr.TheVariants.{BadValue, TooMany, BadCsa, BadVector}
 use Rattle.tcd_base.specs.declared.range.Range.{Range}
 use Rattle.tcd_plan.specs.declared.key_table.Holder.TheVariants.{Rom, Ram, Devices}

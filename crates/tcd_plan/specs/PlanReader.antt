@@ -1,7 +1,7 @@
 -- The plan in a document, or the first refusal.
 use Rattle.std.specs.Prelude.{◌≡◌, ℕ, ◌<◌, ◌==◌, List, ◌∷◌, codes, length, map, Bool, not, if◌then◌else◌, Option, Some, None, option_map, unwrap_or, Result, Ok, Err, IsUtf8, ◌≤◌, []}
 use Rattle.std.specs.List.{list_any}
-use Rattle.std.specs.Option.{option_map_or, option_or}
+use Rattle.std.specs.Option.{option_map_or}
 use Rattle.serde_json.specs.Data.{Data}
 use Rattle.serde_json.specs.Find.{get}
 use Rattle.serde_json.specs.Read.{read}

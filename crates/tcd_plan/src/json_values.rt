@@ -1,5 +1,5 @@
 // Reads the values of a JSON document: arrays, texts, and numbers of 32 bits.
-ghost use Rattle.std.specs.Prelude.{◌≡◌, ◌<◌, ◌≤◌, ◌^◌, Some, None, length, map, is_some, option_map, if◌then◌else◌, []};
+ghost use Rattle.std.specs.Prelude.{◌≡◌, ◌<◌, ◌≤◌, ◌^◌, Some, None, length, map, option_map, if◌then◌else◌, []};
 ghost use Rattle.std.specs.List.{list_all, list_any};
 ghost use Rattle.std.specs.Str.Parse.{digits_value};
 ghost use Rattle.serde_json.specs.View.{view};

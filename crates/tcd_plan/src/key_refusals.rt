@@ -1,5 +1,5 @@
 // Refusals by keys: each is checked over the whole document.
-ghost use Rattle.std.specs.Prelude.{◌≡◌, map, option_map, string_bytes, true};
+ghost use Rattle.std.specs.Prelude.{◌≡◌, map, option_map, string_bytes};
 ghost use Rattle.std.specs.List.{find, list_all, list_any};
 ghost use Rattle.std.specs.BTreeMap.{keys};
 ghost use Rattle.serde_json.specs.View.{view};

@@ -1,5 +1,5 @@
 // Refusals by values: arrays that are too long, save areas, vectors, and ranges that overlap.
-ghost use Rattle.std.specs.Prelude.{◌≡◌, ◌<◌, ◌≤◌, ◌+◌, IfSome, None, length, map, not, position, sum_by, true};
+ghost use Rattle.std.specs.Prelude.{◌≡◌, ◌<◌, ◌≤◌, ◌+◌, IfSome, None, length, map, not, position, sum_by};
 ghost use Rattle.serde_json.specs.View.{view};
 ghost use Rattle.tcd_plan.specs.PlanData.{areas_range, are_ranges_apart, are_areas, are_ranges_few, has_areas, has_vectors, too_many_of, overlap_from, plan_range_overlap};
 ghost use Rattle.tcd_plan.specs.PlanReader.{HasShortPlanArrays, plan_range_of, plan_in};

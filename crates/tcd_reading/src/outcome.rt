@@ -1,5 +1,5 @@
 // The outcome of a command, and the end of a command with this outcome.
-ghost use Rattle.std.specs.Prelude.{◌≡◌, ◌≢◌, ◌≤◌, ◌∷◌, [], IsTrue, IfOk, OnOk, IfErr, IsOkAnd};
+ghost use Rattle.std.specs.Prelude.{◌≡◌, ◌≢◌, ◌≤◌, IsTrue, IfOk, OnOk, IfErr, IsOkAnd};
 ghost use Rattle.tcd_base.specs.Files.{LeavesFaults};
 ghost use Rattle.tcd_base.specs.FailingCalls.{FaultCounted};
 ghost use Rattle.tcd_reading.specs.Reports.{says, writes_file, writes_two, with_report_files};

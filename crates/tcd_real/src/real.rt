@@ -1,5 +1,4 @@
 // The trusted adapters from the file and output interfaces of commands to the operating system.
-ghost use Rattle.std.specs.Prelude.{◌≡◌, ◌≤◌, length, vec_len};
 
 use std::alloc::Global;
 use std::fs::OpenFile;

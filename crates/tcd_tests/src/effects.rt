@@ -1,5 +1,5 @@
 //! Worked effects on the values of the board.
-ghost use Rattle.std.specs.Prelude.{◌≡◌, IsTrue};
+ghost use Rattle.std.specs.Prelude.{IsTrue};
 ghost use Rattle.tc_isa.specs.Meanings.{shape_of};
 ghost use Rattle.value_domain.specs.State.{AreValues};
 ghost use Rattle.value_domain.specs.Values.{IsValue};

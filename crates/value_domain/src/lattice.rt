@@ -1,5 +1,5 @@
 // Operations of the lattice of values: order, join, and the least value that holds a set.
-ghost use Rattle.std.specs.Prelude.{◌≡◌, ◌==◌, ◌≤◌, ◌<◌, ◌+◌, ◌-◌, ◌*◌, ◌/◌, ◌^◌, IsTrue, length, min, max, ◌∷◌, ◌++◌, List, ℕ, ◌↔◌, IsSome, IsNone, slice_index};
+ghost use Rattle.std.specs.Prelude.{◌≡◌, ◌==◌, ◌≤◌, ◌<◌, ◌+◌, ◌-◌, ◌*◌, ◌/◌, IsTrue, length, min, max, ◌∷◌, ◌++◌, List, ℕ, ◌↔◌, IsSome, IsNone, slice_index};
 ghost use Rattle.value_domain.specs.Values as values;
 ghost use Rattle.value_domain.specs.Sets.{AreWords, Within, Rising, least, greatest, step_of_set, IsExtent};
 ghost use Rattle.value_domain.specs.Sets as sets;

@@ -1,6 +1,5 @@
 // States of 27 registers: copies, order and join.
-ghost use Rattle.std.specs.Prelude.{◌≡◌, ◌≤◌, ◌<◌, ◌↔◌, IsTrue, length, ℕ, slice_index_or, ◌&&◌};
-ghost use Rattle.value_domain.specs.Values.{IsWell, IsValue, IsBelow, any_val};
+ghost use Rattle.std.specs.Prelude.{◌≡◌, ◌≤◌, ◌<◌, ◌↔◌, IsTrue, length, ◌&&◌};
 ghost use Rattle.value_domain.specs.State.{Covers, AreWell, AreValues, joined_states, joined_regs, joined_locals, AreBelow, FlagsImpliedBy};
 
 use crate::values::{are_same, copied_elements, copy_to};

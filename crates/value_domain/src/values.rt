@@ -1,12 +1,12 @@
 // Values: sets of words.
 // A value is a list of at most 128 words, or the multiples of a power of two in a range.
-ghost use Rattle.std.specs.Prelude.{◌≡◌, ◌≤◌, ◌<◌, ◌+◌, ◌-◌, ◌^◌, IsTrue, length, IfSome, [], ◌∷◌, List, ℕ, option_map, ◌↔◌, slice_index, IsSome, ◌==◌, ◌*◌, ◌/◌};
+ghost use Rattle.std.specs.Prelude.{◌≡◌, ◌≤◌, ◌<◌, ◌+◌, ◌-◌, IsTrue, length, IfSome, [], ◌∷◌, List, ℕ, option_map, ◌↔◌, slice_index, IsSome, ◌==◌, ◌*◌, ◌/◌};
 ghost use Rattle.std.specs.List.{list_any};
 ghost use Rattle.std.specs.List.Sorted.{IsStrictlyIncreasing};
 ghost use Rattle.value_domain.specs.Sets.{AreWords, Among, sorted_insert, Rising};
 ghost use Rattle.value_domain.specs.declared.values.Val.TheVariants.{Set, Span};
 ghost use Rattle.value_domain.specs.Sets as sets;
-ghost use Rattle.value_domain.specs.Values.{IsMember, IsWell, range, count_in, any_val, words_of, in_span, is_member};
+ghost use Rattle.value_domain.specs.Values.{IsMember, IsWell, count_in, any_val, words_of, in_span, is_member};
 ghost use Rattle.value_domain.specs.Values as spec;
 
 use arrayvec::ArrayVec;

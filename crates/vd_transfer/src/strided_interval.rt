@@ -1,5 +1,5 @@
 // The sets that the rows of the table of operations cover: multiples of a power of two in a range.
-ghost use Rattle.std.specs.Prelude.{◌≡◌, ◌<◌, ◌≤◌, ◌||◌, min, max, ◌^◌};
+ghost use Rattle.std.specs.Prelude.{◌≡◌, ◌<◌, ◌≤◌, ◌||◌, min, max};
 ghost use Rattle.vd_transfer.specs.Intervals.{sums, differences, shifts, signed_shifts, interval_of_row};
 
 use tc_isa::Op;

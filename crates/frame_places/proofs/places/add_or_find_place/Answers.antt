@@ -1,4 +1,4 @@
-use Rattle.std.proofs.Common.{rules, sym, subst, ap, ◌∙◌, ◌≡◌, refl, ℕ, false}
+use Rattle.std.proofs.Common.{rules, sym, subst, ap, ◌∙◌, ◌≡◌, refl, ℕ}
 use Rattle.std.specs.Option.{option_map}
 use Rattle.indexmap.specs.Entry.{entry_index, map_with_value}
 use Rattle.indexmap.specs.declared.map.entry.Entry.TheVariants.{Vacant}

@@ -1,4 +1,4 @@
-use Rattle.std.proofs.Common.{sym, subst, refl, ℕ, false}
+use Rattle.std.proofs.Common.{sym, subst, refl, ℕ}
 use Rattle.frame_places.specs.declared.places.Marked.{Marked}
 use Rattle.frame_places.specs.Work.{all_work}
 use Rattle.frame_places.proofs.WorkLemmas.{adds_new}

@@ -6,7 +6,7 @@ use Rattle.std.proofs.lemmas.Grind.{common_steps}
 use Rattle.std.proofs.lemmas.Map.Text.{hash_map_updates_str}
 use Rattle.tc_object.specs.Objects.{SymbolData}
 use Rattle.tc_link.specs.declared.definitions.Definition.{Definition}
-use Rattle.tc_link.specs.GlobalSymbols.{GlobalData, is_global, global_data, global_address, global_at_name, has_global_name, twice_at, twice_of_count, address_named}
+use Rattle.tc_link.specs.GlobalSymbols.{is_global, global_data, global_address, global_at_name, has_global_name, twice_at, twice_of_count, address_named}
 use Rattle.tc_link.specs.Placing.{address_of}
 use Rattle.tc_link.proofs.CountLaws.{add_one, named_on}
 use Rattle.tc_link.proofs.GlobalLaws.{global_push, keep_global, put_global, map_cond, put_twice, same_global}

@@ -3,7 +3,7 @@ use Rattle.std.specs.Prelude.{IfSome}
 use Rattle.std.proofs.lemmas.Result.{err_from_is_err_and}
 use Rattle.elf_image.specs.Images.{ImageData, SegmentData, AreSegmentBytes, IsImage, segment_data}
 use Rattle.tc_link.specs.Layouts.{PlaceData, LayoutData, IsLayout}
-use Rattle.tc_link.specs.Placing.{PlacedData, placed_of, sections_to_link}
+use Rattle.tc_link.specs.Placing.{PlacedData, sections_to_link}
 use Rattle.tc_link.specs.GlobalSymbols.{globals_of, global_address, AreGlobals}
 use Rattle.tc_link.specs.Segments.{segments_of}
 use Rattle.tc_link.specs.Relocated.{contents_of}

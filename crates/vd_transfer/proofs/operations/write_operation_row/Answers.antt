@@ -1,4 +1,4 @@
-use Rattle.std.proofs.Common.{◌∙◌, ap, ◌≡◌, sym, Bool, false}
+use Rattle.std.proofs.Common.{◌∙◌, ap, ◌≡◌, sym, false}
 use Rattle.tc_isa.specs.declared.shapes.Op.{Op}
 use Rattle.tc_isa.specs.declared.shapes.Op.TheVariants.{Second}
 use Rattle.value_domain.specs.declared.values.Val.{Val}

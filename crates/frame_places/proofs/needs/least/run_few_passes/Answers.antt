@@ -1,4 +1,3 @@
-use Rattle.std.proofs.Common.{ℕ, ◌<◌, length}
 use Rattle.frame_places.proofs.needs.least.run_few_passes.Goals as goal
 
 pub loop-done-preserved : goal.loop-done-preserved
