@@ -43,9 +43,6 @@ with_reg-is m r w = either m r w (ltb r 16)
     either m r w true = refl
     either m r w false = refl
 
-set_word-here : (word : ℕ → ℕ) (r w q : ℕ) → q ≡ r → words_with_register word r w q ≡ w
-set_word-here word r w q same = rw (eq-eqb q r same) refl
-
 pub set_word-other : (word : ℕ → ℕ) (r w q : ℕ) → q ≢ r → words_with_register word r w q ≡ word q
 set_word-other word r w q apart = rw (ne_eqb q r apart) refl
 

@@ -2,7 +2,6 @@
 use Rattle.std.proofs.Common.{◌≡◌, ℕ, Bool, true, false, not, List, ◌++◌, length, Some, refl, sym, ap, ◌∙◌, subst, Contains}
 use Rattle.std.specs.Prelude.{map}
 use Rattle.std.specs.Option.{option_map}
-use Rattle.std.proofs.Math.Bool.{beq}
 use Rattle.indexmap.specs.IndexMap.{get}
 use Rattle.tc_isa.specs.declared.shapes.Arg.{Arg}
 use Rattle.tc_isa.specs.declared.shapes.Shape.{Shape}
@@ -111,10 +110,3 @@ plain_point s source k p m o row at mark is plain =
             ∙ sym (ap (λ (l : List Key). map (frame_number_in frames) l) parts);
       },
     )
-
--- outlines that compare as equal are equal
-flags : (a b : Bool) → beq a b ≡ true → a ≡ b
-flags true true e = refl
-flags false false e = refl
-flags true false e = cc
-flags false true e = cc

@@ -1,6 +1,6 @@
 -- Marks: one more place, and all places of a list.
 use Rattle.std.proofs.Common.{◌≡◌, ℕ, Bool, true, false, ◌⊎◌, inl, inr, List, [], ◌∷◌, ◌++◌, Option, Some, None, IsSome, refl, sym, ap, subst, ◌∙◌, Contains}
-use Rattle.std.specs.Prelude.{if◌then◌else◌, is_some, slice_get}
+use Rattle.std.specs.Prelude.{if◌then◌else◌, slice_get}
 use Rattle.std.specs.Map.{keys_of, lookup}
 use Rattle.std.specs.Option.{option_map}
 use Rattle.std.proofs.lemmas.List.Elements.{Contains-append_left, Contains-push, Contains-push_cases}
@@ -118,11 +118,6 @@ Requeues-push a b c ps x t is = record {
 -- known places stay known
 pub known_requeued : {V S : Type 0} (a b : IndexMap Spot (Marked V) S) (these all : Spot → Type 0) → Requeues a b these → AreKnown a all → AreKnown b all
 known_requeued {V} a b these all t h q i = subst (λ (o : Option V). IsSome o) (sym (t.values q)) (h q i)
-
--- a place that isn't found is unknown
-nothing : {V : Type 0} (o : Option (Marked V)) → is_some o ≡ false → option_map (λ m. m.value) o ≡ None
-nothing None e = refl
-nothing (Some m) e = cc
 
 pub unknown_place : {V : Type 0} (o : Option (Marked V)) → option_map (λ m. m.value) o ≡ None → o ≡ None
 unknown_place None e = refl

@@ -70,17 +70,6 @@ node_new node marks work lt free = record {
 }
 
 -- ---- several
-pub nodes_none : (marks : List Bool) (work : List ℕ) → MarksNodes [] marks marks work work
-nodes_none marks work = record {
-  keeps = λ k m. m;
-  marks = λ k c. absurd (omega (arith, c.1));
-  only = λ k m. inl m;
-  listed = λ k c. c;
-  each = λ k m. inl m;
-  from_new = λ k c. inl c;
-  less = omega arith;
-  same = refl;
-}
 
 pub nodes_more : (ns : List ℕ) (n : ℕ) (a b d : List Bool) (w x y : List ℕ) → MarksNodes ns a b w x → MarksNodes (n ∷ []) b d x y → MarksNodes (ns ++ n ∷ []) a d w y
 nodes_more ns n a b d w x y h g = record {
@@ -203,10 +192,6 @@ pub first_done : (orders : List ℕ) (edges : List FrameEdge) (first : Option �
 first_done orders edges None n between le h = λ k r. h k (omega (arith, between.node (edge_to k r.next) r.enters)) r
 first_done orders edges (Some k) n between le h = (h.0, h.1, (λ j r. h.2 j (omega (arith, between.node (edge_to j r.next) r.enters)) r))
 
--- an order that isn't below the first one's is skipped
-pub first_past : (orders : List ℕ) (edges : List FrameEdge) (k n : ℕ) → IsFirstRecurringBefore orders edges n (Some k) → slice_index orders k ≤ slice_index orders n → IsFirstRecurringBefore orders edges (n + 1) (Some k)
-first_past orders edges k n h le = (h.0, h.1, below_more _ n h.2 (λ r. le))
-
 -- a node that isn't recursive
 pub first_not : (orders : List ℕ) (edges : List FrameEdge) (first : Option ℕ) (n : ℕ) → IsFirstRecurringBefore orders edges n first → (IsRecurring edges n → ⊥) → IsFirstRecurringBefore orders edges (n + 1) first
 first_not orders edges None n h apart = below_more _ n h apart
@@ -291,10 +276,6 @@ sources_more edges edge old new are adds = record {
         | inr e ↦ subst (λ (z : FrameEdge). HasEdgeSource (get nat_eq new z.into) z.node) e adds.there
       ];
 }
-
-sides : {V : Type 0} (t : Bool) (x y o : V) → o ≡ (if t then x else y) → ((t ≡ true) × (o ≡ x)) ⊎ ((t ≡ false) × (o ≡ y))
-sides true x y o e = inl (refl, e)
-sides false x y o e = inr (refl, e)
 
 -- if ranks rise along each edge, no node is reached from one that it enters
 pub ranks_rise : (edges : List FrameEdge) (ranks : List ℕ) → ((e : FrameEdge) → Contains edges e → slice_index ranks e.node < slice_index ranks e.into) → (k : ℕ) → IsRecurring edges k → ⊥

@@ -1,7 +1,7 @@
 -- One step of a walk over points.
-use Rattle.std.proofs.Common.{◌≡◌, ℕ, ◌+◌, ◌-◌, ◌<◌, ◌≤◌, inl, inr, List, [], ◌∷◌, length, get_or, take, drop, refl, sym, ap, ◌∙◌, arith, length-take, length-drop}
+use Rattle.std.proofs.Common.{◌≡◌, ℕ, ◌+◌, ◌-◌, ◌<◌, inl, inr, List, [], ◌∷◌, length, get_or, take, drop, refl, sym, ap, ◌∙◌, arith, length-take, length-drop}
 use Rattle.std.proofs.lemmas.Bool.{cases_lt}
-use Rattle.std.proofs.lemmas.List.{drop_more, drop_all, get_or-take, get_or-drop, get_or_default}
+use Rattle.std.proofs.lemmas.List.{drop_more, get_or-take, get_or-drop, get_or_default}
 use Rattle.value_domain.specs.declared.values.Val.{Val}
 use Rattle.value_domain.specs.Values.{any_val}
 use Rattle.value_domain.specs.declared.states.State.{State}
@@ -35,10 +35,6 @@ covers_at version bytes ps i d addr u h e covers =
     let s : State = state_in version bytes (get_or ps i d).place in
     let rest : List Point = drop 1 (points_in version bytes (drop i ps)) in
     (s, next_repeats version bytes ps i d s h refl ∙ ap (λ (a : ℕ). let p : Point = record { addr = a; state = s } in p ∷ rest) e, covers)
-
--- behind the last of them
-pub none_left : (version : ℕ) (bytes : List ℕ) (ps : List PointPlace) (i : ℕ) → length ps ≤ i → points_in version bytes (drop i ps) ≡ []
-none_left version bytes ps i h = ap (points_in version bytes) (drop_all i ps h)
 
 -- ---- values that were read row
 pub keeps_others : (before after : State) (row : ValueRow) (left points : List Point) → ChangesRow before.regs after.regs row → KeepsOthers before (record { points = points; current = after; anew = take (row.behind - row.first) (drop row.first after.regs); left = left })

@@ -141,19 +141,6 @@ pub record IsDraftSoFar (bytes rest : List ℕ) (number : ℕ) (d : TasksDraft) 
   pub count : number ≡ length before
   pub made : IsTasksDraft before d
 
-behind_one : (xs ys : List (List ℕ)) (x : List ℕ) → xs ++ x ∷ ys ≡ (xs ++ x ∷ []) ++ ys
-behind_one [] ys x = refl
-behind_one (z ∷ zs) ys x = ap (λ l. z ∷ l) (behind_one zs ys x)
-
-pub drafted_more : (bytes rest line behind : List ℕ) (number : ℕ) (d more : TasksDraft) → IsDraftSoFar bytes rest number d → text_lines rest ≡ line ∷ text_lines behind
-    → ((before : List (List ℕ)) → IsTasksDraft before d → number + 1 ≡ length before + 1 → IsTasksDraft (before ++ line ∷ []) more) → IsDraftSoFar bytes behind (number + 1) more
-drafted_more bytes rest line behind number d more so cut takes = record {
-  before = so.before ++ line ∷ [];
-  split = so.split ∙ ap (λ l. so.before ++ l) cut ∙ behind_one so.before (text_lines behind) line;
-  count = omega (arith, so.count, length-append so.before (line ∷ []));
-  made = takes so.before so.made (ap (λ k. k + 1) so.count);
-}
-
 pub drafted_all : (bytes rest : List ℕ) (number : ℕ) (d : TasksDraft) → length rest ≡ 0 → IsDraftSoFar bytes rest number d → IsTasksDraft (text_lines bytes) d
 unfolding text_lines
 drafted_all bytes [] number d none so = subst (λ ls. IsTasksDraft ls d) (sym (so.split ∙ append-nil so.before)) so.made

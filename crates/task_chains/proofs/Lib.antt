@@ -1,5 +1,4 @@
 pub mod Twins
-pub mod RoutineLaws
 pub mod Alike
 pub mod Backs
 pub mod Forth

@@ -1,11 +1,10 @@
 -- The accesses of the routine: words of the block, and what the view does instead.
-use Rattle.std.proofs.Common.{◌≡◌, ◌≢◌, ℕ, ◌+◌, ◌*◌, ◌/◌, ◌%◌, ◌^◌, ◌<◌, ◌≤◌, inl, inr, true, false, cond, List, Option, Some, None, refl, ap, ◌∙◌, subst, arith}
+use Rattle.std.proofs.Common.{◌≡◌, ◌≢◌, ℕ, ◌+◌, ◌*◌, ◌/◌, ◌%◌, ◌^◌, ◌<◌, ◌≤◌, inl, inr, true, false, cond, Option, Some, None, refl, ap, ◌∙◌, subst, arith}
 use Rattle.std.proofs.lemmas.Bool.{false≢true, cases_order}
 use Rattle.std.specs.Prelude.{is_some, unwrap_or}
 use Rattle.std.specs.FinMap as map
 use Rattle.csa_chain.specs.MemoryBytes.{Memory, is_mapped, word_at, with_byte, with_word, load_number, with_bytes}
 use Rattle.csa_chain.proofs.MemoryLaws.{word_at-with_word_same, word_at-with_word_other}
-use Rattle.tcd_plan.specs.PlanData.{PlanData}
 use Rattle.tc_isa.specs.declared.shapes.Arg.TheVariants.{Reg}
 use Rattle.tc_isa.specs.declared.shapes.Shape.TheVariants.{Load, Store, Mfcr, Nothing}
 use Rattle.tc_machine.specs.declared.events.Event.{Event}
@@ -14,10 +13,8 @@ use Rattle.tc_machine.specs.Machine.{reg, with_reg, core_register}
 use Rattle.tc_machine.specs.Instructions.{machine_address_ahead, advanced, is_trapping_access, misaligned, does}
 use Rattle.task_chains.specs.Tasks.{TasksData, count, block_size}
 use Rattle.task_chains.specs.TaskStarts.{block_word}
-use Rattle.task_chains.proofs.Twins.{Twins}
 use Rattle.task_chains.proofs.Alike.{seen_as}
 use Rattle.task_chains.proofs.Plain.{Plainly, set_one}
-use Rattle.task_chains.proofs.Switch.{Paused}
 
 -- ---- words in memory
 mapped_byte : (o : Option ℕ) (d : ℕ) → is_some o ≡ true → unwrap_or o d ≡ unwrap_or o 0
@@ -121,13 +118,3 @@ module _ (m : Machine) (view : Memory) (pcxi fcx : ℕ) (e e2 : Event) where
     is = ap (λ t. cond t (misaligned m) (advanced k (record m { mem = with_bytes m.mem (machine_address_ahead (reg m r) offset) (reg m src) 4 }))) none;
     view_is = refl;
   }
-
--- ---- the switch itself
--- The machine with the next task's word in PCXI: what the tasks share is unchanged, that task owns
--- PCXI and has the view that it had, and the task that gave way is one that waits.
-pub record Switched (plan : PlanData) (n w : ℕ) (word_of : ℕ → ℕ) (chain_of : ℕ → List ℕ) (m m2 : Machine) (u : ℕ) (seen seen2 : List ℕ) (old_view : Memory) (old_pcxi old_fcx : ℕ) (view : Memory) (view_pcxi view_fcx : ℕ) : Type 0 where
-  pub pc : m2.pc ≡ machine_address_ahead m.pc 4
-  pub pcxi : m2.pcxi ≡ word_of w
-  pub mem : m2.mem ≡ m.mem
-  pub twins : Twins plan n w word_of chain_of seen2 m2.mem m2.pcxi m2.fcx m2.lcx view view_pcxi view_fcx
-  pub waits : Paused plan m2.mem (word_of u) (chain_of u) seen m2.lcx old_view old_pcxi old_fcx

@@ -2,7 +2,7 @@
 use Rattle.std.proofs.Common.{◌≡◌, ℕ, zero, suc, ◌+◌, ◌-◌, ◌^◌, ◌<◌, inl, inr, Bool, true, false, cond, List, [], ◌∷◌, length, map, set, get_or, refl, sym, ap, ◌∙◌, subst, arith, nat_le, nat_lt, ◌&&◌, ◌||◌, ext_get_or, get_or-set_same, get_or-set_other, length-set}
 use Rattle.std.specs.Prelude.{sum_by, slice_index_or}
 use Rattle.std.specs.List.{list_all}
-use Rattle.std.proofs.lemmas.Bool.{cases_eq, cases_lt, and_from, and_parts, le-leb, lt-ltb, leb-true, lt-leb, le-ltb}
+use Rattle.std.proofs.lemmas.Bool.{cases_eq, cases_lt, and_from, and_parts, le-leb, lt-ltb, leb-true, le-ltb}
 use Rattle.std.proofs.lemmas.List.{length-map}
 use Rattle.std.proofs.lemmas.List.Sums.{sum_by-cons}
 use Rattle.elf_image.specs.Images.{ImageData, SegmentData, IsImage, AreSegmentBytes, is_segment, are_apart, all_apart}
@@ -18,17 +18,6 @@ byte_after tasks x k b = cond (nat_le tasks.switch x && nat_lt x (tasks.switch +
 pub record IsWrittenSoFar (tasks : TasksData) (at k : ℕ) (olds now : List ℕ) : Type 0 where
   pub size : length now ≡ length olds
   pub each : (j : ℕ) → j < length olds → get_or now j 0 ≡ byte_after tasks (at + j) k (get_or olds j 0)
-
-none_written : (tasks : TasksData) (x b : ℕ) → byte_after tasks x 0 b ≡ b
-none_written tasks x b =
-    elim (cases_lt x tasks.switch) [
-      | inl low ↦ ap (λ t. cond (t && nat_lt x (tasks.switch + 0)) (slice_index_or (view_routine_bytes tasks) (x - tasks.switch) 0) b) (lt-leb tasks.switch x low)
-      | inr high ↦ by_first (nat_le tasks.switch x) (le-ltb x (tasks.switch + 0) (omega arith))
-    ]
-  where
-    by_first : (t : Bool) → nat_lt x (tasks.switch + 0) ≡ false → cond (t && nat_lt x (tasks.switch + 0)) (slice_index_or (view_routine_bytes tasks) (x - tasks.switch) 0) b ≡ b
-    by_first true e = ap (λ r. cond r (slice_index_or (view_routine_bytes tasks) (x - tasks.switch) 0) b) e
-    by_first false e = refl
 
 -- bytes after one of them is written
 abbrev pub put_byte : ℕ → ℕ → ℕ → List ℕ → List ℕ

@@ -155,9 +155,6 @@ among_names (p ∷ ps) name = ap (λ b. bytes_eq name p.name || b) (among_names 
 new_part : (parts : List PartData) (name : List ℕ) → nat_lt (number_of_part parts name) (length parts) ≡ false → is_drafted_name (part_names parts) name ≡ false
 new_part parts name past = among_names parts name ∙ by (list_any (λ (p : PartData). bytes_eq name p.name) parts) refl
   where
-    first : ℕ
-    first = position_or_len (λ (p : PartData). bytes_eq name p.name) parts
-
     by : (b : Bool) → list_any (λ (p : PartData). bytes_eq name p.name) parts ≡ b → b ≡ false
     by false e = refl
     by true e =

@@ -33,12 +33,6 @@ item_at labels [] d j t e = cc
 item_at labels (i ∷ is) d j t e =
     by (in_front_or_rest (standing_statement d (content_of labels d i)) (statements_from labels (draft_after_item labels d i) is) j t e) (λ k g. item_at labels is (draft_after_item labels d i) k t g)
   where
-    here : List StatementData
-    here = standing_statement d (content_of labels d i)
-
-    rest : List StatementData
-    rest = statements_from labels (draft_after_item labels d i) is
-
     by : (slice_get (standing_statement d (content_of labels d i)) j ≡ Some t) ⊎ InRest StatementData (standing_statement d (content_of labels d i)) (statements_from labels (draft_after_item labels d i) is) j t
         → ((k : ℕ) → slice_get (statements_from labels (draft_after_item labels d i) is) k ≡ Some t → ItemAt labels (draft_after_item labels d i) is k t) → ItemAt labels d (i ∷ is) j t
     by (inl g) rec =

@@ -3,7 +3,6 @@ pub mod BootSteps
 pub mod BootParts
 pub mod BootLoop
 pub mod BootWhole
-pub mod BootRows
 pub mod PutLaws
 pub mod SourceLaws
 pub mod JudgeOne

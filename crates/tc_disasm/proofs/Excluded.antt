@@ -22,10 +22,6 @@ use Rattle.tc_disasm.specs.Printable.{Prints}
 use Rattle.tc_disasm.specs.RowsApart.{excludes}
 use Rattle.tc_disasm.proofs.Registers.{register_of-text}
 
-by_bool : {A : Type 0} (P : A → Type 0) (b : Bool) (x y : A) → P x → P y → P (cond b x y)
-by_bool P true x y p q = p
-by_bool P false x y p q = q
-
 lower : (a b : ℕ) → min a b ≤ a
 lower a b = omega arith
 

@@ -100,8 +100,6 @@ lexes-operand r f (Memory plus false) rest ps s h stop go =
     (lexes-base plus f.s2 rest ps (below_16 f.s2 (bounds r.form).s2 h.s2 (at_most (bounds r.form).s2 16 s)) go))
 
 -- ---- operands after the first
-abbrev pub comma : PieceData
-comma = printed_token kind.Comma (44 ∷ [])
 
 abbrev pub other_texts : RowData → Fields → List Want → List ℕ
 other_texts r f ws = flat_map (λ v. codes ", " ++ operand_text r.form f v) ws

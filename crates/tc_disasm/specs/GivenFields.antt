@@ -1,7 +1,6 @@
 -- The fields that printed operands set, want by want.
-use Rattle.std.specs.Prelude.{List, fold, Bool, true, false}
+use Rattle.std.specs.Prelude.{List, Bool, true, false}
 use Rattle.tc_isa.specs.declared.fields.Fields.{Fields}
-use Rattle.tc_isa.specs.Forms.{fields}
 use Rattle.tc_stmt.specs.declared.want.Want.{Want}
 use Rattle.tc_isa.specs.declared.fields.Uses.{Uses}
 use Rattle.tc_stmt.specs.declared.want.Field.{Field}
@@ -20,10 +19,6 @@ with_wanted_fields f g Target = set_field K f.k g
 with_wanted_fields f g Absolute = set_field K f.k g
 with_wanted_fields f g (Memory p true) = set_field K f.k (set_field S2 f.s2 g)
 with_wanted_fields f g (Memory p false) = set_field S2 f.s2 g
-
--- the fields of f that some want names, and zeros elsewhere
-abbrev pub all_given : Fields → List Want → Fields
-all_given f ws = fold (with_wanted_fields f) (fields 0 0 0 0 0) ws
 
 -- a printed operand for this want sets the field
 unfoldable pub is_field_named : Field → Want → Bool

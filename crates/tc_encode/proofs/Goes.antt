@@ -11,10 +11,6 @@ use Rattle.tc_encode.specs.WordSearch.{Makes, GoesOn, word_part_span, are_in_ind
 use Rattle.tc_encode.proofs.Complete.{completed, same_mix}
 use Rattle.tc_encode.proofs.Finds.{row_is, first_is, Between, stands_between}
 
-pub some_map : {X : Type 0} {P Q : X → Type 0} (r : Option X) → IfSome r P → ((x : X) → P x → Q x) → IfSome r Q
-some_map None p f = tt
-some_map (Some x) p f = f x p
-
 -- the low bytes of a number of two parts
 low_part : (n part rest : ℕ) → part < word_part_span n → (part + rest / word_part_span n * word_part_span n) % word_part_span n ≡ part
 low_part zero part rest h = omega arith

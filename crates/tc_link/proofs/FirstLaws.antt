@@ -34,10 +34,6 @@ found_from {A} {B} f n (x ∷ xs) (suc i) d r h e g =
     ap (λ (o : Option B). option_or o (first_refusal_from f (n + 1) xs)) p.0
     ∙ found_from f (n + 1) xs i d r (omega arith) p.1 (ap (λ k. f k (get_or xs i d)) same ∙ g)
 
-pub first_none : {A B : Type 0} (f : ℕ → A → Option B) (xs : List A) → first_refusal_from f 0 (take 0 xs) ≡ None
-unfolding first_refusal_from
-first_none f xs = refl
-
 pub first_more : {A B : Type 0} (f : ℕ → A → Option B) (xs : List A) (i : ℕ) (d : A) → i < length xs → first_refusal_from f 0 (take i xs) ≡ None → f i (get_or xs i d) ≡ None → first_refusal_from f 0 (take (i + 1) xs) ≡ None
 first_more f xs i d h e g =
     let same : 0 + i ≡ i = omega arith in

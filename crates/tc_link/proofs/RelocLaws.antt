@@ -1,5 +1,5 @@
 -- Relocations, written one after another.
-use Rattle.std.proofs.Common.{◌≡◌, ◌+◌, ◌<◌, ◌≤◌, ◌∷◌, ◌++◌, [], ℕ, zero, suc, List, length, take, drop, get_or, set, map, Option, Some, None, refl, sym, ap, ◌∙◌, subst, arith, drop-cons, append_assoc}
+use Rattle.std.proofs.Common.{◌≡◌, ◌+◌, ◌<◌, ◌≤◌, ◌∷◌, ◌++◌, [], ℕ, zero, suc, List, length, take, get_or, set, map, Option, Some, None, refl, sym, ap, ◌∙◌, subst, arith, append_assoc}
 use Rattle.std.specs.Prelude.{slice_get}
 use Rattle.std.specs.Option.{option_map, option_map_or}
 use Rattle.std.specs.List.{fold, flat_map}
@@ -12,34 +12,12 @@ use Rattle.tc_object.specs.Objects.{SectionData, ObjectData, InTurn, IsReloc, Is
 use Rattle.tc_link.specs.Layouts.{PlaceData}
 use Rattle.tc_link.specs.Placing.{PlacedData, sections_to_link, bases_after, placed_after}
 use Rattle.tc_link.specs.GlobalSymbols.{GlobalData}
-use Rattle.tc_link.specs.Relocated.{with_filled_field, with_relocation, with_relocated_item, with_reloc, field_place, reloc_value, relocated_sections, reloc_field_at}
+use Rattle.tc_link.specs.Relocated.{with_filled_field, with_relocation, with_reloc, field_place, reloc_value, relocated_sections}
 use Rattle.tc_link.specs.Refusals.{reloc_refusal, reloc, refusal_at}
 use Rattle.tc_reloc.specs.declared.refusals.RelocErr.{RelocErr}
 use Rattle.tc_link.specs.Shapes.{SectionShape, section_shape}
 use Rattle.tc_link.proofs.ShapeLaws.{filled_shape}
 use Rattle.tc_link.proofs.ItemLaws.{same_item}
-
--- four bytes, one by one
-pub four_bytes : (bs : List ℕ) (i : ℕ) → i + 4 ≤ length bs → get_or bs i 0 ∷ get_or bs (i + 1) 0 ∷ get_or bs (i + 2) 0 ∷ get_or bs (i + 3) 0 ∷ [] ≡ reloc_field_at bs i
-four_bytes bs i h =
-    let a : suc i ≡ i + 1 = omega arith in
-    let b : suc (suc i) ≡ i + 2 = omega arith in
-    let c : suc (suc (suc i)) ≡ i + 3 = omega arith in
-    let d0 = drop-cons bs i 0 (omega arith) in
-    let d1 = drop-cons bs (suc i) 0 (omega arith) in
-    let d2 = drop-cons bs (suc (suc i)) 0 (omega arith) in
-    let d3 = drop-cons bs (suc (suc (suc i))) 0 (omega arith) in
-    let all : drop i bs ≡ get_or bs i 0 ∷ get_or bs (suc i) 0 ∷ get_or bs (suc (suc i)) 0 ∷ get_or bs (suc (suc (suc i))) 0 ∷ drop (suc (suc (suc (suc i)))) bs =
-    d0 ∙ ap (λ (t : List ℕ). get_or bs i 0 ∷ t) (d1 ∙ ap (λ (t : List ℕ). get_or bs (suc i) 0 ∷ t) (d2 ∙ ap (λ (t : List ℕ). get_or bs (suc (suc i)) 0 ∷ t) d3)) in
-    sym (ap (take 4) all
-    ∙ ap (λ k. get_or bs i 0 ∷ get_or bs k 0 ∷ get_or bs (suc (suc i)) 0 ∷ get_or bs (suc (suc (suc i))) 0 ∷ []) a
-    ∙ ap (λ k. get_or bs i 0 ∷ get_or bs (i + 1) 0 ∷ get_or bs k 0 ∷ get_or bs (suc (suc (suc i))) 0 ∷ []) b
-    ∙ ap (λ k. get_or bs i 0 ∷ get_or bs (i + 1) 0 ∷ get_or bs (i + 2) 0 ∷ get_or bs k 0 ∷ []) c)
-
--- an item that is changed
-pub changed_at : {A : Type 0} (f : A → A) (n : ℕ) (xs : List A) (x : A) → n < length xs → x ≡ get_or xs n x → with_relocated_item f n xs ≡ set xs n (f x)
-changed_at {A} f n xs x h is =
-    ap (λ (o : Option A). option_map_or (λ y. set xs n (f y)) o xs) (slice_get-get_or xs n x h ∙ ap (λ (y : A). Some y) (sym is))
 
 set_shape : (xs : List SectionData) (n : ℕ) (x y : SectionData) → slice_get xs n ≡ Some x → section_shape y ≡ section_shape x → map section_shape (set xs n y) ≡ map section_shape xs
 set_shape [] n x y at e = cc
@@ -111,15 +89,6 @@ room_in ss sections n k same h = omega (arith, h, size_at-shapes ss sections n s
 
 pub size_here : (ss : List SectionData) (n : ℕ) (x : SectionData) → n < length ss → x ≡ get_or ss n x → section_size_at ss n ≡ length x.bytes
 size_here ss n x h is = ap section_size (slice_get-get_or ss n x h) ∙ ap (λ (s : SectionData). length s.bytes) (sym is)
-
--- a single relocation is written
-pub written_in : (g : List GlobalData) (p : PlacedData) (r : Reloc) (ss new : List SectionData) (x : SectionData) (place value : ℕ) → r.section < length ss → x ≡ get_or ss r.section x
-    → new ≡ set ss r.section (with_filled_field r place value x) → place ≡ field_place p r → value ≡ reloc_value g p r → new ≡ with_reloc g p ss r
-written_in g p r ss new x place value h is e pl va =
-    e
-    ∙ ap (λ k. set ss r.section (with_filled_field r k value x)) pl
-    ∙ ap (λ v. set ss r.section (with_filled_field r (field_place p r) v x)) va
-    ∙ sym (changed_at (with_relocation g p r) r.section ss x h is)
 
 pub shapes_in : (r : Reloc) (ss new : List SectionData) (x : SectionData) (place value : ℕ) → r.section < length ss → x ≡ get_or ss r.section x → r.offset + 4 ≤ length x.bytes
     → new ≡ set ss r.section (with_filled_field r place value x) → map section_shape new ≡ map section_shape ss

@@ -112,8 +112,6 @@ module _ (image : ImageData) where
       images_outside (with_image image m r.at r.len) rs y (λ h. gone (inr h)) ∙ image_outside m r.at r.len y (outside r y (λ h. gone (inl h)))
 
 -- ---- the links
-one_word : (k : ℕ) → 64 * suc k ≡ 64 * k + 64
-one_word k = omega arith
 
 module _ (at first n : ℕ) (m : Memory) where
   pub links_mapped : (k y : ℕ) → is_mapped (with_area_links at first n m k) y ≡ is_mapped m y

@@ -2,7 +2,7 @@
 use Rattle.std.proofs.Common.{◌≡◌, ℕ, ◌/◌, ◌*◌, true, false, cond, set, Result, Ok, None, refl, ap, ◌∙◌}
 use Rattle.tc_isa.specs.declared.shapes.Target.{Target}
 use Rattle.tc_isa.specs.declared.shapes.Shape.{Shape}
-use Rattle.tc_isa.specs.declared.shapes.Shape.TheVariants.{Call, Jump, Ret, Nothing}
+use Rattle.tc_isa.specs.declared.shapes.Shape.TheVariants.{Call, Ret, Nothing}
 use Rattle.tc_machine.specs.declared.events.Cause.{Cause}
 use Rattle.tc_machine.specs.declared.events.Event.{Event}
 use Rattle.tc_machine.specs.declared.events.End.TheVariants.{Running}
@@ -50,10 +50,6 @@ returned m = then_ (restore m true) (λ r. record r { pc = a11 m / 2 * 2 })
 pub does-call : (m : Machine) (e : Event) (to : Target) (n : ℕ) → does m e (Call to) n ≡ called m (target_of m to) (machine_address_ahead m.pc n)
 unfolding does
 does-call m e to n = refl
-
-pub does-jump : (m : Machine) (e : Event) (to : Target) (n : ℕ) → does m e (Jump to) n ≡ record m { pc = target_of m to }
-unfolding does
-does-jump m e to n = refl
 
 pub does-ret : (m : Machine) (e : Event) (n : ℕ) → does m e Ret n ≡ returned m
 unfolding does

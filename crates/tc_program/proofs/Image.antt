@@ -88,9 +88,6 @@ in_joined : (name : List ℕ) (ss : List SectionData) (before : List ℕ) (k b :
 in_joined name [] before k b e = inl (slice_get_within before k b e)
 in_joined name (s ∷ ss) before k b e = by_rest (in_joined name ss (with_section name before s) k b e)
   where
-    next : List ℕ
-    next = with_section name before s
-
     -- a byte in front stays
     byte_in_front : k < length (with_section name before s) → slice_get (with_section name before s) k ≡ Some b
     byte_in_front h =
@@ -220,9 +217,6 @@ byte_from (s ∷ ss) q b e = by (λ g. byte_from ss q b g) (is_held_by_segment s
     by rec false h g = let r = rec g in record { at = suc r.at; segment = r.segment; is_segment = r.is_segment; low = r.low; byte = r.byte }
 
 -- ---- places
--- each place is the one of its name
-pub record IsAlone (places : List PlaceData) (p : PlaceData) : Type 0 where
-  pub is : place_of places p.section ≡ Some p
 
 same_name : (bs : List ℕ) → bytes_eq bs bs ≡ true
 same_name bs = (bytes_eq-Decides bs bs).1 refl

@@ -1,5 +1,5 @@
 -- Items of lists that are joined.
-use Rattle.std.proofs.Common.{◌≡◌, ◌<◌, ◌≤◌, ◌+◌, ◌⊎◌, inl, inr, ℕ, zero, suc, Bool, true, false, cond, List, [], ◌∷◌, ◌++◌, length, take, drop, map, Option, Some, refl, sym, ap, subst, ◌∙◌, arith, append_assoc}
+use Rattle.std.proofs.Common.{◌≡◌, ◌<◌, ◌≤◌, ◌+◌, ◌⊎◌, inl, inr, ℕ, zero, suc, Bool, true, false, cond, List, [], ◌∷◌, ◌++◌, length, take, drop, map, Some, refl, sym, ap, subst, ◌∙◌, arith, append_assoc}
 use Rattle.std.specs.Prelude.{slice_get, slice_set, filter, find}
 use Rattle.std.specs.List.{flat_map}
 use Rattle.std.proofs.lemmas.Option.{slice_get_within}
@@ -182,7 +182,3 @@ find_at {A} p (x ∷ xs) y e = by (λ g. find_at p xs y g) (p x) refl e
     by : (find p xs ≡ Some y → FindAt A p xs y) → (b : Bool) → p x ≡ b → cond b (Some x) (find p xs) ≡ Some y → FindAt A p (x ∷ xs) y
     by rec true h f = let same : x ≡ y = cc in record { at = 0; is_item = f; holds = sym (ap p same) ∙ h }
     by rec false h f = further (rec f)
-
--- two equal answers have equal contents
-pub one_of : {A : Type 0} (o : Option A) (x y : A) → o ≡ Some x → o ≡ Some y → x ≡ y
-one_of o x y e f = cc

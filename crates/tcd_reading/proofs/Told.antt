@@ -2,10 +2,10 @@
 use Rattle.std.proofs.Common.{◌≡◌, ◌≤◌, inl, inr, ℕ, List, length, Option, Result, Ok, Err, refl, sym, subst, ◌∙◌, arith}
 use Rattle.std.specs.Prelude.{IfErr, IsTrue}
 use Rattle.std.specs.Result.{IsErrAnd}
-use Rattle.tcd_base.specs.Files.{FileMap, FilesSeen, LeavesFiles, IsFileTooLong, ReadsFile}
+use Rattle.tcd_base.specs.Files.{FileMap, FilesSeen, LeavesFiles, ReadsFile}
 use Rattle.tcd_base.specs.FailingCalls.{FaultCounted}
 use Rattle.tcd_reading.specs.Reports.{Report, RefusesInput, says}
-use Rattle.tcd_reading.specs.Inputs.{FormSeen, HoldsInput, IsInputRefusal, long, bad, Reading, answer, input, ReadingSays, HoldsAsked, HasAllInputs, HasNotRead}
+use Rattle.tcd_reading.specs.Inputs.{FormSeen, HoldsInput, IsInputRefusal, bad, Reading, answer, input, ReadingSays, HoldsAsked, HasAllInputs, HasNotRead}
 use Rattle.tcd_reading.specs.Outcomes.{Outcome, IsToldOutcome, IsBadInputStop, HasFailedToRead, IsCommandOutcome}
 use Rattle.tcd_reading.specs.declared.outcome.Stop.{Stop}
 use Rattle.tcd_reading.specs.declared.outcome.Stop.TheVariants as stop
@@ -39,10 +39,6 @@ stopped P Q F G stop.Unread h p f = f h
 stopped P Q F G stop.NoMemory h p f = tt
 
 -- ---- one input
--- a file above the limit, and bytes that are none
-pub too_long_line : {A : Type 0} (form : FormSeen A) (held : Option FileMap) (name : List ℕ) (limit : ℕ) (t : List ℕ) → limit ≡ form.limit → IsFileTooLong held name limit → t ≡ form.too_long_line → IsInputRefusal form held name t
-too_long_line form held name limit t e h is = long (subst (λ (n : ℕ). IsFileTooLong held name n) e h) is
-
 pub bad_line : {A : Type 0} (form : FormSeen A) (held : Option FileMap) (name bytes : List ℕ) (limit : ℕ) (t : List ℕ) → limit ≡ form.limit → ReadsFile held name bytes → length bytes ≤ limit → form.IsBad bytes t → IsInputRefusal form held name t
 bad_line form held name bytes limit t l holds short is = bad bytes holds (subst (λ (n : ℕ). length bytes ≤ n) l short) is
 

@@ -1,5 +1,5 @@
 -- Cells read one line after another.
-use Rattle.std.proofs.Common.{◌≡◌, ℕ, zero, suc, ◌+◌, ◌<◌, ◌≤◌, inl, List, [], ◌∷◌, ◌++◌, length, take, map, IsTrue, refl, sym, ap, ◌∙◌, subst, arith, nat_lt, nat_le}
+use Rattle.std.proofs.Common.{◌≡◌, ℕ, ◌+◌, ◌<◌, ◌≤◌, inl, List, [], ◌∷◌, ◌++◌, length, map, IsTrue, refl, sym, ap, ◌∙◌, subst, arith, nat_lt, nat_le}
 use Rattle.std.specs.Prelude.{filter_map}
 use Rattle.std.proofs.lemmas.Bool.{ltb-true, lt-ltb, leb-true}
 use Rattle.std.proofs.lemmas.List.{length-append, length-map}
@@ -12,13 +12,6 @@ use Rattle.tcd_plan.specs.Cutting.{cut_plan_ranges}
 use Rattle.value_cells.specs.Cells.{cell_device, ram_without_cells, with_cells, AreCells}
 use Rattle.value_cells.specs.CellListText.{cell_of, cell_of_words, IsCellLine, AreRead, HasRoom, TakesLine}
 use Rattle.value_cells.proofs.CellPlan.{ram_behind}
-
-abbrev no_cell : List Cell
-no_cell = []
-
-none_of : (n : ℕ) → take n no_cell ≡ no_cell
-none_of zero = refl
-none_of (suc n) = refl
 
 -- ---- room for one more
 pub room_ram : (plan : PlanData) (cells : List Cell) (c : Cell) → (with_cells plan (cells ++ c ∷ [])).ram ≡ cut_plan_ranges c.at 4 (ram_without_cells cells plan.ram)
@@ -73,9 +66,6 @@ pub record IsReadSoFar (plan : PlanData) (bytes rest : List ℕ) (number : ℕ) 
   pub split : text_lines bytes ≡ before ++ text_lines rest
   pub count : number ≡ length before
   pub read : AreRead plan before cells
-
-pub read_none : (plan : PlanData) (bytes : List ℕ) → AreCells plan [] → IsReadSoFar plan bytes bytes 0 []
-read_none plan bytes are = record { before = []; split = refl; count = refl; read = record { forms = λ k d lt. absurd (omega arith); named = refl; are = are } }
 
 behind_one : (xs ys : List (List ℕ)) (x : List ℕ) → xs ++ x ∷ ys ≡ (xs ++ x ∷ []) ++ ys
 behind_one [] ys x = refl

@@ -8,7 +8,7 @@ use Rattle.value_domain.specs.declared.values.Val.TheVariants.{Set, Span}
 use Rattle.value_domain.specs.Sets.{Among, Within, Rising, sorted_set_of, alignment_log2, least, greatest, step_of_set, multiples, AreCoverable}
 use Rattle.value_domain.specs.Limits.{Limits, AreLimits}
 use Rattle.value_domain.specs.Floors.{floor, above}
-use Rattle.value_domain.specs.Values.{IsMember, IsWell, IsValue, IsBelow, cover, value_of_words, members, range, first_in_span, count_in}
+use Rattle.value_domain.specs.Values.{IsMember, IsWell, IsBelow, cover, value_of_words, members, range, first_in_span, count_in}
 use Rattle.value_domain.specs.Laws.{AreMembers, IsLeastValue}
 use Rattle.value_domain.proofs.SetLaws.{rising_distinct, among_distinct, distinct_has, distinct_same, length-distinct, length_within, least_among, least_least, greatest_among, greatest_greatest, step_least, step_greatest, step_le}
 use Rattle.value_domain.proofs.LimitLaws.{floor_le, floor_mono, floor_same, above_lt, above_le, above_mono, above_same}
@@ -282,12 +282,3 @@ cover_least b xs limits good = record {
   least = λ w value held z m.
       rw value.own at (cover_mono b xs (members w) good.some (λ x i. among_member w x (has_step w value.well) (held x i)) z m);
 }
-
--- values with equal members are equal
-pub same_value : (b : Limits) (v w : Val) → IsValue b v → IsValue b w → IsBelow v w → IsBelow w v → v ≡ w
-same_value b v w vv vw there back =
-    sym vv.own
-    ∙ cover-same b (members v) (members w)
-    (λ z i. among_member w z (has_step w vw.well) (there z (member_among v z (has_step v vv.well) i)))
-    (λ z i. among_member v z (has_step v vv.well) (back z (member_among w z (has_step w vw.well) i)))
-    ∙ vw.own

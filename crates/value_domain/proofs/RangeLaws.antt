@@ -132,9 +132,6 @@ below_span {lo} {hi} {s} v lo2 last2 s2 well small e = (
 pub unit_shift : (s : ℕ) → s ≤ 2 → 1 * 2 ^ s % 2 ^ 64 ≡ 2 ^ s
 unit_shift = step_cases (λ s. 1 * 2 ^ s % 2 ^ 64 ≡ 2 ^ s) refl refl refl
 
-pub limits_same : (x y : ℕ) → y < x → x ≡ y + 1 → y ≡ x - 1
-limits_same x y h e = omega arith
-
 pub range_value : (b : Limits) (lo last s : ℕ) → AreLimits b → s ≤ 2 → 1 ≤ count_in lo last s → last < 2 ^ 32 → IsValue b (cover b (range lo last s))
 range_value b lo last s limits small some below =
     (cover_least b (range lo last s) limits (record {

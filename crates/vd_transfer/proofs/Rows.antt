@@ -23,12 +23,6 @@ pub record Lies (x a b p : ℕ) : Type 0 where
   pub to : x ≤ b
   pub fits : p ≤ alignment_log2 x
 
--- the bounds of a smaller value
-pub record Inside (a b p a2 b2 p2 : ℕ) : Type 0 where
-  pub low : a2 ≤ a
-  pub high : b ≤ b2
-  pub step : p2 ≤ p
-
 -- ---- Add
 pub sums_have : (x y a b c d m : ℕ) → m ≤ 2 → Lies x a b m → Lies y c d m → b < 2 ^ 32 → d < 2 ^ 32 → Among ((x + y) % 2 ^ 32) (range_of (sums a b c d m))
 unfolding sums

@@ -1,8 +1,7 @@
 -- The lists of addresses of a point's duties, by its instruction.
-use Rattle.std.proofs.Common.{◌≡◌, ◌==◌, ℕ, Bool, true, false, List, [], ◌∷◌, ◌++◌, map, Option, Some, None, refl, sym, ap, ◌∙◌, append_assoc, append-nil}
+use Rattle.std.proofs.Common.{◌≡◌, ◌==◌, ℕ, Bool, true, false, List, [], ◌∷◌, ◌++◌, map, Option, Some, None, refl, sym, ◌∙◌, append-nil}
 use Rattle.std.specs.Prelude.{if◌then◌else◌, is_some, unwrap_or}
 use Rattle.std.specs.List.{flat_map}
-use Rattle.std.proofs.lemmas.Grind.{flat_map-append}
 use Rattle.elf_image.specs.Images.{ImageData}
 use Rattle.tcd_plan.specs.PlanData.{PlanData}
 use Rattle.tc_isa.specs.declared.shapes.Target.{Target}
@@ -35,11 +34,6 @@ side_there q (Some s) r e t = refl
 pub side_missing : (q : ℕ) (o : Option State) (r : Bool) → r ≡ is_some o → r ≡ false → jumped_in (jump_on q o) ≡ []
 side_missing q None r e t = refl
 side_missing q (Some s) r e t = absurd (let no : true ≡ false = sym e ∙ t in cc)
-
--- both sides of a branch
-pub sides_are : (a c : List Owed) (old mid new : List ℕ) → mid ≡ old ++ jumped_in a → new ≡ mid ++ jumped_in c → new ≡ old ++ jumped_in (a ++ c)
-sides_are a c old mid new e g =
-    g ∙ ap (λ l. l ++ jumped_in c) e ∙ append_assoc old (jumped_in a) (jumped_in c) ∙ sym (ap (λ l. old ++ l) (flat_map-append (λ d. jump_by d.duty) a c))
 
 pub jumps_are : (s : State) (ts : List ℕ) → jumped_in (jumps_to s ts) ≡ ts
 jumps_are s ts = flat_mapped (λ d. jump_by d.duty) (λ t. owed 4 (jump t s)) (λ t. t ∷ []) (λ t. refl) ts ∙ flat_self ts
