@@ -158,20 +158,6 @@ module _ (b : Limits) (image : ImageData) (plan : PlanData) (k : Key) (p : ℕ) 
   unfolding seen
   resume_asks t l q x at h = record { key = k; addr = p; before = u; duty = resume l q; has = h; asks = ap (asked_by_resume k u l q) at }
 
-  -- a duty of the point stays one, unless the point has new work
-  pub duty_stays : (s t : made.Table) (d : Duty) → JoinKeeps b image plan s t → is_queued (mark_for t.places (spot_of (point k p))) ≡ false → HasDuty b image plan (seen s).cells k p u d → HasDuty b image plan (seen t).cells k p u d
-  unfolding seen
-  duty_stays s t d keeps free h = record {
-    at = (keeps.each (spot_of (point k p)) free).1 ∙ h.at;
-    faultless = h.faultless;
-    shape = h.shape;
-    size = h.size;
-    code = h.code;
-    owed = h.owed;
-    listed = h.listed;
-    is = h.is;
-  }
-
   -- ---- between joins
   pub has_duty_at : (t : made.Table) (d : Duty) → (seen t).cells (point k p) ≡ Some (state u) → VisitedPointOwes b image plan k p u d → HasDuty b image plan (seen t).cells k p u d
   has_duty_at t d at o = record { at = at; faultless = o.faultless; shape = o.shape; size = o.size; code = o.code; owed = o.owed; listed = o.listed; is = o.is }

@@ -14,7 +14,7 @@ use Rattle.std.proofs.lemmas.Map.Views.{Contains-from_any, Contains-keys_from_lo
 use Rattle.indexmap.specs.IndexMap.{IndexMap, IsUnique, get, keys}
 use Rattle.depth_cert.specs.declared.keys.Key.{Key}
 use Rattle.depth_cert.specs.Known.{Known}
-use Rattle.cfg_recover.specs.Assignments.{Place, point, exit, Assignment, same_place}
+use Rattle.cfg_recover.specs.Assignments.{Place, point, exit, same_place}
 use Rattle.cfg_recover.proofs.Members.{contains_map}
 use Rattle.frame_places.specs.PointEntries.{AreEntries, place_at, places_at, points_in}
 use Rattle.frame_places.specs.Spots.{is_point, spot_eq, spot_number, nowhere}
@@ -92,9 +92,6 @@ point_kind (Point k p) e = (k, p, refl)
 point_kind (Exit k) e = cc
 
 module _ {S : Type 0} (m : IndexMap Spot (Marked Known) S) (ps : List Spot) (ks : List Key) (unique : IsUnique spot_eq m) (c : IsCountedIn m ps ks) where
-  a : Assignment
-  a = λ q. value_for m (spot_of q)
-
   -- each point once
   apart_spots : (i j : ℕ) (d : Spot) → i < j → j < length (points_in m) → spot_eq (get_or (points_in m) i d) (get_or (points_in m) j d) ≡ false
   apart_spots i j d lt le = AllPairs-filter (λ x y. spot_eq x y ≡ false) is_point (keys m) (λ i j d lt le. apart_from_distinct spot_eq (keys m) i j d unique lt le) i j d lt le

@@ -1,6 +1,5 @@
 -- In a derived assignment each frame has its entry point, and each is entered from the start.
-use Rattle.std.proofs.Common.{◌≡◌, ◌⊎◌, inl, inr, ℕ, ◌≤◌, Bool, true, false, Option, Some, None, IsSome, refl, sym, ap, ◌∙◌, subst}
-use Rattle.std.specs.Prelude.{if◌then◌else◌}
+use Rattle.std.proofs.Common.{◌≡◌, ◌⊎◌, inl, inr, ℕ, ◌≤◌, Some, None, refl, sym, ap, subst}
 use Rattle.elf_image.specs.Images.{ImageData}
 use Rattle.tcd_plan.specs.PlanData.{PlanData}
 use Rattle.value_domain.specs.declared.states.State.{State}
@@ -13,7 +12,7 @@ use Rattle.depth_cert.specs.Known.{Known, state, leaving}
 use Rattle.cfg_recover.specs.CertRefusals.{MeetsNeeds, Reaches, here, by_entry}
 use Rattle.depth_maker.specs.WellFormedAssignments.{AllWellFormed}
 use Rattle.depth_maker.specs.MakerLaws.{AreMakerLaws}
-use Rattle.depth_maker.proofs.PlaceLaws.{place_tells, place_same, from_if, resumed_some}
+use Rattle.depth_maker.proofs.PlaceLaws.{place_tells, from_if, resumed_some}
 use Rattle.depth_maker.proofs.Below.{derived_below}
 use Rattle.depth_maker.proofs.NeedLaws.{entered_above, reached_less}
 
@@ -30,28 +29,7 @@ asked_where a key s (enter k t) y v e = let f : (point k k.entry, state t) ≡ (
 asked_where a key s (resume k q) y v e = let r = resumed_some key s k q (a (exit k)) y v e in inl (sym (ap frame_of_place r.2))
 asked_where a key s (leave x) y v e = let f : (exit key, leaving x) ≡ (y, v) = cc in inl (sym (ap (λ (w : Place × Known). frame_of_place w.0) f))
 
-some_is : (o : Option Known) (v : Known) → o ≡ Some v → IsSome o
-some_is o v e = subst (λ (o : Option Known). IsSome o) (sym e) refl
-
 module _ (b : Limits) (image : ImageData) (plan : PlanData) where
-  module _ (a after : Assignment) (y : Place) (j : Joins b image plan a after y) where
-    some_stays : (x : Place) → IsSome (a x) → IsSome (after x)
-    some_stays x h = at (same_place x y) (j.is x) where
-      at : (t : Bool) → after x ≡ (if t then Some j.known else a x) → IsSome (after x)
-      at true e = some_is (after x) j.known e
-      at false e = subst (λ (o : Option Known). IsSome o) (sym e) h
-
-    some_joined : IsSome (after y)
-    some_joined = some_is (after y) j.known (j.is y ∙ ap (λ t. if t then Some j.known else a y) (place_same y))
-
-    entry_joined : ((x : Place) (v : Known) → a x ≡ Some v → IsSome (a (entry_of (frame_of_place x)))) → IsSome (after (entry_of (frame_of_place y)))
-    entry_joined old =
-        let k = j.asks in
-        elim (asked_where a k.key k.before k.duty y j.value k.asks) [
-          | inl same ↦ subst (λ (z : Key). IsSome (after (entry_of z))) (sym same) (some_stays (entry_of k.key) (old (point k.key k.addr) (state k.before) (k.has).at))
-          | inr e ↦ subst (λ (z : Place). IsSome (after (entry_of (frame_of_place z)))) (sym e.3) (subst (λ (z : Place). IsSome (after z)) e.3 some_joined)
-        ]
-
   -- ---- from the start
   -- a frame that a reached one enters is reached
   pub reaches_then : (c : Assignment) (j t : Key) (p : ℕ) (s : State) → EntersInAssignment b image plan c j p s t → (k : Key) → Reaches b image plan c j k → Reaches b image plan c t k

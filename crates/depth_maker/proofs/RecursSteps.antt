@@ -49,9 +49,6 @@ module _ (s : Source) (source : IsRowSource s) (marks : List Bool) (k : Key) (p 
 
 -- ---- one more place
 module _ (s : Source) (marks : List Bool) (k : Key) (ys : List Spot) where
-  pub first_none : IsFirstRecursive s marks k [] None
-  first_none p c e = absurd (omega (arith, c.1))
-
   pub first_past : (y : Spot) (p q : ℕ) → y ≡ Point k q → IsFirstRecursive s marks k ys (Some p) → p ≤ q → IsFirstRecursive s marks k (ys ++ y ∷ []) (Some p)
   first_past y p q is h le = (
     h.0,

@@ -1,17 +1,11 @@
 -- The test of K17, part by part.
-use Rattle.std.proofs.Common.{◌≡◌, ℕ, ◌-◌, ◌/◌, ◌%◌, ◌<◌, ◌≤◌, true, false, IsTrue, arith, ◌==◌}
+use Rattle.std.proofs.Common.{ℕ, ◌-◌, ◌/◌, ◌%◌, ◌<◌, ◌≤◌, IsTrue, arith, ◌==◌}
 use Rattle.std.proofs.lemmas.Bool.{eqb-true, eq-eqb}
 use Rattle.task_chains.specs.Tasks.{TasksData}
 use Rattle.task_chains.specs.SwitchRoutine.{IsRoutineStep}
 
 -- ---- where a point lies
 module _ (tasks : TasksData) (p : ℕ) where
-  no_step : (IsRoutineStep tasks p → ⊥) → (IsTrue false → IsRoutineStep tasks p) × (IsRoutineStep tasks p → IsTrue false)
-  no_step none = (λ t. absurd (let f : false ≡ true = t in cc), λ step. absurd (none step))
-
-  pub step_below : p < tasks.switch → (IsTrue false → IsRoutineStep tasks p) × (IsRoutineStep tasks p → IsTrue false)
-  step_below lt = no_step (λ step. let is = step.2 in omega arith)
-
   pub step_within : tasks.switch ≤ p → p - tasks.switch < 72 → (IsTrue ((p - tasks.switch) % 4 == 0) → IsRoutineStep tasks p) × (IsRoutineStep tasks p → IsTrue ((p - tasks.switch) % 4 == 0))
   step_within low within = (
     λ t. let even = eqb-true ((p - tasks.switch) % 4) 0 t in ((p - tasks.switch) / 4, omega arith, omega arith),

@@ -120,9 +120,6 @@ module _ {image : ImageData} {plan : PlanData} {tasks : TasksData} {certs : ℕ 
 
   -- ---- PCXI becomes the next task's
   module _ (m : Machine) {u : ℕ} {word_of : ℕ → ℕ} {chain_of : ℕ → List ℕ} (k : AllKept image plan tasks needs m u word_of chain_of) (e : Event) (fits : Fits plan m e) where
-    abbrev n : ℕ
-    n = count tasks
-
     abbrev own : u < count tasks
     own = (k.shared).own
 

@@ -10,7 +10,7 @@ use Rattle.task_chains.specs.declared.lines.Places.{Places}
 use Rattle.task_chains.specs.declared.drafts.TasksDraft.{TasksDraft}
 use Rattle.task_chains.specs.declared.task_lists.Task.{Task}
 use Rattle.task_chains.specs.Tasks.{TasksData}
-use Rattle.task_chains.specs.TaskListText.{task_of, written_task_lines, AreSaid, BreaksTaskForm, IsEighthTaskLine, tasks_with, TellsEighth, IsDraftBy, IsTasksDraft, TakesTaskLine}
+use Rattle.task_chains.specs.TaskListText.{task_of, written_task_lines, AreSaid, IsEighthTaskLine, tasks_with, TellsEighth, IsDraftBy, IsTasksDraft, TakesTaskLine}
 
 abbrev some_task : Task → Option Task
 some_task t = Some t
@@ -106,9 +106,6 @@ module _ (before : List (List ℕ)) where
             }
       ]
 
-  pub bad_task : (line : List ℕ) (p : Places) (list : List Task) (eighth : Option ℕ) → 0 < length line → task_of line ≡ None → IsDraftBy before (Some p) list eighth → BreaksTaskForm before line
-  bad_task line p list eighth lt none d = (not_empty line lt, inr ((tasks_with p d.all, d.said), none))
-
 pub draft_nothing : (before : List (List ℕ)) (line : List ℕ) (d : TasksDraft) → length line ≡ 0 → IsTasksDraft before d → IsTasksDraft (before ++ line ∷ []) d
 draft_nothing before [] d none is = draft_empty before d.places d.list.items d.eighth is
 draft_nothing before (x ∷ xs) d none is = absurd (omega arith)
@@ -128,10 +125,6 @@ module _ (old : TasksDraft) (n : ℕ) (line : List ℕ) (some : 0 < length line)
   takes_task new t there is same room full before made at =
       subst (λ o. IsDraftBy (before ++ line ∷ []) o new.list.items new.eighth) (sym same)
       (takes_by old.places t old.list.items new.list.items old.eighth new.eighth there is room full before made at)
-
-  bad_by : (o : Option Places) (list : List Task) (eighth : Option ℕ) → IsSome o → task_of line ≡ None → (before : List (List ℕ)) → IsDraftBy before o list eighth → BreaksTaskForm before line
-  bad_by None list eighth there is before made = absurd (let f : false ≡ true = there in cc)
-  bad_by (Some p) list eighth there is before made = bad_task before line p list eighth some is made
 
 -- ---- a text
 -- the draft is that of the lines before those that are left

@@ -58,9 +58,6 @@ Levels-from core level mem word l ls keys b is e h = subst (λ b. EndsFrame leve
 -- ---- saves
 module _ (core : Core) (level : ℕ) (mem : Memory) (pcxi k : ℕ) (used : List ℕ) (context : List ℕ) (long : length context ≡ 16) (first : get_or context 0 0 ≡ pcxi) (word : pcxi < 2 ^ 32) (here : is_area mem k ≡ true) (apart : Avoids k used)
     (small : k < 2 ^ 20) (ccpn : ℕ) (ccpn_lt : ccpn < 2 ^ 8) (ie : Bool) where
-  saved : Memory
-  saved = with_words mem (link_address k) context
-
   saved_first : area_word (with_words mem (link_address k) context) k 0 ≡ pcxi
   saved_first = area_word-written mem k context 0 (omega arith) here (omega arith) (subst (λ x. x < 2 ^ 32) (sym first) word) ∙ first
 

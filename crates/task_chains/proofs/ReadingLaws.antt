@@ -1,21 +1,18 @@
 -- The tasks that a text names, and its error.
-use Rattle.std.proofs.Common.{◌≡◌, ℕ, zero, suc, ◌+◌, ◌^◌, ◌<◌, ◌≤◌, inl, inr, Bool, true, false, IsTrue, List, [], ◌∷◌, length, get_or, Option, Some, None, Ok, Err, refl, sym, ap, ◌∙◌, subst, arith}
+use Rattle.std.proofs.Common.{◌≡◌, ℕ, zero, suc, ◌+◌, ◌^◌, ◌<◌, ◌≤◌, inl, inr, Bool, true, false, IsTrue, List, [], ◌∷◌, length, get_or, Option, Some, None, Err, refl, sym, ap, ◌∙◌, subst, arith}
 use Rattle.std.proofs.lemmas.Bool.{cases_lt}
 use Rattle.std.proofs.lemmas.List.{take_all}
 use Rattle.tcd_plan.specs.PlanData.{PlanData}
 use Rattle.task_chains.specs.declared.lines.Places.{Places}
 use Rattle.task_chains.specs.declared.task_lists.Task.{Task}
 use Rattle.task_chains.specs.declared.task_lists.TasksErr.{TasksErr}
-use Rattle.task_chains.specs.declared.task_lists.TasksErr.TheVariants.{BadLine, TooMany, NotRam, NoRoom, OnIsp, Count}
+use Rattle.task_chains.specs.declared.task_lists.TasksErr.TheVariants.{BadLine, NotRam, NoRoom, OnIsp, Count}
 use Rattle.task_chains.specs.Tasks.{TasksData, AreTasks, count}
 use Rattle.task_chains.specs.Views.{FitPlan}
 use Rattle.task_chains.specs.TaskListText.{AreSaid, IsBlockInRam, HaveViewsRoom, IsAgainst, Reads, tasks_with, IsKept, IsDraftBy}
 
 -- ---- what a draft says
 module _ (plan : PlanData) (lines : List (List ℕ)) where
-  pub too_many : (p : Places) (list : List Task) (n : ℕ) → IsKept lines p list (Some n) → Reads plan lines (Err (TooMany n))
-  too_many p list n k = (tasks_with p k.all, k.said, k.more)
-
   pub all_said : (p : Places) (list : List Task) → IsKept lines p list None → AreSaid lines (tasks_with p list)
   all_said p list k = subst (λ l. AreSaid lines (tasks_with p l)) (sym (k.seven ∙ take_all 7 k.all (let few : length k.all ≤ 7 = k.more in omega arith))) k.said
 
@@ -26,9 +23,6 @@ module _ (plan : PlanData) (lines : List (List ℕ)) where
   against tasks (BadLine n) said bad = absurd bad
   against tasks Count said bad = absurd bad
   against tasks _ said bad = (tasks, said, bad)
-
-  pub all_read : (tasks : TasksData) → AreSaid lines tasks → AreTasks tasks → FitPlan plan tasks → Reads plan lines (Ok tasks)
-  all_read tasks said are fit = record { said = said; are = are; fit = fit }
 
 -- ---- the tests under a plan
 -- what a test denies doesn't hold

@@ -1,8 +1,7 @@
 -- The view's routine, written over a segment byte by byte.
-use Rattle.std.proofs.Common.{◌≡◌, ℕ, zero, suc, ◌+◌, ◌-◌, ◌^◌, ◌<◌, inl, inr, Bool, true, false, cond, List, [], ◌∷◌, length, map, set, get_or, refl, sym, ap, ◌∙◌, subst, arith, nat_le, nat_lt, ◌&&◌, ◌||◌, ext_get_or, get_or-set_same, get_or-set_other, length-set}
+use Rattle.std.proofs.Common.{◌≡◌, ℕ, zero, suc, ◌+◌, ◌-◌, ◌^◌, ◌<◌, cond, List, [], ◌∷◌, length, map, get_or, refl, sym, ap, ◌∙◌, subst, arith, nat_le, nat_lt, ◌&&◌, ◌||◌, ext_get_or}
 use Rattle.std.specs.Prelude.{sum_by, slice_index_or}
 use Rattle.std.specs.List.{list_all}
-use Rattle.std.proofs.lemmas.Bool.{cases_eq, cases_lt, and_from, and_parts, le-leb, lt-ltb, leb-true, le-ltb}
 use Rattle.std.proofs.lemmas.List.{length-map}
 use Rattle.std.proofs.lemmas.List.Sums.{sum_by-cons}
 use Rattle.elf_image.specs.Images.{ImageData, SegmentData, IsImage, AreSegmentBytes, is_segment, are_apart, all_apart}
@@ -18,57 +17,6 @@ byte_after tasks x k b = cond (nat_le tasks.switch x && nat_lt x (tasks.switch +
 pub record IsWrittenSoFar (tasks : TasksData) (at k : ℕ) (olds now : List ℕ) : Type 0 where
   pub size : length now ≡ length olds
   pub each : (j : ℕ) → j < length olds → get_or now j 0 ≡ byte_after tasks (at + j) k (get_or olds j 0)
-
--- bytes after one of them is written
-abbrev pub put_byte : ℕ → ℕ → ℕ → List ℕ → List ℕ
-put_byte at x byte bytes = cond (nat_le at x && nat_lt (x - at) (length bytes)) (set bytes (x - at) byte) bytes
-
-module _ (tasks : TasksData) (at k byte : ℕ) (olds now : List ℕ) (is : byte ≡ slice_index_or (view_routine_bytes tasks) k 0) (so : IsWrittenSoFar tasks at k olds now) where
-  abbrev x : ℕ
-  x = tasks.switch + k
-
-  length-put : length (put_byte at x byte now) ≡ length now
-  length-put = by_test (nat_le at x && nat_lt (x - at) (length now))
-    where
-      by_test : (t : Bool) → length (cond t (set now (x - at) byte) now) ≡ length now
-      by_test true = length-set now (x - at) byte
-      by_test false = refl
-
-  here : (j : ℕ) → j < length now → at + j ≡ x → get_or (put_byte at x byte now) j 0 ≡ byte_after tasks (at + j) (k + 1) (get_or olds j 0)
-  here j lt e =
-      let place : x - at ≡ j = omega arith in
-      let test : (nat_le at x && nat_lt (x - at) (length now)) ≡ true = and_from _ _ (le-leb at x (omega arith)) (lt-ltb (x - at) (length now) (omega arith)) in
-      let seen : (nat_le tasks.switch (at + j) && nat_lt (at + j) (tasks.switch + (k + 1))) ≡ true = and_from _ _ (le-leb tasks.switch (at + j) (omega arith)) (lt-ltb (at + j) (tasks.switch + (k + 1)) (omega arith)) in
-      let off : at + j - tasks.switch ≡ k = omega arith in
-      ap (λ t. get_or (cond t (set now (x - at) byte) now) j 0) test ∙ ap (λ p. get_or (set now p byte) j 0) place ∙ get_or-set_same now j byte 0 lt ∙ is
-      ∙ ap (λ p. slice_index_or (view_routine_bytes tasks) p 0) (sym off) ∙ ap (λ t. cond t (slice_index_or (view_routine_bytes tasks) (at + j - tasks.switch) 0) (get_or olds j 0)) (sym seen)
-
-  same_test : (y : ℕ) → (y ≡ x → ⊥) → nat_lt y (tasks.switch + k) ≡ nat_lt y (tasks.switch + (k + 1))
-  same_test y other =
-      elim (cases_lt y x) [
-        | inl low ↦ lt-ltb y (tasks.switch + k) low ∙ sym (lt-ltb y (tasks.switch + (k + 1)) (omega arith))
-        | inr high ↦ elim (cases_eq y x) [
-          | inl same ↦ absurd (other same)
-          | inr not ↦ le-ltb y (tasks.switch + k) high ∙ sym (le-ltb y (tasks.switch + (k + 1)) (omega arith))
-        ]
-      ]
-
-  elsewhere : (j : ℕ) → j < length olds → (at + j ≡ x → ⊥) → get_or (put_byte at x byte now) j 0 ≡ byte_after tasks (at + j) (k + 1) (get_or olds j 0)
-  elsewhere j lt other =
-      by_test (nat_le at x && nat_lt (x - at) (length now)) refl ∙ so.each j lt
-      ∙ ap (λ t. cond (nat_le tasks.switch (at + j) && t) (slice_index_or (view_routine_bytes tasks) (at + j - tasks.switch) 0) (get_or olds j 0)) (same_test (at + j) other)
-    where
-      by_test : (t : Bool) → (nat_le at x && nat_lt (x - at) (length now)) ≡ t → get_or (cond t (set now (x - at) byte) now) j 0 ≡ get_or now j 0
-      by_test true e =
-          let low = leb-true at x (and_parts (nat_le at x) (nat_lt (x - at) (length now)) e).0 in
-          get_or-set_other now (x - at) j byte 0 (λ same. other (omega arith))
-      by_test false e = refl
-
-  pub written_more : IsWrittenSoFar tasks at (k + 1) olds (put_byte at x byte now)
-  written_more = record {
-    size = length-put ∙ so.size;
-    each = λ j lt. elim (cases_eq (at + j) x) [ inl e ↦ here j (subst (λ n. j < n) (sym so.size) lt) e | inr other ↦ elsewhere j lt other ];
-  }
 
 -- ---- all bytes
 module _ (tasks : TasksData) where

@@ -129,9 +129,6 @@ module _ (s : ℕ) where
     abbrev seen_draft : DraftData
     seen_draft = record d { symbols = seen d.symbols r.name }
 
-    abbrev added : UseData
-    added = record { offset = draft_place d; reference = r }
-
     used_parts : d.section < length d.parts → uses_in (with_part_use d.parts d.section (record { offset = draft_place d; reference = r })) s ≡ uses_in d.parts s ++ cond (d.section == s) (record { offset = draft_place d; reference = r } ∷ []) []
     unfolding with_part_use
     used_parts less =

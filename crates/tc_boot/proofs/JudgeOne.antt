@@ -7,7 +7,7 @@ use Rattle.tcd_plan.specs.PlanData.{PlanData}
 use Rattle.store_ranges.specs.Loads.{IsLoadedRom}
 use Rattle.tc_boot.specs.declared.judging.BootErr.{BootErr}
 use Rattle.tc_boot.specs.declared.judging.BootErr.TheVariants.{Enabled, Odd, Outside, Differs}
-use Rattle.tc_boot.specs.Judging.{HasBoot, IsBootInRom, MayBoot, IsFirstDifference, JudgesBoot}
+use Rattle.tc_boot.specs.Judging.{HasBoot, IsBootInRom, IsFirstDifference, JudgesBoot}
 use Rattle.tc_boot.specs.Laws.{JudgesOne}
 
 module _ (image : ImageData) (plan : PlanData) (at : ℕ) where
@@ -22,9 +22,6 @@ module _ (image : ImageData) (plan : PlanData) (at : ℕ) where
 
   loaded : IsBootInRom image plan at → IsLoadedRom image plan at 224
   loaded inside = record { in_rom = inside.in_rom; held = λ i lt. subst IsSome (sym (inside.held i lt)) refl }
-
-  may : HasBoot image plan at → MayBoot image plan at
-  may has = record { off = has.off; even = has.even; even_entry = has.even_entry }
 
   -- the sequence is there, or there is a reason against it
   pub not_both : (e : BootErr) → HasBoot image plan at → JudgesBoot image plan at (Err e) → ⊥
