@@ -127,9 +127,6 @@ module _ (g : List GlobalData) (p : PlacedData) (symbols : List SymbolData) wher
           ∙ ap (whole name) (append_assoc before bytes (section_bytes s (filled_from s (length before + length bytes) ts)))
       by_reference (Some r) bytes four rec = by_open (is_open_statement (Some r)) refl
         where
-          u : UseData
-          u = record { offset = length before; reference = r }
-
           more : List ℕ
           more = with_reloc_field r.kind bytes (reloc_field_number r.kind (field_place p (reloc_of symbols s (record { offset = length before; reference = r }))) (reloc_value g p (reloc_of symbols s (record { offset = length before; reference = r }))))
 
