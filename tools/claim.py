@@ -23,6 +23,10 @@ there, and so is a constant. The rows of the instruction table are shown beside 
 two definitions of a page have one name, their modules are beside it. The words of the kit are
 listed after each part and not followed.
 
+If proved laws leave one result of a definition for each argument, the page shows its type and these
+laws (`PINNED`). How it is computed isn't followed; `--root` follows that. The script ends with
+status 5 if the function that is named there doesn't conclude the laws.
+
 The script reads the text of the sources and knows no types. A name counts if it is in a definition
 and isn't bound there. So the page may have a definition too many. It lacks a definition that no
 text names.
@@ -55,6 +59,32 @@ LATER = (
 OTHER_ENDS = re.compile(r"RefusalBy\w+|BadInputOf|MayPrintText|AreThere|Ask")
 #: Two lists of one table, which are shown row by row beside each other.
 BESIDE = ("listed", "meanings")
+
+
+@dataclasses.dataclass(frozen=True)
+class Laws:
+    """Some fields of a record of laws, and the public function that concludes this record."""
+
+    record: str
+    fields: tuple
+    path: str
+    function: str
+
+
+#: What proved laws leave no choice of. `decoded_of` gives Ok with the instruction and the number of
+#: bytes, Err Short, or Err NotListed: each of the laws says of one of them exactly when.
+PINNED = {
+    "tc_encode.specs.Decoding.decoded_of": Laws(
+        "tc_encode.specs.DecodeLaws.DecodeLaws",
+        ("begins", "short", "not_listed"),
+        "crates/tc_encode/src/laws.rt",
+        "decoding_laws",
+    ),
+}
+PINNED_NOTE = (
+    "  -- These laws, which {0.function} of {0.path} proves,",
+    "  -- leave one result for each argument. So how {1} is computed isn't followed here:",
+)
 
 #: How a definition is read, above both parts.
 NOTATION = (
@@ -100,7 +130,7 @@ TOKEN = re.compile(r"(?<![.\w])" + NAME + r"(?:\." + NAME + r")*")
 
 
 class Wrong(Exception):
-    """Words that name nothing."""
+    """Words that name nothing, or laws that nothing proves."""
 
 
 @dataclasses.dataclass(eq=False)
@@ -267,16 +297,38 @@ class Sources:
         """What the tool says of a command: of the record of all commands, the fields that name this
         record."""
         module, name = SAYS
-        whole, fields = self.root(f"{module}.{name}"), []
-        for line in whole.text[1:]:
-            if re.match(r"  (?:pub )?" + NAME + r" :", line):
-                fields.append([])
-            fields[-1].append(line)
+        whole = self.root(f"{module}.{name}")
         word = re.compile(rf"\b{record.name}\b")
-        said = [line for field in fields if word.search("\n".join(field)) for line in field]
+        said = [
+            line
+            for field in fields_of(whole).values()
+            if word.search("\n".join(field))
+            for line in field
+        ]
         if not said or self.resolve(whole, record.name) is not record:
             raise Wrong(f"{name} has no field of {record.name}")
         return dataclasses.replace(whole, text=[whole.text[0], *said, OTHER_FIELDS])
+
+    def laws_of(self, item):
+        """What the page has instead of the equations of a pinned definition: the lines, what they
+        use, and the laws. None of another definition."""
+        laws = PINNED.get(item.key)
+        if laws is None:
+            return None
+        record = self.root(laws.record)
+        if not concludes(self.top / laws.path, laws.function, record):
+            raise Wrong(f"{laws.path}: {laws.function} doesn't conclude {record.name}")
+        shown = [line for line in item.text if not two_sides(item, line)[0]]
+        found, named = uses(self, dataclasses.replace(item, text=shown)), []
+        shown += [line.format(laws, item.name) for line in PINNED_NOTE]
+        for name in laws.fields:
+            field = fields_of(record).get(name, [])
+            said = uses(self, dataclasses.replace(record, text=field))
+            about = [it for it in said if isinstance(it, Item) and item in uses(self, it)]
+            if not about:
+                raise Wrong(f"{laws.record} has no law {name} of {item.name}")
+            shown, found, named = shown + field, found + said, named + about
+        return shown, [it for it in found if it is not item], named
 
     def resolve(self, item, token, is_left=False):
         """What a token of a definition means; None if it is a name of the definition's own."""
@@ -305,6 +357,27 @@ class Sources:
             symbol = OPERATOR.fullmatch(name)
             if symbol and f" {symbol[1]} " in f" {text} ":
                 yield self.find(*place)
+
+
+def fields_of(record):
+    """The lines of each field of a record, by its name."""
+    fields, name = {}, ""
+    for line in record.text[1:]:
+        found = re.match(r"  (?:pub )?(" + NAME + r") :", line)
+        name = found[1] if found else name
+        fields.setdefault(name, []).append(line)
+    return fields
+
+
+def concludes(path, function, record):
+    """Whether a public function without a premise has a clause that is this record."""
+    text = path.read_text(encoding="utf-8")
+    contract = rf"^pub fn {function}\(\)\n((?:    ensures .*\n|     .*\n)+)\{{\}}$"
+    clauses = re.search(contract, text, re.M)
+    wanted = rf"^ +ensures(?: \w+)? \{{ {record.name} \}}$"
+    brought = re.findall(rf"^ghost use Rattle\.{record.module}\.\{{(.*)\}};$", text, re.M)
+    is_brought = record.name in ", ".join(brought).split(", ")
+    return bool(clauses and is_brought and re.search(wanted, clauses[1], re.M))
 
 
 def notes_above(lines, at):
@@ -423,7 +496,10 @@ class Part:
 
     def __init__(self, sources, roots, stops, known=()):
         self.stopped, self.kit, self.edges = [], collections.Counter(), {}
-        self.items = in_reading_order(self.reach(sources, roots, stops, set(known)), self.edges)
+        #: of pinned definitions: the lines that are shown; of a law: what it is about
+        self.pinned, self.about = {}, {}
+        found = self.reach(sources, roots, stops, set(known))
+        self.items = in_reading_order(found, self.edges, self.about)
         self.rows = rows_beside(self.items)
 
     def reach(self, sources, roots, stops, seen):
@@ -440,7 +516,12 @@ class Part:
                 self.stopped.append(item)
                 continue
             order.append(item)
-            found = uses(sources, item)
+            laws = None if item in roots else sources.laws_of(item)
+            if laws:
+                self.pinned[item.key], found, named = laws
+                self.about.update((law.key, item.key) for law in named)
+            else:
+                found = uses(sources, item)
             self.kit.update(it for it in found if not isinstance(it, Item))
             self.edges[item.key] = [it for it in found if isinstance(it, Item)]
             todo = self.edges[item.key] + todo
@@ -448,6 +529,8 @@ class Part:
 
     def shown(self, item):
         """The lines of a definition as the page has them."""
+        if item.key in self.pinned:
+            return self.pinned[item.key]
         if item.kind == "type":
             return joined(item.text)
         if item.name not in BESIDE or not self.rows:
@@ -474,11 +557,15 @@ class Part:
         return [it.name for it in self.items if any(used is item for used in self.edges[it.key])]
 
 
-def in_reading_order(items, edges):
-    """A definition comes once all that use it have come, if there is such an order."""
+def in_reading_order(items, edges, about):
+    """A definition comes once all that use it have come, if there is such an order. A law comes
+    after the definition that it is about."""
     among = {it.key for it in items}
     waits = collections.Counter(
-        key for it in items for key in {used.key for used in edges[it.key]}
+        key
+        for it in items
+        for key in {used.key for used in edges[it.key]}
+        if about.get(it.key) != key
     )
     ready = [it for it in items if not waits[it.key]] or items[:1]
     done, result = set(), []

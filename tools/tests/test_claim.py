@@ -3,6 +3,7 @@
     python3 -m unittest discover -s tools/tests
 """
 import contextlib
+import dataclasses
 import io
 import pathlib
 import re
@@ -65,6 +66,30 @@ IsFour n = n ≡ LEAST
 abbrev pub twice : ℕ → ℕ
 twice unused = unused + unused
 """
+LAWS = """use Rattle.std.specs.Prelude.{◌+◌, ◌≡◌, ℕ}
+use Rattle.b.specs.Lower.{twice}
+
+-- two times n is n and n
+abbrev pub TwiceIsSum : Type 0
+TwiceIsSum = (n m : ℕ) → (twice n ≡ m) ↔ IsSum n m
+
+-- m is n and n
+abbrev pub IsSum : ℕ → ℕ → Type 0
+IsSum n m = n + n ≡ m
+
+-- all laws
+pub record LowerLaws : Type 0 where
+  pub other : Other
+  pub sum : TwiceIsSum
+"""
+PROOF = """ghost use Rattle.b.specs.Laws.{Others, LowerLaws};
+
+/// The laws.
+pub fn lower_laws()
+    ensures others { Others }
+    ensures laws { LowerLaws }
+{}
+"""
 KINDS = """/// A kind.
 #[derive(Clone)]
 pub enum Kind {
@@ -105,6 +130,11 @@ def run(*words):
     return status, out.getvalue(), err.getvalue()
 
 
+def fields_type(record, name):
+    """The type of a field, if it is one name."""
+    return re.fullmatch(r".* : (\w+)", *claim.fields_of(record)[name])[1]
+
+
 def document(name):
     return (claim.TOP / "docs" / name).read_text(encoding="utf-8")
 
@@ -116,6 +146,7 @@ class SmallSources(unittest.TestCase):
         self.top = pathlib.Path(folder.name)
         written(self.top, "crates/a/specs/Small.antt", SMALL)
         written(self.top, "crates/b/specs/Lower.antt", LOWER)
+        written(self.top, "crates/b/specs/Laws.antt", LAWS)
         written(self.top, "crates/b/src/kinds.rt", KINDS)
         self.sources = claim.Sources(self.top)
 
@@ -167,6 +198,42 @@ class SmallSources(unittest.TestCase):
         self.assertEqual(found["opened"].text[-1], "}")
         self.assertEqual(len(found["◌⊕◌"].text), 3)
         self.assertEqual(found["LEAST"].text, ["pub const LEAST: u8 = 1;"])
+
+    def pinned(self, proof=PROOF, fields=("sum",), root="a.specs.Small.Top"):
+        """The definitions below a root, with `twice` by its laws."""
+        written(self.top, "crates/b/src/laws.rt", proof)
+        record, path = "b.specs.Laws.LowerLaws", "crates/b/src/laws.rt"
+        laws = {"b.specs.Lower.twice": claim.Laws(record, fields, path, "lower_laws")}
+        with mock.patch.object(claim, "PINNED", laws):
+            return claim.Part(self.sources, [self.sources.root(root)], set())
+
+    def test_laws_are_shown_instead(self):
+        part = self.pinned()
+        names = ["Top", "Kind", "IsFour", "twice", "TwiceIsSum", "IsSum"]
+        self.assertEqual([it.name for it in part.items], names)
+        first, note, _, law = part.shown(part.items[3])
+        self.assertEqual((first, law), ("abbrev pub twice : ℕ → ℕ", "  pub sum : TwiceIsSum"))
+        self.assertIn("lower_laws of crates/b/src/laws.rt proves", note)
+
+    def test_a_root_is_shown_whole(self):
+        part = self.pinned(root="b.specs.Lower.twice")
+        self.assertEqual([part.shown(it) for it in part.items], [part.items[0].text])
+
+    def test_laws_that_nothing_proves(self):
+        for old, new in (
+            ("pub fn", "fn"),
+            ("lower_laws()", "lower_laws(n: u8)"),
+            ("    ensures others", "    requires { Others }\n    ensures others"),
+            ("{ LowerLaws }", "{ Others → LowerLaws }"),
+            ("Laws.{Others, LowerLaws}", "Laws.{Others, LowerLaws as Others}"),
+            ("b.specs.Laws.", "a.specs.Laws."),
+            ("lower_laws", "other_laws"),
+        ):
+            with self.subTest(new=new), self.assertRaisesRegex(claim.Wrong, "doesn't conclude"):
+                self.pinned(PROOF.replace(old, new))
+        for field in ("other", "none"):
+            with self.subTest(field=field), self.assertRaisesRegex(claim.Wrong, "has no law"):
+                self.pinned(fields=("sum", field))
 
     def test_the_field_of_a_record(self):
         with mock.patch.object(claim, "SAYS", ("a.specs.Small", "Says")):
@@ -234,6 +301,25 @@ class Repository(unittest.TestCase):
         below = claim.Part(self.sources, [self.sources.root("tc_machine.specs.Safe.Safe")], set())
         self.assertGreater(len(below.items), 150)
         self.assertLessEqual({it.key for it in below.items}, shown)
+
+    def test_laws_leave_one_result(self):
+        """Each says exactly when there is one result, in words that don't rest on the definition;
+        together they have all results."""
+        results = {"decoded_of": ["Ok (i, n)", "Err Short", "Err NotListed"]}
+        for key, laws in claim.PINNED.items():
+            item, record, found = self.sources.root(key), self.sources.root(laws.record), []
+            for name in laws.fields:
+                law = self.sources.root(f"{record.module}.{fields_type(record, name)}")
+                pattern = rf".* → \({item.name} \w+ ≡ (.*?)\) ↔ (.*)"
+                result, when = re.fullmatch(pattern, law.text[-1]).groups()
+                used = claim.uses(self.sources, dataclasses.replace(law, text=[when]))
+                roots = [it for it in used if isinstance(it, claim.Item)]
+                self.assertNotIn(item, claim.Part(self.sources, roots, ()).items)
+                found.append(result)
+            self.assertEqual(found, results[item.name])
+        errors = self.sources.root("tc_encode.specs.declared.errors.DecodeErr.DecodeErr")
+        cases = re.findall(r"^    (\w+)", "\n".join(errors.text), re.M)
+        self.assertEqual([f"Err {case}" for case in cases], results["decoded_of"][1:])
 
     def test_both_parts_are_all(self):
         whole = claim.Part(self.sources, [self.root], set())
