@@ -19,9 +19,9 @@ it. A definition comes before those that it uses. The page has two parts:
 What a refusal and bad input mean is on neither part; `--root` follows such a definition.
 
 Above both parts a table says how definitions are written. A type of src/ is shown as it is declared
-there, and so is a constant. The rows of the instruction table are shown beside their meanings. If
-two definitions of a page have one name, their modules are beside it. The words of the kit are
-listed after each part and not followed.
+there, and so is a constant. The rows of the instruction table are shown beside their meanings, and
+the bounds of a form beside its spelling. If two definitions of a page have one name, their modules
+are beside it. The words of the kit are listed after each part and not followed.
 
 If proved laws leave one result of a definition for each argument, the page shows its type and these
 laws (`PINNED`). How it is computed isn't followed; `--root` follows that. The script ends with
@@ -57,8 +57,39 @@ LATER = (
 )
 #: What a page names and doesn't follow: the ends that aren't Done.
 OTHER_ENDS = re.compile(r"RefusalBy\w+|BadInputOf|MayPrintText|AreThere|Ask")
-#: Two lists of one table, which are shown row by row beside each other.
-BESIDE = ("listed", "meanings")
+
+
+@dataclasses.dataclass(frozen=True)
+class Table:
+    """Two definitions that are shown row by row beside each other, where the first one is."""
+
+    names: tuple
+    #: a row in each of them; group 1 names it
+    lines: tuple
+    row: str
+    head: str
+    #: functions that only build a row
+    builders: tuple = ()
+
+
+TABLES = (
+    Table(
+        ("listed", "meanings"),
+        (
+            r'    row \(codes "(.*?)"\) (?:\(codes "|\[)(.*?)(?:"\)|\]) (.*) ∷',
+            r'    line \(codes "(.*?)"\) (.*) ∷',
+        ),
+        "{0[1]:9} {0[2]:18} {0[3]:16} {1[2]}",
+        "name; operands; form; op1 and op2; the shape, which meanings has",
+        ("row", "line"),
+    ),
+    Table(
+        ("word_by_form", "bounds"),
+        (r"word_by_form (\w+) op1 op2 f = (.*)", r"bounds (\w+) = fields (.*)"),
+        "{0[1]:4} {1[2]:22} {0[2]}",
+        "form; bounds of its fields c, s1, s2, n, k; word_by_form of it, op1, op2 and f",
+    ),
+)
 
 
 @dataclasses.dataclass(frozen=True)
@@ -123,8 +154,6 @@ HEAD = re.compile(
     r"(?:abbrev |unfoldable |inline )*(?:pub )?(?:(record|data) )?(◌\S+|" + NAME + r")(?= |$)"
 )
 OPERATOR = re.compile(r"◌(\S+?)◌")
-ROW = re.compile(r'    row \(codes "(.*?)"\) (?:\(codes "(.*?)"\)|\[\]) (.*?) ∷')
-MEANING = re.compile(r'    line \(codes "(.*?)"\) (.*?) ∷$')
 NOTE = re.compile(r" *(?://|--)")
 TOKEN = re.compile(r"(?<![.\w])" + NAME + r"(?:\." + NAME + r")*")
 
@@ -499,8 +528,12 @@ class Part:
         #: of pinned definitions: the lines that are shown; of a law: what it is about
         self.pinned, self.about = {}, {}
         found = self.reach(sources, roots, stops, set(known))
-        self.items = in_reading_order(found, self.edges, self.about)
-        self.rows = rows_beside(self.items)
+        #: of a definition that is shown in a table: the lines that are shown
+        self.rows = {}
+        for table in TABLES:
+            self.rows |= rows_beside(table, found)
+        shown = [it for it in found if not self.is_builder(it)]
+        self.items = in_reading_order(shown, self.edges, self.about)
 
     def reach(self, sources, roots, stops, seen):
         """All definitions below the roots; what is seen or stopped at is left out."""
@@ -527,17 +560,18 @@ class Part:
             todo = self.edges[item.key] + todo
         return order
 
+    def is_builder(self, item):
+        """Whether a function is only there for the rows of a table that is shown."""
+        if not any(item.name in table.builders for table in TABLES):
+            return False
+        users = {key for key, used in self.edges.items() if item in used}
+        return bool(users) and users <= set(self.rows)
+
     def shown(self, item):
         """The lines of a definition as the page has them."""
-        if item.key in self.pinned:
-            return self.pinned[item.key]
         if item.kind == "type":
             return joined(item.text)
-        if item.name not in BESIDE or not self.rows:
-            return item.text
-        if item.name == BESIDE[1]:
-            return [f"{item.name}: at the end of each row of {BESIDE[0]}"]
-        return [*(line for line in item.text if line[0] != " "), *self.rows]
+        return self.pinned.get(item.key) or self.rows.get(item.key) or item.text
 
     def lines_of(self, item):
         """How many lines of a definition the page has, without comments."""
@@ -585,14 +619,24 @@ def in_reading_order(items, edges, about):
     return result
 
 
-def rows_beside(items):
-    """The rows of both lists, one line each; none if they don't name the same rows."""
-    lines = [[it for item in items if item.name == name for it in item.text] for name in BESIDE]
-    left = [it for it in map(ROW.match, lines[0]) if it]
-    right = [it for it in map(MEANING.match, lines[1]) if it]
-    if [it[1] for it in left] != [it[1] for it in right]:
-        return []
-    return [f"{a[1]:9} {a[2] or '':18} {a[3]:16} {b[2]}" for a, b in zip(left, right)]
+def rows_beside(table, items):
+    """The lines of both definitions of a table, by their keys; none if they don't have the same
+    rows, and nothing else."""
+    both = [it for name in table.names for it in items if it.name == name]
+    rows = []
+    for item, line in zip(both, table.lines):
+        rows.append([found for found in (re.fullmatch(line, it) for it in item.text) if found])
+        plain = {item.text[0], f"{item.name} =", "    []", *(found[0] for found in rows[-1])}
+        if not plain.issuperset(item.text):
+            return {}
+    if len(both) != 2 or [it[1] for it in rows[0]] != [it[1] for it in rows[1]]:
+        return {}
+    first, second = both
+    lines = [table.row.format(*pair) for pair in zip(*rows)]
+    return {
+        first.key: [first.text[0], f"  -- {table.head}:", *lines],
+        second.key: [second.text[0], f"  -- in the rows of {first.name}"],
+    }
 
 
 def source_of(item):

@@ -328,9 +328,38 @@ class Repository(unittest.TestCase):
 
     def test_each_row_is_beside_its_meaning(self):
         part = self.parts[0][1]
-        self.assertEqual(len(part.rows), 142)
-        shown = "\n".join(part.rows)
-        self.assertIn("movh.a    Ac, uk             Rlc 0x91 0x00", shown)
+        shown = {it.name: part.shown(it) for it in part.items}
+        self.assertEqual(len(shown["listed"]), 2 + 142)
+        begin = "movh.a    Ac, uk             Rlc 0x91 0x00    (λ f. Compute Second"
+        self.assertIn(begin, "\n".join(shown["listed"]))
+        row = "nop16                        Sr 0x00 0x00     (λ f. Nothing)"
+        self.assertIn(row, shown["listed"])
+        self.assertEqual(len(shown["word_by_form"]), 2 + 18)
+        self.assertIn("Sc   1 1 1 1 256            f.k * 2 ^ 8 + op1", shown["word_by_form"])
+        for name, type_ in (("meanings", "List MeaningLine"), ("bounds", "Form → Fields")):
+            self.assertIn(f"{name} : {type_}", shown[name][0])
+            self.assertEqual(len(shown[name]), 2)
+
+    def test_what_builds_a_row_is_left_out(self):
+        shown = {it.key for it in self.parts[0][1].items}
+        pairs = ("Rows.row", "Rows.RowData"), ("Meanings.line", "Meanings.MeaningLine")
+        for pair in pairs:
+            builder, built = (self.sources.root(f"tc_isa.specs.{it}") for it in pair)
+            names = list(claim.fields_of(built))
+            equal = "; ".join(f"{name} = {name}" for name in names)
+            left = " ".join([builder.name, *names])
+            self.assertEqual(builder.text[1:], [f"{left} = record {{ {equal} }}"])
+            self.assertNotIn(builder.key, shown)
+            self.assertIn(built.key, shown)
+
+    def test_a_table_has_all_lines(self):
+        names = ("word_by_form", "bounds")
+        items = [it for it in self.parts[0][1].items if it.name in names]
+        table = next(it for it in claim.TABLES if it.names == names)
+        self.assertEqual(len(claim.rows_beside(table, items)), 2)
+        for text in (items[0].text[:-1], [*items[0].text, "bounds Other = Fewer"]):
+            other = dataclasses.replace(items[0], text=text)
+            self.assertEqual(claim.rows_beside(table, [other, items[1]]), {})
 
     def test_a_done_means_at_most_1000_lines(self):
         self.assertLessEqual(self.parts[0][1].lines, 1000)
