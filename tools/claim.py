@@ -19,7 +19,7 @@ it. A definition comes before those that it uses. The page has two parts:
 What a refusal and bad input mean is on neither part; `--root` follows such a definition.
 
 Above both parts a table says how definitions are written. A type of src/ is shown as it is declared
-there, and so is a constant. The rows of the instruction table are shown beside their meanings, and
+there, or by its value if definitions see only that; a constant too. The rows of the instruction table are shown beside their meanings, and
 the bounds of a form beside its spelling. If two definitions of a page have one name, their modules
 are beside it. The words of the kit are listed after each part and not followed.
 
@@ -173,8 +173,9 @@ class Item:
     comment: list
     text: list
     kind: str
-    #: of a type: the names that its file brings in
+    #: of a type: the names that its file brings in, and where those of its value come from
     brought: frozenset = frozenset()
+    valued: dict = dataclasses.field(default_factory=dict)
 
     @property
     def key(self):
@@ -275,9 +276,10 @@ class Sources:
         for at, line in enumerate(lines):
             found = re.match(r"pub(?:\(crate\))? (?:struct|enum|const) (\w+)", line)
             if found:
-                shown = [*folded(declaration(lines, at)), *model_value(text, found[1])]
-                notes = notes_above(lines, at)
-                item = Item(f"{crate}.src", found[1], path, at + 1, notes, shown, "type", brought)
+                value, valued = model_value(text, found[1])
+                shown = [re.sub(r" ?\{.*", "", line), value] if value else declaration(lines, at)
+                place = (f"{crate}.src", found[1], path, at + 1, notes_above(lines, at))
+                item = Item(*place, folded(shown), "type", brought, valued)
                 self.types.setdefault(found[1], []).append(item)
 
     def type_named(self, crate, name):
@@ -456,9 +458,14 @@ def joined(lines):
 
 
 def model_value(text, name):
-    """What a type is to the definitions."""
+    """What a type is to the definitions, if that isn't the record of its fields; and the modules of
+    the names that are brought in for that."""
     model = re.search(rf"^impl(?:<.*?>)? Model for {name}\b.*?^}}", text, re.M | re.S)
-    return re.findall(r"^    ghost Value = .*$", model[0], re.M) if model else []
+    if not model:
+        return None, {}
+    value = re.search(r"^    ghost Value = .*$", model[0], re.M)
+    brought = re.findall(r"^    ghost use (Rattle\..*)\.\{(.*)\};$", model[0], re.M)
+    return value[0], {name: module for module, names in brought for name in names.split(", ")}
 
 
 def bound_names(item):
@@ -488,8 +495,11 @@ def two_sides(item, line):
 def used_by_type(sources, item):
     """What a type of src/ uses; the name of a variant is no type of that name."""
     body = "\n".join(re.sub(r"^    \w+(?=,| \{|\()|//.*", "", line) for line in item.text)
-    for token in re.findall(r"\w+", body):
-        yield sources.resolve(item, token)
+    for token in re.findall(NAME, body):
+        if token in item.valued:
+            yield sources.find(item.valued[token], token)
+        else:
+            yield sources.resolve(item, token)
 
 
 def used_by_line(sources, item, line, bound):

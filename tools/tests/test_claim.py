@@ -108,8 +108,18 @@ pub struct Gone;
 /// The least.
 pub const LEAST: u8 = 1;
 
-impl Model for Kind {
-    ghost Value = Kind
+/// Some numbers, of which definitions see only how many there are.
+pub struct Held {
+    kinds: Vec<Kind>,
+}
+
+impl Model for Held {
+    ghost use Rattle.b.specs.Laws.{IsSum};
+    ghost use Rattle.b.specs.Lower.{IsFour, twice};
+
+    ghost Value = { IsFour };
+
+    ghost view = { λ h. twice h.kinds };
 }
 """
 
@@ -173,11 +183,16 @@ class SmallSources(unittest.TestCase):
     def test_a_type_is_shown_short(self):
         kind = self.part().items[1]
         self.assertEqual(kind.text[2], "    One { place: u32, size: u8 },")
-        self.assertEqual(kind.text[-1], "    ghost Value = Kind")
+
+    def test_a_value_is_shown_instead_of_fields(self):
+        held = self.sources.type_named("b", "Held")
+        self.assertEqual(held.text, ["pub struct Held", "    ghost Value = { IsFour };"])
+        found = claim.uses(self.sources, held)
+        self.assertEqual(found, [self.sources.root("b.specs.Lower.IsFour")])
 
     def test_comments_inside_a_type_are_no_lines(self):
         part = self.part(["IsFour"])
-        self.assertEqual((part.lines, part.notes), (3 + 5, 1 + 1 + 1))
+        self.assertEqual((part.lines, part.notes), (3 + 4, 1 + 1 + 1))
 
     def test_short_members_are_beside_each_other(self):
         part = self.part()
