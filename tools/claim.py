@@ -444,7 +444,11 @@ def folded(lines):
 
 
 def joined(lines):
-    """A declaration with its short members beside each other, as far as there is room."""
+    """A declaration with its short members beside each other, as far as there is room: all on one
+    line if they have no comments."""
+    whole = " ".join(line.strip() for line in lines).replace(", }", " }")
+    if lines[-1] == "}" and "//" not in whole and len(whole) <= 100:
+        return [whole]
     result = []
     for line in lines:
         is_short = re.fullmatch(r"    [^/{}]+,", line)

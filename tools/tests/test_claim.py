@@ -199,6 +199,8 @@ class SmallSources(unittest.TestCase):
         self.assertIn("    Two, Gone,", part.shown(part.items[1]))
         lines = ["    A,", "    /// b", "    B,", "    C { d: u8 },", "    D,", "    E,", "}"]
         self.assertEqual(claim.joined(lines), [*lines[:4], "    D, E,", "}"])
+        lines = ["pub enum Two {", "    A,", "    B { c: u8 },", "}"]
+        self.assertEqual(claim.joined(lines), ["pub enum Two { A, B { c: u8 } }"])
 
     def test_a_case_is_no_type_of_its_name(self):
         self.assertNotIn("Gone", [it.name for it in self.part().items])
@@ -376,8 +378,8 @@ class Repository(unittest.TestCase):
             other = dataclasses.replace(items[0], text=text)
             self.assertEqual(claim.rows_beside(table, [other, items[1]]), {})
 
-    def test_a_done_means_at_most_1000_lines(self):
-        self.assertLessEqual(self.parts[0][1].lines, 1000)
+    def test_a_done_means_at_most_900_lines(self):
+        self.assertLessEqual(self.parts[0][1].lines, 900)
 
     def test_the_blocks_of_machine_md(self):
         def words(text):
