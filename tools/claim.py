@@ -329,13 +329,8 @@ class Sources:
         record."""
         module, name = SAYS
         whole = self.root(f"{module}.{name}")
-        word = re.compile(rf"\b{record.name}\b")
-        said = [
-            line
-            for field in fields_of(whole).values()
-            if word.search("\n".join(field))
-            for line in field
-        ]
+        fields, word = fields_of(whole).values(), re.compile(rf"\b{record.name}\b")
+        said = [line for field in fields if word.search("\n".join(field)) for line in field]
         if not said or self.resolve(whole, record.name) is not record:
             raise Wrong(f"{name} has no field of {record.name}")
         return dataclasses.replace(whole, text=[whole.text[0], *said, OTHER_FIELDS])
