@@ -61,7 +61,7 @@ OTHER_ENDS = re.compile(r"RefusalBy\w+|BadInputOf|MayPrintText|AreThere|Ask")
 
 @dataclasses.dataclass(frozen=True)
 class Table:
-    """Two definitions that are shown row by row beside each other, where the first one is."""
+    """Two definitions that are shown row by row beside each other, where the page has the first."""
 
     names: tuple
     #: a row in each of them; group 1 names it
@@ -80,14 +80,14 @@ TABLES = (
             r'    line \(codes "(.*?)"\) (.*) ∷',
         ),
         "{0[1]:9} {0[2]:18} {0[3]:16} {1[2]}",
-        "name; operands; form; op1 and op2; the shape, which meanings has",
+        "listed: name, operands, form, op1, op2; meanings: shape",
         ("row", "line"),
     ),
     Table(
         ("word_by_form", "bounds"),
         (r"word_by_form (\w+) op1 op2 f = (.*)", r"bounds (\w+) = fields (.*)"),
         "{0[1]:4} {1[2]:22} {0[2]}",
-        "form; bounds of its fields c, s1, s2, n, k; word_by_form of it, op1, op2 and f",
+        "form; bounds: c, s1, s2, n, k; word_by_form: the number of op1, op2 and f",
     ),
 )
 
@@ -130,13 +130,19 @@ NOTATION = (
     ("P ⊎ Q, P ↔ Q, ⊥", "P or Q; P exactly if Q; what never holds"),
     ("x ≡ y, x ≢ y", "they are equal; they aren't"),
     ("x == y, x && y, x || y, not x", "tests: each is true or false"),
+    ("nat_lt x y, nat_le x y", "tests: x is less than y, at most y"),
+    ("x / y, x % y, x - y", "the quotient, the remainder, the difference (0 if y is greater)"),
     ("f x y", "the function f of x and y"),
     ("λ x. e", "the function that gives e of x"),
     ("m.pc, p.0, p.1", "a field of a record; the parts of a pair"),
     ("record m { pc = x }", "m with another pc; without m, a new record"),
     ("[], x ∷ xs, xs ++ ys", "a list: empty, x before xs, ys after xs"),
     ("None, Some x; Ok x, Err e", "nothing or x; a result or an error"),
-    ("slice_index xs n, codes \"..\"", "the place n of a list, from 0; the bytes of a text"),
+    ("slice_get xs n, slice_index xs n", "the place n, from 0; past the end None, and 0"),
+    ("slice_set xs n x, codes \"..\"", "the list with x at n; the bytes of a text"),
+    ("All P xs, Contains xs x", "P of each x in the list; x is in the list"),
+    ("IfSome o P, is_some o, unwrap_or o x", "P of what o has, if any; it has some; it, or else x"),
+    ("get m k, insert m k x", "what a map has at k, if any; the map with x at k"),
     ("abbrev, unfoldable, pub", "words for the prover"),
 )
 
@@ -537,12 +543,12 @@ class Part:
         #: of pinned definitions: the lines that are shown; of a law: what it is about
         self.pinned, self.about = {}, {}
         found = self.reach(sources, roots, stops, set(known))
+        found = in_reading_order(found, self.edges, self.about)
         #: of a definition that is shown in a table: the lines that are shown
         self.rows = {}
         for table in TABLES:
             self.rows |= rows_beside(table, found)
-        shown = [it for it in found if not self.is_builder(it)]
-        self.items = in_reading_order(shown, self.edges, self.about)
+        self.items = [it for it in found if not self.is_builder(it)]
 
     def reach(self, sources, roots, stops, seen):
         """All definitions below the roots; what is seen or stopped at is left out."""
@@ -596,6 +602,13 @@ class Part:
         inside = sum(len(self.shown(it)) for it in self.items) - self.lines
         return sum(len(it.comment) for it in self.items) + inside
 
+    def named(self, item):
+        """What the shown lines of a definition name."""
+        if item.key not in self.rows:
+            return self.edges[item.key]
+        tables = [it for it in self.items if it.key in self.rows]
+        return tables + [used for it in tables for used in self.edges[it.key]]
+
     def users(self, item):
         return [it.name for it in self.items if any(used is item for used in self.edges[it.key])]
 
@@ -640,7 +653,7 @@ def rows_beside(table, items):
             return {}
     if len(both) != 2 or [it[1] for it in rows[0]] != [it[1] for it in rows[1]]:
         return {}
-    first, second = both
+    first, second = sorted(both, key=items.index)
     lines = [table.row.format(*pair) for pair in zip(*rows)]
     return {
         first.key: [first.text[0], f"  -- {table.head}:", *lines],
@@ -717,7 +730,7 @@ def as_html(title, parts):
             stopped = dict.fromkeys(f'<a href="#{it.key}">{it.name}</a>' for it in part.stopped)
             page.append(f"<p>Not followed here: {', '.join(stopped)}.</p>")
         for item in part.items:
-            targets = {it.name: it.key for it in part.edges[item.key] if it.key in shown}
+            targets = {it.name: it.key for it in part.named(item) if it.key in shown}
             note = "".join(html.escape(line, quote=False) + "\n" for line in item.comment)
             body = "\n".join(linked(line, targets) for line in part.shown(item))
             place = "; ".join([source_of(item), *told_apart(part, item, twice)])

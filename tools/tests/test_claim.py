@@ -346,16 +346,16 @@ class Repository(unittest.TestCase):
     def test_each_row_is_beside_its_meaning(self):
         part = self.parts[0][1]
         shown = {it.name: part.shown(it) for it in part.items}
-        self.assertEqual(len(shown["listed"]), 2 + 142)
+        self.assertEqual(len(shown["meanings"]), 2 + 142)
         begin = "movh.a    Ac, uk             Rlc 0x91 0x00    (λ f. Compute Second"
-        self.assertIn(begin, "\n".join(shown["listed"]))
+        self.assertIn(begin, "\n".join(shown["meanings"]))
         row = "nop16                        Sr 0x00 0x00     (λ f. Nothing)"
-        self.assertIn(row, shown["listed"])
-        self.assertEqual(len(shown["word_by_form"]), 2 + 18)
-        self.assertIn("Sc   1 1 1 1 256            f.k * 2 ^ 8 + op1", shown["word_by_form"])
-        for name, type_ in (("meanings", "List MeaningLine"), ("bounds", "Form → Fields")):
-            self.assertIn(f"{name} : {type_}", shown[name][0])
-            self.assertEqual(len(shown[name]), 2)
+        self.assertIn(row, shown["meanings"])
+        self.assertEqual(len(shown["bounds"]), 2 + 18)
+        self.assertIn("Sc   1 1 1 1 256            f.k * 2 ^ 8 + op1", shown["bounds"])
+        for name, first in (("listed", "meanings"), ("word_by_form", "bounds")):
+            self.assertIn(f"{name} : ", shown[name][0])
+            self.assertEqual(shown[name][1:], [f"  -- in the rows of {first}"])
 
     def test_what_builds_a_row_is_left_out(self):
         shown = {it.key for it in self.parts[0][1].items}
@@ -411,6 +411,9 @@ class Repository(unittest.TestCase):
                 text = page.read_text(encoding="utf-8")
                 self.assertTrue(text.startswith(begin))
                 self.assertLess(text.index("CommandSays"), text.index("HeadlineOfCheck "))
+                if end == "html":
+                    to_row = '(<a href="#tc_isa.specs.Meanings.registers">registers</a> <a href='
+                    self.assertIn(to_row, text)
 
     def test_statuses(self):
         for status, words in (
