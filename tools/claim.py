@@ -18,20 +18,21 @@ it. A definition comes before those that it uses. The page has two parts:
 
 What a refusal and bad input mean is on neither part; `--root` follows such a definition.
 
-Above both parts a table says how definitions are written. A type of src/ is shown as it is declared
-there, or by its value if definitions see only that; a constant too. The rows of the instruction table are shown beside their meanings, and
-the bounds of a form beside its spelling. If two definitions of a page have one name, their modules
-are beside it. The words of the kit are listed after each part and not followed.
+Above both parts a table says how definitions are written. A type or constant of src/ is shown as it
+is declared there; a type by its value, if definitions see only that. The rows of the instruction
+table are shown beside their meanings, and the bounds of a form beside its spelling. If two
+definitions of a page have one name, their modules are beside it. The words of the kit are listed
+after each part and not followed.
 
-If proved laws leave one result of a definition for each argument, the page shows its type and these
-laws (`PINNED`). How it is computed isn't followed; `--root` follows that. The script ends with
-status 5 if the function that is named there doesn't conclude the laws.
+If proved laws leave one result of a definition for each argument, the page has its type and these
+laws (`PINNED`), not how it is computed; `--root` follows that.
 
 The script reads the text of the sources and knows no types. A name counts if it is in a definition
 and isn't bound there. So the page may have a definition too many. It lacks a definition that no
 text names.
 
-Ends with 0, with 2 if a file can't be read or written, and with 5 if the words are wrong.
+Ends with 0, with 2 if a file can't be read or written, and with 5 if the words are wrong or the
+function that `PINNED` names doesn't conclude its laws.
 """
 import argparse
 import collections
@@ -727,8 +728,9 @@ def as_html(title, parts):
     for name, part in parts:
         page.append(f"<h2>{html.escape(name)}</h2><p>{count_of(part)}.</p>")
         if part.stopped:
-            stopped = dict.fromkeys(f'<a href="#{it.key}">{it.name}</a>' for it in part.stopped)
-            page.append(f"<p>Not followed here: {', '.join(stopped)}.</p>")
+            targets = {it.name: it.key for it in part.stopped if it.key in shown}
+            stopped = ", ".join(dict.fromkeys(linked(it.name, targets) for it in part.stopped))
+            page.append(f"<p>Not followed here: {stopped}.</p>")
         for item in part.items:
             targets = {it.name: it.key for it in part.named(item) if it.key in shown}
             note = "".join(html.escape(line, quote=False) + "\n" for line in item.comment)

@@ -412,8 +412,10 @@ class Repository(unittest.TestCase):
                 self.assertTrue(text.startswith(begin))
                 self.assertLess(text.index("CommandSays"), text.index("HeadlineOfCheck "))
                 if end == "html":
-                    to_row = '(<a href="#tc_isa.specs.Meanings.registers">registers</a> <a href='
-                    self.assertIn(to_row, text)
+                    link = '(<a href="#tc_isa.specs.Meanings.registers">registers</a> Sub)'
+                    self.assertIn(link, text)
+                    places = set(re.findall(r'id="([^"]*)"', text))
+                    self.assertLessEqual(set(re.findall(r'href="#([^"]*)"', text)), places)
 
     def test_statuses(self):
         for status, words in (
