@@ -10,7 +10,8 @@ The statement of a command is a record `HeadlineOf..` of crates/tcd_driver/specs
 or of a file of the folder of that name. When it holds, the field of the command in `ToolSays` says
 (crates/tcd_driver/specs/Tool.antt). The page begins with this field.
 The page shows the definitions below it, each once, with its file and line and the comment above
-it. A definition comes before those that it uses. The page has two parts:
+it. A definition comes before those that it uses; a type of values comes after the first definition
+that uses it. The page has two parts:
 
 1. What a Done means: the field, the record, and all that they rest on.
 2. When it comes: which files are taken, and as which image and plan; which certificates are
@@ -128,14 +129,14 @@ NOTATION = (
     ("(x : T) → P", "P for every x of type T"),
     ("P → Q", "if P then Q; of types, a function from P to Q"),
     ("P × Q, (x : T) × P", "P and Q; there is an x of type T with P"),
-    ("P ⊎ Q, P ↔ Q, ⊥", "P or Q; P exactly if Q; what never holds"),
+    ("P ⊎ Q, P ↔ Q, ⊥, Unit", "P or Q; P exactly if Q; what never holds; what always does"),
     ("x ≡ y, x ≢ y", "they are equal; they aren't"),
     ("x == y, x && y, x || y, not x", "tests: each is true or false"),
     ("nat_lt x y, nat_le x y", "tests: x is less than y, at most y"),
     ("x / y, x % y, x - y", "the quotient, the remainder, the difference (0 if y is greater)"),
     ("f x y", "the function f of x and y"),
     ("λ x. e", "the function that gives e of x"),
-    ("m.pc, p.0, p.1", "a field of a record; the parts of a pair"),
+    ("m.pc, p.0, p.1; op.Add", "a field of a record, the parts of a pair; the case Add of Op"),
     ("record m { pc = x }", "m with another pc; without m, a new record"),
     ("[], x ∷ xs, xs ++ ys", "a list: empty, x before xs, ys after xs"),
     ("None, Some x; Ok x, Err e", "nothing or x; a result or an error"),
@@ -614,9 +615,14 @@ class Part:
         return [it.name for it in self.items if any(used is item for used in self.edges[it.key])]
 
 
+def is_of_values(item):
+    """Whether this says which values there are: a type of src/, or of specs/ without a parameter."""
+    return item.kind == "type" or re.search(rf" {item.name} : Type 0( where)?$", item.text[0])
+
+
 def in_reading_order(items, edges, about):
-    """A definition comes once all that use it have come, if there is such an order. A law comes
-    after the definition that it is about."""
+    """A definition comes once all that use it have come, if there is such an order; a type of values
+    once one has. A law comes after the definition that it is about."""
     among = {it.key for it in items}
     waits = collections.Counter(
         key
@@ -624,6 +630,8 @@ def in_reading_order(items, edges, about):
         for key in {used.key for used in edges[it.key]}
         if about.get(it.key) != key
     )
+    for item in filter(is_of_values, items):
+        waits[item.key] = min(waits[item.key], 1)
     ready = [it for it in items if not waits[it.key]] or items[:1]
     done, result = set(), []
     while len(result) < len(items):
@@ -686,6 +694,15 @@ def told_apart(part, item, twice):
     return ["here {} is {}".format(key.rsplit(".", 1)[1], key) for key in used]
 
 
+def not_followed(part, parts):
+    """The names that a part stops at: those that another part has, and the others."""
+    shown = {it.key for _, other in parts for it in other.items}
+    for begin, is_shown in (("Followed in part 2", True), ("Followed on neither part", False)):
+        names = dict.fromkeys(it.name for it in part.stopped if (it.key in shown) == is_shown)
+        if names:
+            yield begin, names
+
+
 def as_markdown(title, parts):
     """The page in Markdown."""
     twice = places_of_twice(parts)
@@ -694,9 +711,8 @@ def as_markdown(title, parts):
     page.append("")
     for name, part in parts:
         page += [f"## {name}", "", count_of(part) + ".", ""]
-        if part.stopped:
-            stopped = dict.fromkeys(f"`{it.name}`" for it in part.stopped)
-            page += ["Not followed here: " + ", ".join(stopped) + ".", ""]
+        for begin, names in not_followed(part, parts):
+            page += [begin + ": " + ", ".join(f"`{it}`" for it in names) + ".", ""]
         for item in part.items:
             users = ", ".join(f"`{it}`" for it in part.users(item)[:4])
             place = source_of(item) + (f", used by {users}" if users else "")
@@ -727,10 +743,9 @@ def as_html(title, parts):
     shown = {it.key for _, part in parts for it in part.items}
     for name, part in parts:
         page.append(f"<h2>{html.escape(name)}</h2><p>{count_of(part)}.</p>")
-        if part.stopped:
+        for begin, names in not_followed(part, parts):
             targets = {it.name: it.key for it in part.stopped if it.key in shown}
-            stopped = ", ".join(dict.fromkeys(linked(it.name, targets) for it in part.stopped))
-            page.append(f"<p>Not followed here: {stopped}.</p>")
+            page.append(f"<p>{begin}: {', '.join(linked(it, targets) for it in names)}.</p>")
         for item in part.items:
             targets = {it.name: it.key for it in part.named(item) if it.key in shown}
             note = "".join(html.escape(line, quote=False) + "\n" for line in item.comment)

@@ -299,8 +299,18 @@ class Repository(unittest.TestCase):
 
     def test_a_page_begins_with_its_field(self):
         names = [it.name for it in self.parts[0][1].items]
-        self.assertEqual(names[:4], ["ToolSays", "CommandSays", "ToolCallMeans", "ToolCall"])
-        self.assertIn("HeadlineOfCheck", names)
+        first = ["ToolSays", "CommandSays", "ToolCallMeans", "HeadlineOfCheck", "Safe", "Starts"]
+        self.assertEqual([it for it in names if it in first], first)
+        self.assertEqual(names[0], "ToolSays")
+        users = (("ToolSays", "ToolCall"), ("HeadlineOfCheck", "PlanData"), ("Safe", "Machine"))
+        for user, type_ in users:
+            self.assertGreater(names.index(type_), names.index(user))
+            self.assertLess(names.index(type_), names.index("Starts"))
+
+    def test_where_a_definition_is_followed(self):
+        found = dict(claim.not_followed(self.parts[0][1], self.parts))
+        self.assertIn("GivesPlan", found["Followed in part 2"])
+        self.assertIn("RefusalByCheck", found["Followed on neither part"])
 
     def test_other_ends_are_named_alone(self):
         shown = {it.name for _, part in self.parts for it in part.items}
