@@ -145,6 +145,7 @@ NOTATION = (
     ("All P xs, Contains xs x", "P of each x in the list; x is in the list"),
     ("IfSome o P, is_some o, unwrap_or o x", "P of what o has, if any; it has some; it, or else x"),
     ("get m k, insert m k x", "what a map has at k, if any; the map with x at k"),
+    ("struct S with ghost Value = { T }", "S is a type of src/; its values are of T"),
     ("abbrev, unfoldable, pub", "words for the prover"),
 )
 
@@ -448,19 +449,18 @@ def folded(lines):
 
 def joined(lines):
     """A declaration with its short members beside each other, as far as there is room: all on one
-    line if they have no comments."""
+    line if they have no comments. A member with a comment has its own line."""
     whole = " ".join(line.strip() for line in lines).replace(", }", " }")
     if lines[-1] == "}" and "//" not in whole and len(whole) <= 100:
         return [whole]
-    result = []
-    for line in lines:
-        is_short = re.fullmatch(r"    [^/{}]+,", line)
-        if is_short and result and re.fullmatch(r"    [^/{}]+,", result[-1]):
-            both = f"{result[-1]} {line.strip()}"
-            if len(both) <= 100:
-                result[-1] = both
-                continue
-        result.append(line)
+    result, is_open = [], False
+    for above, line in zip(["", *lines], lines):
+        is_plain = bool(re.fullmatch(r"    [^/{}]+,", line)) and "//" not in above
+        if is_open and is_plain and len(both := f"{result[-1]} {line.strip()}") <= 100:
+            result[-1] = both
+        else:
+            result.append(line)
+        is_open = is_plain
     return result
 
 

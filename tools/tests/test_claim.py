@@ -197,7 +197,7 @@ class SmallSources(unittest.TestCase):
     def test_short_members_are_beside_each_other(self):
         part = self.part()
         self.assertIn("    Two, Gone,", part.shown(part.items[1]))
-        lines = ["    A,", "    /// b", "    B,", "    C { d: u8 },", "    D,", "    E,", "}"]
+        lines = ["    /// b", "    B,", "    A,", "    C { d: u8 },", "    D,", "    E,", "}"]
         self.assertEqual(claim.joined(lines), [*lines[:4], "    D, E,", "}"])
         lines = ["pub enum Two {", "    A,", "    B { c: u8 },", "}"]
         self.assertEqual(claim.joined(lines), ["pub enum Two { A, B { c: u8 } }"])
@@ -331,9 +331,11 @@ class Repository(unittest.TestCase):
 
     def test_laws_leave_one_result(self):
         """Each says exactly when there is one result, in words that don't rest on the definition;
-        together they have all results."""
+        together they have all results. The gate proves their crate."""
         results = {"decoded_of": ["Ok (i, n)", "Err Short", "Err NotListed"]}
+        crates = (claim.TOP / "crates.txt").read_text(encoding="utf-8")
         for key, laws in claim.PINNED.items():
+            self.assertIn(f"\n{pathlib.Path(laws.path).parts[1]}:", crates)
             item, record, found = self.sources.root(key), self.sources.root(laws.record), []
             for name in laws.fields:
                 law = self.sources.root(f"{record.module}.{fields_type(record, name)}")
