@@ -1,5 +1,5 @@
 // The outcome of a command, and the end of a command with this outcome.
-ghost use Rattle.std.specs.Prelude.{◌≡◌, ◌≢◌, ◌≤◌, IsTrue, IfOk, OnOk, IfErr, IsOkAnd};
+ghost use Rattle.std.specs.Prelude.{◌≡◌, ◌≢◌, ◌≤◌, IsTrue, IfOk, OnOk, IfErr, IsOk, IsOkAnd};
 ghost use Rattle.tcd_base.specs.Files.{LeavesFaults};
 ghost use Rattle.tcd_base.specs.FailingCalls.{FaultCounted};
 ghost use Rattle.tcd_reading.specs.Reports.{says, writes_file, writes_two, with_report_files};
@@ -156,9 +156,10 @@ pub fn finish_outcome<F: Files, S: Sink>(
     }
 }
 
-/// The stop at an input that isn't in its form, with the line that is printed.
+/// The stop at an input that isn't in its form, with the line that is printed, if it could be made.
 pub fn bad_input(line: Result<Vec<u8>, NoMemory>) -> Stop
-    ensures { IsBadInputStop (λ t. IsOkAnd line (λ l. t ≡ l.items)) ⊥ result }
+    ensures stops { IsBadInputStop (λ t. IsOkAnd line (λ l. t ≡ l.items)) ⊥ result }
+    ensures sure { IsOk line → result ≢ Stop.NoMemory }
 {
     match line {
         Ok(text) => Stop::BadInput(text),
