@@ -1,22 +1,28 @@
--- Calls in which nothing can fail.
-use Rattle.std.proofs.Common.{◌≤◌, ◌+◌, ℕ, List, [], ◌∷◌, length, sym, subst}
-use Rattle.std.specs.Prelude.{IsSome}
+-- Calls whose status is decided.
+use Rattle.std.proofs.Common.{◌≤◌, ℕ, List, [], ◌∷◌, length, sym, subst}
+use Rattle.std.specs.Prelude.{IsSome, IfSome}
 use Rattle.std.specs.FinMap.{get}
 use Rattle.std.specs.List.{All}
 use Rattle.std.proofs.lemmas.List.Elements.{All-head, All-tail}
 use Rattle.tcd_base.specs.Files.{FileMap}
-use Rattle.tcd_driver.specs.Headlines.Asks.{Ask, is_object, is_source, is_cert, are_linked, are_linked_sources, ask_each, IsThere, AreThere}
+use Rattle.tcd_driver.specs.Headlines.Asks.{Ask, are_linked, are_linked_sources, is_cert_per_task, IsThere, AreThere}
 use Rattle.tcd_driver.specs.Tool.{ToolCall, CannotFail, MayPrintText, of_bad_words, when_done, when_refused, when_bad}
-use Rattle.tcd_driver.specs.SureCalls.{HasRoomForEnds, SureCallsCannotFail}
+use Rattle.tcd_driver.specs.SureCalls.{asked_name, HasRoomForEnds, SureCallsAreDecided}
 
--- what is asked of each of some files that are held
-there_each : (m : FileMap) (ask : ℕ → List ℕ → Ask) → ((place : ℕ) (name : List ℕ) → IsSome (get m name) → IsThere m (ask place name))
-    → (place : ℕ) (names : List (List ℕ)) (rest : List Ask) → All (λ name. IsSome (get m name)) names → AreThere m rest → AreThere m (ask_each ask place names rest)
-there_each m ask there place [] rest all more = more
-there_each m ask there place (name ∷ names) rest all more = (
-  there place name (All-head (λ n. IsSome (get m n)) name names all),
-  there_each m ask there (place + 1) names rest (All-tail (λ n. IsSome (get m n)) name names all) more,
-)
+-- all that is asked is there, if its files are held
+module _ (m : FileMap) where
+  abbrev IsHeld : Ask → Type 0
+  IsHeld ask = IfSome (asked_name ask) (λ name. IsSome (get m name))
+
+  is_there : (ask : Ask) → IsHeld ask → IsThere m ask
+  is_there (are_linked layout names) held = tt
+  is_there (are_linked_sources layout names) held = tt
+  is_there (is_cert_per_task plan tasks names) held = tt
+  is_there _ held = held
+
+  are_there : (asks : List Ask) → All IsHeld asks → AreThere m asks
+  are_there [] all = tt
+  are_there (ask ∷ asks) all = (is_there ask (All-head IsHeld ask asks all), are_there asks (All-tail IsHeld ask asks all))
 
 -- nothing can fail with room, if all that is asked is there
 cannot_fail : (call : ToolCall) (before : FileMap) (asks : List Ask) (D R B : FileMap → List ℕ → Type 0) → AreThere before asks → HasRoomForEnds call before D R B → CannotFail call before asks (MayPrintText D R B)
@@ -34,13 +40,7 @@ cannot_fail call before asks D R B there h = record {
   fits text (when_refused after is) = h.refused after text is
   fits text (when_bad after is) = h.bad_input after text is
 
-pub sure_calls : SureCallsCannotFail
-sure_calls = record {
-  check = λ call before elf plan cert a b c. cannot_fail call before _ _ _ _ (a, (b, (c, tt)));
-  link = λ call before layout elf objects a all.
-      cannot_fail call before _ _ _ _ (a, there_each before is_object (λ place name is. is) 0 objects (are_linked layout objects ∷ []) all (tt, tt));
-  ship = λ call before plan layout elf cert sources a b all.
-      cannot_fail call before _ _ _ _ (a, (b, there_each before is_source (λ place name is. is) 0 sources (are_linked_sources layout sources ∷ []) all (tt, tt)));
-  tasks = λ call before elf plan list certs a b c all.
-      cannot_fail call before _ _ _ _ (a, (b, (c, (tt, there_each before (λ place name. is_cert name) (λ place name is. is) 0 certs [] all tt))));
-}
+pub sure_calls : (IfDone IfRefused : FileMap → FileMap → List ℕ → Type 0) → SureCallsAreDecided IfDone IfRefused
+sure_calls IfDone IfRefused call words asks before says are held room some_memory good_words =
+    let one = says.decided before are (cannot_fail call before asks _ _ _ (are_there before asks held) room) some_memory good_words in
+    (one.one, one.done, one.refused, one.bad_input)

@@ -1,8 +1,27 @@
 // Laws of what the tool promises.
-ghost use Rattle.tcd_driver.specs.SureCalls.{SureCallsCannotFail};
+ghost use Rattle.std.specs.Prelude.{ℕ, List};
+ghost use Rattle.tcd_base.specs.Files.{FileMap};
+ghost use Rattle.tcd_driver.specs.SureCalls.{SureCallsAreDecided};
 
-/// Nothing can fail over steady files that hold all that a command reads, with room for each text
-/// that it may print: so its status is decided.
-pub fn sure_call_law()
-    ensures { SureCallsCannotFail }
+use std::marker::Brand;
+
+/// What it means that a command is done, and that it refuses. A call at `Brand` picks it.
+pub trait AnyEnds {
+    ghost IfDone: { FileMap → FileMap → List ℕ → Type 0 };
+
+    ghost IfRefused: { FileMap → FileMap → List ℕ → Type 0 };
+}
+
+impl AnyEnds for Brand {
+    ghost use Rattle.tcd_driver.specs.Tool.{Never};
+
+    ghost IfDone = { Never };
+
+    ghost IfRefused = { Never };
+}
+
+/// The status of any command is decided over steady files that hold each file of which it asks
+/// something, with room for each text that it may print.
+pub fn sure_call_law<C: AnyEnds>()
+    ensures { SureCallsAreDecided C.IfDone C.IfRefused }
 {}
