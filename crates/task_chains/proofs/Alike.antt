@@ -164,9 +164,8 @@ module _ {plan : PlanData} (ok : IsPlan plan) (Kept : ℕ → Type 0) (kept : (x
   pub Alike-interrupt : (e e2 : Event) → is_taken m e ≡ true → e2.irq ≡ e.irq → e2.status ≡ e.status → Alike plan n u word_of chain_of Kept view m (step m e) (step v e2)
   Alike-interrupt e e2 taken same_irq same_status =
       let here : machine_after_event m e ≡ interrupted e.irq = ap (λ b. cond b (interrupt m e.irq) (executed m e (fetched m))) taken ∙ interrupt-is e.irq in
-      let view_taken : is_taken v e2 ≡ true = ap (λ q. is_taken m (record e { irq = q })) same_irq ∙ taken in
       let there : machine_after_event v e2 ≡ seen_as (interrupted e.irq) (saved v true).mem (saved v true).pcxi (saved v true).fcx =
-      ap (λ b. cond b (interrupt v e2.irq) (executed v e2 (fetched v))) view_taken ∙ view_interrupt-is e2.irq
+      ap (λ b. cond b (interrupt v e2.irq) (executed v e2 (fetched v))) (ap (λ q. is_taken m (record e { irq = q })) same_irq ∙ taken) ∙ view_interrupt-is e2.irq
       ∙ ap (λ q. seen_as (interrupted q) (saved v true).mem (saved v true).pcxi (saved v true).fcx) same_irq
       in
       let m_is : step m e ≡ with_event (interrupted e.irq) e = step-is m e running (ap (λ x. x.end) here ∙ running) ∙ ap (λ x. with_event x e) here in

@@ -151,8 +151,7 @@ module _ {plan : PlanData} (ok : IsPlan plan) (Kept : ℕ → Type 0) (kept : (x
   pub restores : (upper : Bool) → has_kind v upper ≡ true → restore m upper ≡ restored m upper
   restores upper kind =
       let ls = links_before ok l used is words.bytes view_words.bytes t in
-      let same : ul_of m.core m.pcxi ≡ ul_of m.core pcxi = same_ul m.core m.pcxi pcxi high in
-      restore-is m upper (λ e. ls.0 (sym here ∙ e)) (kind_from upper same kind) (ap (is_area m.mem) here ∙ ls.2)
+      restore-is m upper (λ e. ls.0 (sym here ∙ e)) (kind_from upper (same_ul m.core m.pcxi pcxi high) kind) (ap (is_area m.mem) here ∙ ls.2)
 
   pub view_restores : (upper : Bool) → has_kind v upper ≡ true → restore v upper ≡ restored v upper
   view_restores upper kind = restore-is v upper (λ e. (t.view_links).0 (sym there ∙ e)) kind (ap (is_area view) there ∙ (t.view_links).2)
@@ -182,7 +181,6 @@ module _ {plan : PlanData} (ok : IsPlan plan) (Kept : ℕ → Type 0) (kept : (x
       let first_is : times_in_list l (chain_of u) ≡ times_in_list l (l ∷ used) = ap (times_in_list l) is in
       let at = area_at (first_link plan) plan.areas l (λ none. omega arith) in
       let freed = is_freed view fcx m.lcx k seen t.view_free t.view_areas in
-      let twins = Twins-restored ok l used is words.bytes view_words.bytes t in
       record {
         words = with_chain_word word_of u (area_word m.mem l 0);
         chains = with_chain chain_of u used;
@@ -191,7 +189,7 @@ module _ {plan : PlanData} (ok : IsPlan plan) (Kept : ℕ → Type 0) (kept : (x
         view_pcxi = (released v).pcxi;
         view_fcx = (released v).fcx;
         is = refl;
-        twins = rw (mem_is, pcxi_is, fcx_is, lcx_is, here, there) twins;
+        twins = rw (mem_is, pcxi_is, fcx_is, lcx_is, here, there) (Twins-restored ok l used is words.bytes view_words.bytes t);
         others = λ w lt apart. (
           cond_other w u (area_word m.mem l 0) (word_of w) apart,
           cond_other w u used (chain_of w) apart,

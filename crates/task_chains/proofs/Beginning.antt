@@ -49,7 +49,6 @@ use Rattle.task_chains.specs.Views.{view_image_of, view_plan_of}
 use Rattle.task_chains.specs.TaskStarts.{current_task, task_upper_area, task_lower_area, IsReady}
 use Rattle.task_chains.proofs.Alike.{seen_as, area_at, outside_area}
 use Rattle.task_chains.proofs.Backs.{restored_end}
-use Rattle.task_chains.proofs.Coming.{areas_same}
 use Rattle.task_chains.proofs.Going.{Goes}
 use Rattle.task_chains.proofs.Invariant.{Turn, runs, begins, AllKept}
 use Rattle.task_chains.proofs.Joined.{World, block_same, kept, view_few, view_ok, all_from}
@@ -63,6 +62,7 @@ use Rattle.task_chains.proofs.ViewEvents.{IsKept}
 use Rattle.task_chains.proofs.ViewImage.{view_byte_outside}
 use Rattle.task_chains.proofs.ViewRun.{HasCore, ViewRun-start, ViewRun-start-first, view_point, view_enters}
 use Rattle.task_chains.proofs.ViewStart.{IsViewStart, view_memory, view_starts}
+use Rattle.task_chains.proofs.Levels.{areas_same}
 
 -- ---- a view's bytes are bytes
 abbrev AreSmall : List ℕ → Type 0
@@ -213,8 +213,7 @@ module _ {image : ImageData} {plan : PlanData} {tasks : TasksData} {certs : ℕ 
     pub entry_even : Starts (view_image_of image tasks u) (view_plan_of plan tasks u) (seen_as x start_memory 0 (first_link plan)) → x.pc % 2 ≡ 0
     entry_even s =
         let v = seen_as x start_memory 0 (first_link plan) in
-        let p = view_point wd.ok wd.are wd.fit own (certs u) (wd.judged u own) (view_few wd u own) v (ViewRun-start image plan tasks u v s) in
-        (p.code).even
+        ((view_point wd.ok wd.are wd.fit own (certs u) (wd.judged u own) (view_few wd u own) v (ViewRun-start image plan tasks u v s)).code).even
 
   -- ---- a task's first turn
   module _ (m : Machine) {u : ℕ} {word_of : ℕ → ℕ} {chain_of : ℕ → List ℕ} (k : AllKept image plan tasks needs m u word_of chain_of) (later : 1 ≤ u) (off : m.ie ≡ false) (level : m.ccpn ≡ plan.start_ccpn) (now : current_task tasks m.mem ≡ u) (e : Event) (fits : Fits plan m e) where

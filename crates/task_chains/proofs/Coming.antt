@@ -4,10 +4,10 @@ use Rattle.std.proofs.lemmas.Bool.{cases_eq}
 use Rattle.std.specs.FinMap as finite
 use Rattle.csa_chain.specs.MemoryBytes.{Memory, is_mapped}
 use Rattle.csa_chain.specs.Chain.{link_in}
-use Rattle.csa_chain.proofs.ChainLaws.{Links, SameAreas}
+use Rattle.csa_chain.proofs.ChainLaws.{Links}
 use Rattle.elf_image.specs.Images.{ImageData}
 use Rattle.tcd_plan.specs.PlanData.{PlanData}
-use Rattle.tcd_plan.specs.MappedAddresses.{IsInAreas, AnswersLoad}
+use Rattle.tcd_plan.specs.MappedAddresses.{AnswersLoad}
 use Rattle.tc_isa.specs.declared.shapes.Shape.{Shape}
 use Rattle.tc_isa.specs.declared.shapes.Shape.TheVariants.{Ret, Rslcx, Mtcr, Nothing}
 use Rattle.tc_machine.specs.declared.events.Cause.{Cause}
@@ -51,10 +51,7 @@ use Rattle.task_chains.proofs.Twins.{Twins, SameContexts-length}
 use Rattle.task_chains.proofs.ViewEvents.{IsKept}
 use Rattle.task_chains.proofs.ViewRun.{HasCore, ViewRun, NextRun, view_words, view_running, view_ccpn, view_enters, view_globals, view_runs, view_seen_few, view_run_step}
 use Rattle.task_chains.proofs.WaitsKept.{waits_kept}
-
-pub areas_same : (mem : Memory) (ls : List ℕ) → SameAreas mem mem ls
-areas_same mem [] = tt
-areas_same mem (l ∷ ls) = (record { bytes = λ i lt. refl }, areas_same mem ls)
+use Rattle.task_chains.proofs.Levels.{areas_same}
 
 -- one event of a view in the routine
 record ViewMoved (image : ImageData) (plan : PlanData) (tasks : TasksData) (u : ℕ) (v : Machine) (e : Event) (fs : List Standing) (shape : Shape) : Type 0 where
@@ -201,13 +198,11 @@ module _ {image : ImageData} {plan : PlanData} {tasks : TasksData} {certs : ℕ 
           begins 15 (omega arith) (omega arith) (next_pc 14 (omega arith) r.pc) r.off level later (λ _. (is, named ∙ sym block ∙ is.word, links)) (λ a. absurd (omega arith)) (r.new_current (omega arith))
       incoming block (paused v seen2 of2 pc2 off2 ccpn2 p2) =
           let core2 = (of2.run).core in
-          let running2 = view_running wd.ok wd.are wd.fit beyond.0 (certs w) (wd.judged w beyond.0) (view_few wd w beyond.0) v of2.run in
           let pc_14 : v.pc ≡ tasks.switch + 4 * 14 = pc2 in
           let code : IsCode (view_image_of image tasks w) plan v.pc Nothing 4 = subst (λ y. IsCode (view_image_of image tasks w) plan y Nothing 4) (sym pc_14) (view_code_14 image plan tasks wd.are wd.has w) in
-          let same_pc : v.pc ≡ m.pc = pc_14 ∙ sym r.pc in
           comes_back (with_event (advanced 4 v) e) seen2 15 (omega arith) (omega arith) (next_pc 14 (omega arith) r.pc) r.off (view_nothing beyond.0 m.mem v of2 seen2 p2.view_free p2.view_links (subst (λ y. Areas plan v.mem v.fcx y seen2 p2.view_free) (sym (core2.lcx ∙ sym k.lcx)) p2.view_areas) off2 m e fits code)
           (record {
-            pc = ap (λ y. machine_address_ahead y 4) same_pc;
+            pc = ap (λ y. machine_address_ahead y 4) (pc_14 ∙ sym r.pc);
             lcx = core2.lcx ∙ sym k.lcx;
             ccpn = ccpn2 ∙ sym level;
             ie = off2 ∙ sym r.off;
@@ -215,7 +210,7 @@ module _ {image : ImageData} {plan : PlanData} {tasks : TasksData} {certs : ℕ 
             btv = core2.btv ∙ sym k.btv;
             isp = core2.isp ∙ sym k.isp;
             core = core2.core ∙ sym k.core;
-            end = running2 ∙ sym k.running;
+            end = view_running wd.ok wd.are wd.fit beyond.0 (certs w) (wd.judged w beyond.0) (view_few wd w beyond.0) v of2.run ∙ sym k.running;
           })
           (λ a. absurd (omega arith)) (subst (λ y. Paused plan m.mem y (chain_of w) seen2 m.lcx v.mem v.pcxi v.fcx) (sym named) p2) (r.new_current (omega arith))
 
@@ -262,8 +257,6 @@ module _ {image : ImageData} {plan : PlanData} {tasks : TasksData} {certs : ℕ 
           })
 
       -- ---- a context comes back to both
-      is_kept : (x : ℕ) → IsKept plan tasks x → IsInAreas plan x → ⊥
-      is_kept = kept wd.ok wd.fit
 
       words_of_view : IsMachine v
       words_of_view = view_words wd.ok wd.are wd.fit own (certs u) (wd.judged u own) (view_few wd u own) v of.run
@@ -281,7 +274,7 @@ module _ {image : ImageData} {plan : PlanData} {tasks : TasksData} {certs : ℕ 
         -- the machine and the view with the memory, PCXI and FCX after the area is freed
         module _ (x : Machine) (mem_is : x.mem ≡ (released m).mem) (pcxi_is : x.pcxi ≡ (released m).pcxi) (fcx_is : x.fcx ≡ (released m).fcx) (lcx_is : x.lcx ≡ m.lcx) where
           back : Alike plan (count tasks) u word_of chain_of (IsKept plan tasks) v.mem m x (seen_as x (released v).mem (released v).pcxi (released v).fcx)
-          back = Alike-restored wd.ok (IsKept plan tasks) is_kept m v.mem v.pcxi v.fcx k.words words_as k.running l used is_l j seen2 twins_here x mem_is pcxi_is fcx_is lcx_is
+          back = Alike-restored wd.ok (IsKept plan tasks) (kept wd.ok wd.fit) m v.mem v.pcxi v.fcx k.words words_as k.running l used is_l j seen2 twins_here x mem_is pcxi_is fcx_is lcx_is
 
           paused_back : Paused plan x.mem x.pcxi (back.chains u) back.seen x.lcx (released v).mem (released v).pcxi (released v).fcx
           paused_back =

@@ -67,9 +67,8 @@ answers (d ∷ ds) x rest are apart =
           let none : IsInOneRange x 1 (map (λ (d : Device). d.range) ds) → ⊥ =
           λ there. all_apart-before x (d.range ∷ []) (map (λ (d : Device). d.range) ds ++ rest) apart (inl (low, omega arith)) (IsInOne-front x 1 (map (λ (d : Device). d.range) ds) rest there)
           in
-          let lo_hi = bounds.0 in
           let small = bounds.1 in
-          (All-cons (Answered x d.lo) d ds (λ within. (omega arith, lo_hi)) (none_within ds x d.lo none), omega arith)
+          (All-cons (Answered x d.lo) d ds (λ within. (omega arith, bounds.0)) (none_within ds x d.lo none), omega arith)
       | false ↦ λ hasnt. (All-cons (Answered x (answer ds x)) d ds (λ within. absurd (false≢true (sym hasnt ∙ and_from _ _ (le-leb _ _ within.0) (le-leb _ _ within.1)))) more.0, more.1)
     ] refl
 
@@ -136,8 +135,7 @@ pub room_from : {plan : PlanData} (m : Machine) (upper : Bool) (seen free : List
 room_from {plan = plan} m upper seen [] areas most e = let s = saves_from m upper e in absurd (s.some areas.links)
 room_from {plan = plan} m upper seen (f ∷ rest) areas most e =
     let s = saves_from m upper e in
-    let at = place_of seen rest f (first_link plan) plan.areas areas.whole in
-    let place = at.1 in
+    let place = (place_of seen rest f (first_link plan) plan.areas areas.whole).1 in
     let named = (areas.links).1 in
     let last = areas.lcx_is in
     elim (cases_lt (length seen) (plan.areas - plan.reserve)) [

@@ -283,21 +283,18 @@ module _ {image : ImageData} {plan : PlanData} {tasks : TasksData} {certs : ℕ 
         | inr none ↦ elim (in_or_out tasks m.pc) [
           | inr out ↦ goes_outside none code out
           | inl inside ↦
-              let start = at_first inside in
               let at_0 : IsCode view plan m.pc Disable 4 = subst (λ x. IsCode view plan x Disable 4) (let f : tasks.switch + 4 * 0 ≡ m.pc = omega arith in f) (view_code_0 image plan tasks wd.are wd.has u) in
               let one = IsCode-one view plan m.pc p.shape Disable p.size 4 (code_of view plan tasks u m.pc p.shape p.size p.code) at_0 in
-              goes_in none code start one.0 one.1
+              goes_in none code (at_first inside) one.0 one.1
         ]
       ]
 
   -- the second instruction of the routine saves the lower context
   pub goes_saves : m.pc ≡ tasks.switch + 4 * 1 → m.ie ≡ false → Goes image plan tasks needs (step m e)
   goes_saves here_1 off =
-      let code = own_code (λ i. omega arith) in
-      let none : is_taken m e ≡ false = none_when_off m e off in
       let at_1 : IsCode view plan m.pc Svlcx 4 = subst (λ x. IsCode view plan x Svlcx 4) (sym here_1) (view_code_1 image plan tasks wd.are wd.has u) in
       let one = IsCode-one view plan m.pc p.shape Svlcx p.size 4 (code_of view plan tasks u m.pc p.shape p.size p.code) at_1 in
-      goes_saved none code here_1 off one.0 one.1
+      goes_saved (none_when_off m e off) (own_code (λ i. omega arith)) here_1 off one.0 one.1
 
   -- ---- its stores
   stored_taken : (m : Machine) (e : Event) → is_taken m e ≡ true → stored m e ≡ None

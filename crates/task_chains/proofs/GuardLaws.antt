@@ -1,9 +1,8 @@
 -- The guard laws.
 use Rattle.std.proofs.Common.{◌≡◌, ℕ, zero, suc, ◌+◌, ◌-◌, ◌*◌, ◌/◌, ◌%◌, ◌^◌, ◌<◌, ◌≤◌, ◌⊎◌, inl, inr, Bool, true, false, cond, List, [], ◌∷◌, ◌++◌, length, map, get_or, slice_get, Some, refl, sym, ap, ◌∙◌, subst, arith, append_assoc, add-one, nat_le, ◌||◌}
 use Rattle.std.specs.List.{list_all, slice_index_or}
-use Rattle.std.proofs.lemmas.Bool.{cases_lt, and_from, and_parts, lt-ltb, le-ltb, leb-true, eq-eqb, eqb-true}
+use Rattle.std.proofs.lemmas.Bool.{cases_lt, and_parts, lt-ltb, le-ltb, leb-true, eq-eqb, eqb-true}
 use Rattle.std.proofs.lemmas.List.{length-append}
-use Rattle.std.proofs.lemmas.List.Folds.{list_all-append}
 use Rattle.csa_chain.specs.MemoryBytes.{word_at}
 use Rattle.csa_chain.specs.Chain.{link_in, area_word}
 use Rattle.csa_chain.specs.ContextWords.{pcxi_word_of, ul_of}
@@ -13,7 +12,7 @@ use Rattle.tcd_base.specs.declared.core_version.Core.TheVariants.{V13, V16}
 use Rattle.tcd_base.specs.Ranges.{IsInOneRange}
 use Rattle.tcd_plan.specs.declared.plans.Device.{Device}
 use Rattle.tcd_plan.specs.PlanData.{are_ranges_apart, are_all_ranges_apart, areas_range}
-use Rattle.tcd_plan.proofs.ApartLaws.{all_apart-behind}
+use Rattle.tcd_plan.proofs.ApartLaws.{all_apart-behind, all_apart-front}
 use Rattle.tc_machine.specs.PlanAreas.{first_link, link_or_end}
 use Rattle.tc_machine.specs.Machine.{is_interrupt_stack_used}
 use Rattle.tc_machine.proofs.PlanLaws.{link_lt}
@@ -68,14 +67,6 @@ or_cases : (a b : Bool) → (a || b) ≡ true → (a ≡ true) ⊎ (b ≡ true)
 or_cases true b e = inl refl
 or_cases false b e = inr e
 
--- ranges before others
-apart_front : (rs ss : List Range) → are_all_ranges_apart (rs ++ ss) ≡ true → are_all_ranges_apart rs ≡ true
-apart_front [] ss e = refl
-apart_front (r ∷ rs) ss e =
-    let parts = and_parts _ _ e in
-    let each = and_parts (list_all (are_ranges_apart r) rs) (list_all (are_ranges_apart r) ss) (sym (list_all-append (are_ranges_apart r) rs ss) ∙ parts.0) in
-    and_from _ _ each.0 (apart_front rs ss parts.1)
-
 module _ (x n : ℕ) where
   -- ranges that share no byte with a range that has the bytes are below them or above
   away_front : (r s : Range) → r.at ≤ x → x + n ≤ r.at + r.len → are_ranges_apart r s ≡ true → (s.at + s.len ≤ x) ⊎ (x + n ≤ s.at)
@@ -98,9 +89,7 @@ module _ (x n : ℕ) where
   others_left r [] low high apart = omega arith
   others_left r (s ∷ rs) low high apart =
       let parts = and_parts (are_ranges_apart r s) (list_all (are_ranges_apart r) rs) apart in
-      let one = one_left x n s (away_front r s low high parts.0) in
-      let rest = others_left r rs low high parts.1 in
-      omega (arith, left_step s rs)
+      omega (arith, one_left x n s (away_front r s low high parts.0), others_left r rs low high parts.1, left_step s rs)
 
   in_list : (s r : Range) (rs : List Range) (k : ℕ) → k < length rs → get_or rs k r ≡ r → list_all (are_ranges_apart s) rs ≡ true → are_ranges_apart s r ≡ true
   in_list s r [] k lt at all = absurd (omega arith)
@@ -112,8 +101,7 @@ module _ (x n : ℕ) where
   left_all (s ∷ rs) r zero low high lt at apart =
       let parts = and_parts (list_all (are_ranges_apart s) rs) (are_all_ranges_apart rs) apart in
       let two = two_left x n s in
-      let rest = others_left s rs (subst (λ (z : Range). z.at ≤ x) (sym at) low) (subst (λ (z : Range). x + n ≤ z.at + z.len) (sym at) high) parts.0 in
-      omega (arith, left_step s rs)
+      omega (arith, others_left s rs (subst (λ (z : Range). z.at ≤ x) (sym at) low) (subst (λ (z : Range). x + n ≤ z.at + z.len) (sym at) high) parts.0, left_step s rs)
   left_all (s ∷ rs) r (suc k) low high lt at apart =
       let parts = and_parts (list_all (are_ranges_apart s) rs) (are_all_ranges_apart rs) apart in
       let one = one_left x n s (away_behind r s low high (in_list s r rs k (omega arith) at parts.0)) in
@@ -130,8 +118,7 @@ every_fit plan switch block list r ok has low high few own =
     let n = 4 * length list + 4 in
     let rest = map (λ (d : Device). d.range) plan.devices ++ areas_range plan ∷ [] in
     let all : are_all_ranges_apart (plan.rom ++ (plan.ram ++ rest)) ≡ true = subst (λ l. are_all_ranges_apart l ≡ true) (append_assoc (plan.rom ++ plan.ram) (map (λ (d : Device). d.range) plan.devices) (areas_range plan ∷ []) ∙ append_assoc plan.rom plan.ram rest) ok.apart in
-    let apart = apart_front plan.ram rest (all_apart-behind plan.rom (plan.ram ++ rest) all) in
-    let left = left_all block n plan.ram r has.0 low high has.1 has.2 apart in
+    let left = left_all block n plan.ram r has.0 low high has.1 has.2 (all_apart-front plan.ram rest (all_apart-behind plan.rom (plan.ram ++ rest) all)) in
     record { in_ram = in_one_of block n plan.ram r has.0 low high has.1 has.2; room = omega (arith, length-devices plan.devices (cut_plan_ranges block n plan.ram)); own_stack = own }
 
 -- ---- start states

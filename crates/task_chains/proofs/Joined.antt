@@ -82,11 +82,7 @@ module _ {plan : PlanData} (ok : IsPlan plan) {tasks : TasksData} (fit : FitPlan
 module _ {image : ImageData} {plan : PlanData} {tasks : TasksData} {certs : ℕ → CertData} {needs : ℕ → ℕ} (wd : World image plan tasks certs needs) where
   -- each view's need is within the areas without the reserve
   pub view_few : (w : ℕ) → w < count tasks → certified_need (view_image_of image tasks w) (view_plan_of plan tasks w) (certs w) ≤ plan.areas - plan.reserve
-  view_few w lt =
-      let a = wd.enough w lt in
-      let b = sum_below-at (count tasks) needs w lt in
-      let c = wd.sum in
-      omega arith
+  view_few w lt = omega (arith, wd.enough w lt, sum_below-at (count tasks) needs w lt, wd.sum)
 
   pub view_ok : (w : ℕ) → w < count tasks → IsPlan (view_plan_of plan tasks w)
   view_ok w lt = view_is_plan wd.ok tasks wd.are wd.fit w lt
@@ -196,8 +192,7 @@ module _ {image : ImageData} {plan : PlanData} {tasks : TasksData} {certs : ℕ 
         pub all_after : Fits plan m e → ((w : ℕ) → w < count tasks → w ≢ u → block_word tasks (step m e).mem w ≡ block_word tasks m.mem w) → Turn image plan tasks u a.words a.chains (step m e)
             → AllKept image plan tasks needs (step m e) u a.words a.chains
         all_after fits blocks turn =
-            let p = paused_after in
-            let long : length (a.chains u) ≡ length a.seen = SameContexts-length m2.mem a.view m2.pcxi a.view_pcxi (a.chains u) a.seen p.same in
+            let long : length (a.chains u) ≡ length a.seen = SameContexts-length m2.mem a.view m2.pcxi a.view_pcxi (a.chains u) a.seen paused_after.same in
             let most = few_after in
             let enough = wd.enough u own in
             let c = (view_after.run).core in

@@ -29,7 +29,7 @@ use Rattle.cfg_recover.specs.StepEdges.{EdgeWay, irq, aln, edge_way_of_shape, ed
 use Rattle.cfg_recover.proofs.Points.{does-rfe, does-svlcx, does-rslcx, does-bisr, does-syscall, does-trapped}
 use Rattle.cfg_recover.proofs.Went.{changed}
 use Rattle.task_chains.specs.Rule17.{IsNoBisr}
-use Rattle.task_chains.proofs.Levels.{IsBase}
+use Rattle.task_chains.proofs.Levels.{IsBase, areas_same}
 use Rattle.task_chains.proofs.LevelSteps.{keys_of, Leveled, stands, leveled_lower, leveled_upper, leveled_lower_back, leveled_upper_back, leveled_plain}
 use Rattle.task_chains.proofs.Backs.{restores_from, restored_end}
 use Rattle.task_chains.proofs.Plain.{Plainly, plain-compute, plain-scaled, plain-mfcr, plain-enable, plain-disable, plain-nothing, plain-jump, plain-branch, plain-load, plain-store}
@@ -48,10 +48,6 @@ StoresNothing v e _ = Unit {0}
 
 dead_runs : (s : Machine) (next : Machine → Machine) → (then_ s next).end ≡ Running → s.end ≡ Running
 dead_runs s next g = dead≢running s.end s next refl g
-
-SameAreas-refl : (mem : Memory) (ls : List ℕ) → SameAreas mem mem ls
-SameAreas-refl mem [] = tt
-SameAreas-refl mem (l ∷ ls) = (record { bytes = λ i lt. refl }, SameAreas-refl mem ls)
 
 module _ {plan : PlanData} (ok : IsPlan plan) (level : ℕ) (v : Machine) (words : IsMachine v) (running : v.end ≡ Running) (f : Standing) (fs : List Standing) (l : Leveled level v (f ∷ fs)) (free : List ℕ) (areas : Areas plan v.mem v.fcx v.lcx (l.seen) free) (e : Event)
     (rooms : (upper : Bool) → (save v upper).end ≡ Running → length (l.seen) < plan.areas - plan.reserve) (runs : (step v e).end ≡ Running) where
@@ -106,7 +102,7 @@ module _ {plan : PlanData} (ok : IsPlan plan) (level : ℕ) (v : Machine) (words
     plain_on mem same p stay =
         to_step (changed v p.d p.a p.pc p.ie mem) p.is
         (leveled_plain ok level v words running f fs l free areas e (with_event (changed v p.d p.a p.pc p.ie mem) e) (frames_after v e (f ∷ fs))
-        (subst (λ y. SameAreas v.mem y l.seen) (sym same) (SameAreas-refl v.mem l.seen)) refl refl refl (keys_are ∙ stay))
+        (subst (λ y. SameAreas v.mem y l.seen) (sym same) (areas_same v.mem l.seen)) refl refl refl (keys_are ∙ stay))
 
     -- instructions that save
     forth : (upper : Bool) (next : Machine → Machine) → does v e shape size ≡ then_ (save v upper) next → (save v upper ≡ saved v upper → (next (saved v upper)).end ≡ v.end) → (length (l.seen) < plan.areas - plan.reserve → Leveled level (with_event (next (saved v upper)) e) (frames_after v e (f ∷ fs))) → Next

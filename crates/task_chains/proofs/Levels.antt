@@ -1,6 +1,6 @@
 -- If the certificate of a view has no BISR at priority 0, each state of a run that has priority 0
 -- and isn't on the interrupt stack has the start's CCPN.
-use Rattle.std.proofs.Common.{◌≡◌, ◌≢◌, ℕ, ◌^◌, ◌<◌, ◌⊎◌, inl, inr, Bool, true, false, List, [], ◌∷◌, length, get_or, sym, ◌∙◌, subst, arith}
+use Rattle.std.proofs.Common.{◌≡◌, ◌≢◌, ℕ, ◌^◌, ◌<◌, ◌⊎◌, inl, inr, Bool, true, false, List, [], ◌∷◌, length, get_or, refl, sym, ◌∙◌, subst, arith}
 use Rattle.csa_chain.specs.MemoryBytes.{Memory, with_words}
 use Rattle.csa_chain.specs.Chain.{link_address, is_area, area_word}
 use Rattle.csa_chain.specs.ContextWords.{ul_of, pcpn_of, pcxi_word_of}
@@ -8,6 +8,10 @@ use Rattle.csa_chain.proofs.ChainLaws.{SameAreas, Avoids, area_word_same, SameAr
 use Rattle.csa_chain.proofs.ContextLaws.{ul_of-pcxi_word, pcpn_of-pcxi_word}
 use Rattle.tcd_base.specs.declared.core_version.Core.{Core}
 use Rattle.depth_cert.specs.declared.keys.Key.{Key}
+
+pub areas_same : (mem : Memory) (ls : List ℕ) → SameAreas mem mem ls
+areas_same mem [] = tt
+areas_same mem (l ∷ ls) = (record { bytes = λ i lt. refl }, areas_same mem ls)
 
 -- priority 0, and not on the interrupt stack
 abbrev pub IsBase : Key → Type 0

@@ -1,5 +1,5 @@
 -- The accesses that miss a range of bytes.
-use Rattle.std.proofs.Common.{◌≡◌, ℕ, zero, suc, ◌+◌, ◌-◌, ◌*◌, ◌/◌, ◌%◌, ◌^◌, ◌<◌, ◌≤◌, ◌⊎◌, inl, inr, Bool, true, false, List, [], ◌∷◌, length, get_or, IsTrue, refl, sym, subst, arith, nat_le}
+use Rattle.std.proofs.Common.{◌≡◌, ℕ, ◌+◌, ◌-◌, ◌*◌, ◌/◌, ◌%◌, ◌^◌, ◌<◌, ◌≤◌, ◌⊎◌, inl, inr, Bool, true, false, List, length, get_or, IsTrue, refl, sym, subst, arith, nat_le}
 use Rattle.std.specs.Prelude.{min, max, not}
 use Rattle.std.proofs.lemmas.Bool.{cases_lt, leb-true, le-leb}
 use Rattle.value_domain.specs.declared.values.Val.{Val}
@@ -9,31 +9,23 @@ use Rattle.value_domain.specs.Values.{IsMember, IsWell}
 use Rattle.value_domain.proofs.CoverLaws.{step_cases, in_units, from_units}
 use Rattle.store_ranges.specs.Accesses.{IsAccessSize}
 use Rattle.task_chains.specs.Rule17.{AreAccessesApart, HasAccessBetween}
+use Rattle.value_domain.proofs.WordLaws.{among_place}
+use Rattle.value_domain.proofs.Loops.{among_get}
 
 -- ---- words of a list
 abbrev pub HasWord : List ℕ → ℕ → ℕ → Type 0
 HasWord ws low high = (x : ℕ) × Among x ws × (low ≤ x) × (x ≤ high)
 
-among_at : (ws : List ℕ) (i : ℕ) → i < length ws → Among (get_or ws i 0) ws
-among_at [] i lt = absurd (omega arith)
-among_at (w ∷ ws) zero lt = inl refl
-among_at (w ∷ ws) (suc i) lt = inr (among_at ws i (omega arith))
-
 pub word_here : (ws : List ℕ) (i low high : ℕ) → i < length ws → low ≤ get_or ws i 0 → get_or ws i 0 ≤ high → HasWord ws low high
-word_here ws i low high lt above below = (get_or ws i 0, among_at ws i lt, above, below)
+word_here ws i low high lt above below = (get_or ws i 0, among_get ws i lt, above, below)
 
 -- none of the first words is between the two
 abbrev pub NoneBefore : List ℕ → ℕ → ℕ → ℕ → Type 0
 NoneBefore ws i low high = (k : ℕ) → k < i → low ≤ get_or ws k 0 → get_or ws k 0 ≤ high → ⊥
 
-place_among : (ws : List ℕ) (x : ℕ) → Among x ws → (k : ℕ) × (k < length ws) × (get_or ws k 0 ≡ x)
-place_among [] x none = absurd none
-place_among (w ∷ ws) x (inl e) = (0, omega arith, sym e)
-place_among (w ∷ ws) x (inr rest) = let p = place_among ws x rest in (suc p.0, (let lt = p.1 in omega arith), p.2)
-
 pub no_word : (ws : List ℕ) (i low high : ℕ) → length ws ≤ i → NoneBefore ws i low high → HasWord ws low high → ⊥
 no_word ws i low high past none (x, among, above, below) =
-    let p = place_among ws x among in
+    let p = among_place ws x among in
     let lt = p.1 in
     let e = p.2 in
     none p.0 (omega arith) (omega arith) (omega arith)
@@ -59,13 +51,9 @@ module _ (lo last step low high : ℕ) (small : step ≤ 2) where
   span_least : HasAccessBetween (Span lo last step) low high → multiple_from (max low lo) step ≤ min high last
   span_least (x, member, above, below) =
       let e = in_units step small x member.2 in
-      let a = member.0 in
-      let b = member.1 in
       let k = x / 2 ^ step in
       let le : max low lo ≤ k * 2 ^ step = subst (λ y. max low lo ≤ y) e (omega arith) in
-      let least = from_least step small (max low lo) k le in
-      let least2 : multiple_from (max low lo) step ≤ x = subst (λ y. multiple_from (max low lo) step ≤ y) (sym e) least in
-      omega arith
+      omega (arith, member.0, member.1, subst (λ y. multiple_from (max low lo) step ≤ y) (sym e) (from_least step small (max low lo) k le))
 
   pub span_both : (first most : ℕ) → first ≡ multiple_from (max low lo) step → most ≡ min high last → (IsTrue (nat_le first most) → HasAccessBetween (Span lo last step) low high) × (HasAccessBetween (Span lo last step) low high → IsTrue (nat_le first most))
   span_both first most a b = (

@@ -187,8 +187,7 @@ module _ {image view : ImageData} {plan : PlanData} (ok : IsPlan plan) {tasks : 
       let next : Machine → Machine = λ s. record (at_handler v s v.pc (bit_or v.biv (e2.irq * 2 ^ 5))) { ccpn = e2.irq } in
       let view_taken : is_taken v e2 ≡ true = ap (λ q. is_taken m (record e { irq = q })) same_irq ∙ taken in
       let done_is : machine_after_event v e2 ≡ then_ (save v true) next = ap (λ t. cond t (interrupt v e2.irq) (executed v e2 (fetched v))) view_taken in
-      let runs2 : (then_ (save v true) next).end ≡ Running = sym (ap (λ (x : Machine). x.end) done_is) ∙ done_runs v e2 k.running runs in
-      let room = rooms.own_room true (save_runs true next runs2) in
+      let room = rooms.own_room true (save_runs true next (sym (ap (λ (x : Machine). x.end) done_is) ∙ done_runs v e2 k.running runs)) in
       let is : machine_after_event v e2 ≡ next (saved v true) = done_is ∙ ap (λ s. then_ s next) (view_stands true room) ∙ then_-running (saved v true) next k.running in
       let step_at : step v e2 ≡ with_event (next (saved v true)) e2 = step-is v e2 k.running (ap (λ (x : Machine). x.end) is ∙ k.running) ∙ ap (λ (x : Machine). with_event x e2) is in
       Alike-interrupt ok Kept kept m mem pcxi fcx k.words k.view_words k.running k.twins (rooms.all_room true room (ap (λ (x : Machine). x.mem) step_at) (ap (λ (x : Machine). x.pcxi) step_at)) room e e2 taken same_irq same_status

@@ -54,9 +54,8 @@ few_in l (x ∷ xs) one =
             | inr none ↦ omega arith
           ]
       | inr apart ↦
-          let other = times-other l x xs apart in
           let rest = few_in l xs (λ k j a b. let e = one (suc k) (suc j) a b in omega arith) in
-          omega arith
+          omega (arith, times-other l x xs apart)
     ]
 
 -- ---- sums
@@ -88,9 +87,8 @@ few_terms (suc n) f few one =
       | inl here ↦ elim (cases_lt 0 (sum_over_chains n f)) [
         | inl some ↦
             let t = term_of n f (omega arith) in
-            let lt = t.1 in
             let e = one t.0 n (omega arith) (omega arith) t.2 (omega arith) in
-            absurd (omega arith)
+            absurd (omega (arith, t.1))
         | inr none ↦ omega arith
       ]
       | inr none ↦ omega arith
@@ -115,11 +113,7 @@ module _ (n : ℕ) (used : ℕ → List ℕ) (free areas : List ℕ) (share : Sh
       ]
 
   pub among : (l u place : ℕ) → LinkStandsInTask n used free l u place → 1 ≤ times_in_list l areas
-  among l u place (inl h) =
-      let all = share.each l in
-      let one = times-at l (used u) place h.1 in
-      let sum = sum_below-at n (λ w. times_in_list l (used w)) u h.0 in
-      omega arith
+  among l u place (inl h) = omega (arith, share.each l, times-at l (used u) place h.1, sum_below-at n (λ w. times_in_list l (used w)) u h.0)
   among l u place (inr h) = let all = share.each l in let one = times-at l free place h.1 in omega arith
 
   pub one_place : AreLinksOnce areas → (l u v i j : ℕ) → LinkStandsInTask n used free l u i → LinkStandsInTask n used free l v j → (u ≡ v) × (i ≡ j)
@@ -129,28 +123,14 @@ module _ (n : ℕ) (used : ℕ → List ℕ) (free areas : List ℕ) (share : Sh
       elim (cases_eq u v) [
         | inl same ↦
             let here = sum_below-at n (λ w. times_in_list l (used w)) u a.0 in
-            let there : slice_get (used u) j ≡ Some l = subst (λ w. slice_get (used w) j ≡ Some l) (sym same) b.1 in
-            (same, one_in l (used u) i j (omega arith) a.1 there)
+            (same, one_in l (used u) i j (omega arith) a.1 (subst (λ w. slice_get (used w) j ≡ Some l) (sym same) b.1))
         | inr apart ↦
-            let first = times-at l (used u) i a.1 in
-            let second = times-at l (used v) j b.1 in
-            let both = two_terms n (λ w. times_in_list l (used w)) u v a.0 b.0 apart in
-            absurd (omega arith)
+            absurd (omega (arith, times-at l (used u) i a.1, times-at l (used v) j b.1, two_terms n (λ w. times_in_list l (used w)) u v a.0 b.0 apart))
       ]
   one_place once l u v i j (inl a) (inr b) =
-      let all = share.each l in
-      let most = once l in
-      let first = times-at l (used u) i a.1 in
-      let here = sum_below-at n (λ w. times_in_list l (used w)) u a.0 in
-      let second = times-at l free j b.1 in
-      absurd (omega arith)
+      absurd (omega (arith, share.each l, once l, times-at l (used u) i a.1, sum_below-at n (λ w. times_in_list l (used w)) u a.0, times-at l free j b.1))
   one_place once l u v i j (inr a) (inl b) =
-      let all = share.each l in
-      let most = once l in
-      let first = times-at l (used v) j b.1 in
-      let here = sum_below-at n (λ w. times_in_list l (used w)) v b.0 in
-      let second = times-at l free i a.1 in
-      absurd (omega arith)
+      absurd (omega (arith, share.each l, once l, times-at l (used v) j b.1, sum_below-at n (λ w. times_in_list l (used w)) v b.0, times-at l free i a.1))
   one_place once l u v i j (inr a) (inr b) = let all = share.each l in let most = once l in (a.0 ∙ sym b.0, one_in l free i j (omega arith) a.1 b.1)
 
 -- ---- the areas of a plan
@@ -184,9 +164,7 @@ module _ (plan : PlanData) (n : ℕ) (used : ℕ → List ℕ) (free : List ℕ)
               let t = term_of n (λ u. times_in_list l (used u)) (omega arith) in
               let p = place_in l (used t.0) t.2 in
               let q = place_in l free (omega arith) in
-              let e = (once l t.0 n p.0 q.0 (inl (t.1, p.1)) (inr (refl, q.1))).0 in
-              let lt = t.1 in
-              absurd (omega arith)
+              absurd (omega (arith, (once l t.0 n p.0 q.0 (inl (t.1, p.1)) (inr (refl, q.1))).0, t.1))
           | inr none ↦ omega arith
         ]
         | inr none ↦ omega arith
@@ -194,10 +172,7 @@ module _ (plan : PlanData) (n : ℕ) (used : ℕ → List ℕ) (free : List ℕ)
 
   -- what has a place is counted
   counted : (l u place : ℕ) → LinkStandsInTask n used free l u place → 1 ≤ sum_over_chains n (λ u. times_in_list l (used u)) + times_in_list l free
-  counted l u place (inl h) =
-      let one = times-at l (used u) place h.1 in
-      let sum = sum_below-at n (λ w. times_in_list l (used w)) u h.0 in
-      omega arith
+  counted l u place (inl h) = omega (arith, times-at l (used u) place h.1, sum_below-at n (λ w. times_in_list l (used w)) u h.0)
   counted l u place (inr h) = let one = times-at l free place h.1 in omega arith
 
   -- what is counted has a place, so it is an area
@@ -217,13 +192,11 @@ module _ (plan : PlanData) (n : ℕ) (used : ℕ → List ℕ) (free : List ℕ)
             let a = area_of plan l (omega arith) in
             let p = places a.0 a.1 in
             let one = counted (first_link plan + a.0) p.0 p.1 p.2 in
-            let here = subst (λ k. 1 ≤ sum_over_chains n (λ u. times_in_list k (used u)) + times_in_list k free) (sym a.2) one in
-            omega arith
+            omega (arith, subst (λ k. 1 ≤ sum_over_chains n (λ u. times_in_list k (used u)) + times_in_list k free) (sym a.2) one)
         | inr none ↦ elim (cases_lt 0 (sum_over_chains n (λ u. times_in_list l (used u)) + times_in_list l free)) [
           | inl some ↦
               let a = count_of l (omega arith) in
-              let one = subst (λ k. 1 ≤ times_in_list k (plan_areas plan)) (sym a.2) (area_times plan a.0 a.1) in
-              absurd (omega arith)
+              absurd (omega (arith, subst (λ k. 1 ≤ times_in_list k (plan_areas plan)) (sym a.2) (area_times plan a.0 a.1)))
           | inr neither ↦ omega arith
         ]
       ]

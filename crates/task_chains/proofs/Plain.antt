@@ -148,8 +148,7 @@ module _ (m : Machine) (view : Memory) (pcxi fcx : ℕ) (e e2 : Event) where
       → Plainly m v (does m e (Load dst base offset size signed after) k) (does v e2 (Load dst base offset size signed after) k) m.mem view
   unfolding does
   plain-load dst base offset size signed after k none same_aln same =
-      let x = access_address m base offset after in
-      let w = extend_loaded_bytes signed size (load_number m.mem e.input x size) in
+      let w = extend_loaded_bytes signed size (load_number m.mem e.input (access_address m base offset after) size) in
       let b = based base offset after in
       let view_none : is_trapping_access e2 (access_address v base offset after) size ≡ false = (λ i. is_trapping_access (record e { aln = same_aln i }) (address-same base offset after i) size) ∙ none in
       let value : extend_loaded_bytes signed size (load_number view e2.input (access_address v base offset after) size) ≡ w = ap (λ y. extend_loaded_bytes signed size (load_number view e2.input y size)) (address-same base offset after) ∙ ap (extend_loaded_bytes signed size) same in
@@ -201,10 +200,7 @@ module _ {plan : PlanData} (ok : IsPlan plan) (Kept : ℕ → Type 0) {n u : ℕ
     (t : Twins plan n u word_of chain_of seen m.mem m.pcxi m.fcx m.lcx view pcxi fcx) where
   -- each chain's links are areas
   pub chain_in_areas : (w : ℕ) → w < n → (l : ℕ) → times_in_list l (chain_of w) ≤ times_in_list l (plan_areas plan)
-  chain_in_areas w lt l =
-      let all = (t.share).each l in
-      let here = sum_below-at n (λ u. times_in_list l (chain_of u)) w lt in
-      omega arith
+  chain_in_areas w lt l = omega (arith, (t.share).each l, sum_below-at n (λ u. times_in_list l (chain_of u)) w lt)
 
   free_in_areas : (l : ℕ) → times_in_list l t.free ≤ times_in_list l (plan_areas plan)
   free_in_areas l = let all = (t.share).each l in omega arith

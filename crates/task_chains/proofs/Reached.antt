@@ -124,7 +124,6 @@ module _ (image : ImageData) (plan : PlanData) (ok : IsPlan plan) (cert : CertDa
       let faultless : IsFaultless (limits_in plan cert) image plan node.key point.addr point.state = λ r. (all r).own values in
       let has : HasCode image plan point.addr = (faultless 3).code refl in
       let is_node = All-contains (IsNode cert.version) cert.nodes node is_cert.nodes there.0 in
-      let is_point : IsPoint cert.version point = All-contains (IsPoint cert.version) node.points point is_node.points here.0 in
       let keeps : HoldsApart image plan tasks cert node point = All-contains (HoldsApart image plan tasks cert node) node.points point (All-contains (λ n. All (HoldsApart image plan tasks cert n) n.points) cert.nodes node apart there.0) here.0 in
       let code : IsCode image plan v.pc has.shape has.size = subst (λ x. IsCode image plan x has.shape has.size) addr has.code in
       record {
@@ -137,7 +136,7 @@ module _ (image : ImageData) (plan : PlanData) (ok : IsPlan plan) (cert : CertDa
         own = λ r. subst (λ x. LocalRule (limits_in plan cert) plan node.key x point.state has.shape r) addr ((faultless r).own has.shape has.size has.code);
         apart = subst (λ x. StaysApart (limits_in plan cert) plan tasks node.key x point.state has.shape) addr (keeps has.shape has.size has.code);
         inside = inside;
-        load_at = load_at v point.state has.shape has.size code (is_point.state).regs values inside;
+        load_at = load_at v point.state has.shape has.size code ((All-contains (IsPoint cert.version) node.points point is_node.points here.0).state).regs values inside;
         same_key = eqb-true _ _ there.1;
         is_key = is_node.key;
       }
@@ -159,15 +158,13 @@ module _ (image : ImageData) (plan : PlanData) (ok : IsPlan plan) (cert : CertDa
   pub frame_at : (v : Machine) (f : Standing) (fs : List Standing) → FramesHeld image plan cert → Reached image plan v (f ∷ fs) → f.at ≡ v.pc
   frame_at v f fs held r =
       let h0 = held r.from r.events r.starts r.fit in
-      let h : HoldFrames plan cert v (f ∷ fs) = subst (λ (x : Machine). HoldFrames plan cert x (f ∷ fs)) (sym r.is) (subst (HoldFrames plan cert (run r.from r.events)) (sym r.frames_are) h0) in
-      h.at
+      (subst (λ (x : Machine). HoldFrames plan cert x (f ∷ fs)) (sym r.is) (subst (HoldFrames plan cert (run r.from r.events)) (sym r.frames_are) h0)).at
 
   -- there is one
   pub some_frame : (v : Machine) (fs : List Standing) → FramesHeld image plan cert → Reached image plan v fs → (f : Standing) × (gs : List Standing) × (fs ≡ f ∷ gs)
   some_frame v [] held r =
       let h0 = held r.from r.events r.starts r.fit in
-      let h : HoldFrames plan cert v [] = subst (λ (x : Machine). HoldFrames plan cert x []) (sym r.is) (subst (HoldFrames plan cert (run r.from r.events)) (sym r.frames_are) h0) in
-      absurd h
+      absurd (subst (λ (x : Machine). HoldFrames plan cert x []) (sym r.is) (subst (HoldFrames plan cert (run r.from r.events)) (sym r.frames_are) h0))
   some_frame v (f ∷ fs) held r = (f, fs, refl)
 
   pub safe_at : (most : ℕ) (v : Machine) (fs : List Standing) (e : Event) → Safe image plan most → Reached image plan v fs → Fits plan v e → IsSafeAt image plan most v e

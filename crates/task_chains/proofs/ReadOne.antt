@@ -58,13 +58,11 @@ written_split before behind line some = filter-append is_nonempty_line before (l
 named_at : (xs ys : List (List ℕ)) (line : List ℕ) (list : List Task) → map task_of (xs ++ line ∷ ys) ≡ map some_task list → (task_of line ≡ None → ⊥) × (length xs < length list)
 named_at [] ys line [] e = absurd (let f : task_of line ∷ map task_of ys ≡ [] = e in cc)
 named_at [] ys line (t ∷ ts) e =
-    let head : task_of line ≡ Some t = front_same (task_of line) (Some t) (map task_of ys) (map some_task ts) e in
-    (λ none. absurd (let f : None ≡ Some t = sym none ∙ head in cc), omega arith)
+    (λ none. absurd (let f : None ≡ Some t = sym none ∙ front_same (task_of line) (Some t) (map task_of ys) (map some_task ts) e in cc), omega arith)
 named_at (x ∷ xs) ys line [] e = absurd (let f : task_of x ∷ map task_of (xs ++ line ∷ ys) ≡ [] = e in cc)
 named_at (x ∷ xs) ys line (t ∷ ts) e =
     let rest = named_at xs ys line ts (rest_same (task_of x) (Some t) (map task_of (xs ++ line ∷ ys)) (map some_task ts) e) in
-    let lt = rest.1 in
-    (rest.0, omega arith)
+    (rest.0, omega (arith, rest.1))
 
 -- lines name one list of tasks
 said_one : (lines : List (List ℕ)) (t s : TasksData) → AreSaid lines t → AreSaid lines s → t ≡ s
@@ -73,13 +71,10 @@ said_one lines t s a b =
     let first = front_same a.first b.first a.behind b.behind e in
     let behind = rest_same a.first b.first a.behind b.behind e in
     let places = sym a.places ∙ ap places_of first ∙ b.places in
-    let p : Places = record { switch = t.switch; block = t.block } in
-    let q : Places = record { switch = s.switch; block = s.block } in
-    let same = places_same p q places in
+    let same = places_same (record { switch = t.switch; block = t.block }) (record { switch = s.switch; block = s.block }) places in
     let switch : t.switch ≡ s.switch = ap (λ (r : Places). r.switch) same in
     let block : t.block ≡ s.block = ap (λ (r : Places). r.block) same in
-    let list = tasks_same t.list s.list (sym a.named ∙ ap (λ (l : List (List ℕ)). map task_of l) behind ∙ b.named) in
-    λ i. record { switch = switch i; block = block i; list = list i }
+    λ i. record { switch = switch i; block = block i; list = (tasks_same t.list s.list (sym a.named ∙ ap (λ (l : List (List ℕ)). map task_of l) behind ∙ b.named)) i }
   where
     places_same : (p q : Places) → Some p ≡ Some q → p ≡ q
     places_same p q e = cc
@@ -97,15 +92,12 @@ module _ (before behind : List (List ℕ)) (line : List ℕ) (some : line ≢ []
   good_front : ((written_task_lines before ≡ []) × (places_of line ≡ None)) ⊎ (((s : TasksData) × AreSaid before s) × (task_of line ≡ None)) → ⊥
   good_front (inl (none, bad)) =
       let first = front_same said.first line said.behind (written_task_lines behind) (sym said.split ∙ written_split before behind line some ∙ ap (λ l. l ++ line ∷ written_task_lines behind) none) in
-      let p : Places = record { switch = t.switch; block = t.block } in
-      absurd (let f : None ≡ Some p = sym bad ∙ ap places_of (sym first) ∙ said.places in cc)
+      absurd (let f : None ≡ Some (record { switch = t.switch; block = t.block }) = sym bad ∙ ap places_of (sym first) ∙ said.places in cc)
   good_front (inr ((s, front), bad)) = (named_here s front).0 bad
 
   eight_said : (s : TasksData) → AreSaid before s → count s ≡ 7 → 8 ≤ count t
   eight_said s front seven =
-      let lt = (named_here s front).1 in
-      let size = ap (λ (l : List (Option Task)). length l) front.named in
-      omega (arith, lt, size, length-map front.behind task_of, length-map s.list some_task)
+      omega (arith, (named_here s front).1, ap (λ (l : List (Option Task)). length l) front.named, length-map front.behind task_of, length-map s.list some_task)
 
 -- ---- one bad line
 said_or_bad : (lines : List (List ℕ)) (t : TasksData) (n : ℕ) → AreSaid lines t → IsBadTaskLine lines n → ⊥
@@ -145,9 +137,7 @@ module _ (lines : List (List ℕ)) where
   longer : (n m : ℕ) (a : IsEighthTaskLine lines n) (b : IsEighthTaskLine lines m) → length a.before < length b.before → ⊥
   longer n m a b less =
       let c = cut a.before b.before a.behind b.behind a.line b.line (sym a.split ∙ b.split) less in
-      let le = eight_said a.before c.0 a.line a.some b.seven (subst (λ l. AreSaid l b.seven) c.1 b.said) a.seven a.said a.many in
-      let seven = b.many in
-      absurd (omega arith)
+      absurd (omega (arith, eight_said a.before c.0 a.line a.some b.seven (subst (λ l. AreSaid l b.seven) c.1 b.said) a.seven a.said a.many, b.many))
 
   eighth_one : (n m : ℕ) → IsEighthTaskLine lines n → IsEighthTaskLine lines m → n ≡ m
   eighth_one n m a b =

@@ -60,9 +60,8 @@ module _ (tasks : TasksData) (are : AreTasks tasks) (fits : tasks.block + block_
 
   count_small : sign_extended 4 (n % 2 ^ 4) ≡ n
   count_small =
-      let few = are.few in
       let small : n % 2 ^ 4 ≡ n = omega arith in
-      ap (sign_extended 4) small ∙ ap (λ t. cond t n (n + 2 ^ 32 - 2 ^ 4)) (lt-ltb n (2 ^ 3) (omega arith))
+      ap (sign_extended 4) small ∙ ap (λ t. cond t n (n + 2 ^ 32 - 2 ^ 4)) (lt-ltb n (2 ^ 3) (omega (arith, are.few)))
 
   pub after_le : after n u ≤ n
   after_le = elim (cases_eq (suc u) n) [ inl last ↦ (let f = cond_same (suc u) n 0 (suc u) last in omega arith) | inr more ↦ (let f = cond_other (suc u) n 0 (suc u) more in omega arith) ]
@@ -77,8 +76,7 @@ module _ (tasks : TasksData) (are : AreTasks tasks) (fits : tasks.block + block_
   pub next_4 : InRoutine tasks m u 4 word_of → fetched m ≡ Ok (Load 0 (Reg 18) (sign_extended 16 (4 * n % 2 ^ 16)) 4 false false, 4) → InRoutine tasks (step m e) u 5 word_of
   unfolding does alu_of taken_of
   next_4 r at =
-      let base = r.block (omega arith) in
-      let place : machine_address_ahead (reg m 18) (sign_extended 16 (4 * n % 2 ^ 16)) ≡ tasks.block + 4 * n = block_place (reg m 18) base in
+      let place : machine_address_ahead (reg m 18) (sign_extended 16 (4 * n % 2 ^ 16)) ≡ tasks.block + 4 * n = block_place (reg m 18) (r.block (omega arith)) in
       let x : Machine = record (advanced 4 m) { d = set m.d 0 (load_number m.mem e.input (machine_address_ahead (reg m 18) (sign_extended 16 (4 * n % 2 ^ 16))) 4) } in
       let done : does m e (Load 0 (Reg 18) (sign_extended 16 (4 * n % 2 ^ 16)) 4 false false) 4 ≡ x = ap (λ t. cond t (misaligned m) (record (advanced 4 m) { d = set m.d 0 (load_number m.mem e.input (machine_address_ahead (reg m 18) (sign_extended 16 (4 * n % 2 ^ 16))) 4) })) (no_trap (machine_address_ahead (reg m 18) (sign_extended 16 (4 * n % 2 ^ 16))) (ap (λ y. y % 4) place ∙ four_place n)) in
       to_next 5 x (none_of r.off) (Load 0 (Reg 18) (sign_extended 16 (4 * n % 2 ^ 16)) 4 false false) at done running (record { pc = (let p = r.pc in let f = fits_pc in omega arith); off = r.off; high = λ a. absurd (omega arith); block = λ a. r.block (omega arith); own = λ a b. get_or-set_same m.d 0 (load_number m.mem e.input (machine_address_ahead (reg m 18) (sign_extended 16 (4 * n % 2 ^ 16))) 4) 0 (omega arith) ∙ ap (λ y. load_number m.mem e.input y 4) place ∙ block_read tasks m.mem fits here e.input n (omega arith) ∙ r.old_current (omega arith); own_word = λ a b. absurd (omega arith); pcxi = λ a. absurd (omega arith); stored = λ a. absurd (omega arith); one_on = λ a b. absurd (omega arith); at_end = λ a. absurd (omega arith); next = λ a. absurd (omega arith); old_current = λ a. r.old_current (omega arith); new_current = λ a. absurd (omega arith); next_word = λ a. absurd (omega arith); next_pcxi = λ a. absurd (omega arith) })
@@ -124,8 +122,7 @@ module _ (tasks : TasksData) (are : AreTasks tasks) (fits : tasks.block + block_
   pub next_11 : InRoutine tasks m u 11 word_of → fetched m ≡ Ok (Store 0 (Reg 18) (sign_extended 16 (4 * n % 2 ^ 16)) 4 false, 4) → InRoutine tasks (step m e) u 12 word_of
   unfolding does alu_of taken_of
   next_11 r at =
-      let base = r.block (omega arith) in
-      let place : machine_address_ahead (reg m 18) (sign_extended 16 (4 * n % 2 ^ 16)) ≡ tasks.block + 4 * n = block_place (reg m 18) base in
+      let place : machine_address_ahead (reg m 18) (sign_extended 16 (4 * n % 2 ^ 16)) ≡ tasks.block + 4 * n = block_place (reg m 18) (r.block (omega arith)) in
       let put : with_bytes m.mem (machine_address_ahead (reg m 18) (sign_extended 16 (4 * n % 2 ^ 16))) (reg m 0) 4 ≡ with_bytes m.mem (tasks.block + 4 * n) (reg m 0) 4 = ap (λ y. with_bytes m.mem y (reg m 0) 4) place in
       let x : Machine = record (advanced 4 m) { mem = with_bytes m.mem (machine_address_ahead (reg m 18) (sign_extended 16 (4 * n % 2 ^ 16))) (reg m 0) 4 } in
       let done : does m e (Store 0 (Reg 18) (sign_extended 16 (4 * n % 2 ^ 16)) 4 false) 4 ≡ x = ap (λ t. cond t (misaligned m) (record (advanced 4 m) { mem = with_bytes m.mem (machine_address_ahead (reg m 18) (sign_extended 16 (4 * n % 2 ^ 16))) (reg m 0) 4 })) (no_trap (machine_address_ahead (reg m 18) (sign_extended 16 (4 * n % 2 ^ 16))) (ap (λ y. y % 4) place ∙ four_place n)) in

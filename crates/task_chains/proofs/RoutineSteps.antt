@@ -29,7 +29,6 @@ loaded_word_at m input x fits here =
     let n2 : ((x + 1) % 2 ^ 32 + 1) % 2 ^ 32 ≡ x + 2 = omega arith in
     let n3 : (((x + 1) % 2 ^ 32 + 1) % 2 ^ 32 + 1) % 2 ^ 32 ≡ x + 3 = omega arith in
     let h0 : is_mapped m x ≡ true = subst (λ y. is_mapped m y ≡ true) (let e : x + 0 ≡ x = omega arith in e) (here 0 (omega arith)) in
-    let b0 = mapped_byte (map.get m x) (input % 2 ^ 8) h0 in
     let b1 : unwrap_or (map.get m ((x + 1) % 2 ^ 32)) (input / 2 ^ 8 % 2 ^ 8) ≡ unwrap_or (map.get m (x + 1)) 0 = ap (λ y. unwrap_or (map.get m y) (input / 2 ^ 8 % 2 ^ 8)) n1 ∙ mapped_byte (map.get m (x + 1)) (input / 2 ^ 8 % 2 ^ 8) (here 1 (omega arith)) in
     let b2 : unwrap_or (map.get m (((x + 1) % 2 ^ 32 + 1) % 2 ^ 32)) (input / 2 ^ 8 / 2 ^ 8 % 2 ^ 8) ≡ unwrap_or (map.get m (x + 2)) 0 =
     ap (λ y. unwrap_or (map.get m y) (input / 2 ^ 8 / 2 ^ 8 % 2 ^ 8)) n2 ∙ mapped_byte (map.get m (x + 2)) (input / 2 ^ 8 / 2 ^ 8 % 2 ^ 8) (here 2 (omega arith))
@@ -37,7 +36,7 @@ loaded_word_at m input x fits here =
     let b3 : unwrap_or (map.get m ((((x + 1) % 2 ^ 32 + 1) % 2 ^ 32 + 1) % 2 ^ 32)) (input / 2 ^ 8 / 2 ^ 8 / 2 ^ 8 % 2 ^ 8) ≡ unwrap_or (map.get m (x + 3)) 0 =
     ap (λ y. unwrap_or (map.get m y) (input / 2 ^ 8 / 2 ^ 8 / 2 ^ 8 % 2 ^ 8)) n3 ∙ mapped_byte (map.get m (x + 3)) (input / 2 ^ 8 / 2 ^ 8 / 2 ^ 8 % 2 ^ 8) (here 3 (omega arith))
     in
-    (λ i. b0 i + 2 ^ 8 * (b1 i + 2 ^ 8 * (b2 i + 2 ^ 8 * (b3 i + 2 ^ 8 * 0))))
+    (λ i. (mapped_byte (map.get m x) (input % 2 ^ 8) h0) i + 2 ^ 8 * (b1 i + 2 ^ 8 * (b2 i + 2 ^ 8 * (b3 i + 2 ^ 8 * 0))))
     ∙ shape (unwrap_or (map.get m x) 0) (unwrap_or (map.get m (x + 1)) 0) (unwrap_or (map.get m (x + 2)) 0) (unwrap_or (map.get m (x + 3)) 0)
   where
     shape : (a b c d : ℕ) → a + 2 ^ 8 * (b + 2 ^ 8 * (c + 2 ^ 8 * (d + 2 ^ 8 * 0))) ≡ a + 2 ^ 8 * b + 2 ^ 16 * c + 2 ^ 24 * d

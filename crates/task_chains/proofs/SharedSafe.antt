@@ -35,26 +35,19 @@ module _ {plan : PlanData} (ok : IsPlan plan) (tasks : TasksData) (m : Machine) 
   -- if all areas except the reserve are in use, FCX is at the limit
   to_limit : (front : List ℕ) → s.free ≡ front ++ reserve_of plan → sum_over_chains n (λ w. length (chain_of w)) ≡ plan.areas - plan.reserve → link_in m.fcx ≡ link_in m.lcx
   to_limit [] is full =
-      let l : Links m.mem m.fcx (reserve_of plan) = subst (Links m.mem m.fcx) is s.free_links in
-      by_reserve plan.reserve (first_link plan + (plan.areas - plan.reserve)) ((ok.areas).reserved) l ∙ sym s.lcx_is
+      by_reserve plan.reserve (first_link plan + (plan.areas - plan.reserve)) ((ok.areas).reserved) (subst (Links m.mem m.fcx) is s.free_links) ∙ sym s.lcx_is
     where
       by_reserve : (k x : ℕ) → 1 ≤ k → Links m.mem m.fcx (area_links_up x k) → link_in m.fcx ≡ x
       by_reserve zero x some l = absurd (omega arith)
       by_reserve (suc k) x some l = l.1
   to_limit (f ∷ front) is full =
-      let a = all in
       let long : length (s.free) ≡ length (f ∷ front) + length (reserve_of plan) = ap length is ∙ length-append (f ∷ front) (reserve_of plan) in
-      let r = length-links_up (first_link plan + (plan.areas - plan.reserve)) plan.reserve in
-      let within = (ok.areas).reserve_within in
-      absurd (omega arith)
+      absurd (omega (arith, all, length-links_up (first_link plan + (plan.areas - plan.reserve)) plan.reserve, (ok.areas).reserve_within))
 
   -- FCX is at the limit only then
   from_limit : (front : List ℕ) → s.free ≡ front ++ reserve_of plan → link_in m.fcx ≡ link_in m.lcx → sum_over_chains n (λ w. length (chain_of w)) ≡ plan.areas - plan.reserve
   from_limit [] is at =
-      let a = all in
-      let long : length (s.free) ≡ plan.reserve = ap length is ∙ length-links_up (first_link plan + (plan.areas - plan.reserve)) plan.reserve in
-      let within = (ok.areas).reserve_within in
-      omega arith
+      omega (arith, all, ap length is ∙ length-links_up (first_link plan + (plan.areas - plan.reserve)) plan.reserve, (ok.areas).reserve_within)
   from_limit (f ∷ front) is at =
       let l : Links m.mem m.fcx (f ∷ front ++ reserve_of plan) = subst (Links m.mem m.fcx) is s.free_links in
       let share : Share n chain_of (f ∷ front ++ reserve_of plan) (plan_areas plan) = subst (λ ls. Share n chain_of ls (plan_areas plan)) is s.share in

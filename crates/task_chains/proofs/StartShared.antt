@@ -52,17 +52,15 @@ module _ (plan : PlanData) where
   times_held : (l k : ℕ) → sum_over_chains (suc k) (λ w. times_in_list l (start_chain plan w)) ≡ times_in_list l (area_links_up (first_link plan) (2 * k))
   times_held l zero = refl
   times_held l (suc k) =
-      let rest = times_held l k in
       let here : times_in_list l (start_chain plan (suc k)) ≡ times_in_list l (task_lower_area plan (suc k) ∷ task_upper_area plan (suc k) ∷ []) = ap (times_in_list l) (cond_other (suc k) 0 [] (task_lower_area plan (suc k) ∷ task_upper_area plan (suc k) ∷ []) (λ e. omega arith)) in
       let more = ap (times_in_list l) (two_more k) ∙ times-append l (area_links_up (first_link plan) (2 * k)) (task_upper_area plan (suc k) ∷ task_lower_area plan (suc k) ∷ []) in
-      omega arith
+      omega (arith, times_held l k)
 
   length_held : (k : ℕ) → sum_over_chains (suc k) (λ w. length (start_chain plan w)) ≡ 2 * k
   length_held zero = refl
   length_held (suc k) =
-      let rest = length_held k in
       let here : length (start_chain plan (suc k)) ≡ 2 = ap length (cond_other (suc k) 0 [] (task_lower_area plan (suc k) ∷ task_upper_area plan (suc k) ∷ []) (λ e. omega arith)) in
-      omega arith
+      omega (arith, length_held k)
 
 small_link : (b : Bool) (x : ℕ) → (b ≡ true → x < 2 ^ 20) → link_in (cond b x 0) ≡ cond b x 0
 small_link true x h = let lt = h refl in omega arith
@@ -82,12 +80,11 @@ module _ (image : ImageData) (plan : PlanData) (ok : IsPlan plan) (tasks : Tasks
   ready_links : (w : ℕ) → 1 ≤ w → w < n → Links m.mem (block_word tasks m.mem w) (task_lower_area plan w ∷ task_upper_area plan w ∷ [])
   ready_links w some lt =
       let r = start.ready w some lt in
-      let up : 2 * (w - 1) < plan.areas = omega arith in
       let low : 2 * (w - 1) + 1 < plan.areas = omega arith in (
         some_link ok (2 * (w - 1) + 1),
         ap link_in r.word ∙ link_in-pcxi_word plan.core 0 false false (task_lower_area plan w) (link_lt ok (2 * (w - 1) + 1) low),
         area_mapped (2 * (w - 1) + 1) low,
-        (some_link ok (2 * (w - 1)), r.above, area_mapped (2 * (w - 1)) up, ap link_in r.ends),
+        (some_link ok (2 * (w - 1)), r.above, area_mapped (2 * (w - 1)) (omega arith), ap link_in r.ends),
       )
 
   all_links : AllLinks n m.mem (start_word tasks m) (start_chain plan)
@@ -105,10 +102,9 @@ module _ (image : ImageData) (plan : PlanData) (ok : IsPlan plan) (tasks : Tasks
   free_from i zero word le e w = w ∙ ap (λ t. cond t (first_link plan + i) 0) (le-ltb i plan.areas (omega arith))
   free_from i (suc k) word le e w =
       let lt : i < plan.areas = omega arith in
-      let here : link_in word ≡ first_link plan + i = w ∙ ap (λ t. cond t (first_link plan + i) 0) (lt-ltb i plan.areas lt) in
       let next : first_link plan + i + 1 ≡ first_link plan + (i + 1) = omega arith in (
         some_link ok i,
-        here,
+        w ∙ ap (λ t. cond t (first_link plan + i) 0) (lt-ltb i plan.areas lt),
         area_mapped i lt,
         subst (λ l. Links m.mem (area_word m.mem (first_link plan + i) 0) (area_links_up l k)) (sym next)
             (free_from (i + 1) k (area_word m.mem (first_link plan + i) 0) (omega arith) (omega arith)
@@ -131,13 +127,10 @@ module _ (image : ImageData) (plan : PlanData) (ok : IsPlan plan) (tasks : Tasks
       record {
         each = λ l.
             let t = ap (λ j. sum_over_chains j (λ w. times_in_list l (start_chain plan w))) (sym is) ∙ times_held plan l k ∙ ap (λ j. times_in_list l (area_links_up (first_link plan) j)) (sym held_is) in
-            let all = ap (times_in_list l) whole ∙ times-append l (area_links_up (first_link plan) held) free in
-            omega arith;
+            omega (arith, ap (times_in_list l) whole ∙ times-append l (area_links_up (first_link plan) held) free);
         count =
             let t = ap (λ j. sum_over_chains j (λ w. length (start_chain plan w))) (sym is) ∙ length_held plan k in
-            let f = length-links_up (first_link plan + held) (plan.areas - held) in
-            let a = length-links_up (first_link plan) plan.areas in
-            omega arith;
+            omega (arith, length-links_up (first_link plan + held) (plan.areas - held), length-links_up (first_link plan) plan.areas);
       }
 
   pub start_shared : Shared plan n 0 (start_word tasks m) (start_chain plan) m.mem m.pcxi m.fcx m.lcx

@@ -19,7 +19,7 @@ use Rattle.cfg_recover.specs.Code.{HasCode}
 use Rattle.cfg_recover.specs.RulesHoldOrFail.{certified_need}
 use Rattle.task_chains.specs.Tasks.{TasksData, count}
 use Rattle.task_chains.specs.Views.{view_image_of, view_plan_of}
-use Rattle.task_chains.specs.TaskStarts.{block_word, current_task, task_upper_area, task_lower_area, held_at_start, IsReady, TasksStart}
+use Rattle.task_chains.specs.TaskStarts.{block_word, current_task, task_upper_area, task_lower_area, IsReady, TasksStart}
 use Rattle.task_chains.specs.SafeTasks.{task_before, owner, IsTaskStore, AreSafeAt, need_of_task, TasksAreSafe}
 use Rattle.task_chains.proofs.Alike.{seen_as}
 use Rattle.task_chains.proofs.Beginning.{start_memory, start_is, start_turn, begins_on, begins_lower, begins_home}
@@ -49,8 +49,7 @@ before_after : (n u : ℕ) → u < n → task_before n (after n u) ≡ u
 before_after n u lt =
     elim (cases_eq (suc u) n) [
       | inl last ↦
-          let is : after n u ≡ 0 = cond_same (suc u) n 0 (suc u) last in
-          ap (task_before n) is ∙ cond_same 0 0 (n - 1) (0 - 1) refl ∙ (let f : n - 1 ≡ u = omega arith in f)
+          ap (task_before n) (cond_same (suc u) n 0 (suc u) last) ∙ cond_same 0 0 (n - 1) (0 - 1) refl ∙ (let f : n - 1 ≡ u = omega arith in f)
       | inr more ↦
           let is : after n u ≡ suc u = cond_other (suc u) n 0 (suc u) more in
           ap (task_before n) is ∙ cond_other (suc u) 0 (n - 1) (suc u - 1) (λ e. omega arith) ∙ (let f : suc u - 1 ≡ u = omega arith in f)
@@ -101,14 +100,13 @@ module _ {image : ImageData} {plan : PlanData} {tasks : TasksData} {certs : ℕ 
           | inr out ↦ owner_now tasks m (λ a. out (omega arith, omega arith)) (λ a. out (omega arith, omega arith)) (λ a. out (omega arith, omega arith)) ∙ now
         ]
     owner_by (switches view pcxi fcx seen i some most of pause r) =
-        let pc = r.pc in
         elim (cases_eq i 12) [
           | inl a ↦ given (r.new_current (omega arith)) (inl (omega arith))
           | inr not_12 ↦ elim (cases_eq i 13) [
             | inl b ↦ given (r.new_current (omega arith)) (inr (inl (omega arith)))
             | inr not_13 ↦ elim (cases_eq i 14) [
               | inl c ↦ given (r.new_current (omega arith)) (inr (inr (omega arith)))
-              | inr not_14 ↦ away i pc (inl (omega arith)) ∙ r.old_current (omega arith)
+              | inr not_14 ↦ away i r.pc (inl (omega arith)) ∙ r.old_current (omega arith)
             ]
           ]
         ]
@@ -211,9 +209,8 @@ module _ {image : ImageData} {plan : PlanData} {tasks : TasksData} {certs : ℕ 
         let some = (wd.are).some in
         let each = two_each (count tasks) (omega arith) wd.two in
         let sum = wd.sum in
-        let few : held_at_start tasks ≤ plan.areas - plan.reserve = omega arith in
         record {
-          shared = start_shared image plan wd.ok tasks wd.are m start few;
+          shared = start_shared image plan wd.ok tasks wd.are m start (omega arith);
           words = start.machine;
           running = start.end;
           memory = start.memory;
@@ -235,9 +232,8 @@ module _ {image : ImageData} {plan : PlanData} {tasks : TasksData} {certs : ℕ 
               elim (cases_eq w 0) [
                 | inl zero_w ↦ let none : length (start_chain plan w) ≡ 0 = ap length (cond_same w 0 [] (task_lower_area plan w ∷ task_upper_area plan w ∷ []) zero_w) in omega arith
                 | inr later ↦
-                    let two : length (start_chain plan w) ≡ 2 = ap length (cond_other w 0 [] (task_lower_area plan w ∷ task_upper_area plan w ∷ []) later) in
                     let need = wd.two w (omega arith) lt in
-                    omega arith
+                    omega (arith, ap length (cond_other w 0 [] (task_lower_area plan w ∷ task_upper_area plan w ∷ []) later))
               ];
         }
 
@@ -262,5 +258,4 @@ tasks_are_safe image plan tasks certs ok are fit has judged sum m es e start all
       sum = sum;
     }
     in
-    let g = goes_run wd m (all_start wd m start) es all in
-    safe_now wd (run m es) g.kept e fits
+    safe_now wd (run m es) (goes_run wd m (all_start wd m start) es all).kept e fits

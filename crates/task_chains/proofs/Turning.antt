@@ -88,7 +88,6 @@ module _ {image : ImageData} {plan : PlanData} {tasks : TasksData} {certs : ℕ 
 
   block_stored : (m : Memory) (here : (i : ℕ) → i < block_size tasks → is_mapped m (tasks.block + i) ≡ true) (x j w : ℕ) → x ≡ tasks.block + 4 * j → j ≤ count tasks → BlockStored plan tasks m (with_bytes m x w 4) j
   block_stored m here x j w is le =
-      let f = block_fits in
       subst (λ y. BlockStored plan tasks m (with_bytes m y w 4) j) (sym is)
       (record {
         areas = λ y at. store_keeps_areas plan wd.ok image m (tasks.block + 4 * j) w 4 (block_range j le) y at;
@@ -104,7 +103,7 @@ module _ {image : ImageData} {plan : PlanData} {tasks : TasksData} {certs : ℕ 
                     (IsInOne-front y 1 plan.ram (map (λ d. d.range) plan.devices ++ areas_range plan ∷ []) (block_in_ram wd.ok wd.fit y (omega arith) (omega arith))))
               ]
             ]);
-        blocks = λ v apart. block_kept tasks m f here j w v le apart;
+        blocks = λ v apart. block_kept tasks m block_fits here j w v le apart;
       })
 
   -- an instruction of the routine that is no store

@@ -125,21 +125,15 @@ module _ {plan : PlanData} (ok : IsPlan plan) {n u : ℕ} {word_of : ℕ → ℕ
   shared_from : (free front : List ℕ) → free ≡ front ++ reserve_of plan → Links mem fcx free → Share n chain_of free (plan_areas plan) → sum_over_chains n (λ w. length (chain_of w)) < plan.areas - plan.reserve
       → HasShared plan n chain_of mem fcx lcx
   shared_from free [] is links share room =
-      let all = share.count in
-      let long : length free ≡ plan.reserve = ap length is ∙ length-links_up _ plan.reserve in
-      let areas = length-links_up (first_link plan) plan.areas in
-      let few = (ok.areas).reserve_within in
-      absurd (omega arith)
+      absurd (omega (arith, share.count, ap length is ∙ length-links_up _ plan.reserve, length-links_up (first_link plan) plan.areas, (ok.areas).reserve_within))
   shared_from free (f ∷ front) is links share room =
       let l : Links mem fcx (f ∷ front ++ reserve_of plan) = subst (Links mem fcx) is links in
       let s : Share n chain_of (f ∷ front ++ reserve_of plan) (plan_areas plan) = subst (λ ls. Share n chain_of ls (plan_areas plan)) is share in
-      let avoids = first_avoids_rest n chain_of f (front ++ reserve_of plan) (plan_areas plan) s (areas_once plan) in
-      let last = t.lcx_is in
       record {
         front = front;
         some = rw l.1 l.0;
         area = rw l.1 l.2;
-        not_last = λ e. not_reserved f front avoids (sym l.1 ∙ e ∙ last);
+        not_last = λ e. not_reserved f front (first_avoids_rest n chain_of f (front ++ reserve_of plan) (plan_areas plan) s (areas_once plan)) (sym l.1 ∙ e ∙ t.lcx_is);
         links = subst (λ x. Links mem fcx (x ∷ front ++ reserve_of plan)) (sym l.1) l;
         share = subst (λ x. Share n chain_of (x ∷ front ++ reserve_of plan) (plan_areas plan)) (sym l.1) s;
       }
@@ -224,12 +218,6 @@ module _ {plan : PlanData} (ok : IsPlan plan) {n u : ℕ} {word_of : ℕ → ℕ
   small : l < 2 ^ 20
   small = subst (λ x. x < 2 ^ 20) named (link_in-lt pcxi)
 
-  view_named : link_in view_pcxi ≡ k
-  view_named = t.view_links.1
-
-  view_small : k < 2 ^ 20
-  view_small = subst (λ x. x < 2 ^ 20) view_named (link_in-lt view_pcxi)
-
   pub Twins-restored : Twins plan n u (with_chain_word word_of u (area_word mem l 0)) (with_chain chain_of u used) seen (with_words mem (link_address l) (fcx ∷ [])) (area_word mem l 0) (word_with_link fcx l) lcx
       (with_words view (link_address k) (view_fcx ∷ [])) (area_word view k 0) (word_with_link view_fcx k)
   Twins-restored =
@@ -255,5 +243,5 @@ module _ {plan : PlanData} (ok : IsPlan plan) {n u : ℕ} {word_of : ℕ → ℕ
         view_word = area_word-lt view view_bytes k 0;
         view_links = used_after_restore view view_pcxi k seen view_fcx t.view_links freed.avoids_used;
         view_free = k ∷ t.view_free;
-        view_areas = Areas-restored view view_pcxi view_fcx lcx k seen t.view_free t.view_links t.view_areas view_small;
+        view_areas = Areas-restored view view_pcxi view_fcx lcx k seen t.view_free t.view_links t.view_areas (subst (λ x. x < 2 ^ 20) t.view_links.1 (link_in-lt view_pcxi));
       }

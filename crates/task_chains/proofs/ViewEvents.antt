@@ -78,7 +78,6 @@ loaded_outside m input x small fits gone =
     let n2 : ((x + 1) % 2 ^ 32 + 1) % 2 ^ 32 ≡ x + 2 = omega arith in
     let n3 : (((x + 1) % 2 ^ 32 + 1) % 2 ^ 32 + 1) % 2 ^ 32 ≡ x + 3 = omega arith in
     let g0 : is_mapped m x ≡ false = subst (λ y. is_mapped m y ≡ false) (let e : x + 0 ≡ x = omega arith in e) (gone 0 (omega arith)) in
-    let b0 = no_byte (finite.get m x) (input % 2 ^ 8) g0 in
     let b1 : unwrap_or (finite.get m ((x + 1) % 2 ^ 32)) (input / 2 ^ 8 % 2 ^ 8) ≡ input / 2 ^ 8 % 2 ^ 8 = ap (λ y. unwrap_or (finite.get m y) (input / 2 ^ 8 % 2 ^ 8)) n1 ∙ no_byte (finite.get m (x + 1)) (input / 2 ^ 8 % 2 ^ 8) (gone 1 (omega arith)) in
     let b2 : unwrap_or (finite.get m (((x + 1) % 2 ^ 32 + 1) % 2 ^ 32)) (input / 2 ^ 8 / 2 ^ 8 % 2 ^ 8) ≡ input / 2 ^ 8 / 2 ^ 8 % 2 ^ 8 =
     ap (λ y. unwrap_or (finite.get m y) (input / 2 ^ 8 / 2 ^ 8 % 2 ^ 8)) n2 ∙ no_byte (finite.get m (x + 2)) (input / 2 ^ 8 / 2 ^ 8 % 2 ^ 8) (gone 2 (omega arith))
@@ -86,7 +85,7 @@ loaded_outside m input x small fits gone =
     let b3 : unwrap_or (finite.get m ((((x + 1) % 2 ^ 32 + 1) % 2 ^ 32 + 1) % 2 ^ 32)) (input / 2 ^ 8 / 2 ^ 8 / 2 ^ 8 % 2 ^ 8) ≡ input / 2 ^ 8 / 2 ^ 8 / 2 ^ 8 % 2 ^ 8 =
     ap (λ y. unwrap_or (finite.get m y) (input / 2 ^ 8 / 2 ^ 8 / 2 ^ 8 % 2 ^ 8)) n3 ∙ no_byte (finite.get m (x + 3)) (input / 2 ^ 8 / 2 ^ 8 / 2 ^ 8 % 2 ^ 8) (gone 3 (omega arith))
     in
-    (λ i. b0 i + 2 ^ 8 * (b1 i + 2 ^ 8 * (b2 i + 2 ^ 8 * (b3 i + 2 ^ 8 * 0)))) ∙ whole input small
+    (λ i. (no_byte (finite.get m x) (input % 2 ^ 8) g0) i + 2 ^ 8 * (b1 i + 2 ^ 8 * (b2 i + 2 ^ 8 * (b3 i + 2 ^ 8 * 0)))) ∙ whole input small
   where
     whole : (w : ℕ) → w < 2 ^ 32 → w % 2 ^ 8 + 2 ^ 8 * (w / 2 ^ 8 % 2 ^ 8 + 2 ^ 8 * (w / 2 ^ 8 / 2 ^ 8 % 2 ^ 8 + 2 ^ 8 * (w / 2 ^ 8 / 2 ^ 8 / 2 ^ 8 % 2 ^ 8 + 2 ^ 8 * 0))) ≡ w
     whole w lt = omega arith
@@ -169,9 +168,6 @@ module _ {plan : PlanData} (ok : IsPlan plan) (tasks : TasksData) (are : AreTask
     pub fits_interrupt : is_taken m e ≡ true → Fits (view_plan_of plan tasks u) v e
     fits_interrupt taken = record { irq = fits.irq; input = fits.input; status = fits.status; answers = λ none. absurd (both_ways (is_taken m e) none taken) }
 
-    word_lt : (x : ℕ) → load_number m.mem e.input x 4 < 2 ^ 32
-    word_lt x = load_lt m.mem (k.words).bytes false e.input x 4 (inr (inr refl))
-
     -- a word that the view loads from a peripheral is in its bounds
     answered : (x : ℕ) → AnswersAt x e.input plan.devices → AnswersAt x (load_number m.mem e.input x 4) (view_devices plan tasks)
     answered x own =
@@ -182,7 +178,7 @@ module _ {plan : PlanData} (ok : IsPlan plan) (tasks : TasksData) (are : AreTask
         let hi = there.1 in
         let same : load_number m.mem e.input x 4 ≡ e.input = from_outside (slice_index_or plan.devices i d).range within (nth_in plan.devices i d less) in
         (omega arith, omega arith))
-        (any_answer x (load_number m.mem e.input x 4) (word_lt x) (left ok tasks are fit))
+        (any_answer x (load_number m.mem e.input x 4) (load_lt m.mem (k.words).bytes false e.input x 4 (inr (inr refl))) (left ok tasks are fit))
       where
         from_outside : (r : Range) → IsWithinRange x 4 r → ((y : ℕ) → IsWithinRange y 1 r → IsInOneRange y 1 devs) → load_number m.mem e.input x 4 ≡ e.input
         from_outside r within inside =

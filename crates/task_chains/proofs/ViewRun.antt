@@ -130,9 +130,6 @@ module _ {image : ImageData} {plan : PlanData} (ok : IsPlan plan) {tasks : Tasks
   own_at : (q : ℕ) → LocalRule (limits_in plan2 cert) plan2 (r.frame).key v.pc view_point.state view_point.shape q
   own_at q = subst (λ (k : Key). LocalRule (limits_in plan2 cert) plan2 k v.pc view_point.state view_point.shape q) same_key (view_point.own q)
 
-  pub view_at_pc : (r.frame).at ≡ v.pc
-  view_at_pc = frame_at view plan2 view_ok cert judged.is_cert judged.accepted tasks judged.apart v r.frame r.behind judged.frames r.reached
-
   pub view_words : IsMachine v
   view_words = words_of view plan2 view_ok cert judged.is_cert judged.accepted tasks judged.apart v (r.frame ∷ r.behind) r.reached
 
@@ -152,7 +149,7 @@ module _ {image : ImageData} {plan : PlanData} (ok : IsPlan plan) {tasks : Tasks
 
   -- if it enters the routine, it is at the first instruction
   pub view_enters : AreFirst tasks (r.frame ∷ r.behind) → IsInRoutine tasks v.pc → v.pc ≡ tasks.switch
-  view_enters all i = sym view_at_pc ∙ all.0 (view_in_routine i)
+  view_enters all i = sym (frame_at view plan2 view_ok cert judged.is_cert judged.accepted tasks judged.apart v r.frame r.behind judged.frames r.reached) ∙ all.0 (view_in_routine i)
 
   pub view_running : v.end ≡ Running
   view_running =

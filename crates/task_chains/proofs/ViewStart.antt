@@ -130,14 +130,11 @@ module _ {plan : PlanData} (ok : IsPlan plan) (image view : ImageData) (tasks : 
   rom_held : (x b : ℕ) → IsInOneRange x 1 plan.rom → image_byte view x ≡ Some b → finite.get view_memory x ≡ Some b
   rom_held x b in_rom held = get_out x (rom_apart ok x in_rom) ∙ images_put view base plan.rom x b in_rom (rom_there x in_rom) held
 
-  rom_none : (x : ℕ) → IsInOneRange x 1 plan.rom → image_byte view x ≡ None → finite.get view_memory x ≡ finite.get mem x
-  rom_none x in_rom none = get_out x (rom_apart ok x in_rom) ∙ images_none view base plan.rom x none ∙ not_ram x (rom_and_ram x in_rom)
-
   same_rom : SameRom plan tasks mem view_memory
   same_rom x in_rom out = by_byte (image_byte view x) refl
     where
       by_byte : (o : Option ℕ) → image_byte view x ≡ o → finite.get view_memory x ≡ finite.get mem x
-      by_byte None e = rom_none x in_rom e
+      by_byte None e = get_out x (rom_apart ok x in_rom) ∙ images_none view base plan.rom x e ∙ not_ram x (rom_and_ram x in_rom)
       by_byte (Some b) e = rom_held x b in_rom e ∙ sym (rom x b in_rom (sym (outside x out) ∙ e))
 
   -- bytes stay bytes

@@ -1,5 +1,5 @@
 -- A task that waits still waits after a step of another one.
-use Rattle.std.proofs.Common.{◌≡◌, ℕ, ◌/◌, ◌%◌, ◌^◌, List, [], ◌∷◌, refl, sym, ap, ◌∙◌, subst, arith}
+use Rattle.std.proofs.Common.{◌≡◌, ℕ, ◌/◌, ◌%◌, ◌^◌, List, sym, ap, ◌∙◌, subst, arith}
 use Rattle.std.specs.FinMap as finite
 use Rattle.csa_chain.specs.MemoryBytes.{Memory}
 use Rattle.csa_chain.specs.Chain.{link_in}
@@ -16,6 +16,7 @@ use Rattle.task_chains.specs.Tasks.{TasksData}
 use Rattle.task_chains.specs.TaskStarts.{block_word, task_upper_area, task_lower_area, IsReady}
 use Rattle.task_chains.proofs.Twins.{SameContexts-kept}
 use Rattle.task_chains.proofs.Invariant.{Waits, ready, paused}
+use Rattle.task_chains.proofs.Levels.{areas_same}
 
 -- a task that is ready, if its areas and its word are unchanged
 ready_kept : (core : Core) (plan : PlanData) (tasks : TasksData) (m n : Memory) (w : ℕ) → SameArea m n (task_lower_area plan w) → SameArea m n (task_upper_area plan w) → block_word tasks n w ≡ block_word tasks m w → IsReady core plan tasks m w → IsReady core plan tasks n w
@@ -36,10 +37,6 @@ ready_kept core plan tasks m n w low up word r =
       word = word ∙ r.word;
     }
 
-same_refl : (mem : Memory) (ls : List ℕ) → SameAreas mem mem ls
-same_refl mem [] = tt
-same_refl mem (l ∷ ls) = (record { bytes = λ i lt. refl }, same_refl mem ls)
-
 -- by the areas of its chain, rom and its word
 pub waits_kept : (image : ImageData) (plan : PlanData) (tasks : TasksData) (w : ℕ) (m n : Machine) (word : ℕ) (links : List ℕ) → SameAreas m.mem n.mem links → ((x : ℕ) → IsInOneRange x 1 plan.rom → finite.get n.mem x ≡ finite.get m.mem x)
     → block_word tasks n.mem w ≡ block_word tasks m.mem w → n.core ≡ m.core → n.lcx ≡ m.lcx → Waits image plan tasks w m word links → Waits image plan tasks w n word links
@@ -51,7 +48,7 @@ waits_kept image plan tasks w m n word links same rom block core lcx (paused v s
     (record { run = of.run; memory = of.memory; rom = of.rom; same_rom = λ x in_rom out. of.same_rom x in_rom out ∙ sym (rom x in_rom) })
     pc off ccpn
     (record {
-      same = SameContexts-kept m.mem n.mem v.mem v.mem word v.pcxi links seen same (same_refl v.mem seen) p.same;
+      same = SameContexts-kept m.mem n.mem v.mem v.mem word v.pcxi links seen same (areas_same v.mem seen) p.same;
       view_word = p.view_word;
       view_links = p.view_links;
       view_free = p.view_free;

@@ -12,7 +12,6 @@ use Rattle.task_chains.proofs.views.view_plan.Goals as goal
 pub invariant_of-result : goal.invariant_of-result
 invariant_of-result c =
     let ok = subst IsPlan c.plan.view_is c.plan.invariant in
-    let are = subst AreTasks c.tasks.view_is c.tasks.invariant in
     let rom = (MatchResult-at_ok _ _ c.unwrap.result c.unwrap.ensures c.try_from.ensures).0 ∙ c.as_slice.ensures.value ∙ ap (λ (p : PlanData). p.rom) c.plan.view_is in
     let irqs = (MatchResult-at_ok _ _ c.unwrap-2.result c.unwrap-2.ensures c.try_from-2.ensures).0 ∙ c.as_slice-3.ensures.value ∙ ap (λ (p : PlanData). p.irqs) c.plan.view_is in
     let sp = ap (λ (l : List Task). (slice_index_or l c.args.u (record { entry = 0; sp = 0 })).sp) (c.as_slice-2.ensures.value ∙ ap (λ (t : TasksData). t.list) c.tasks.view_is) in
@@ -23,4 +22,4 @@ invariant_of-result c =
     let e =
     plan_parts (plan_data c.plan.inside) c.args.plan.now c.args.tasks.now c.args.u c.unwrap.result.items c.new.result.items c.devices_beside_block.result.items c.unwrap-2.result.items _ c.is_task_start_enabled.result
     c.plan.view_is rom c.new.ensures devices irqs sp c.is_task_start_enabled.ensures in
-    subst IsPlan (sym e) (view_is_plan ok c.args.tasks.now are c.requires.fit c.args.u c.requires.task)
+    subst IsPlan (sym e) (view_is_plan ok c.args.tasks.now (subst AreTasks c.tasks.view_is c.tasks.invariant) c.requires.fit c.args.u c.requires.task)

@@ -7,10 +7,9 @@ use Rattle.task_chains.proofs.task_lists.Tasks.have_views_room.Goals as goal
 
 pub returns : goal.returns
 returns c =
-    let tasks = c.args.self.now in
     let plan = c.args.plan.now in
     let at = ap (λ (t : TasksData). t.block) c.self.view_is in
     let is =
     c.count_devices_beside_block.ensures ∙ ap (λ x. length (plan.devices ++ map any_view_device (cut_plan_ranges x c.block_size.result plan.ram))) at
-    ∙ ap (λ k. length (plan.devices ++ map any_view_device (cut_plan_ranges tasks.block k plan.ram))) c.block_size.ensures in
+    ∙ ap (λ k. length (plan.devices ++ map any_view_device (cut_plan_ranges c.args.self.now.block k plan.ram))) c.block_size.ensures in
     (λ t. subst (λ k. k ≤ 16) is (leb-true c.count_devices_beside_block.result 16 t), λ h. le-leb c.count_devices_beside_block.result 16 (subst (λ k. k ≤ 16) (sym is) h))
