@@ -70,8 +70,7 @@ module _ (cert : CertData) (ds : List Owed) (shape : Shape) where
   unfolding arrows_of to_s call_s back_s sys_s aln_s irq_s
   from_irq a c =
       let r5 = Contains-append_right aln_s (irq_s ++ leaves_by shape) a c in
-      let r4 = Contains-append_right sys_s (aln_s ++ (irq_s ++ leaves_by shape)) a r5 in
-      let r3 = Contains-append_right back_s (sys_s ++ (aln_s ++ (irq_s ++ leaves_by shape))) a r4 in
+      let r3 = Contains-append_right back_s (sys_s ++ (aln_s ++ (irq_s ++ leaves_by shape))) a (Contains-append_right sys_s (aln_s ++ (irq_s ++ leaves_by shape)) a r5) in
       let r2 = Contains-append_right call_s (back_s ++ (sys_s ++ (aln_s ++ (irq_s ++ leaves_by shape)))) a r3 in
       Contains-append_right to_s (call_s ++ (back_s ++ (sys_s ++ (aln_s ++ (irq_s ++ leaves_by shape))))) a r2
 
@@ -79,16 +78,14 @@ module _ (cert : CertData) (ds : List Owed) (shape : Shape) where
   unfolding arrows_of to_s call_s back_s sys_s aln_s irq_s
   from_aln a c =
       let r5 = Contains-append_left aln_s (irq_s ++ leaves_by shape) a c in
-      let r4 = Contains-append_right sys_s (aln_s ++ (irq_s ++ leaves_by shape)) a r5 in
-      let r3 = Contains-append_right back_s (sys_s ++ (aln_s ++ (irq_s ++ leaves_by shape))) a r4 in
+      let r3 = Contains-append_right back_s (sys_s ++ (aln_s ++ (irq_s ++ leaves_by shape))) a (Contains-append_right sys_s (aln_s ++ (irq_s ++ leaves_by shape)) a r5) in
       let r2 = Contains-append_right call_s (back_s ++ (sys_s ++ (aln_s ++ (irq_s ++ leaves_by shape)))) a r3 in
       Contains-append_right to_s (call_s ++ (back_s ++ (sys_s ++ (aln_s ++ (irq_s ++ leaves_by shape))))) a r2
 
   from_sys : (a : Arrow) → Contains sys_s a → Contains (arrows_of cert ds shape) a
   unfolding arrows_of to_s call_s back_s sys_s aln_s irq_s
   from_sys a c =
-      let r4 = Contains-append_left sys_s (aln_s ++ (irq_s ++ leaves_by shape)) a c in
-      let r3 = Contains-append_right back_s (sys_s ++ (aln_s ++ (irq_s ++ leaves_by shape))) a r4 in
+      let r3 = Contains-append_right back_s (sys_s ++ (aln_s ++ (irq_s ++ leaves_by shape))) a (Contains-append_left sys_s (aln_s ++ (irq_s ++ leaves_by shape)) a c) in
       let r2 = Contains-append_right call_s (back_s ++ (sys_s ++ (aln_s ++ (irq_s ++ leaves_by shape)))) a r3 in
       Contains-append_right to_s (call_s ++ (back_s ++ (sys_s ++ (aln_s ++ (irq_s ++ leaves_by shape))))) a r2
 

@@ -47,10 +47,9 @@ rest_bytes = refl
 pub handler_bytes : (n p : ℕ) → generated_handler n p ≡ 0xe0 ∷ p ∷ (call_from (0x80002002 + 32 * p) (generated_function_at (n - 1)) ++ 0x0d ∷ 0x00 ∷ 0x40 ∷ 0x02 ∷ 0x00 ∷ 0x80 ∷ [])
 unfolding generated_handler
 handler_bytes n p =
-    let at : generated_handler_at p + 2 ≡ 0x80002002 + 32 * p = omega arith in
     ap (λ bs. bs ++ (call_from (generated_handler_at p + 2) (generated_function_at (n - 1)) ++ (generated_code (codes "rslcx") (fields 0 0 0 0 0) ++ generated_code (codes "rfe16") (fields 0 0 0 0 0)))) (bisr_bytes p)
     ∙ ap (λ bs. 0xe0 ∷ p ∷ (call_from (generated_handler_at p + 2) (generated_function_at (n - 1)) ++ bs)) rest_bytes
-    ∙ ap (λ x. 0xe0 ∷ p ∷ (call_from x (generated_function_at (n - 1)) ++ 0x0d ∷ 0x00 ∷ 0x40 ∷ 0x02 ∷ 0x00 ∷ 0x80 ∷ [])) at
+    ∙ ap (λ x. 0xe0 ∷ p ∷ (call_from x (generated_function_at (n - 1)) ++ 0x0d ∷ 0x00 ∷ 0x40 ∷ 0x02 ∷ 0x00 ∷ 0x80 ∷ [])) (omega arith)
 
 -- ---- the code that is the same for each n
 pub main_bytes : main_code ≡ 0x91 ∷ 0x00 ∷ 0x00 ∷ 0xff ∷ 0x19 ∷ 0xff ∷ 0x00 ∷ 0x00 ∷ 0x91 ∷ 0x00 ∷ 0x00 ∷ 0xe8 ∷ 0x01 ∷ 0xef ∷ 0x02 ∷ 0xe6 ∷ 0x99 ∷ 0xee ∷ 0x00 ∷ 0x40 ∷ 0x2d ∷ 0x0e ∷ 0x00 ∷ 0x00 ∷ 0xad ∷ 0x10 ∷ 0x80 ∷ 0x00 ∷ 0x1d ∷ 0xff ∷ 0xf2 ∷ 0xff ∷ []

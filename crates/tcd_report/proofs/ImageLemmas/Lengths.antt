@@ -50,7 +50,5 @@ unfolding generated_functions
 length-functions n h =
     let each : (i : ℕ) → length (zero_padded_bytes 32 (function_code n i)) ≡ 32 = λ i. length-filled 32 (function_code n i) (function_short n i) in
     let all : length (flat_map (λ i. zero_padded_bytes 32 (function_code n i)) (range_with_len 0 (n - 1))) ≡ 32 * (n - 1) = length-pieces (λ i. zero_padded_bytes 32 (function_code n i)) 32 each 0 (n - 1) in
-    let last = function_some n (n - 1) in
-    let most = function_short n (n - 1) in
     let whole = length-append (flat_map (λ i. zero_padded_bytes 32 (function_code n i)) (range_with_len 0 (n - 1))) (function_code n (n - 1)) in
-    (omega (arith, whole, last), omega (arith, whole, all, most))
+    (omega (arith, whole, function_some n (n - 1)), omega (arith, whole, all, function_short n (n - 1)))

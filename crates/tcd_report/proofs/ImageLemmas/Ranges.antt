@@ -3,7 +3,7 @@ use Rattle.std.proofs.Common.{◌≡◌, ◌+◌, ◌*◌, ℕ, zero, suc, List,
 use Rattle.std.specs.List.{flat_map, range_with_len}
 use Rattle.std.proofs.lemmas.Grind.{flat_map-append}
 
-range_more : (a n j : ℕ) → a + n ≡ j → range_with_len a (suc n) ≡ range_with_len a n ++ j ∷ []
+pub range_more : (a n j : ℕ) → a + n ≡ j → range_with_len a (suc n) ≡ range_with_len a n ++ j ∷ []
 range_more a zero j e = let p : a ≡ j = omega arith in ap (λ (x : ℕ). x ∷ []) p
 range_more a (suc n) j e = ap (λ (l : List ℕ). a ∷ l) (range_more (a + 1) n j (omega arith))
 
@@ -20,9 +20,7 @@ pieces_more f n before after e h =
 pub length-pieces : (f : ℕ → List ℕ) (size : ℕ) → ((i : ℕ) → length (f i) ≡ size) → (a n : ℕ) → length (flat_map f (range_with_len a n)) ≡ size * n
 length-pieces f size each a zero = omega arith
 length-pieces f size each a (suc n) =
-    let h : length (flat_map f (range_with_len (a + 1) n)) ≡ size * n = length-pieces f size each (a + 1) n in
-    let e : length (f a) ≡ size = each a in
-    omega (arith, length-append (f a) (flat_map f (range_with_len (a + 1) n)))
+    omega (arith, length-pieces f size each (a + 1) n, each a, length-append (f a) (flat_map f (range_with_len (a + 1) n)))
 
 -- ---- pieces after other bytes
 pub joined_three : (o a b c : List ℕ) → ((o ++ a) ++ b) ++ c ≡ o ++ (a ++ (b ++ c))

@@ -54,16 +54,12 @@ module _ (image : ImageData) (plan : PlanData) (cert : CertData) (is : IsCert ce
   row_low : (n : ℕ) (node : NodeData) → Contains cert.nodes node → HasCallChain image plan cert node n → n ≤ node.need
   row_low zero node stands r = omega arith
   row_low (suc n) node stands r =
-      let less = callee_needs image plan cert is accepted node r.0 stands (r.1).0 ((r.1).1).0 in
-      let low = row_low n r.0 (r.1).0 ((r.1).1).1 in
-      omega (arith, less, low)
+      omega (arith, callee_needs image plan cert is accepted node r.0 stands (r.1).0 ((r.1).1).0, row_low n r.0 (r.1).0 ((r.1).1).1)
 
   pub tells_low : {S : Type 0} (heights : HashMap Key ℕ S) → TellsHeights image plan cert heights → AreHeightsLow heights
   tells_low heights tells k h e =
       let told = tells k h e in
-      let low = row_low h told.node told.stands (told.height).reached in
-      let most = (All-contains (IsNode cert.version) cert.nodes told.node is.nodes told.stands).need in
-      omega (arith, low, most)
+      omega (arith, row_low h told.node told.stands (told.height).reached, (All-contains (IsNode cert.version) cert.nodes told.node is.nodes told.stands).need)
 
   -- the height of a node, by those of the nodes that it calls
   pub height_is : {S : Type 0} (heights : HashMap Key ℕ S) → TellsHeights image plan cert heights → (node : NodeData) (n : ℕ)
@@ -78,11 +74,9 @@ module _ (image : ImageData) (plan : PlanData) (cert : CertData) (is : IsCert ce
                   let row = (has.1).1 in
                   let k : Key = row.0 in
                   let at : CallsAt image plan cert node.key point k = (row.1).0 in
-                  let h : ℕ = ((row.1).1).0 in
-                  let told = tells k h (((row.1).1).1).0 in
+                  let told = tells k ((row.1).1).0 (((row.1).1).1).0 in
                   let calls : NodeCalls image plan cert node (told.node).key = record { point = point; stands = (has.1).0; at = subst (λ j. CallsAt image plan cert node.key point j) (sym told.key) at } in
-                  let whole : HasCallChain image plan cert node (suc h) = (told.node, (told.stands, (calls, (told.height).reached))) in
-                  subst (λ m. HasCallChain image plan cert node m) (sym (((row.1).1).1).1) whole
+                  subst (λ m. HasCallChain image plan cert node m) (sym (((row.1).1).1).1) (told.node, (told.stands, (calls, (told.height).reached)))
             ];
         most = bounded;
       }
@@ -96,9 +90,7 @@ module _ (image : ImageData) (plan : PlanData) (cert : CertData) (is : IsCert ce
           let told = tells callee.key has.0 has.1 in
           let same : told.node ≡ callee = one_node cert is told.node callee told.stands (r.1).0 told.key in
           let height : IsHeight image plan cert callee has.0 = subst (λ c. IsHeight image plan cert c has.0) same told.height in
-          let less = height.most m ((r.1).1).1 in
-          let row = most.most (suc has.0) (calls.point, (calls.stands, (callee.key, (calls.at, (has.0, (has.1, refl)))))) in
-          omega (arith, less, row)
+          omega (arith, height.most m ((r.1).1).1, most.most (suc has.0) (calls.point, (calls.stands, (callee.key, (calls.at, (has.0, (has.1, refl)))))))
 
   -- ---- a map with one node more
   pub tells_more : {S : Type 0} (heights more : HashMap Key ℕ S) (key : Key) (n : ℕ) → TellsHeights image plan cert heights → HasNodeHeight image plan cert key n → ((q : Key) → get key_eq more q ≡ cond (key_eq key q) (Some n) (get key_eq heights q)) → TellsHeights image plan cert more
@@ -114,8 +106,7 @@ module _ (image : ImageData) (plan : PlanData) (cert : CertData) (is : IsCert ce
 pub has_more : {S : Type 0} (heights more : HashMap Key ℕ S) (rs : List (ℕ × Key)) (i : ℕ) (x : ℕ × Key) (n : ℕ) → i < length rs → x ≡ get_or rs i x → HasHeights heights (take i rs)
     → ((q : Key) → get key_eq more q ≡ cond (key_eq x.1 q) (Some n) (get key_eq heights q)) → HasHeights more (take (i + 1) rs)
 has_more heights more rs i x n lt at has news =
-    let all : take i rs ++ x ∷ [] ≡ take (i + 1) rs = ap (λ y. take i rs ++ y ∷ []) at ∙ sym (take_more rs i x lt) in
-    subst (λ ys. HasHeights more ys) all (λ r c.
+    subst (λ ys. HasHeights more ys) (ap (λ y. take i rs ++ y ∷ []) at ∙ sym (take_more rs i x lt)) (λ r c.
     elim (cases_Bool (key_eq x.1 r.1)) [
       | inl same ↦ (n, news r.1 ∙ ap (λ b. cond b (Some n) (get key_eq heights r.1)) same)
       | inr other ↦
@@ -135,8 +126,7 @@ pub record IsRanked (cert : CertData) (r : ℕ × Key) (node : NodeData) : Type 
 -- a rank has the need of the node with its key
 pub ranked : (cert : CertData) → IsCert cert → (rs : List (ℕ × Key)) → IsPermutation (map rank_of cert.nodes) rs → (r : ℕ × Key) → Contains rs r → (node : NodeData) × ((find_node r.1 cert.nodes ≡ Some node) × IsRanked cert r node)
 ranked cert is rs moved r c =
-    let there : Contains (map rank_of cert.nodes) r = Contains-permutation rs (map rank_of cert.nodes) r (IsPermutation-sym (map rank_of cert.nodes) rs moved) c in
-    let n = map_contains rank_of cert.nodes r there in
+    let n = map_contains rank_of cert.nodes r (Contains-permutation rs (map rank_of cert.nodes) r (IsPermutation-sym (map rank_of cert.nodes) rs moved) c) in
     let node : NodeData = n.0 in
     let key : node.key ≡ r.1 = ap (λ q. q.1) (n.1).1 in
     (node, (ap (λ k. find_node k cert.nodes) (sym key) ∙ node_stands cert is node (n.1).0, record { stands = (n.1).0; key = key; need = ap (λ q. q.0) (n.1).1 }))

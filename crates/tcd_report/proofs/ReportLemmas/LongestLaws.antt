@@ -17,6 +17,7 @@ use Rattle.tcd_report.specs.Reports.Heights.{IsHeight, TellsHeights}
 use Rattle.depth_cert.specs.Keys.{key_eq}
 use Rattle.tcd_report.specs.declared.reports.longest_by_priority.LongestCalls.{LongestCalls}
 use Rattle.tcd_report.proofs.ReportLemmas.NodeLaws.{one_node}
+use Rattle.tcd_report.proofs.ImageLemmas.Ranges.{range_more}
 
 -- ---- one node more
 greatest_same : (P Q : ℕ → Type 0) (o : Option ℕ) → ((m : ℕ) → P m → Q m) → ((m : ℕ) → Q m → P m) → IsLongestIfAny P o → IsLongestIfAny Q o
@@ -62,8 +63,7 @@ pub longest_more : {S T : Type 0} (heights : HashMap Key ℕ S) (rows more : Has
     → n ≡ longest_with (get nat_eq rows (node.key).prio) h → ((q : ℕ) → get nat_eq more q ≡ cond (nat_eq (node.key).prio q) (Some n) (get nat_eq rows q))
     → ((p : ℕ) → IsLongestIfAny (AtPrio heights (take i nodes) p) (get nat_eq rows p)) → (p : ℕ) → IsLongestIfAny (AtPrio heights (take (i + 1) nodes) p) (get nat_eq more p)
 longest_more heights rows more nodes i node h n lt at told is news before p =
-    let all : take i nodes ++ node ∷ [] ≡ take (i + 1) nodes = ap (λ y. take i nodes ++ y ∷ []) at ∙ sym (take_more nodes i node lt) in
-    subst (λ ns. IsLongestIfAny (AtPrio heights ns p) (get nat_eq more p)) all (
+    subst (λ ns. IsLongestIfAny (AtPrio heights ns p) (get nat_eq more p)) (ap (λ y. take i nodes ++ y ∷ []) at ∙ sym (take_more nodes i node lt)) (
     elim (cases_Bool (nat_eq (node.key).prio p)) [
       | inl same ↦
           let e : (node.key).prio ≡ p = eqb-true (node.key).prio p same in
@@ -83,9 +83,6 @@ pub longest_all : {S T : Type 0} (heights : HashMap Key ℕ S) (rows : HashMap �
 longest_all heights rows nodes i ge h p = subst (λ ns. IsLongestIfAny (AtPrio heights ns p) (get nat_eq rows p)) (take_all i nodes ge) (h p)
 
 -- ---- the longest chains in the report
-range_more : (a n j : ℕ) → a + n ≡ j → range_with_len a (suc n) ≡ range_with_len a n ++ j ∷ []
-range_more a zero j e = let p : a ≡ j = omega (arith, e) in ap (λ (x : ℕ). x ∷ []) p
-range_more a (suc n) j e = ap (λ (l : List ℕ). a ∷ l) (range_more (a + 1) n j (omega (arith, e)))
 
 row_prio : (p : ℕ) (o : Option ℕ) (b : Bool) → b ≡ is_some o → map (λ (r : LongestCalls). r.prio) (row_of p o) ≡ cond b (p ∷ []) []
 row_prio p None b e = sym (ap (λ c. cond c (p ∷ []) []) e)
@@ -150,9 +147,7 @@ module _ {S : Type 0} (image : ImageData) (plan : PlanData) (cert : CertData) (i
         reached = (height_of a.0 n (a.1).0 ((a.1).1).1).reached;
         most = λ other m c e row.
             let h = known other c in
-            let less = (height_of other h.0 c h.1).most m row in
-            let most = g.1 h.0 (other, (c, (e, h.1))) in
-            omega (arith, less, most);
+            omega (arith, (height_of other h.0 c h.1).most m row, g.1 h.0 (other, (c, (e, h.1))));
       }
 
   pub prios_are : (row : ℕ → Option ℕ) → ((p : ℕ) → IsLongestIfAny (AtPrio heights cert.nodes p) (row p)) → (n : ℕ) → map (λ (r : LongestCalls). r.prio) (rows_below row n) ≡ prios_below cert.nodes n

@@ -61,8 +61,7 @@ called_duty ds k c =
     let d : Owed = r.0 in
     elim (cases_Bool (d.rule == 5)) [
       | inl five ↦
-          let there : Contains (keys_entered_by_duty d.duty) k = subst (λ b. Contains (if b then keys_entered_by_duty d.duty else []) k) five (r.1).1 in
-          let it = duty_calls d.rule d.duty k (eqb-true d.rule 5 five) there in
+          let it = duty_calls d.rule d.duty k (eqb-true d.rule 5 five) (subst (λ b. Contains (if b then keys_entered_by_duty d.duty else []) k) five (r.1).1) in
           (it.0, subst (λ o. Contains ds o) it.1 (r.1).0)
       | inr other ↦ absurd (contains_nothing k (subst (λ b. Contains (if b then keys_entered_by_duty d.duty else []) k) other (r.1).1))
     ]
@@ -78,16 +77,14 @@ rises ns up i zero d lt =
     let on : i + 1 ≡ i + suc 0 = omega arith in
     let low = get_or-map (λ (n : NodeData). number_of_key n.key) ns i d 0 (omega (arith, lt)) in
     let high = get_or-map (λ (n : NodeData). number_of_key n.key) ns (i + 1) d 0 (omega (arith, lt)) in
-    let there : number_of_key (get_or ns (i + 1) d).key ≡ number_of_key (get_or ns (i + suc 0) d).key = ap (λ k. number_of_key (get_or ns k d).key) on in
-    omega (arith, step, low, high, there)
+    omega (arith, step, low, high, ap (λ k. number_of_key (get_or ns k d).key) on)
 rises ns up i (suc n) d lt =
     let before = rises ns up i n d (omega (arith, lt)) in
     let step = up (i + suc n) (omega (arith, length-map ns (λ (n : NodeData). number_of_key n.key), lt)) in
     let on : i + suc n + 1 ≡ i + suc (suc n) = omega arith in
     let low = get_or-map (λ (n : NodeData). number_of_key n.key) ns (i + suc n) d 0 (omega (arith, lt)) in
     let high = get_or-map (λ (n : NodeData). number_of_key n.key) ns (i + suc n + 1) d 0 (omega (arith, lt)) in
-    let there : number_of_key (get_or ns (i + suc n + 1) d).key ≡ number_of_key (get_or ns (i + suc (suc n)) d).key = ap (λ k. number_of_key (get_or ns k d).key) on in
-    omega (arith, before, step, low, high, there)
+    omega (arith, before, step, low, high, ap (λ k. number_of_key (get_or ns k d).key) on)
 
 find_at : {A : Type 0} (p : A → Bool) (xs : List A) (k : ℕ) (x : A) → k < length xs → get_or xs k x ≡ x → p x ≡ true → ((i : ℕ) → i < k → p (get_or xs i x) ≡ false) → find p xs ≡ Some x
 find_at p [] k x lt at here before = absurd (omega (arith, lt))

@@ -25,8 +25,7 @@ needs_rise cmp rs sorted i (suc n) d lt =
     let before : (get_or rs i d).0 ≤ (get_or rs (i + n) d).0 = needs_rise cmp rs sorted i n d (omega (arith, lt)) in
     let step : (get_or rs (i + n) d).0 ≤ (get_or rs (i + n + 1) d).0 = before_or_same cmp (get_or rs (i + n) d) (get_or rs (i + n + 1) d) (sorted (i + n) d (omega arith) (omega (arith, lt))) in
     let on : i + n + 1 ≡ i + suc n = omega arith in
-    let there : (get_or rs (i + n + 1) d).0 ≡ (get_or rs (i + suc n) d).0 = ap (λ k. (get_or rs k d).0) on in
-    omega (arith, before, step, there)
+    omega (arith, before, step, ap (λ k. (get_or rs k d).0) on)
 
 -- a rank with a lesser need comes before
 pub stands_before : (cmp : Key → Key → Ordering) (rs : List (ℕ × Key)) → IsSortedBy (λ x y. is_lt (ordering_then (nat_cmp x.0 y.0) (cmp x.1 y.1))) rs → (i : ℕ) (r x : ℕ × Key) → i < length rs → x ≡ get_or rs i x → Contains rs r → r.0 < x.0 → Contains (take i rs) r
@@ -38,8 +37,6 @@ stands_before cmp rs sorted i r x lt at c less =
           let n : ℕ = c.0 - i in
           let whole : i + n ≡ c.0 = omega (arith, after) in
           let rise = needs_rise cmp rs sorted i n r (omega (arith, whole, c.1)) in
-          let last : (get_or rs (i + n) r).0 ≡ r.0 = ap (λ k. (get_or rs k r).0) whole ∙ ap (λ q. q.0) c.2 in
-          let first : (get_or rs i r).0 ≡ x.0 = ap (λ q. q.0) (get_or_default rs i r x lt ∙ sym at) in
-          omega (arith, rise, last, first, less)
+          omega (arith, rise, ap (λ k. (get_or rs k r).0) whole ∙ ap (λ q. q.0) c.2, ap (λ q. q.0) (get_or_default rs i r x lt ∙ sym at), less)
           )
     ]

@@ -24,10 +24,8 @@ report_plain areas certified reserve rows nodes = or_from _ _ (rows_plain rows) 
 pub whole_is : (areas need reserve : ℕ) (a n r calls nodes : Data) (m0 m1 m2 m3 m4 m5 : Members) → m0 ≡ no_members → m1 ≡ put (codes "areas") a m0 → m2 ≡ put (codes "calls") calls m1 → m3 ≡ put (codes "certified") n m2
     → m4 ≡ put (codes "nodes") nodes m3 → m5 ≡ put (codes "reserve") r m4 → a ≡ reported_count areas → n ≡ reported_count need → r ≡ reported_count reserve → object m5 ≡ whole_data areas calls need nodes reserve
 whole_is areas need reserve a n r calls nodes m0 m1 m2 m3 m4 m5 e0 e1 e2 e3 e4 e5 ea en er =
-    let p0 = e1 ∙ ap (put (codes "areas") a) e0 ∙ ap (λ d. put (codes "areas") d no_members) ea in
-    let p1 = e2 ∙ ap (put (codes "calls") calls) p0 in
+    let p1 = e2 ∙ ap (put (codes "calls") calls) (e1 ∙ ap (put (codes "areas") a) e0 ∙ ap (λ d. put (codes "areas") d no_members) ea) in
     let p2 = e3 ∙ ap (put (codes "certified") n) p1 ∙ ap (λ d. put (codes "certified") d (put (codes "calls") calls (put (codes "areas") (reported_count areas) no_members))) en in
-    let p3 = e4 ∙ ap (put (codes "nodes") nodes) p2 in
     ap object
-    (e5 ∙ ap (put (codes "reserve") r) p3
+    (e5 ∙ ap (put (codes "reserve") r) (e4 ∙ ap (put (codes "nodes") nodes) p2)
     ∙ ap (λ d. put (codes "reserve") d (put (codes "nodes") nodes (put (codes "certified") (reported_count need) (put (codes "calls") calls (put (codes "areas") (reported_count areas) no_members))))) er)

@@ -37,7 +37,6 @@ rows_told image plan cert heights key point shape size ts n code ts_is most =
     let at : CallsAt image plan cert key point k = (h.1).0 in
     let one = IsCode-one image plan point.addr at.shape shape at.size size at.code code in
     let same_duties : owed_at at.shape at.size ≡ owed_at shape size = ap (λ s. owed_at s at.size) one.0 ∙ ap (λ l. owed_at shape l) one.1 in
-    let there : Contains (map (entered_key key call_kind) ts) k = subst (λ ks. Contains ks k) (ap called_by same_duties ∙ keys) at.called in
-    let it = map_contains (entered_key key call_kind) ts k there in
+    let it = map_contains (entered_key key call_kind) ts k (subst (λ ks. Contains ks k) (ap called_by same_duties ∙ keys) at.called) in
     (it.0, ((it.1).0, subst (λ j. HasCalleeHeight heights j m) (sym (it.1).1) (h.1).1)))
     most

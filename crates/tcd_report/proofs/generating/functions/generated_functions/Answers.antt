@@ -10,8 +10,7 @@ loop-i-preserved c =
     let old : List ℕ = c.loop-i.out.items in
     let code : List ℕ = function_code c.args.n c.loop-i.i in
     let zeros : ℕ = 32 - (c.len.result - c.len-start.result) in
-    let longer : length c.append_function.new.out.items ≡ length old + length code = ap length c.in_ok-append_function.ensures ∙ length-append old code in
-    let rest : zeros ≡ 32 - length code = omega (arith, longer, c.len.ensures, c.len-start.ensures) in
+    let rest : zeros ≡ 32 - length code = omega (arith, ap length c.in_ok-append_function.ensures ∙ length-append old code, c.len.ensures, c.len-start.ensures) in
     pieces_more (λ i. zero_padded_bytes 32 (function_code c.args.n i)) c.loop-i.i _ _ c.loop-i.invariant
     (c.in_ok-append_zeros.ensures
     ∙ ap (λ l. l ++ replicate zeros 0) c.in_ok-append_function.ensures

@@ -4,10 +4,9 @@ use Rattle.tcd_report.proofs.graphs.handlers.write_fronts.Goals as goal
 
 pub loop-init : goal.loop-init
 loop-init c =
-    let front : List ℕ = c.args.front.now in
     let entries : List ℕ = c.args.entries.now in
     record {
-      place = no_place (length front + 13);
+      place = no_place (length c.args.front.now + 13);
       size = ap length c.requires.are ∙ lines_size c.requires.front entries ∙ ap (λ n. length entries * (n + 13)) c.requires.sized;
       old = c.requires.front;
       sized = c.requires.sized;

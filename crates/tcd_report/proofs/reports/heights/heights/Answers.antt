@@ -1,4 +1,4 @@
-use Rattle.std.proofs.Common.{◌≡◌, ◌<◌, ◌∙◌, ℕ, false, List, map, length, get_or, Some, None, sym, subst, Contains}
+use Rattle.std.proofs.Common.{◌≡◌, ◌<◌, ◌∙◌, ℕ, false, List, map, length, get_or, Some, sym, subst, Contains}
 use Rattle.std.specs.Ordering.{is_lt, nat_cmp, ordering_then}
 use Rattle.std.specs.List.Sorted.{IsPermutation, IsSortedBy}
 use Rattle.std.proofs.lemmas.List.{get_or_default}
@@ -14,18 +14,13 @@ use Rattle.tcd_report.proofs.reports.heights.heights.Goals as goal
 pub unreachable-requires : goal.unreachable-requires
 unreachable-requires c =
     let cert : CertData = c.args.judged.now.cert.now in
-    let is : IsCert cert = c.version-version.ensures.limits in
     let order : List (ℕ × Key) = c.deref-key-items.result.now in
     let moved : IsPermutation (map rank_of cert.nodes) order =
     subst (λ (l : List (ℕ × Key)). IsPermutation (map rank_of cert.nodes) l) (sym c.deref-key-items.ensures.value)
     (subst (λ (l : List (ℕ × Key)). IsPermutation l c.sort.new.self.items) c.in_ok-order.ensures c.in_ok-sort.ensures.permutation) in
     let i : ℕ = c.loop-key.key-index in
     let none : ℕ × Key = (0, record { kind = 0; entry = 0; prio = 0; is = false }) in
-    let x : ℕ × Key = get_or order i none in
-    let lt : i < length order = c.loop-key-test.true in
-    let r = ranked cert is order moved x (Contains-get_or order i none lt) in
-    let f : None ≡ Some r.0 = c.in_default.ensures ∙ (r.1).0 in
-    cc
+    cc (c.in_default.ensures ∙ ((ranked cert c.version-version.ensures.limits order moved (get_or order i none) (Contains-get_or order i none c.loop-key-test.true)).1).0)
 
 pub longest_chain_from-rows-requires-clause-low : goal.longest_chain_from-rows-requires-clause-low
 longest_chain_from-rows-requires-clause-low c =
@@ -35,16 +30,13 @@ longest_chain_from-rows-requires-clause-low c =
 pub longest_chain_from-rows-requires-clause-stands : goal.longest_chain_from-rows-requires-clause-stands
 longest_chain_from-rows-requires-clause-stands c =
     let cert : CertData = c.args.judged.now.cert.now in
-    let is : IsCert cert = c.version-version.ensures.limits in
     let order : List (ℕ × Key) = c.deref-key-items.result.now in
     let moved : IsPermutation (map rank_of cert.nodes) order =
     subst (λ (l : List (ℕ × Key)). IsPermutation (map rank_of cert.nodes) l) (sym c.deref-key-items.ensures.value)
     (subst (λ (l : List (ℕ × Key)). IsPermutation l c.sort.new.self.items) c.in_ok-order.ensures c.in_ok-sort.ensures.permutation) in
     let i : ℕ = c.loop-key.key-index in
     let none : ℕ × Key = (0, record { kind = 0; entry = 0; prio = 0; is = false }) in
-    let x : ℕ × Key = get_or order i none in
-    let lt : i < length order = c.loop-key-test.true in
-    let r = ranked cert is order moved x (Contains-get_or order i none lt) in
+    let r = ranked cert c.version-version.ensures.limits order moved (get_or order i none) (Contains-get_or order i none c.loop-key-test.true) in
     let node_is : c.in-Some.node ≡ r.0 = let f : Some c.in-Some.node ≡ Some r.0 = c.in-Some.ensures ∙ (r.1).0 in cc in
     subst (λ (n : NodeData). Contains cert.nodes n) (sym node_is) ((r.1).1).stands
 

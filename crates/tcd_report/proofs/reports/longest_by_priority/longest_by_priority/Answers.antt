@@ -1,4 +1,4 @@
-use Rattle.std.proofs.Common.{◌≡◌, ◌∙◌, ℕ, cond, Some, None, ap, sym, arith}
+use Rattle.std.proofs.Common.{◌≡◌, ◌∙◌, ℕ, cond, Some, ap, sym, arith}
 use Rattle.std.specs.Prelude.{nat_eq}
 use Rattle.std.specs.HashMap.{get}
 use Rattle.std.proofs.lemmas.Option.{slice_get_within, get_or_from_slice_get}
@@ -16,9 +16,7 @@ unreachable-requires c = never_none (c.args.cert.now).nodes c.loop-i.i (omega (a
 pub unreachable-requires-in_default-get : goal.unreachable-requires-in_default-get
 unreachable-requires-in_default-get c =
     let known = c.requires c.in-Some.node (got (c.args.cert.now).nodes c.loop-i.i c.in-Some.node c.in-Some.ensures).2 in
-    let key_is = ap (λ (n : NodeData). n.key) c.node.view_is in
-    let f : None ≡ Some known.0 = c.in_default-get.ensures.value ∙ ap (get key_eq c.args.heights.now) key_is ∙ known.1 in
-    cc
+    cc (c.in_default-get.ensures.value ∙ ap (get key_eq c.args.heights.now) (ap (λ (n : NodeData). n.key) c.node.view_is) ∙ known.1)
 
 pub loop-i-preserved : goal.loop-i-preserved
 loop-i-preserved c =
