@@ -74,8 +74,7 @@ calls_kept plan cert node s r next back e there h = λ other stands q.
 pub kept_calls : (plan : PlanData) (cert : CertData) (node : NodeData) (s : State) (r : ℕ) (called next : Option ℕ) (back : ℕ) → called ≡ Some r → next ≡ Some back → IfSome called (RegisterCallsHold plan cert node s) → IfSome next (λ a. HasPointWithState node a s)
     → (q : ℕ) → DutiesHold cert node s (calls_by plan node.key s r back) q
 kept_calls plan cert node s r called next back e f h there =
-    let holds : RegisterCallsHold plan cert node s r = subst (λ (o : Option ℕ). IfSome o (RegisterCallsHold plan cert node s)) e h in
-    holds back (subst (λ (o : Option ℕ). IfSome o (λ a. HasPointWithState node a s)) f there)
+    (subst (λ (o : Option ℕ). IfSome o (RegisterCallsHold plan cert node s)) e h) back (subst (λ (o : Option ℕ). IfSome o (λ a. HasPointWithState node a s)) f there)
 
 -- ---- from point to point
 -- calls and jumps by these registers hold in the state of the next point
@@ -117,7 +116,7 @@ met_alike cert node s t h k back m (Some n) kind alike found other into on =
       subst (λ (d : ℕ). IfSome m.exit (λ x. HasCoveringPoint node back (state_after_exit s x d))) kind (subst (λ (e : Option Exit). IfSome e (λ x. HasCoveringPoint node back (state_after_exit s x h.kind))) same.1 on),
     )
 
-lesser_none : (o : Option ℕ) → lesser_broken_rule o None ≡ o
+pub lesser_none : (o : Option ℕ) → lesser_broken_rule o None ≡ o
 lesser_none None = refl
 lesser_none (Some r) = refl
 

@@ -25,10 +25,11 @@ use Rattle.depth_cert.specs.declared.points.Point.{Point}
 use Rattle.depth_cert.specs.Points.{find_point}
 use Rattle.depth_cert.specs.Nodes.{NodeData}
 use Rattle.depth_cert.specs.Certs.{CertData}
-use Rattle.depth_check.proofs.Registers.{reg_of_lt}
 use Rattle.cfg_recover.proofs.PointLaws.{Stands}
-use Rattle.depth_check.proofs.Frames.{Frame, oldest_first, LowerSame, UpperSame, Leaves, Resumed, used_by, Invariant, Frames-same, need-Frames, own_locals, length-Locals, length-ImpliedBy, length-oldest_first}
+use Rattle.depth_check.proofs.Frames.{Frame, oldest_first, LowerSame, UpperSame, Leaves, Resumed, used_by, Invariant, Frames-same, need-Frames, own_locals, length-Locals, length-oldest_first}
 use Rattle.tc_mem.specs.PlanMemory.{IsPlanMemory}
+use Rattle.value_domain.proofs.RegLaws.{implied_length}
+use Rattle.cfg_recover.proofs.EntryLaws.{reg_lt}
 
 -- the machine after a save of its upper context, with these registers, address and status
 abbrev pub begun : Machine → List ℕ → List ℕ → ℕ → ℕ → Bool → ℕ → Machine
@@ -69,23 +70,19 @@ pub implied_none : (fs : List Bool) → length fs ≡ 0 → FlagsImpliedBy fs []
 implied_none [] h = tt
 implied_none (f ∷ fs) h = absurd (omega arith)
 
-pub reg_lt : (m : Machine) → IsMachine m → (r : ℕ) → reg m r < 2 ^ 32
-reg_lt m k r = reg_of_lt m.d m.a k.d k.a r
-
 module _ (image : ImageData) (plan : PlanData) (ok : IsPlan plan) (cert : CertData) (most : ℕ) (few : most ≤ plan.areas - plan.reserve) where
   module _ (m : Machine) (frame : Frame) (below : List Frame) (k : Invariant image plan cert most m frame below) where
     -- the state has as many lower contexts as the frame
     pub counted : length ((k.point).state).locals.items ≡ length frame.locals
     counted =
-        length-ImpliedBy ((k.point).state).locals.items (oldest_first frame.flags) k.flags ∙ length-oldest_first frame.flags
+        implied_length ((k.point).state).locals.items (oldest_first frame.flags) k.flags ∙ length-oldest_first frame.flags
         ∙ length-Locals m.core m.mem m.pcxi (a11 m) frame.word0 frame.flags frame.locals (own_locals plan cert most m.core m.mem m.pcxi (a11 m) frame below k.frames)
 
     -- if the need has room for another area, there is a free one
     pub room : (need : ℕ) → length ((k.point).state).locals.items + 1 + need ≤ (frame.node).need → HasFree plan m.mem m.fcx m.lcx (used_by frame below)
     room need fits =
         let within = need-Frames plan cert most m.core m.mem m.pcxi (a11 m) frame below k.frames in
-        let count = counted in
-        has_free ok most few m.mem m.fcx m.lcx (used_by frame below) k.free k.areas (omega arith)
+        has_free ok most few m.mem m.fcx m.lcx (used_by frame below) k.free k.areas (omega (arith, counted))
 
     -- a word of the new area
     word : IsMachine m → (free : HasFree plan m.mem m.fcx m.lcx (used_by frame below)) (i : ℕ) → i < 16 → get_or (context_of m true) i 0 < 2 ^ 32 → area_word (saved_mem m) (link_in m.fcx) i ≡ get_or (context_of m true) i 0

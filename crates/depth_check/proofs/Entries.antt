@@ -23,10 +23,11 @@ use Rattle.cfg_recover.specs.Entries.{call_key, call_entry}
 use Rattle.depth_cert.specs.Exits.{state_after_exit}
 use Rattle.cfg_recover.specs.RulesHoldOrFail.{Accepts}
 use Rattle.cfg_recover.proofs.EntryLaws.{holds_covered, holds_same, holds_call, holds_after_call, after_length}
-use Rattle.depth_check.proofs.Frames.{Frame, LowerSame, UpperSame, Leaves, by_return, from_system, from_handler, Resumed, Invariant, length-ImpliedBy, ImpliedBy-trans}
+use Rattle.depth_check.proofs.Frames.{Frame, LowerSame, UpperSame, Leaves, by_return, from_system, from_handler, Resumed, Invariant, ImpliedBy-trans}
 use Rattle.depth_check.proofs.Registers.{set_a11}
 use Rattle.depth_check.proofs.Enter.{Begins}
 use Rattle.cfg_recover.proofs.PointLaws.{even_at, Found}
+use Rattle.value_domain.proofs.RegLaws.{implied_length}
 
 -- ---- registers
 pub lower_not : (r q : ℕ) → is_lower_register q ≡ false → is_lower_register r ≡ true → r ≢ q
@@ -117,7 +118,7 @@ module _ (image : ImageData) (plan : PlanData) (cert : CertData) (most : ℕ) (i
         inside =
             holds_covered plan (at.point).state (call_entry (k.point).state) (reg_of m.d (set m.a 11 back)) m.ie m.ccpn at.covers regs
             (holds_call plan (k.point).state (reg m) (reg_of m.d (set m.a 11 back)) m.ie m.ccpn (rw call_back small) (λ r lt other. set_a11 m.d m.a back r other) k.inside);
-        none = length-ImpliedBy ((at.point).state).locals.items [] (at.covers).locals;
+        none = implied_length ((at.point).state).locals.items [] (at.covers).locals;
         is = k.is ∙ sym (ap (λ k. k.is) found.key);
         lower = λ r low. set_a11 m.d m.a back r (lower_not r 27 refl low);
         goes_on = call_goes_on;

@@ -17,13 +17,10 @@ use Rattle.value_domain.specs.State.{Covers}
 use Rattle.cfg_recover.specs.LocalFaults.{IsFaultless}
 use Rattle.cfg_recover.specs.Entries.{start_key, start_state}
 use Rattle.cfg_recover.specs.RulesHoldOrFail.{limits_in, RuleHolds, HasCoveringPoint, HoldsAtStart, HoldsAtEntry, HoldsAtNode, Accepts, RuleFails, at_start, at_entry, at_point, fault_number, IsFirstFault}
-use Rattle.cfg_recover.proofs.FaultLaws as faults
 use Rattle.depth_check.specs.NodeFaults.{IsNodeFault}
-use Rattle.depth_check.proofs.NodeLaws.{place_of}
+use Rattle.cfg_recover.proofs.FirstFault.{place_of}
 
 -- ---- a fault refutes an accepted certificate
-pub fails_refutes : (image : ImageData) (plan : PlanData) (cert : CertData) (r : ℕ) (k : Key) (p : ℕ) → RuleFails image plan cert r k p → Accepts image plan cert → ⊥
-fails_refutes = faults.fails_refutes
 
 -- ---- the first fault
 pub start_first : (image : ImageData) (plan : PlanData) (cert : CertData) → (HoldsAtStart image plan cert → ⊥) → IsFirstFault image plan cert 1 (start_key image plan) image.entry
@@ -32,9 +29,6 @@ start_first image plan cert wrong = record { fails = at_start wrong; start = inl
 -- faults of nodes with greater keys come later
 later_key : (r p k q x m : ℕ) → r ≤ 14 → p < 2 ^ 32 → k < m → (k * 2 ^ 32 + p) * 2 ^ 4 + r ≤ (m * 2 ^ 32 + x) * 2 ^ 4 + q
 later_key r p k q x m small addr above = omega arith
-
-same_key : (r p k q x : ℕ) → p * 2 ^ 4 + r ≤ x * 2 ^ 4 + q → (k * 2 ^ 32 + p) * 2 ^ 4 + r ≤ (k * 2 ^ 32 + x) * 2 ^ 4 + q
-same_key r p k q x le = omega arith
 
 module _ (image : ImageData) (plan : PlanData) (cert : CertData) (is_cert : IsCert cert) (start : HoldsAtStart image plan cert) (nodes : List NodeData) (same : nodes ≡ cert.nodes) where
   abbrev Number : NodeData → ℕ
@@ -49,7 +43,7 @@ module _ (image : ImageData) (plan : PlanData) (cert : CertData) (is_cert : IsCe
         | inl earlier ↦ absurd (wrong (All-contains (HoldsAtNode image plan cert) (take i nodes) other before earlier))
         | inr later ↦
             elim later [
-              | inl e ↦ subst (λ (n : NodeData). fault_number r node.key p ≤ fault_number q n.key x) (sym e) (same_key r p (Number node) q x (here e))
+              | inl e ↦ subst (λ (n : NodeData). fault_number r node.key p ≤ fault_number q n.key x) (sym e) (omega (arith, here e))
               | inr above ↦ later_key r p (Number node) q x (Number other) f.rule f.addr above
             ]
       ]

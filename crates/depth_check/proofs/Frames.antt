@@ -236,9 +236,7 @@ module _ (plan : PlanData) (cert : CertData) (most : ℕ) (core : Core) where
   need-Frames mem pcxi back frame [] h = let n = (h.1).need in omega arith
   need-Frames mem pcxi back frame (suspended ∷ below) h =
       let rest = need-Frames mem (area_word mem frame.area 0) (area_word mem frame.area 3) suspended below h.2 in
-      let here = (h.1).need in
-      let long = length-append frame.locals (frame.area ∷ used_by suspended below) in
-      omega arith
+      omega (arith, (h.1).need, length-append frame.locals (frame.area ∷ used_by suspended below))
 
   pub own_locals : (mem : Memory) (pcxi back : ℕ) (frame : Frame) (below : List Frame) → Frames plan cert most core mem pcxi back frame below → Locals core mem pcxi back frame.word0 frame.flags frame.locals
   own_locals mem pcxi back frame [] h = h.0
@@ -259,12 +257,6 @@ length-Locals core mem pcxi back word0 [] [] h = refl
 length-Locals core mem pcxi back word0 (f ∷ fs) (l ∷ ls) h = ap suc (length-Locals core mem (area_word mem l 0) back word0 fs ls h.1)
 length-Locals core mem pcxi back word0 [] (l ∷ ls) h = absurd h
 length-Locals core mem pcxi back word0 (f ∷ fs) [] h = absurd h
-
-pub length-ImpliedBy : (fs gs : List Bool) → FlagsImpliedBy fs gs → length fs ≡ length gs
-length-ImpliedBy [] [] h = refl
-length-ImpliedBy (f ∷ fs) (g ∷ gs) h = ap suc (length-ImpliedBy fs gs h.1)
-length-ImpliedBy [] (g ∷ gs) h = absurd h
-length-ImpliedBy (f ∷ fs) [] h = absurd h
 
 pub length-oldest_first : (fs : List Bool) → length (oldest_first fs) ≡ length fs
 length-oldest_first [] = refl

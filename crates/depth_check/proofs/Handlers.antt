@@ -20,17 +20,15 @@ use Rattle.cfg_recover.specs.Entries.{irq_key, sys_key, aln_key, irq_entry, sys_
 use Rattle.depth_cert.specs.Exits.{state_after_exit}
 use Rattle.cfg_recover.specs.RulesHoldOrFail.{Accepts}
 use Rattle.cfg_recover.proofs.EntryLaws.{holds_covered, holds_irq, holds_aln, holds_sys, entry_length, aln_length, sys_length, stack_member, holds_after_system}
-use Rattle.depth_check.proofs.Frames.{Frame, LowerSame, UpperSame, Leaves, by_return, from_system, from_handler, Resumed, Invariant, length-ImpliedBy}
+use Rattle.depth_check.proofs.Frames.{Frame, LowerSame, UpperSame, Leaves, by_return, from_system, from_handler, Resumed, Invariant}
 use Rattle.depth_check.proofs.Registers.{reg_of_lt, set_a11, set_a10, set_d15}
 use Rattle.depth_check.proofs.Enter.{Begins}
 use Rattle.cfg_recover.proofs.PointLaws.{Found}
 use Rattle.depth_check.proofs.Entries.{lower_not, if_some, PointFor, after, again, upper_in}
+use Rattle.value_domain.proofs.RegLaws.{implied_length}
 
 handler_is : (psw : ℕ) → is_interrupt_stack_used (handler_psw psw) ≡ true
-handler_is psw = eq-eqb _ _ (bit psw)
-  where
-    bit : (psw : ℕ) → (psw / 2 ^ 14 * 2 ^ 14 + 2 * 2 ^ 10 + 2 ^ 9 + psw % 2 ^ 8) / 2 ^ 9 % 2 ≡ 1
-    bit psw = omega arith
+handler_is psw = eq-eqb _ _ (omega arith)
 
 -- the states at entries have no lower contexts
 set_none : (s : State) (v : Val) (o : Option ℕ) → length (set_slot s v o).locals.items ≡ length s.locals.items
@@ -97,7 +95,7 @@ module _ (image : ImageData) (plan : PlanData) (cert : CertData) (most : ℕ) (i
                 holds_covered plan (at.point).state (irq_entry plan (frame.node).key (k.point).state irq) (reg_of m.d (handler_a m m.pc)) false irq at.covers (entry_length (entry_stack_of plan (frame.node).key (k.point).state) false irq true)
                 (holds_irq plan (frame.node).key (k.point).state (reg m) (reg_of m.d (handler_a m m.pc)) m.ie m.ccpn k.inside (handler_member m.d words.d same m.pc words.pc) irq (λ r lt. handler_small m.d words.d same m.pc words.pc r)
                 (handler_address m.d words.d same m.pc words.pc));
-            none = length-ImpliedBy ((at.point).state).locals.items ((irq_entry plan (frame.node).key (k.point).state irq).locals.items) (at.covers).locals ∙ entry_none (entry_stack_of plan (frame.node).key (k.point).state) false irq true;
+            none = implied_length ((at.point).state).locals.items ((irq_entry plan (frame.node).key (k.point).state irq).locals.items) (at.covers).locals ∙ entry_none (entry_stack_of plan (frame.node).key (k.point).state) false irq true;
             is = handler_is m.psw ∙ sym (ap (λ k. k.is) found.key);
             lower = handler_lower m.d words.d same m.pc words.pc;
             goes_on = goes_back node (inl (ap (λ k. k.kind) found.key));
@@ -137,7 +135,7 @@ module _ (image : ImageData) (plan : PlanData) (cert : CertData) (most : ℕ) (i
                 (holds_aln plan (frame.node).key (k.point).state (reg m) (reg_of (set m.d 15 4) (handler_a m m.pc)) m.ie m.ccpn k.inside (handler_member (set m.d 15 4) ds same m.pc words.pc)
                 (λ r lt. handler_small (set m.d 15 4) ds same m.pc words.pc r) (handler_address (set m.d 15 4) ds same m.pc words.pc) (trap_tin 4 four m.pc words.pc (handler_a m m.pc)));
             none =
-                length-ImpliedBy ((at.point).state).locals.items ((aln_entry plan (frame.node).key (k.point).state).locals.items) (at.covers).locals
+                implied_length ((at.point).state).locals.items ((aln_entry plan (frame.node).key (k.point).state).locals.items) (at.covers).locals
                 ∙ set_none (entry_state_with (entry_stack_of plan (frame.node).key (k.point).state) false ((k.point).state).ccpn true) (word_val 4) (slot 15) ∙ entry_none (entry_stack_of plan (frame.node).key (k.point).state) false ((k.point).state).ccpn true;
             is = handler_is m.psw ∙ sym (ap (λ k. k.is) found.key);
             lower = handler_lower (set m.d 15 4) ds same m.pc words.pc;
@@ -176,7 +174,7 @@ module _ (image : ImageData) (plan : PlanData) (cert : CertData) (most : ℕ) (i
                 holds_covered plan (at.point).state (sys_entry plan (frame.node).key (k.point).state tin) (reg_of (set m.d 15 tin) (handler_a m back)) false m.ccpn at.covers (sys_length plan (frame.node).key (k.point).state tin ∙ regs)
                 (holds_sys plan (frame.node).key (k.point).state (reg m) (reg_of (set m.d 15 tin) (handler_a m back)) m.ie m.ccpn k.inside (handler_member (set m.d 15 tin) ds same back small) tin regs
                 (handler_small (set m.d 15 tin) ds same back small 27) (trap_tin tin tin_small back small (handler_a m back)) (λ r lt n15 n26 n27. handler_same (set m.d 15 tin) ds same back small r n15 n26 n27));
-            none = length-ImpliedBy ((at.point).state).locals.items [] (at.covers).locals;
+            none = implied_length ((at.point).state).locals.items [] (at.covers).locals;
             is = handler_is m.psw ∙ sym (ap (λ k. k.is) found.key);
             lower = handler_lower (set m.d 15 tin) ds same back small;
             goes_on = sys_goes_on;

@@ -24,6 +24,7 @@ use Rattle.depth_check.specs.LeastBroken.{FindsLeastBroken, lesser_broken_rule}
 use Rattle.depth_check.specs.DutiesHold.{DutiesHold}
 use Rattle.depth_check.specs.PassingInstructions.{IsPassingShape, HasPassingInstruction}
 use Rattle.depth_check.proofs.DutyLaws.{nothing_found, parts_found}
+use Rattle.depth_check.proofs.CallLaws.{lesser_none}
 
 -- the target of such an instruction is known
 known_target : (plan : PlanData) (s : State) (p : ℕ) (to : Target) (next : ℕ) → direct_target p to ≡ Some next → targets_of plan s p to ≡ Some (next ∷ [])
@@ -59,10 +60,6 @@ local_of b plan key p s shape n next r h = absurd h
 pub idle_faultless : (b : Limits) (image : ImageData) (plan : PlanData) (key : Key) (p : ℕ) (s : State) (next : ℕ) → HasPassingInstruction image plan p next → IsFaultless b image plan key p s
 idle_faultless b image plan key p s next on r = LocalHolds-found b image plan key p s on.shape on.size r on.code (local_of b plan key p s on.shape on.size next r on.passes)
 
-least_none : (o : Option ℕ) → lesser_broken_rule o None ≡ o
-least_none None = refl
-least_none (Some r) = refl
-
 -- a point whose only duties are its successors and the interrupts
 alone_found : (b : Limits) (image : ImageData) (plan : PlanData) (cert : CertData) (node : NodeData) (p : ℕ) (s : State) (shape : Shape) (n : ℕ) (on irqs : Option ℕ)
     → FindsLeastBroken (DutiesHold cert node s (successors_of b image plan p s shape n)) on → FindsLeastBroken (DutiesHold cert node s (entries_of plan node.key p s shape n)) None
@@ -70,8 +67,8 @@ alone_found : (b : Limits) (image : ImageData) (plan : PlanData) (cert : CertDat
     → FindsLeastBroken (DutiesHold cert node s (leavings_of node.key s shape)) None → FindsLeastBroken (DutiesHold cert node s (duties_of b image plan node.key p s shape n)) (lesser_broken_rule on irqs)
 alone_found b image plan cert node p s shape n on irqs j e m i l =
     let same : lesser_broken_rule (lesser_broken_rule (lesser_broken_rule (lesser_broken_rule on None) None) irqs) None ≡ lesser_broken_rule on irqs =
-    least_none (lesser_broken_rule (lesser_broken_rule (lesser_broken_rule on None) None) irqs)
-    ∙ ap (λ (o : Option ℕ). lesser_broken_rule o irqs) (least_none (lesser_broken_rule on None) ∙ least_none on) in
+    lesser_none (lesser_broken_rule (lesser_broken_rule (lesser_broken_rule on None) None) irqs)
+    ∙ ap (λ (o : Option ℕ). lesser_broken_rule o irqs) (lesser_none (lesser_broken_rule on None) ∙ lesser_none on) in
     subst (λ (o : Option ℕ). FindsLeastBroken (DutiesHold cert node s (duties_of b image plan node.key p s shape n)) o) same
     (parts_found b image plan cert node p s shape n on None None irqs None j e m i l)
 

@@ -84,13 +84,11 @@ own_is vs ws v w e lt at same = same ∙ sym (read_at vs 22 v any_val lt at) ∙
 -- it is a value of the limits, and the entries that hold in the state hold with it
 pub own_value : (b : Limits) (s t : State) (v w : Val) → s ≡ t → 22 < length s.regs → v ≡ get_or s.regs 22 v → w ≡ v → AreValues b t.regs → IsValue b w
 own_value b s t v w e lt at same values =
-    let is : w ≡ slice_index_or t.regs 22 any_val = own_is s.regs t.regs v w (ap (λ (u : State). u.regs) e) lt at same in
-    subst (IsValue b) (sym is) (values 22 (subst (λ (u : State). 22 < length u.regs) e lt))
+    subst (IsValue b) (sym (own_is s.regs t.regs v w (ap (λ (u : State). u.regs) e) lt at same)) (values 22 (subst (λ (u : State). 22 < length u.regs) e lt))
 
 pub own_holds : (plan : PlanData) (cert : CertData) (node : NodeData) (s t : State) (v w : Val) → s ≡ t → 22 < length s.regs → v ≡ get_or s.regs 22 v → w ≡ v → InterruptsHold plan cert node t → InterruptsHoldWith plan cert node t w
 own_holds plan cert node s t v w e lt at same holds =
-    let is : w ≡ slice_index_or t.regs 22 any_val = own_is s.regs t.regs v w (ap (λ (u : State). u.regs) e) lt at same in
-    subst (InterruptsHoldWith plan cert node t) (sym is) (own_stack plan cert node t holds)
+    subst (InterruptsHoldWith plan cert node t) (sym (own_is s.regs t.regs v w (ap (λ (u : State). u.regs) e) lt at same)) (own_stack plan cert node t holds)
 
 -- the duties of the entries with another A10
 told_stack : (plan : PlanData) (is : Bool) (s entry : State) (sp : Val) (n : ℕ) (irqs : List ℕ) → entry ≡ entry_state_with sp false n true → irqs ≡ irqs_of plan s → IsTrue is
@@ -120,11 +118,9 @@ put_below : (vs : List Val) (v w : Val) (i r : ℕ) → i < length vs → IsBelo
 put_below vs v w i r lt h =
     elim (cases_Bool (r == i)) [
       | inl e ↦
-          let same : r ≡ i = eqb-true r i e in
           let low : get_or (set vs i w) i any_val ≡ w = get_or-set_same vs i w any_val lt in
-          let high : get_or (set vs i v) i any_val ≡ v = get_or-set_same vs i v any_val lt in
-          subst (λ (k : ℕ). IsBelow (get_or (set vs i w) k any_val) (get_or (set vs i v) k any_val)) (sym same)
-          (subst (λ (u : Val). IsBelow u (get_or (set vs i v) i any_val)) (sym low) (subst (λ (u : Val). IsBelow w u) (sym high) h))
+          subst (λ (k : ℕ). IsBelow (get_or (set vs i w) k any_val) (get_or (set vs i v) k any_val)) (sym (eqb-true r i e))
+          (subst (λ (u : Val). IsBelow u (get_or (set vs i v) i any_val)) (sym low) (subst (λ (u : Val). IsBelow w u) (sym (get_or-set_same vs i v any_val lt)) h))
       | inr n ↦
           let low : get_or (set vs i w) r any_val ≡ get_or vs r any_val = get_or-set_other vs i r w any_val (apart r i n) in
           let high : get_or (set vs i v) r any_val ≡ get_or vs r any_val = get_or-set_other vs i r v any_val (apart r i n) in
@@ -145,8 +141,7 @@ entry_covers v w p h = record {
 need_there : (o : Option NodeData) (m k room need there : ℕ) → need ≤ room + m → room + k ≤ there → IfSome o (λ n. m + 1 + n.need ≤ need) → IfSome o (λ n. k + 1 + n.need ≤ there)
 need_there None m k room need there le more h = h
 need_there (Some n) m k room need there le more h =
-    let above : m + 1 + n.need ≤ need = h in
-    let so : k + 1 + n.need ≤ there = omega (arith, le, more, above) in
+    let so : k + 1 + n.need ≤ there = omega (arith, le, more, h) in
     so
 
 -- a point that covers one state covers another
@@ -164,13 +159,12 @@ less_needed cert node other s t q room keys entry less (p ∷ ps) f le more h =
     let told : ℕ → Owed = λ p. owed 11 (enter (keys p) (entry p)) in
     let asks : ℕ → Owed = λ p. owed 11 (enter (keys p) (less p)) in
     let first = All-head (DutyHolds cert node s q) (told p) (map told ps) h in
-    let rest = All-tail (DutyHolds cert node s q) (told p) (map told ps) h in
     All-cons (DutyHolds cert other t q) (asks p) (map asks ps)
     (record {
       met = λ r. met_less (find_node (keys p) cert.nodes) (keys p).entry (entry p) (less p) (f p) (first.met r);
       need = λ r. need_there (find_node (keys p) cert.nodes) (length s.locals.items) (length t.locals.items) room node.need other.need le more (first.need r);
     })
-    (less_needed cert node other s t q room keys entry less ps f le more rest)
+    (less_needed cert node other s t q room keys entry less ps f le more (All-tail (DutyHolds cert node s q) (told p) (map told ps) h))
 
 -- the entries hold in each state below a context in which they hold
 pub below_context : (plan : PlanData) (cert : CertData) (node other : NodeData) (context : InterruptContext) (s t : State) → IsContext context node s → IsBelowContext context other t → InterruptsHoldWith plan cert node s context.sp → InterruptsHold plan cert other t

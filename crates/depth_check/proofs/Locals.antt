@@ -25,10 +25,10 @@ use Rattle.vd_transfer.specs.Holding.{Holds}
 use Rattle.vd_transfer.proofs.HoldLaws.{restore_holds}
 use Rattle.vd_transfer.proofs.RegisterLaws.{length-forgotten}
 use Rattle.depth_cert.specs.Certs.{CertData}
-use Rattle.cfg_recover.proofs.EntryLaws.{holds_covered}
+use Rattle.cfg_recover.proofs.EntryLaws.{holds_covered, reg_lt}
 use Rattle.depth_check.proofs.Frames.{Frame, oldest_first, Local, Locals, under, Frames, used_by, Invariant, Frames-same, Links-Frames, Frames-moved, own_locals, ImpliedBy-trans}
 use Rattle.depth_check.proofs.Registers.{each_lower, lower_is_lower, lower-UpperSame}
-use Rattle.depth_check.proofs.Enter.{reg_lt, IsPlanMemory-written, counted}
+use Rattle.depth_check.proofs.Enter.{IsPlanMemory-written, counted}
 use Rattle.depth_check.proofs.Leave.{area_words-at}
 use Rattle.depth_check.proofs.Entries.{PointFor}
 

@@ -55,8 +55,7 @@ cover_below : (b : Limits) (v z : Val) (xs : List ℕ) → IsValue b v → Withi
 cover_below b v z [] value there e = absurd (let f : None ≡ Some z = e in cc)
 cover_below b v z (x ∷ xs) value there e =
     let same : cover b (x ∷ xs) ≡ z = (let f : Some (cover b (x ∷ xs)) ≡ Some z = e in cc) in
-    let below : IsBelow (cover b (x ∷ xs)) (cover b (members v)) = cover_mono b (x ∷ xs) (members v) (omega arith) there in
-    subst (λ (u : Val). IsBelow u v) same (subst (λ (u : Val). IsBelow (cover b (x ∷ xs)) u) value.own below)
+    subst (λ (u : Val). IsBelow u v) same (subst (λ (u : Val). IsBelow (cover b (x ∷ xs)) u) value.own (cover_mono b (x ∷ xs) (members v) (omega arith) there))
 
 place_below : (b : Limits) (plan : PlanData) (s : State) (r : ℕ) (o : Option ℕ) (z : Val) (xs : List ℕ) → AreValues b s.regs → Within xs (members (register_value_at plan s r o)) → cover_of_meet b xs ≡ Some z
     → IfSome o (λ i. i < length s.regs → IsBelow z (get_or s.regs i any_val))
@@ -69,10 +68,7 @@ length_set_at t v None = refl
 length_set_at t v (Some i) = length-set t.regs i v
 
 pub apart : (r i : ℕ) → (r == i) ≡ false → r ≡ i → ⊥
-apart r i n e =
-    let same : (r == i) ≡ true = eq-eqb r i e in
-    let no : false ≡ true = sym n ∙ same in
-    cc
+apart r i n e = cc (sym n ∙ eq-eqb r i e)
 
 value_covers : (s t : State) (v : Val) (i r : ℕ) → length t.regs ≡ length s.regs → Covers s t → (i < length s.regs → IsBelow v (get_or s.regs i any_val)) → r < length t.regs
     → IsBelow (get_or (set t.regs i v) r any_val) (get_or s.regs r any_val)
@@ -84,8 +80,7 @@ value_covers s t v i r len c h lt =
           let below : IsBelow v (get_or s.regs i any_val) = h (omega (arith, same, lt, len)) in
           subst (λ (k : ℕ). IsBelow (get_or (set t.regs i v) k any_val) (get_or s.regs k any_val)) (sym same) (subst (λ (u : Val). IsBelow u (get_or s.regs i any_val)) (sym here) below)
       | inr n ↦
-          let other : get_or (set t.regs i v) r any_val ≡ get_or t.regs r any_val = get_or-set_other t.regs i r v any_val (apart r i n) in
-          subst (λ (u : Val). IsBelow u (get_or s.regs r any_val)) (sym other) (c.regs r lt)
+          subst (λ (u : Val). IsBelow u (get_or s.regs r any_val)) (sym (get_or-set_other t.regs i r v any_val (apart r i n))) (c.regs r lt)
     ]
 
 set_covers : (s t : State) (v : Val) (o : Option ℕ) → length t.regs ≡ length s.regs → Covers s t → IfSome o (λ i. i < length s.regs → IsBelow v (get_or s.regs i any_val)) → Covers s (set_slot t v o)

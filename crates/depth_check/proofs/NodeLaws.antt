@@ -1,51 +1,28 @@
 -- The first fault of a node, from the faults of its points one after another.
-use Rattle.std.proofs.Common.{◌≡◌, ℕ, ◌≤◌, ◌<◌, ◌+◌, ◌*◌, ◌^◌, ◌⊎◌, Bool, true, false, List, length, get_or, take, map, min, Option, Some, None, arith, inl, inr, refl, subst, sym, ap, ◌∙◌}
+use Rattle.std.proofs.Common.{◌≡◌, ℕ, ◌≤◌, ◌<◌, ◌+◌, ◌*◌, ◌^◌, Bool, true, false, List, length, get_or, take, min, Option, Some, None, arith, inl, inr, refl, subst, sym}
 use Rattle.std.specs.Prelude.{IsTrue, ◌↔◌, All, Contains, MatchOption, unwrap_or}
 use Rattle.std.specs.Option.{option_map}
 use Rattle.std.proofs.lemmas.Option.{same_Some, none-some}
-use Rattle.std.specs.List.Sorted.{IsStrictlyIncreasing}
 use Rattle.std.proofs.lemmas.Bool.{cases_lt, lt-ltb, le-ltb}
-use Rattle.std.proofs.lemmas.List.{get_or-take, get_or-map, length-take, length-map}
-use Rattle.std.proofs.lemmas.List.Elements.{All-contains, at_read}
+use Rattle.std.proofs.lemmas.List.Elements.{All-contains}
 use Rattle.elf_image.specs.Images.{ImageData}
 use Rattle.tcd_plan.specs.PlanData.{PlanData}
 use Rattle.depth_cert.specs.declared.points.Point.{Point}
 use Rattle.depth_cert.specs.Points.{ArePoints}
 use Rattle.depth_cert.specs.Nodes.{NodeData}
 use Rattle.depth_cert.specs.Certs.{CertData}
-use Rattle.depth_cert.proofs.FindLaws.{non_decreasing}
 use Rattle.cfg_recover.specs.RulesHoldOrFail.{limits_in, RuleHolds, HoldsAtEntry, HoldsAtNode, RuleFails, at_entry, at_point}
 use Rattle.depth_check.specs.declared.nodes.Fault.{Fault}
 use Rattle.depth_check.specs.LeastBroken.{FindsLeastBroken}
 use Rattle.depth_check.specs.NodeFaults.{IsNodeFault, earlier_node_fault}
+use Rattle.cfg_recover.proofs.FirstFault.{place_of}
 
 -- ---- rising lists
-next_above : {A : Type 0} (f : A → ℕ) (xs : List A) (i : ℕ) (d : A) → IsStrictlyIncreasing (map f xs) → i + 1 < length xs → f (get_or xs i d) < f (get_or xs (i + 1) d)
-next_above f xs i d rising lt = omega (arith, rising i (omega (arith, length-map xs f)), get_or-map f xs i d 0 (omega arith), get_or-map f xs (i + 1) d 0 lt)
-
--- an element is among the first i, or is that at i, or is above it
-pub place_of : {A : Type 0} (f : A → ℕ) (xs : List A) (i : ℕ) (x y : A) → IsStrictlyIncreasing (map f xs) → i < length xs → y ≡ get_or xs i y → Contains xs x → Contains (take i xs) x ⊎ ((x ≡ y) ⊎ (f y < f x))
-place_of f xs i x y rising lt at (k, within, is) =
-    let here : get_or xs i x ≡ y = at_read xs (λ z. z ≡ y) i y lt at refl x in
-    elim (cases_lt k i) [
-      | inl before ↦ inl (k, omega (arith, length-take i xs), get_or-take i xs k x before ∙ is)
-      | inr from ↦
-          elim (cases_lt i k) [
-            | inl above ↦
-                let next = next_above f xs i x rising (omega arith) in
-                let rest = non_decreasing f xs rising (i + 1) k x (omega arith) within in
-                inr (inr (omega (arith, next, rest, ap f here, ap f is)))
-            | inr to ↦ let same : k ≡ i = omega arith in inr (inl (sym is ∙ ap (λ n. get_or xs n x) same ∙ here))
-          ]
-    ]
 
 -- ---- a node
 module _ (image : ImageData) (plan : PlanData) (cert : CertData) (node : NodeData) (member : Contains cert.nodes node) (points : List Point) (same : points ≡ node.points) (rising : ArePoints node.points) where
   abbrev AllHold : Point → Type 0
   AllHold p = (r : ℕ) → RuleHolds image plan cert node p r
-
-  is_point : (p : Point) → Contains points p → Contains node.points p
-  is_point p c = subst (λ (l : List Point). Contains l p) same c
 
   -- a fault that comes no later than those of the point at i, if all points before hold
   made : (i : ℕ) (point : Point) (r p : ℕ) → i < length points → point ≡ get_or points i point → All AllHold (take i points) → RuleFails image plan cert r node.key p
@@ -73,7 +50,7 @@ module _ (image : ImageData) (plan : PlanData) (cert : CertData) (node : NodeDat
   at_this : (i : ℕ) (point : Point) (r : ℕ) → i < length points → point ≡ get_or points i point → All AllHold (take i points) → FindsLeastBroken (RuleHolds image plan cert node point) (Some r) → point.addr < 2 ^ 32
       → ((HoldsAtEntry (limits_in plan cert) node → ⊥) → point.addr * 2 ^ 4 + r ≤ (node.key).entry * 2 ^ 4 + 2) → IsNodeFault image plan cert node r point.addr
   at_this i point r lt at before f addr entry =
-      made i point r point.addr lt at before (at_point node point r member (is_point point (i, lt, sym at)) f.broken) entry
+      made i point r point.addr lt at before (at_point node point r member (subst (λ (l : List Point). Contains l point) same (i, lt, sym at)) f.broken) entry
       (λ q broken. elim (cases_lt q r) [ inl less ↦ absurd (broken (f.least q less)) | inr more ↦ omega arith ]) (omega arith) f.known addr
 
   -- K2 at the entry, which doesn't come after the point

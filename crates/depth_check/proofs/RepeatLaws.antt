@@ -55,11 +55,8 @@ next_stands node done left rest p q rising split next =
 stands_covers : (points : List Point) (q : Point) (t : State) → find_point q.addr points ≡ Some q → Covers q.state t → IsSomeAnd (find_point q.addr points) (λ z. Covers z.state t)
 stands_covers points q t is covers = subst (λ (o : Option Point). IsSomeAnd o (λ z. Covers z.state t)) (sym is) covers
 
-pub same_covers : (node : NodeData) (a : ℕ) (s : State) → HasPointWithState node a s → HasCoveringPoint node a s
-same_covers node a s is = stands_covers node.points (record { addr = a; state = s }) s is (covers_same s)
-
 pub known_covers : (node : NodeData) (known : Option ℕ) (a : ℕ) (s : State) → known ≡ Some a → IfSome known (λ x. HasPointWithState node x s) → HasCoveringPoint node a s
-known_covers node known a s e h = same_covers node a s (subst (λ (o : Option ℕ). IfSome o (λ x. HasPointWithState node x s)) e h)
+known_covers node known a s e h = stands_covers node.points (record { addr = a; state = s }) s (subst (λ (o : Option ℕ). IfSome o (λ x. HasPointWithState node x s)) e h) (covers_same s)
 
 -- so a walk looks ahead
 pub looks_ahead : (node : NodeData) (done before : List Point) (w : WalkData) (p : Point) (s : State) → ArePoints node.points → w.points ≡ node.points → node.points ≡ done ++ before → before ≡ p ∷ w.left → s ≡ w.current → LooksAhead node s w

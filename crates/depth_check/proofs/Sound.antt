@@ -25,12 +25,13 @@ use Rattle.cfg_recover.specs.RulesHoldOrFail.{limits_in, HasCoveringPoint, Accep
 use Rattle.cfg_recover.proofs.MoveLaws.{stores_held}
 use Rattle.cfg_recover.proofs.EntryLaws.{holds_covered, holds_start, entry_length}
 use Rattle.depth_check.specs.AcceptedPromises.{AcceptedIsSafe}
-use Rattle.depth_check.proofs.Frames.{Frame, used_by, Invariant, Links-Frames, need-Frames, length-ImpliedBy}
+use Rattle.depth_check.proofs.Frames.{Frame, used_by, Invariant, Links-Frames, need-Frames}
 use Rattle.depth_check.proofs.Enter.{implied_none, counted}
 use Rattle.cfg_recover.proofs.PointLaws.{rules_at, Found, node_found}
 use Rattle.depth_check.proofs.Entries.{PointFor, point_for}
 use Rattle.depth_check.proofs.Handlers.{entry_none}
 use Rattle.depth_check.proofs.Step.{Goes, at_point, step-kept}
+use Rattle.value_domain.proofs.RegLaws.{implied_length}
 
 -- the frame of the start
 abbrev pub oldest : Machine → NodeData → Frame
@@ -59,7 +60,7 @@ module _ (image : ImageData) (plan : PlanData) (ok : IsPlan plan) (cert : CertDa
         point = at.point;
         found = subst (λ q. find_point q (b.node).points ≡ Some at.point) (sym start.pc) at.found;
         inside = holds_covered plan (at.point).state (start_state plan) (reg m) m.ie m.ccpn at.covers (entry_length (word_val plan.sp) plan.start_ie plan.start_ccpn false) (holds_start image plan m start);
-        flags = implied_none _ (length-ImpliedBy ((at.point).state).locals.items ((start_state plan).locals.items) (at.covers).locals ∙ entry_none (word_val plan.sp) plan.start_ie plan.start_ccpn false);
+        flags = implied_none _ (implied_length ((at.point).state).locals.items ((start_state plan).locals.items) (at.covers).locals ∙ entry_none (word_val plan.sp) plan.start_ie plan.start_ccpn false);
         is = start.is ∙ sym (ap (λ k. k.is) found.key);
         lower_kept = λ _ r low. refl;
         frames = (tt, record { ends = ap link_in start.pcxi; kind = ap (λ k. k.kind) found.key; need = omega arith });
@@ -78,10 +79,7 @@ module _ (image : ImageData) (plan : PlanData) (ok : IsPlan plan) (cert : CertDa
   few_at_start most b =
       let at = b.at in
       let found = b.found in
-      let need = b.need in
-      let rules = rules_at image plan cert is_cert accepted b.node image.entry at.point found.stands at.found in
-      let few : (b.node).need ≤ plan.areas - plan.reserve = (rules.holds).start found.key refl in
-      omega arith
+      omega (arith, b.need, ((rules_at image plan cert is_cert accepted b.node image.entry at.point found.stands at.found).holds).start found.key refl)
 
   module _ (most : ℕ) (few : most ≤ plan.areas - plan.reserve) where
     run-kept : (m : Machine) (es : List Event) → IsMachine m → (now : List Standing) → Goes image plan cert most m now → AllFit plan m es → Goes image plan cert most (run m es) (frames_from m es now)

@@ -45,9 +45,9 @@ use Rattle.cfg_recover.specs.RulesHoldOrFail.{limits_in, HasCoveringPoint, Accep
 use Rattle.cfg_recover.specs.StepEdges.{EdgeWay, to, call, irq, sys, aln, edge_way_of_shape, edge_way_by_trap, edge_way_in_fetch}
 use Rattle.cfg_recover.specs.MovesAreOwed.{IsAtPoint, StaysInFrame}
 use Rattle.cfg_recover.proofs.MoveLaws.{moves_in_frame, traps_owed, calls_owed, interrupts_owed}
-use Rattle.cfg_recover.proofs.EntryLaws.{holds_same, holds_exit}
-use Rattle.depth_check.proofs.Frames.{Frame, standing, Leaves, by_return, from_system, from_handler, Invariant, length-ImpliedBy}
-use Rattle.depth_check.proofs.Enter.{Begins, begun, entered, room, begins, saves, reg_lt}
+use Rattle.cfg_recover.proofs.EntryLaws.{holds_same, holds_exit, reg_lt}
+use Rattle.depth_check.proofs.Frames.{Frame, standing, Leaves, by_return, from_system, from_handler, Invariant}
+use Rattle.depth_check.proofs.Enter.{Begins, begun, entered, room, begins, saves}
 use Rattle.depth_check.proofs.Leave.{globals_held, comes_back, restores, none_held}
 use Rattle.depth_check.proofs.Plain.{Invariant-moved}
 use Rattle.cfg_recover.proofs.PointLaws.{limits_are, PointHolds, duties_at, node_is, rules_at, Found, node_found}
@@ -57,6 +57,7 @@ use Rattle.depth_check.proofs.Locals.{with_locals, lower_pushed, lower_popped}
 use Rattle.depth_check.proofs.Lengths.{jump_long}
 use Rattle.depth_check.proofs.Owes.{owes-svlcx, owes-bisr, owes-rslcx, owes-syscall, owes-syscall_back, owes-ret, owes-rfe, interrupt-is, trap-is, call-is, syscall-is, ret-is, rfe-is, svlcx-is, bisr-is, rslcx-is, traps-is}
 use Rattle.tc_mem.specs.PlanMemory.{HoldsRom}
+use Rattle.value_domain.proofs.RegLaws.{implied_length}
 
 -- the invariant, with some frames
 pub record Goes (image : ImageData) (plan : PlanData) (cert : CertData) (most : ℕ) (m : Machine) (now : List Standing) : Type 0 where
@@ -109,6 +110,7 @@ stays_to (Mtcr src number) stays q = absurd stays
 stays_to _ stays q = refl
 
 -- ---- shapes
+
 shape_is : (image : ImageData) (plan : PlanData) (p : ℕ) (shape : Shape) (n : ℕ) → IsCode image plan p shape n → IsShape shape
 shape_is image plan p shape n code = subst IsShape code.shaped (shape_of-suits code.inst ((code.spells).spelled).inst)
 
@@ -359,9 +361,8 @@ module _ (image : ImageData) (plan : PlanData) (ok : IsPlan plan) (cert : CertDa
         (n2 : Machine) → (save m false ≡ saved m false → n2 ≡ record (saved m false) { pc = pc; ie = ie2; ccpn = ccpn2; end = Running }) → Steps image plan cert most m frame below (duties_at image plan cert frame.node m.pc (k.point).state shape n) e n (to n2.pc) n2
     saves_lower e shape n h pc ie ccpn owes ie2 ccpn2 enabled priority n2 is =
         let at = jumping m words frame below k shape n h pc (record (state_saved_lower (k.point).state) { ie = ie; ccpn = ccpn }) owes in
-        let next = (rules_at image plan cert is_cert accepted frame.node pc at.point k.stands at.found).holds in
-        let fits = next.locals in
-        let same = length-ImpliedBy ((at.point).state).locals.items (((k.point).state).locals.items ++ ((k.point).state).lower ∷ []) (at.covers).locals in
+        let fits = (rules_at image plan cert is_cert accepted frame.node pc at.point k.stands at.found).holds.locals in
+        let same = implied_length ((at.point).state).locals.items (((k.point).state).locals.items ++ ((k.point).state).lower ∷ []) (at.covers).locals in
         let long = length-append ((k.point).state).locals.items (((k.point).state).lower ∷ []) in
         let free = room image plan ok cert most few m frame below k 0 (omega arith) in
         subst (λ x. Steps image plan cert most m frame below (duties_at image plan cert frame.node m.pc (k.point).state shape n) e n (to x.pc) x) (sym (is (saves image plan ok cert most few m frame below k free false)))
@@ -426,12 +427,10 @@ module _ (image : ImageData) (plan : PlanData) (ok : IsPlan plan) (cert : CertDa
   done-kept : (m : Machine) → IsMachine m → (e : Event) → Fits plan m e → (frame : Frame) (below : List Frame) (k : Invariant image plan cert most m frame below) → Done m frame below k e (machine_after_event m e)
   done-kept m words e fits frame below k =
       let r = rules_at image plan cert is_cert accepted frame.node m.pc k.point k.stands k.found in
-      let code = (r.holds).code in
       elim (cases_Bool (is_taken m e)) [
         | inl taken ↦
-            let is : machine_after_event m e ≡ interrupt m e.irq = ap (λ t. cond t (interrupt m e.irq) (executed m e (fetched m))) taken in
             let s = interrupted m words frame below k r.shape r.size r.holds e fits taken in
-            subst (Done m frame below k e) (sym is)
+            subst (Done m frame below k e) (sym (ap (λ t. cond t (interrupt m e.irq) (executed m e (fetched m))) taken))
             (record {
               shape = r.shape;
               size = r.size;
@@ -441,7 +440,7 @@ module _ (image : ImageData) (plan : PlanData) (ok : IsPlan plan) (cert : CertDa
                   (sym taken) s.owes;
             })
         | inr none ↦
-            let at : fetched m ≡ Ok (r.shape, r.size) = fetched_at image plan ok m k.rom r.shape r.size code in
+            let at : fetched m ≡ Ok (r.shape, r.size) = fetched_at image plan ok m k.rom r.shape r.size (r.holds).code in
             let s = follows m words frame below k e fits none r.shape r.size r.holds in
             subst (Done m frame below k e) (sym (done-is m e r.shape r.size none at))
             (record {
@@ -469,5 +468,4 @@ module _ (image : ImageData) (plan : PlanData) (ok : IsPlan plan) (cert : CertDa
 
   pub step-kept : (m : Machine) → IsMachine m → (e : Event) → Fits plan m e → (now : List Standing) → Goes image plan cert most m now → Goes image plan cert most (step m e) (frames_after m e now)
   step-kept m words e fits now g =
-      let d = step-done m words e fits g.frame g.below g.kept in
-      Goes-as (ap (by m e (is_taken m e) (fetched m) (step m e).pc) g.stands) d.goes
+      Goes-as (ap (by m e (is_taken m e) (fetched m) (step m e).pc) g.stands) (step-done m words e fits g.frame g.below g.kept).goes

@@ -1,4 +1,4 @@
-use Rattle.depth_check.proofs.FirstLaws.{fails_refutes}
+use Rattle.cfg_recover.proofs.FaultLaws.{fails_refutes}
 use Rattle.depth_check.proofs.laws.first_fault_laws.Goals as goal
 
 pub returns : goal.returns
