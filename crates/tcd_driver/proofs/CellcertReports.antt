@@ -1,5 +1,5 @@
 -- What `cellcert` reports.
-use Rattle.std.proofs.Common.{◌≡◌, ◌≢◌, ◌-◌, ℕ, List, [], length, sym, ap, subst, ◌∙◌, inl, inr}
+use Rattle.std.proofs.Common.{◌≡◌, ◌-◌, ℕ, List, length, sym, ap, subst, ◌∙◌, refl}
 use Rattle.elf_image.specs.Images.{ImageData}
 use Rattle.tcd_plan.specs.PlanData.{PlanData, IsPlan}
 use Rattle.tc_machine.specs.Safe.{Safe}
@@ -15,12 +15,12 @@ use Rattle.value_cells.specs.Keeping.{KeepsCells, BreaksCells, IsFirstBreak}
 use Rattle.value_cells.proofs.CellPlan.{IsPlan-with_cells}
 use Rattle.value_cells.proofs.CellSafe.{cells_keep}
 use Rattle.value_cells.proofs.GrowthLaws.{cell_faults_grow, cell_faults_refute}
-use Rattle.tcd_reading.specs.Reports.{IsReportStatus, Report, says, writes_file}
+use Rattle.tcd_reading.specs.Reports.{Report, says, writes_file}
 use Rattle.tcd_forms.specs.Lines.{refused_line, certified_cells_line}
 use Rattle.tcd_driver.specs.BestCert.{IsLeastWithNeed}
 use Rattle.tcd_driver.specs.Cellcert.{NoneKeepsCells, IsCertifyingCells, refused, broken, certified}
-use Rattle.tcd_reading.specs.declared.status.Status.TheVariants.{Done, Refused}
-use Rattle.tcd_reading.proofs.Decided.{AreAlike, status_is, writes_are}
+use Rattle.tcd_reading.specs.declared.status.Status.TheVariants.{Refused}
+use Rattle.tcd_driver.proofs.Alike.{IsSide, well, against}
 
 -- ---- K16
 -- if the least certificate breaks K16, each one does
@@ -52,27 +52,8 @@ module _ (name : List ℕ) (i : ImageData) (fields p : PlanData) (cells : List C
       ∙ ap (λ (b : List ℕ). writes_file name b (certified_cells_line (certified_need i (with_cells p cells) c) (p.areas - p.reserve) (length cells))) spell)
 
 -- ---- reports are alike
-module _ (name : List ℕ) (i : ImageData) (p : PlanData) (cells : List Cell) where
-  told : (r : Report) → IsCertifyingCells name i p cells r → IsReportStatus r.status
-  told r (refused rule key addr none why e) = inr (inl (status_is r _ e))
-  told r (broken c key addr none is made first e) = inr (inl (status_is r _ e))
-  told r (certified c is made keeps safe e) = inl (status_is r _ e)
-
-  done : (r : Report) → IsCertifyingCells name i p cells r → r.status ≢ Done → r.writes ≡ []
-  done r (refused rule key addr none why e) undone = writes_are r _ e
-  done r (broken c key addr none is made first e) undone = writes_are r _ e
-  done r (certified c is made keeps safe e) undone = absurd (undone (status_is r _ e))
-
-  one : (r q : Report) → IsCertifyingCells name i p cells r → IsCertifyingCells name i p cells q → r.status ≡ q.status
-  one r q (refused rule key addr none why e) (refused rule2 key2 addr2 none2 why2 f) = status_is r _ e ∙ sym (status_is q _ f)
-  one r q (refused rule key addr none why e) (broken c key2 addr2 none2 is made first f) = status_is r _ e ∙ sym (status_is q _ f)
-  one r q (refused rule key addr none why e) (certified c is made keeps safe f) = absurd (none c is made.of_version made.accepted)
-  one r q (broken c key addr none is made first e) (refused rule key2 addr2 none2 why f) = status_is r _ e ∙ sym (status_is q _ f)
-  one r q (broken c key addr none is made first e) (broken c2 key2 addr2 none2 is2 made2 first2 f) = status_is r _ e ∙ sym (status_is q _ f)
-  one r q (broken c key addr none is made first e) (certified c2 is2 made2 keeps safe f) = absurd (none c2 is2 made2.of_version made2.accepted keeps)
-  one r q (certified c is made keeps safe e) (refused rule key addr none why f) = absurd (none c is made.of_version made.accepted)
-  one r q (certified c is made keeps safe e) (broken c2 key addr none is2 made2 first f) = absurd (none c is made.of_version made.accepted keeps)
-  one r q (certified c is made keeps safe e) (certified c2 is2 made2 keeps2 safe2 f) = status_is r _ e ∙ sym (status_is q _ f)
-
-  pub cellcert_alike : AreAlike (IsCertifyingCells name i p cells)
-  cellcert_alike = record { told = told; done = done; one = one }
+pub cellcert_side : (name : List ℕ) (i : ImageData) (p : PlanData) (cells : List Cell) (r : Report) → IsCertifyingCells name i p cells r
+    → IsSide ((c : CertData) × IsCert c × IsMade i (with_cells p cells) 2 c × KeepsCells i (with_cells p cells) cells c) Refused r
+cellcert_side name i p cells r (refused rule key addr none why e) = against _ e (λ w. none w.0 w.1 (w.2).of_version (w.2).accepted)
+cellcert_side name i p cells r (broken c key addr none is made first e) = against _ e (λ w. none w.0 w.1 (w.2).of_version (w.2).accepted w.3)
+cellcert_side name i p cells r (certified c is made keeps safe e) = well _ e refl (c, is, made, keeps)

@@ -1,25 +1,26 @@
 -- What `cells` reports.
-use Rattle.std.proofs.Common.{◌≡◌, ◌≢◌, ◌-◌, ℕ, List, [], length, Ok, Err, sym, ap, subst, ◌∙◌, inl, inr}
+use Rattle.std.proofs.Common.{◌≡◌, ◌-◌, ℕ, List, length, Ok, Err, ap, subst, ◌∙◌, refl}
 use Rattle.elf_image.specs.Images.{ImageData}
 use Rattle.tcd_plan.specs.PlanData.{PlanData, IsPlan}
 use Rattle.tc_machine.specs.Safe.{Safe}
 use Rattle.depth_cert.specs.Certs.{CertData, IsCert}
-use Rattle.depth_cert.specs.declared.keys.Key.{Key}
 use Rattle.cfg_recover.specs.RulesHoldOrFail.{Accepts, certified_need}
 use Rattle.depth_check.proofs.FirstLaws.{fails_refutes}
 use Rattle.depth_check.proofs.Held as held
 use Rattle.value_cells.specs.declared.cells.Cell.{Cell}
 use Rattle.value_cells.specs.Cells.{with_cells, AreCells}
-use Rattle.value_cells.specs.Keeping.{KeepsCells, BreaksCells, breaks_at}
+use Rattle.value_cells.specs.Keeping.{KeepsCells}
 use Rattle.value_cells.proofs.CellPlan.{IsPlan-with_cells}
 use Rattle.value_cells.proofs.CellSafe.{cells_keep}
+use Rattle.value_cells.proofs.GrowthLaws.{cell_faults_refute}
 use Rattle.value_cells.proofs.ReadOne.{reads_one}
-use Rattle.tcd_reading.specs.Reports.{IsReportStatus, Report, says}
+use Rattle.tcd_reading.specs.Reports.{Report, says}
 use Rattle.tcd_driver.specs.CellAndTaskForms.{cells_form}
 use Rattle.tcd_forms.specs.Lines.{certified_cells_line}
 use Rattle.tcd_driver.specs.Cells.{IsCellsVerdict, refused, broken, certified}
-use Rattle.tcd_reading.specs.declared.status.Status.TheVariants.{Done}
-use Rattle.tcd_reading.proofs.Decided.{AreAlike, IsLawful, status_is, writes_are}
+use Rattle.tcd_reading.specs.declared.status.Status.TheVariants.{Done, Refused}
+use Rattle.tcd_reading.proofs.Decided.{IsLawful}
+use Rattle.tcd_driver.proofs.Alike.{IsSide, well, against}
 
 -- a text is cells, or none
 pub cells_lawful : (p : PlanData) → IsLawful (cells_form p)
@@ -28,33 +29,10 @@ cells_lawful p = record {
   apart = λ b t x h k. let e = reads_one p b (Ok x) (Err k.0) h k.1 in cc;
 }
 
-breaks_refute : (i : ImageData) (p : PlanData) (cells : List Cell) (c : CertData) (k : Key) (x : ℕ) → BreaksCells i p cells c k x → KeepsCells i p cells c → ⊥
-breaks_refute i p cells c _ _ (breaks_at node point member stands wrong) keeps = wrong (keeps node point member stands)
-
-module _ (i : ImageData) (p : PlanData) (cells : List Cell) (c : CertData) where
-  told : (r : Report) → IsCellsVerdict i p cells c r → IsReportStatus r.status
-  told r (refused rule key addr first e) = inr (inl (status_is r _ e))
-  told r (broken key addr accepted breaks e) = inr (inl (status_is r _ e))
-  told r (certified accepted keeps safe e) = inl (status_is r _ e)
-
-  done : (r : Report) → IsCellsVerdict i p cells c r → r.status ≢ Done → r.writes ≡ []
-  done r (refused rule key addr first e) undone = writes_are r _ e
-  done r (broken key addr accepted breaks e) undone = writes_are r _ e
-  done r (certified accepted keeps safe e) undone = writes_are r _ e
-
-  one : (r q : Report) → IsCellsVerdict i p cells c r → IsCellsVerdict i p cells c q → r.status ≡ q.status
-  one r q (refused rule key addr first e) (refused rule2 key2 addr2 first2 f) = status_is r _ e ∙ sym (status_is q _ f)
-  one r q (refused rule key addr first e) (broken key2 addr2 accepted breaks f) = status_is r _ e ∙ sym (status_is q _ f)
-  one r q (refused rule key addr first e) (certified accepted keeps safe f) = absurd (fails_refutes i (with_cells p cells) c rule key addr first.fails accepted)
-  one r q (broken key addr accepted breaks e) (refused rule key2 addr2 first f) = status_is r _ e ∙ sym (status_is q _ f)
-  one r q (broken key addr accepted breaks e) (broken key2 addr2 accepted2 breaks2 f) = status_is r _ e ∙ sym (status_is q _ f)
-  one r q (broken key addr accepted breaks e) (certified accepted2 keeps safe f) = absurd (breaks_refute i (with_cells p cells) cells c key addr breaks.breaks keeps)
-  one r q (certified accepted keeps safe e) (refused rule key addr first f) = absurd (fails_refutes i (with_cells p cells) c rule key addr first.fails accepted)
-  one r q (certified accepted keeps safe e) (broken key addr accepted2 breaks f) = absurd (breaks_refute i (with_cells p cells) cells c key addr breaks.breaks keeps)
-  one r q (certified accepted keeps safe e) (certified accepted2 keeps2 safe2 f) = status_is r _ e ∙ sym (status_is q _ f)
-
-  pub cells_alike : AreAlike (IsCellsVerdict i p cells c)
-  cells_alike = record { told = told; done = done; one = one }
+pub cells_side : (i : ImageData) (p : PlanData) (cells : List Cell) (c : CertData) (r : Report) → IsCellsVerdict i p cells c r → IsSide (Accepts i (with_cells p cells) c × KeepsCells i (with_cells p cells) cells c) Refused r
+cells_side i p cells c r (refused rule key addr first e) = against _ e (λ w. fails_refutes i (with_cells p cells) c rule key addr first.fails w.0)
+cells_side i p cells c r (broken key addr accepted breaks e) = against _ e (λ w. cell_faults_refute i (with_cells p cells) cells c key addr breaks.breaks w.1)
+cells_side i p cells c r (certified accepted keeps safe e) = well _ e refl (accepted, keeps)
 
 -- the report on a certificate that is accepted and keeps the cells
 pub cells_report : (i : ImageData) (fields p : PlanData) (cells : List Cell) (parts c : CertData) (need count : ℕ) (r : Report) → fields ≡ p → IsPlan fields → AreCells p cells → parts ≡ c → IsCert parts

@@ -1,5 +1,5 @@
 -- The reports of `gen`.
-use Rattle.std.proofs.Common.{◌≡◌, ◌≢◌, ◌≤◌, ◌-◌, ◌^◌, ℕ, List, [], length, Result, Ok, sym, ap, subst, ◌∙◌, arith, inl, inr}
+use Rattle.std.proofs.Common.{◌≡◌, ◌≤◌, ◌-◌, ◌^◌, ℕ, List, length, Result, Ok, sym, ap, subst, ◌∙◌, arith, refl}
 use Rattle.elf_image.specs.Images.{ImageData}
 use Rattle.elf_image.specs.ReadElf.{image_of_file}
 use Rattle.elf_image.specs.declared.errors.ImageErr.{ImageErr}
@@ -15,33 +15,20 @@ use Rattle.tcd_driver.specs.declared.command.Command.{Command as Words}
 use Rattle.tcd_driver.specs.declared.command.Command.TheVariants as held
 use Rattle.tcd_forms.proofs.FormLaws.{plan_lawful}
 use Rattle.tc_machine.specs.Safe.{Safe}
-use Rattle.depth_cert.specs.Certs.{CertData}
+use Rattle.depth_cert.specs.Certs.{CertData, IsCert}
 use Rattle.depth_cert.specs.Nodes.{count_points}
 use Rattle.cfg_recover.specs.RulesHoldOrFail.{certified_need}
-use Rattle.tcd_reading.specs.Reports.{IsReportStatus, Report, says}
+use Rattle.depth_maker.specs.LeastCertMade.{IsMade}
+use Rattle.tcd_reading.specs.Reports.{Report, says}
 use Rattle.tcd_forms.specs.Lines.{generated_line}
 use Rattle.tcd_driver.specs.BestCert.{IsLeastWithNeed}
 use Rattle.tcd_driver.specs.Gen.{IsGenReport, refused, certified}
-use Rattle.tcd_reading.specs.declared.status.Status.TheVariants.{Done}
-use Rattle.tcd_reading.proofs.Decided.{AreAlike, status_is, writes_are}
+use Rattle.tcd_reading.specs.declared.status.Status.TheVariants.{Done, Refused}
+use Rattle.tcd_driver.proofs.Alike.{IsSide, well, against}
 
-module _ (n : ℕ) (i : ImageData) (p : PlanData) where
-  summary_told : (r : Report) → IsGenReport n i p r → IsReportStatus r.status
-  summary_told r (refused rule key addr none why e) = inr (inl (status_is r _ e))
-  summary_told r (certified c is made safe e) = inl (status_is r _ e)
-
-  summary_done : (r : Report) → IsGenReport n i p r → r.status ≢ Done → r.writes ≡ []
-  summary_done r (refused rule key addr none why e) undone = writes_are r _ e
-  summary_done r (certified c is made safe e) undone = writes_are r _ e
-
-  summary_one : (r q : Report) → IsGenReport n i p r → IsGenReport n i p q → r.status ≡ q.status
-  summary_one r q (refused rule key addr none why e) (refused rule2 key2 addr2 none2 why2 f) = status_is r _ e ∙ sym (status_is q _ f)
-  summary_one r q (refused rule key addr none why e) (certified c is made safe f) = absurd (none c is made.of_version made.accepted)
-  summary_one r q (certified c is made safe e) (refused rule key addr none why f) = absurd (none c is made.of_version made.accepted)
-  summary_one r q (certified c is made safe e) (certified c2 is2 made2 safe2 f) = status_is r _ e ∙ sym (status_is q _ f)
-
-  pub summary_alike : AreAlike (IsGenReport n i p)
-  summary_alike = record { told = summary_told; done = summary_done; one = summary_one }
+pub summary_side : (n : ℕ) (i : ImageData) (p : PlanData) (r : Report) → IsGenReport n i p r → IsSide ((c : CertData) × IsCert c × IsMade i p 1 c) Refused r
+summary_side n i p r (refused rule key addr none why e) = against _ e (λ w. none w.0 w.1 (w.2).of_version (w.2).accepted)
+summary_side n i p r (certified c is made safe e) = well _ e refl (c, is, made)
 
 -- the report on the certificate
 pub counted_report : (n : ℕ) (i : ImageData) (fields p : PlanData) (c : CertData) (need : ℕ) (r : Report) → fields ≡ p → IsLeastWithNeed i p 1 c need

@@ -1,3 +1,4 @@
+pub mod Alike
 pub mod BootReports
 pub mod CellcertReports
 pub mod CellsReports

@@ -1,8 +1,8 @@
 -- The reports of commands that make a certificate.
-use Rattle.std.proofs.Common.{◌≡◌, ◌≢◌, ◌-◌, ℕ, List, [], Result, Ok, Err, sym, ap, subst, ◌∙◌, inl, inr}
+use Rattle.std.proofs.Common.{◌≡◌, ◌-◌, ℕ, List, Result, Ok, Err, ap, subst, ◌∙◌, refl}
 use Rattle.elf_image.specs.Images.{ImageData}
 use Rattle.tcd_plan.specs.PlanData.{PlanData}
-use Rattle.depth_cert.specs.Certs.{CertData, IsCert}
+use Rattle.depth_cert.specs.Certs.{CertData}
 use Rattle.depth_cert.specs.Spelling.{bytes_of_cert}
 use Rattle.depth_cert.specs.declared.keys.Key.{Key}
 use Rattle.tc_machine.specs.Safe.{Safe}
@@ -10,20 +10,23 @@ use Rattle.cfg_recover.specs.RulesHoldOrFail.{certified_need}
 use Rattle.depth_maker.specs.Answers.{NoneAccepted}
 use Rattle.depth_maker.specs.declared.answering.MakeErr.{MakeErr}
 use Rattle.depth_maker.specs.declared.answering.MakeErr.TheVariants as make_err
-use Rattle.tcd_reading.specs.Reports.{IsReportStatus, Report, says, writes_file}
+use Rattle.tcd_reading.specs.Reports.{Report, says, writes_file}
 use Rattle.tcd_reading.specs.Outcomes.{Outcome, IsToldOutcome}
 use Rattle.tcd_forms.specs.Lines.{certified_line, refused_line}
 use Rattle.tcd_driver.specs.BestCert.{IsBestCert, first, second, IsAcceptedBestCert, IsLeastWithNeed, MakesLeastCert, MakesBestCert, IsUnmadeReport}
 use Rattle.tcd_driver.specs.Cert as made
 use Rattle.tcd_driver.specs.Cert.{IsCertifying}
-use Rattle.tcd_reading.specs.declared.status.Status.TheVariants.{Done, Refused}
-use Rattle.tcd_reading.proofs.Decided.{AreAlike, status_is, writes_are}
+use Rattle.tcd_reading.specs.declared.status.Status.TheVariants.{Refused}
 use Rattle.tcd_reading.proofs.Told.{told_more}
+use Rattle.tcd_driver.proofs.Alike.{IsSide, well, against}
 
 -- if no certificate of format 1 and none of format 2 is accepted, no certificate is the best
-pub none_best : (i : ImageData) (p : PlanData) (c : CertData) → NoneAccepted i p 1 → NoneAccepted i p 2 → IsCert c → IsBestCert i p c → ⊥
-none_best i p c one two is (first m) = one c is m.of_version m.accepted
-none_best i p c one two is (second none m) = two c is m.of_version m.accepted
+pub none_best : (i : ImageData) (p : PlanData) → NoneAccepted i p 1 → NoneAccepted i p 2 → (c : CertData) × IsAcceptedBestCert i p c → ⊥
+none_best i p one two w = by (w.1).best
+  where
+    by : IsBestCert i p w.0 → ⊥
+    by (first m) = one w.0 (w.1).is_cert m.of_version m.accepted
+    by (second none m) = two w.0 (w.1).is_cert m.of_version m.accepted
 
 -- the least certificate of a format, if it is the best one
 pub best_least : (i : ImageData) (p : PlanData) (version : ℕ) (c : CertData) (need : ℕ) → IsBestCert i p c → IsLeastWithNeed i p version c need → IsAcceptedBestCert i p c × (need ≡ certified_need i p c)
@@ -58,20 +61,6 @@ certifying_report name i fields p c need bytes r same best spell e =
     ∙ ap (λ (q : PlanData). writes_file name bytes (certified_line (certified_need i p c) (q.areas - q.reserve))) same
     ∙ ap (λ (b : List ℕ). writes_file name b (certified_line (certified_need i p c) (p.areas - p.reserve))) spell)
 
-module _ (name : List ℕ) (i : ImageData) (p : PlanData) where
-  certifying_told : (r : Report) → IsCertifying name i p r → IsReportStatus r.status
-  certifying_told r (made.refused rule key addr none e) = inr (inl (status_is r _ e))
-  certifying_told r (made.certified c is e) = inl (status_is r _ e)
-
-  certifying_done : (r : Report) → IsCertifying name i p r → r.status ≢ Done → r.writes ≡ []
-  certifying_done r (made.refused rule key addr none e) undone = writes_are r _ e
-  certifying_done r (made.certified c is e) undone = absurd (undone (status_is r _ e))
-
-  certifying_one : (r q : Report) → IsCertifying name i p r → IsCertifying name i p q → r.status ≡ q.status
-  certifying_one r q (made.refused rule key addr none e) (made.refused rule2 key2 addr2 none2 f) = status_is r _ e ∙ sym (status_is q _ f)
-  certifying_one r q (made.refused rule key addr none e) (made.certified c is f) = absurd (none_best i p c none.first none.second is.is_cert is.best)
-  certifying_one r q (made.certified c is e) (made.refused rule key addr none f) = absurd (none_best i p c none.first none.second is.is_cert is.best)
-  certifying_one r q (made.certified c is e) (made.certified c2 is2 f) = status_is r _ e ∙ sym (status_is q _ f)
-
-  pub certifying_alike : AreAlike (IsCertifying name i p)
-  certifying_alike = record { told = certifying_told; done = certifying_done; one = certifying_one }
+pub certifying_side : (name : List ℕ) (i : ImageData) (p : PlanData) (r : Report) → IsCertifying name i p r → IsSide ((c : CertData) × IsAcceptedBestCert i p c) Refused r
+certifying_side name i p r (made.refused rule key addr none e) = against _ e (none_best i p none.first none.second)
+certifying_side name i p r (made.certified c is e) = well _ e refl (c, is)

@@ -1,5 +1,5 @@
 -- The reports of `ship`, and the sources that it reads.
-use Rattle.std.proofs.Common.{◌≡◌, ◌≢◌, ◌≤◌, ◌+◌, ◌-◌, ℕ, List, [], ◌∷◌, ◌++◌, length, Option, Some, None, Result, Ok, Err, refl, sym, ap, subst, ◌∙◌, inl, inr}
+use Rattle.std.proofs.Common.{◌≡◌, ◌≢◌, ◌≤◌, ◌+◌, ◌-◌, ℕ, List, [], ◌∷◌, ◌++◌, length, Option, Some, None, Result, Ok, Err, refl, sym, ap, subst, ◌∙◌, inr}
 use Rattle.std.specs.Prelude.{IfSome, slice_get}
 use Rattle.std.proofs.lemmas.List.{length-append}
 use Rattle.elf_image.specs.Images.{ImageData}
@@ -26,27 +26,20 @@ use Rattle.tcd_forms.specs.Lines.{bad_link_line, certified_line}
 use Rattle.tcd_forms.proofs.FormLaws.{ok_err}
 use Rattle.tcd_driver.specs.BestCert.{IsAcceptedBestCert}
 use Rattle.tcd_driver.specs.Ship.{objects_of_sources, texts_of_sources, AreSourcesOfObjects, IsShipping, IsShipped, refused, shipped, unlinked, of_image}
-use Rattle.tcd_reading.specs.declared.status.Status.TheVariants.{Done, BadInput}
+use Rattle.tcd_reading.specs.declared.status.Status.TheVariants.{Done, BadInput, Refused}
 use Rattle.tcd_reading.proofs.Decided.{AreAlike, status_is, writes_are}
 use Rattle.tcd_reading.proofs.EachReads.{HasReadSome, rest_of, none_read, next_read}
 use Rattle.tcd_driver.proofs.LinkLaws.{none_memory, line_told}
 use Rattle.tcd_driver.proofs.MakingLaws.{none_best}
+use Rattle.tcd_driver.proofs.Alike.{IsSide, well, against, refusable}
 
 -- ---- reports
-module _ (elf cert : List ℕ) (p : PlanData) (i : ImageData) where
-  shipping_told : (r : Report) → IsShipping elf cert p i r → IsReportStatus r.status
-  shipping_told r (refused rule key addr none e) = inr (inl (status_is r _ e))
-  shipping_told r (shipped c is reads e) = inl (status_is r _ e)
+shipping_side : (elf cert : List ℕ) (p : PlanData) (i : ImageData) (r : Report) → IsShipping elf cert p i r → IsSide ((c : CertData) × IsAcceptedBestCert i p c) Refused r
+shipping_side elf cert p i r (refused rule key addr none e) = against _ e (none_best i p none.first none.second)
+shipping_side elf cert p i r (shipped c is reads e) = well _ e refl (c, is)
 
-  shipping_done : (r : Report) → IsShipping elf cert p i r → r.status ≢ Done → r.writes ≡ []
-  shipping_done r (refused rule key addr none e) undone = writes_are r _ e
-  shipping_done r (shipped c is reads e) undone = absurd (undone (status_is r _ e))
-
-  shipping_one : (r q : Report) → IsShipping elf cert p i r → IsShipping elf cert p i q → r.status ≡ q.status
-  shipping_one r q (refused rule key addr none e) (refused rule2 key2 addr2 none2 f) = status_is r _ e ∙ sym (status_is q _ f)
-  shipping_one r q (refused rule key addr none e) (shipped c is reads f) = absurd (none_best i p c none.first none.second is.is_cert is.best)
-  shipping_one r q (shipped c is reads e) (refused rule key addr none f) = absurd (none_best i p c none.first none.second is.is_cert is.best)
-  shipping_one r q (shipped c is reads e) (shipped c2 is2 reads2 f) = status_is r _ e ∙ sym (status_is q _ f)
+shipping_alike : (elf cert : List ℕ) (p : PlanData) (i : ImageData) → AreAlike (IsShipping elf cert p i)
+shipping_alike elf cert p i = refusable (shipping_side elf cert p i)
 
 same_image : (o : Result ImageData Refusal) (i j : ImageData) → o ≡ Ok i → o ≡ Ok j → i ≡ j
 same_image o i j e f = cc
@@ -54,11 +47,11 @@ same_image o i j e f = cc
 module _ (elf cert : List ℕ) (p : PlanData) (l : LayoutData) (ss : List SourceData) where
   shipped_told : (r : Report) → IsShipped elf cert p l ss r → IsReportStatus r.status
   shipped_told r (unlinked q is e) = inr (inr (status_is r _ e))
-  shipped_told r (of_image i of_sources h) = shipping_told elf cert p i r h
+  shipped_told r (of_image i of_sources h) = (shipping_alike elf cert p i).told r h
 
   shipped_done : (r : Report) → IsShipped elf cert p l ss r → r.status ≢ Done → r.writes ≡ []
   shipped_done r (unlinked q is e) undone = writes_are r _ e
-  shipped_done r (of_image i of_sources h) undone = shipping_done elf cert p i r h undone
+  shipped_done r (of_image i of_sources h) undone = (shipping_alike elf cert p i).done r h undone
 
   shipped_one : (r q : Report) → IsShipped elf cert p l ss r → IsShipped elf cert p l ss q → r.status ≡ q.status
   shipped_one r q (unlinked a is e) (unlinked b is2 f) = status_is r _ e ∙ sym (status_is q _ f)
@@ -66,7 +59,7 @@ module _ (elf cert : List ℕ) (p : PlanData) (l : LayoutData) (ss : List Source
   shipped_one r q (of_image i of_sources h) (unlinked a is e) = absurd (ok_err (image_of_objects (objects_of_sources ss) l) i a of_sources.linked_is is)
   shipped_one r q (of_image i of_sources h) (of_image j of_sources2 k) =
       let same = same_image (image_of_objects (objects_of_sources ss) l) j i of_sources2.linked_is of_sources.linked_is in
-      shipping_one elf cert p i r q h (subst (λ (x : ImageData). IsShipping elf cert p x q) same k)
+      (shipping_alike elf cert p i).one r q h (subst (λ (x : ImageData). IsShipping elf cert p x q) same k)
 
   pub shipped_alike : AreAlike (IsShipped elf cert p l ss)
   shipped_alike = record { told = shipped_told; done = shipped_done; one = shipped_one }

@@ -1,5 +1,5 @@
 -- What `taskcert` reports.
-use Rattle.std.proofs.Common.{◌≡◌, ◌≢◌, ◌-◌, ◌*◌, ◌+◌, ◌^◌, ◌<◌, ◌≤◌, ◌⊎◌, ◌==◌, inl, inr, zero, ℕ, suc, refl, List, [], ◌∷◌, ◌++◌, length, Option, Some, None, Result, Ok, Err, sym, ap, subst, ◌∙◌, arith}
+use Rattle.std.proofs.Common.{◌≡◌, ◌-◌, ◌*◌, ◌+◌, ◌^◌, ◌<◌, ◌≤◌, ◌==◌, inl, inr, zero, ℕ, suc, refl, List, [], ◌∷◌, ◌++◌, length, Option, Some, None, Result, Ok, Err, sym, ap, subst, ◌∙◌, arith}
 use Rattle.std.specs.Prelude.{max, if◌then◌else◌, slice_get}
 use Rattle.std.specs.List.{find}
 use Rattle.std.specs.declared.vec.Vec.{Vec}
@@ -29,7 +29,7 @@ use Rattle.task_chains.specs.Views.{FitPlan, view_image_of, view_plan_of}
 use Rattle.task_chains.specs.Rule17.{KeepsApart, FailsApart, IsTaskFault}
 use Rattle.task_chains.proofs.GrowthLaws.{task_faults_grow, task_faults_refute}
 use Rattle.task_chains.proofs.Together.{tasks_are_safe}
-use Rattle.tcd_reading.specs.Reports.{IsReportStatus, Report, ReportFile, says, writes_files}
+use Rattle.tcd_reading.specs.Reports.{Report, ReportFile, says, writes_files}
 use Rattle.tcd_base.specs.Files.{FilesSeen}
 use Rattle.task_chains.specs.declared.task_lists.TasksErr.TheVariants.{Count}
 use Rattle.tcd_reading.specs.Inputs.{answer}
@@ -40,9 +40,10 @@ use Rattle.tcd_driver.specs.BadInputLines.{bad_tasks_line}
 use Rattle.tcd_driver.specs.BestCert.{IsLeastWithNeed}
 use Rattle.tcd_driver.specs.Tasks.{cert_of_task, needs_of, sum_of_needs, AreTasksJudged, with_name_per_task}
 use Rattle.tcd_driver.specs.Taskcert.{NoneKeepsTaskApart, IsTaskUncertified, unaccepted, not_apart, AreTasksMade, cert_files, IsTaskcerting, no_switch, refused, above, certified, MakesTaskViewCert, IsTaskCertWithNeed, MakesTaskCert, AreTaskCertFiles, MakesAllTaskCerts, IsTaskCertMade}
-use Rattle.tcd_reading.specs.declared.status.Status.TheVariants.{Done, Refused, BadInput}
-use Rattle.tcd_reading.proofs.Decided.{AreAlike, IsDecided, decided_answer, status_is, writes_are}
+use Rattle.tcd_reading.specs.declared.status.Status.TheVariants.{Refused, BadInput}
+use Rattle.tcd_reading.proofs.Decided.{IsDecided, decided_answer}
 use Rattle.tcd_driver.proofs.TasksReports.{judged_well, decided_each_named, sum_next, as_many, not_as_many}
+use Rattle.tcd_driver.proofs.Alike.{IsSide, well, against, refusable}
 
 -- ---- the certificate of a view
 -- if the least certificate fails K17, each one does
@@ -140,39 +141,15 @@ module _ (names : List (List ℕ)) (i : ImageData) (p : PlanData) (t : TasksData
   uncertified_refutes u _ _ _ c made (unaccepted rule k x none why) = none c made.judged.is_cert made.made.of_version made.made.accepted
   uncertified_refutes u _ _ _ c made (not_apart d k x is_d made_d fault none) = none c made.judged.is_cert made.made.of_version made.made.accepted made.judged.apart
 
-  side : (r : Report) → IsTaskcerting names i p t r → ((r.status ≡ Refused) × (IsWell → ⊥)) ⊎ ((r.status ≡ Done) × IsWell)
-  side r (no_switch x fault e) = inl (status_is r _ e, λ w. fault.fails (w.routine fault.place fault.within))
+  side : (r : Report) → IsTaskcerting names i p t r → IsSide IsWell Refused r
+  side r (no_switch x fault e) = against _ e (λ w. fault.fails (w.routine fault.place fault.within))
   side r (refused u rule key addr has first e) =
-      inl (status_is r _ e, λ w. uncertified_refutes u rule key addr (cert_of_task w.certs u) (w.made u (let lt = first.task in let m = w.many in omega arith)) first.uncertified)
-  side r (above certs has many made more e) =
-      inl (status_is r _ e, λ w. let s = same_sum certs w.certs many w.many made w.made in let le = w.within in omega arith)
-  side r (certified certs has many made within safe e) = inr (status_is r _ e, record { routine = has; certs = certs; many = many; made = made; within = within })
-
-  told : (r : Report) → ((r.status ≡ Refused) × (IsWell → ⊥)) ⊎ ((r.status ≡ Done) × IsWell) → IsReportStatus r.status
-  told r (inl h) = inr (inl h.0)
-  told r (inr h) = inl h.0
-
-  nothing : (r : Report) → IsTaskcerting names i p t r → r.status ≢ Done → r.writes ≡ []
-  nothing r (no_switch x fault e) undone = writes_are r _ e
-  nothing r (refused u rule key addr has first e) undone = writes_are r _ e
-  nothing r (above certs has many made more e) undone = writes_are r _ e
-  nothing r (certified certs has many made within safe e) undone = absurd (undone (status_is r _ e))
-
-  one : (r q : Report) → ((r.status ≡ Refused) × (IsWell → ⊥)) ⊎ ((r.status ≡ Done) × IsWell) → ((q.status ≡ Refused) × (IsWell → ⊥)) ⊎ ((q.status ≡ Done) × IsWell) → r.status ≡ q.status
-  one r q (inl h) (inl k) = h.0 ∙ sym k.0
-  one r q (inl h) (inr k) = absurd (h.1 k.1)
-  one r q (inr h) (inl k) = absurd (k.1 h.1)
-  one r q (inr h) (inr k) = h.0 ∙ sym k.0
-
-  taskcert_alike : AreAlike (IsTaskcerting names i p t)
-  taskcert_alike = record {
-    told = λ r h. told r (side r h);
-    done = λ r h undone. nothing r h undone;
-    one = λ r q h k. one r q (side r h) (side q k);
-  }
+      against _ e (λ w. uncertified_refutes u rule key addr (cert_of_task w.certs u) (w.made u (let lt = first.task in let m = w.many in omega arith)) first.uncertified)
+  side r (above certs has many made more e) = against _ e (λ w. let s = same_sum certs w.certs many w.many made w.made in let le = w.within in omega arith)
+  side r (certified certs has many made within safe e) = well _ e refl (record { routine = has; certs = certs; many = many; made = made; within = within })
 
   pub taskcert_decided : IsDecided (with_name_per_task names t (answer (IsTaskcerting names i p t)))
-  taskcert_decided = decided_each_named names t _ (decided_answer _ taskcert_alike)
+  taskcert_decided = decided_each_named names t _ (decided_answer _ (refusable side))
 
 -- ---- one task after another
 -- the files of the certificates of the tasks below n, with the sum of their needs

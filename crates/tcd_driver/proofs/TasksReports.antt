@@ -1,5 +1,5 @@
 -- What `tasks` reports.
-use Rattle.std.proofs.Common.{◌≡◌, ◌-◌, ◌*◌, ◌+◌, ◌^◌, ◌<◌, ◌≤◌, ◌⊎◌, ◌==◌, inl, inr, true, false, ℕ, suc, Bool, List, [], length, get_or, Option, Some, Ok, Err, sym, ap, subst, ◌∙◌, arith}
+use Rattle.std.proofs.Common.{◌≡◌, ◌-◌, ◌*◌, ◌+◌, ◌^◌, ◌<◌, ◌≤◌, ◌==◌, inl, inr, true, false, ℕ, suc, Bool, List, [], length, get_or, Option, Some, Ok, Err, sym, ap, subst, ◌∙◌, arith, refl}
 use Rattle.std.specs.Prelude.{max, if◌then◌else◌}
 use Rattle.std.proofs.lemmas.Bool.Decides.{eqb_tells}
 use Rattle.std.proofs.lemmas.Bool.{cases_lt}
@@ -23,16 +23,16 @@ use Rattle.task_chains.proofs.GrowthLaws.{task_faults_refute}
 use Rattle.task_chains.proofs.ReadOne.{reads_one}
 use Rattle.task_chains.proofs.Together.{tasks_are_safe}
 use Rattle.task_chains.proofs.ViewPlan.{view_is_plan}
-use Rattle.tcd_reading.specs.Reports.{IsReportStatus, Report, says}
+use Rattle.tcd_reading.specs.Reports.{Report, says}
 use Rattle.tcd_reading.specs.Inputs.{Reading}
 use Rattle.tcd_forms.specs.Forms.{cert_form}
 use Rattle.tcd_driver.specs.CellAndTaskForms.{tasks_form}
 use Rattle.tcd_forms.specs.Lines.{certified_tasks_line}
 use Rattle.tcd_driver.specs.Tasks.{cert_of_task, IsTaskRefused, unaccepted, not_apart, needs_of, sum_of_needs, AreTasksJudged, IsTasksVerdict, no_switch, refused, above, certified, tasks_reading_if, with_name_per_task, task_certs_reading}
-use Rattle.tcd_reading.specs.declared.status.Status.{Status}
 use Rattle.tcd_reading.specs.declared.status.Status.TheVariants.{Done, Refused, BadInput}
-use Rattle.tcd_reading.proofs.Decided.{AreAlike, IsLawful, IsDecided, decided_each, decided_answer, status_is, writes_are}
+use Rattle.tcd_reading.proofs.Decided.{AreAlike, IsLawful, IsDecided, decided_each, decided_answer}
 use Rattle.tcd_forms.proofs.FormLaws.{cert_lawful}
+use Rattle.tcd_driver.proofs.Alike.{IsSide, well, against, alike, refusable}
 
 -- a text is tasks, or none
 pub tasks_lawful : (p : PlanData) → IsLawful (tasks_form p)
@@ -89,42 +89,18 @@ module _ (i : ImageData) (p : PlanData) (t : TasksData) (certs : List CertData) 
     pub judged : AreTasksJudged i p t certs (count t)
     pub within : sum_of_needs i p t certs ≤ p.areas - p.reserve
 
-  side : (r : Report) → IsTasksVerdict i p t certs r → ((r.status ≡ Refused) × (IsWell → ⊥)) ⊎ ((r.status ≡ Done) × IsWell)
-  side r (no_switch x fault e) = inl (status_is r _ e, λ w. fault.fails (w.routine fault.place fault.within))
-  side r (refused u rule key addr has first e) = inl (status_is r _ e, λ w. refused_refutes i p t (cert_of_task certs u) u rule key addr first.refused (w.judged u first.task))
-  side r (above has judged more e) = inl (status_is r _ e, λ w. let le = w.within in omega arith)
-  side r (certified has judged within safe e) = inr (status_is r _ e, record { routine = has; judged = judged; within = within })
-
-  nothing : (r : Report) → IsTasksVerdict i p t certs r → r.writes ≡ []
-  nothing r (no_switch x fault e) = writes_are r _ e
-  nothing r (refused u rule key addr has first e) = writes_are r _ e
-  nothing r (above has judged more e) = writes_are r _ e
-  nothing r (certified has judged within safe e) = writes_are r _ e
-
-  told_so : (s : Status) → ((s ≡ Refused) × (IsWell → ⊥)) ⊎ ((s ≡ Done) × IsWell) → IsReportStatus s
-  told_so s (inl h) = inr (inl h.0)
-  told_so s (inr h) = inl h.0
-
-  same : (s s' : Status) → ((s ≡ Refused) × (IsWell → ⊥)) ⊎ ((s ≡ Done) × IsWell) → ((s' ≡ Refused) × (IsWell → ⊥)) ⊎ ((s' ≡ Done) × IsWell) → s ≡ s'
-  same s s' (inl h) (inl k) = h.0 ∙ sym k.0
-  same s s' (inl h) (inr k) = absurd (h.1 k.1)
-  same s s' (inr h) (inl k) = absurd (k.1 h.1)
-  same s s' (inr h) (inr k) = h.0 ∙ sym k.0
+  side : (r : Report) → IsTasksVerdict i p t certs r → IsSide IsWell Refused r
+  side r (no_switch x fault e) = against _ e (λ w. fault.fails (w.routine fault.place fault.within))
+  side r (refused u rule key addr has first e) = against _ e (λ w. refused_refutes i p t (cert_of_task certs u) u rule key addr first.refused (w.judged u first.task))
+  side r (above has judged more e) = against _ e (λ w. let le = w.within in omega arith)
+  side r (certified has judged within safe e) = well _ e refl (record { routine = has; judged = judged; within = within })
 
   pub tasks_alike : AreAlike (IsTasksVerdict i p t certs)
-  tasks_alike = record {
-    told = λ r h. told_so r.status (side r h);
-    done = λ r h undone. nothing r h;
-    one = λ r q h k. same r.status q.status (side r h) (side q k);
-  }
+  tasks_alike = refusable side
 
 -- one report of a refusal
 bad_input_alike : (text : List ℕ) → AreAlike (λ r. r ≡ says BadInput text)
-bad_input_alike text = record {
-  told = λ r e. inr (inr (status_is r _ e));
-  done = λ r e undone. writes_are r _ e;
-  one = λ r q e f. status_is r _ e ∙ sym (status_is q _ f);
-}
+bad_input_alike text = alike {Holds = ⊥} (λ r e. against text e (λ w. w)) (inr (inr refl))
 
 decided_if : (b : Bool) (reading : Reading) → IsDecided reading → IsDecided (tasks_reading_if b reading)
 decided_if true reading h = h
