@@ -26,5 +26,4 @@ pub boots_report : (parts i : ImageData) (fields p : PlanData) (c : CertData) (a
     → HasBoot i p at → events ≡ boot_events p → r ≡ says Done (boots_line events need (fields.areas - fields.reserve)) → IsBootVerdict i p c at r
 boots_report parts i fields p c at events need r image is_image same is_plan accepted is safe has count e =
     boots accepted has (safe_boots i p at (certified_need i p c) (subst IsPlan same is_plan) (subst IsImage image is_image) has (subst (λ (n : ℕ). Safe i p n) is safe))
-    (e ∙ ap (λ (n : ℕ). says Done (boots_line n need (fields.areas - fields.reserve))) count ∙ ap (λ (n : ℕ). says Done (boots_line (boot_events p) n (fields.areas - fields.reserve))) is
-    ∙ ap (λ (q : PlanData). says Done (boots_line (boot_events p) (certified_need i p c) (q.areas - q.reserve))) same)
+    cc

@@ -46,10 +46,7 @@ module _ (name : List ℕ) (i : ImageData) (fields p : PlanData) (cells : List C
       let frames = held.frames_are_held i (with_cells p cells) c (IsPlan-with_cells ok cells are) least.is_cert accepted in
       certified c least.is_cert least.made keeps
       (cells_keep i p cells c (certified_need i (with_cells p cells) c) ok are least.is_cert accepted (subst (λ (n : ℕ). Safe i (with_cells p cells) n) least.need_is least.safe) frames keeps)
-      (told ∙ ap (λ (n : ℕ). writes_file name bytes (certified_cells_line n (fields.areas - fields.reserve) count)) least.need_is
-      ∙ ap (λ (q : PlanData). writes_file name bytes (certified_cells_line (certified_need i (with_cells p cells) c) (q.areas - q.reserve) count)) same
-      ∙ ap (λ (n : ℕ). writes_file name bytes (certified_cells_line (certified_need i (with_cells p cells) c) (p.areas - p.reserve) n)) many
-      ∙ ap (λ (b : List ℕ). writes_file name b (certified_cells_line (certified_need i (with_cells p cells) c) (p.areas - p.reserve) (length cells))) spell)
+      (let n = least.need_is in cc)
 
 -- ---- reports are alike
 pub cellcert_side : (name : List ℕ) (i : ImageData) (p : PlanData) (cells : List Cell) (r : Report) → IsCertifyingCells name i p cells r

@@ -1,5 +1,5 @@
 -- What `cells` reports.
-use Rattle.std.proofs.Common.{◌≡◌, ◌-◌, ℕ, List, length, Ok, Err, ap, subst, ◌∙◌, refl}
+use Rattle.std.proofs.Common.{◌≡◌, ◌-◌, ℕ, List, length, Ok, Err, subst, refl}
 use Rattle.elf_image.specs.Images.{ImageData}
 use Rattle.tcd_plan.specs.PlanData.{PlanData, IsPlan}
 use Rattle.tc_machine.specs.Safe.{Safe}
@@ -43,6 +43,4 @@ cells_report i fields p cells parts c need count r same is_plan are cert is_cert
     let good = subst IsCert cert is_cert in
     let frames = held.frames_are_held i (with_cells p cells) c (IsPlan-with_cells ok cells are) good accepted in
     certified accepted keeps (cells_keep i p cells c (certified_need i (with_cells p cells) c) ok are good accepted (subst (λ (n : ℕ). Safe i (with_cells p cells) n) is safe) frames keeps)
-    (e ∙ ap (λ (n : ℕ). says Done (certified_cells_line n (fields.areas - fields.reserve) count)) is
-    ∙ ap (λ (q : PlanData). says Done (certified_cells_line (certified_need i (with_cells p cells) c) (q.areas - q.reserve) count)) same
-    ∙ ap (λ (n : ℕ). says Done (certified_cells_line (certified_need i (with_cells p cells) c) (p.areas - p.reserve) n)) many)
+    cc

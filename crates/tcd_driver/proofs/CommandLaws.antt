@@ -21,7 +21,8 @@ use Rattle.tc_link.specs.declared.errors.LinkErr.{LinkErr}
 use Rattle.tc_link.specs.declared.errors.LinkErr.TheVariants as error
 use Rattle.tcd_reading.specs.Reports.{Report, says}
 use Rattle.tcd_forms.specs.Lines.{certified_line, run_line, bad_link_line}
-use Rattle.tcd_forms.specs.Forms.{object_form, placed_source_form}
+use Rattle.tcd_reading.specs.Inputs.{Reading, input}
+use Rattle.tcd_forms.specs.Forms.{elf_form, plan_form, object_form, placed_source_form}
 use Rattle.tcd_driver.specs.Check as verdict
 use Rattle.tcd_driver.specs.Check.{IsCheckVerdict}
 use Rattle.tcd_driver.specs.Run.{IsRunReport, ran, script_run_line}
@@ -83,30 +84,26 @@ pub refused_report : (name : List ℕ) (l : LayoutData) (objects : List ObjectDa
 refused_report name l objects e line r is made some said = refused_by name l objects (refusal_of e) r (λ n. some (none_memory e n)) is (line_told line r (refusal_of e) made said)
 
 -- ---- all commands
+decided_firmware : (elf plan : List ℕ) (next : ImageData → PlanData → Reading) → ((i : ImageData) (p : PlanData) → IsDecided (next i p)) → IsDecided (input ImageData elf_form elf (λ i. input PlanData plan_form plan (next i)))
+decided_firmware elf plan next rest = decided_input _ _ _ _ elf_lawful (λ i. decided_input _ _ _ _ plan_lawful (rest i))
+
 pub command_decided : (c : Command) → IsDecided (reading_of c)
-command_decided (check names) = decided_input _ _ _ _ elf_lawful (λ i. decided_input _ _ _ _ plan_lawful (λ p. decided_input _ _ _ _ cert_lawful (λ c. decided_answer _ (refusable (verdict_side i p c)))))
-command_decided (certify names) = decided_input _ _ _ _ elf_lawful (λ i. decided_input _ _ _ _ plan_lawful (λ p. decided_answer _ (refusable (certifying_side names.cert i p))))
-command_decided (cfg names) = decided_input _ _ _ _ elf_lawful (λ i. decided_input _ _ _ _ plan_lawful (λ p. decided_answer _ (refusable (drawing_side i p))))
-command_decided (report names) =
-    decided_input _ _ _ _ elf_lawful (λ i. decided_input _ _ _ _ plan_lawful (λ p. decided_input _ _ _ _ cert_lawful (λ c. decided_answer _ (refusable (reporting_side i p c)))))
-command_decided (run names) = decided_input _ _ _ _ elf_lawful (λ i. decided_input _ _ _ _ plan_lawful (λ p. decided_input _ _ _ _ (script_lawful p) (λ s. decided_answer _ (refusable (run_side i p s)))))
+command_decided (check names) = decided_firmware _ _ _ (λ i p. decided_input _ _ _ _ cert_lawful (λ c. decided_answer _ (refusable (verdict_side i p c))))
+command_decided (certify names) = decided_firmware _ _ _ (λ i p. decided_answer _ (refusable (certifying_side names.cert i p)))
+command_decided (cfg names) = decided_firmware _ _ _ (λ i p. decided_answer _ (refusable (drawing_side i p)))
+command_decided (report names) = decided_firmware _ _ _ (λ i p. decided_input _ _ _ _ cert_lawful (λ c. decided_answer _ (refusable (reporting_side i p c))))
+command_decided (run names) = decided_firmware _ _ _ (λ i p. decided_input _ _ _ _ (script_lawful p) (λ s. decided_answer _ (refusable (run_side i p s))))
 command_decided (dis elf) = decided_input _ _ _ _ elf_lawful (λ i. decided_answer _ (only_one _ refl))
 command_decided (asm names) = decided_input _ _ _ _ source_lawful (λ o. decided_answer _ (only_one _ refl))
 command_decided (link names) = decided_input _ _ _ _ layout_lawful (λ l. decided_each _ object_form 0 _ _ object_lawful (λ os. decided_answer _ (alike (linked_side names.image l os) (inr (inr refl)))))
 command_decided (ship names) =
     decided_input _ _ _ _ plan_lawful
     (λ p. decided_input _ _ _ _ layout_lawful (λ l. decided_each _ placed_source_form 0 _ _ placed_source_lawful (λ ss. decided_answer _ (shipped_alike names.elf names.cert p l ss))))
-command_decided (boot names) =
-    decided_input _ _ _ _ elf_lawful (λ i. decided_input _ _ _ _ plan_lawful (λ p. decided_input _ _ _ _ cert_lawful (λ c. decided_answer _ (refusable (boot_side i p c names.at)))))
+command_decided (boot names) = decided_firmware _ _ _ (λ i p. decided_input _ _ _ _ cert_lawful (λ c. decided_answer _ (refusable (boot_side i p c names.at))))
 command_decided (bootgen names) = decided_input _ _ _ _ plan_lawful (λ p. decided_answer _ (only_one _ refl))
 command_decided (cells names) =
-    decided_input _ _ _ _ elf_lawful
-    (λ i. decided_input _ _ _ _ plan_lawful (λ p. decided_input _ _ _ _ (cells_lawful p) (λ cs. decided_input _ _ _ _ cert_lawful (λ c. decided_answer _ (refusable (cells_side i p cs c))))))
-command_decided (cellcert names) =
-    decided_input _ _ _ _ elf_lawful
-    (λ i. decided_input _ _ _ _ plan_lawful (λ p. decided_input _ _ _ _ (cells_lawful p) (λ cs. decided_answer _ (refusable (cellcert_side names.cert i p cs)))))
-command_decided (tasks names) =
-    decided_input _ _ _ _ elf_lawful (λ i. decided_input _ _ _ _ plan_lawful (λ p. decided_input _ _ _ _ (tasks_lawful p) (λ t. certs_decided names.certs i p t)))
+    decided_firmware _ _ _ (λ i p. decided_input _ _ _ _ (cells_lawful p) (λ cs. decided_input _ _ _ _ cert_lawful (λ c. decided_answer _ (refusable (cells_side i p cs c)))))
+command_decided (cellcert names) = decided_firmware _ _ _ (λ i p. decided_input _ _ _ _ (cells_lawful p) (λ cs. decided_answer _ (refusable (cellcert_side names.cert i p cs))))
+command_decided (tasks names) = decided_firmware _ _ _ (λ i p. decided_input _ _ _ _ (tasks_lawful p) (λ t. certs_decided names.certs i p t))
 command_decided (generate functions) = decided_answer _ (refusable (summary_side functions _ _))
-command_decided (taskcert names) =
-    decided_input _ _ _ _ elf_lawful (λ i. decided_input _ _ _ _ plan_lawful (λ p. decided_input _ _ _ _ (tasks_lawful p) (λ t. taskcert_decided names.certs i p t)))
+command_decided (taskcert names) = decided_firmware _ _ _ (λ i p. decided_input _ _ _ _ (tasks_lawful p) (λ t. taskcert_decided names.certs i p t))

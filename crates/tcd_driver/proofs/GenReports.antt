@@ -35,8 +35,7 @@ pub counted_report : (n : ℕ) (i : ImageData) (fields p : PlanData) (c : CertDa
     → r ≡ says Done (generated_line n (length c.nodes) (count_points c.nodes) need (fields.areas - fields.reserve)) → IsGenReport n i p r
 counted_report n i fields p c need r same least e =
     certified c least.is_cert least.made (subst (λ (k : ℕ). Safe i p k) least.need_is least.safe)
-    (e ∙ ap (λ (k : ℕ). says Done (generated_line n (length c.nodes) (count_points c.nodes) k (fields.areas - fields.reserve))) least.need_is
-    ∙ ap (λ (q : PlanData). says Done (generated_line n (length c.nodes) (count_points c.nodes) (certified_need i p c) (q.areas - q.reserve))) same)
+    (let k = least.need_is in cc)
 
 -- ---- reading what was generated
 pub read_image : (i j : ImageData) (lent bytes : List ℕ) → lent ≡ bytes → image_of_file bytes ≡ Ok i → image_of_file lent ≡ Ok j → j ≡ i

@@ -55,11 +55,7 @@ unmade P Why make_err.NoMemory o why told next = told_more _ P o told (λ r e. a
 -- the report on it
 pub certifying_report : (name : List ℕ) (i : ImageData) (fields p : PlanData) (c : CertData) (need : ℕ) (bytes : List ℕ) (r : Report) → fields ≡ p → IsAcceptedBestCert i p c × (need ≡ certified_need i p c) → bytes ≡ bytes_of_cert c
     → r ≡ writes_file name bytes (certified_line need (fields.areas - fields.reserve)) → IsCertifying name i p r
-certifying_report name i fields p c need bytes r same best spell e =
-    made.certified c best.0
-    (e ∙ ap (λ (n : ℕ). writes_file name bytes (certified_line n (fields.areas - fields.reserve))) best.1
-    ∙ ap (λ (q : PlanData). writes_file name bytes (certified_line (certified_need i p c) (q.areas - q.reserve))) same
-    ∙ ap (λ (b : List ℕ). writes_file name b (certified_line (certified_need i p c) (p.areas - p.reserve))) spell)
+certifying_report name i fields p c need bytes r same best spell e = made.certified c best.0 (let n = best.1 in cc)
 
 pub certifying_side : (name : List ℕ) (i : ImageData) (p : PlanData) (r : Report) → IsCertifying name i p r → IsSide ((c : CertData) × IsAcceptedBestCert i p c) Refused r
 certifying_side name i p r (made.refused rule key addr none e) = against _ e (none_best i p none.first none.second)

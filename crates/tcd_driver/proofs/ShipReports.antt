@@ -69,13 +69,7 @@ pub shipping_report : (elf cert bytes made : List ℕ) (i : ImageData) (fields p
     → IsAcceptedBestCert i p c × (need ≡ certified_need i p c) → made ≡ bytes_of_cert c → first ≡ record { name = elf; bytes = bytes } → second ≡ record { name = cert; bytes = made }
     → r ≡ writes_two first second (certified_line need (fields.areas - fields.reserve)) → IsShipping elf cert p i r
 shipping_report elf cert bytes made i fields p c need first second r same spell reads best spell_cert one two e =
-    let one' : first ≡ record { name = elf; bytes = file_of i } = one ∙ ap (λ (b : List ℕ). record { name = elf; bytes = b }) spell in
-    let two' : second ≡ record { name = cert; bytes = bytes_of_cert c } = two ∙ ap (λ (b : List ℕ). record { name = cert; bytes = b }) spell_cert in
-    shipped c best.0 (ap image_of_file (sym spell) ∙ reads)
-    (e ∙ ap (λ (w : ReportFile). writes_two w second (certified_line need (fields.areas - fields.reserve))) one'
-    ∙ ap (λ (w : ReportFile). writes_two (record { name = elf; bytes = file_of i }) w (certified_line need (fields.areas - fields.reserve))) two'
-    ∙ ap (λ (n : ℕ). writes_two (record { name = elf; bytes = file_of i }) (record { name = cert; bytes = bytes_of_cert c }) (certified_line n (fields.areas - fields.reserve))) best.1
-    ∙ ap (λ (q : PlanData). writes_two (record { name = elf; bytes = file_of i }) (record { name = cert; bytes = bytes_of_cert c }) (certified_line (certified_need i p c) (q.areas - q.reserve))) same)
+    shipped c best.0 (ap image_of_file (sym spell) ∙ reads) (let n = best.1 in cc)
 
 -- ---- linking
 -- the objects can be linked

@@ -89,7 +89,7 @@ makes_task i fields p parts t u v b (Err make_err.NoMemory) same is_plan same_t 
 
 -- ---- one need for each task
 -- a list is searched alike by keys of one number
-pub need_there : (c d : CertData) (start : Key) → IsCert c → IsCert d → ((k : Key) → needs_in c k ≤ needs_in d k) → (o : Option NodeData) → find_node start c.nodes ≡ o → need_of o ≤ need_of (find_node start d.nodes)
+need_there : (c d : CertData) (start : Key) → IsCert c → IsCert d → ((k : Key) → needs_in c k ≤ needs_in d k) → (o : Option NodeData) → find_node start c.nodes ≡ o → need_of o ≤ need_of (find_node start d.nodes)
 need_there c d start is_c is_d least None e = omega arith
 need_there c d start is_c is_d least (Some n) e =
     let found = found_in (λ m. number_of_key m.key == number_of_key start) c.nodes n e in
@@ -103,14 +103,11 @@ need_there c d start is_c is_d least (Some n) e =
     let is : need_of (find_node start c.nodes) ≡ n.need = ap need_of e in
     omega arith
 
-need_below : (v : ImageData) (b : PlanData) (c d : CertData) → IsCert c → IsCert d → IsMade v b 2 c → IsMade v b 2 d → certified_need v b c ≤ certified_need v b d
-need_below v b c d is_c is_d made made_d =
-    need_there c d (start_key v b) is_c is_d (made.best d is_d made_d.of_version made_d.accepted).needs (find_node (start_key v b) c.nodes) refl
-
-one_need : (v : ImageData) (b : PlanData) (c d : CertData) → IsCert c → IsCert d → IsMade v b 2 c → IsMade v b 2 d → certified_need v b c ≡ certified_need v b d
-one_need v b c d is_c is_d made made_d =
-    let le : certified_need v b c ≤ certified_need v b d = need_below v b c d is_c is_d made made_d in
-    let ge : certified_need v b d ≤ certified_need v b c = need_below v b d c is_d is_c made_d made in
+-- each frame has one need in both
+pub same_need : (v : ImageData) (b : PlanData) (c d : CertData) → IsCert c → IsCert d → ((k : Key) → needs_in c k ≤ needs_in d k) → ((k : Key) → needs_in d k ≤ needs_in c k) → certified_need v b c ≡ certified_need v b d
+same_need v b c d is_c is_d below back =
+    let le : certified_need v b c ≤ certified_need v b d = need_there c d (start_key v b) is_c is_d below (find_node (start_key v b) c.nodes) refl in
+    let ge : certified_need v b d ≤ certified_need v b c = need_there d c (start_key v b) is_d is_c back (find_node (start_key v b) d.nodes) refl in
     omega arith
 
 pub same_below : (n : ℕ) (f g : ℕ → ℕ) → ((u : ℕ) → u < n → f u ≡ g u) → sum_over_chains n f ≡ sum_over_chains n g
@@ -123,8 +120,11 @@ same_below (suc n) f g h =
 module _ (names : List (List ℕ)) (i : ImageData) (p : PlanData) (t : TasksData) where
   same_needs : (cs ds : List CertData) (u : ℕ) → u < length cs → u < length ds → AreTasksMade i p t cs → AreTasksMade i p t ds → needs_of i p t cs u ≡ needs_of i p t ds u
   same_needs cs ds u lt lt_d made made_d =
+      let c = made u lt in
+      let d = made_d u lt_d in
       ap (λ (n : ℕ). if u == 0 then n else max n 2)
-      (one_need (view_image_of i t u) (view_plan_of p t u) (cert_of_task cs u) (cert_of_task ds u) (made u lt).judged.is_cert (made_d u lt_d).judged.is_cert (made u lt).made (made_d u lt_d).made)
+      (same_need (view_image_of i t u) (view_plan_of p t u) _ _ c.judged.is_cert d.judged.is_cert
+      (c.made.best _ d.judged.is_cert d.made.of_version d.made.accepted).needs (d.made.best _ c.judged.is_cert c.made.of_version c.made.accepted).needs)
 
   same_sum : (cs ds : List CertData) → length cs ≡ count t → length ds ≡ count t → AreTasksMade i p t cs → AreTasksMade i p t ds → sum_of_needs i p t cs ≡ sum_of_needs i p t ds
   same_sum cs ds many many_d made made_d = same_below (count t) (needs_of i p t cs) (needs_of i p t ds) (λ u lt. same_needs cs ds u (omega arith) (omega arith) made made_d)
@@ -257,16 +257,13 @@ written_tasks names i fields p parts t writes sum n r same is_plan same_t are fi
     let certs = f.certs in
     let room : sum_of_needs i p t certs ≤ p.areas - p.reserve = subst (λ (s : ℕ). s ≤ p.areas - p.reserve) f.sum_is (subst (λ (q : PlanData). sum ≤ q.areas - q.reserve) same within) in
     certified certs has f.many f.made room (tasks_are_safe i p t (cert_of_task certs) (subst IsPlan same is_plan) (subst AreTasks same_t are) fit has (judged_all i p t certs f.many f.made) room)
-    (e ∙ ap (λ (s : ℕ). writes_files writes (certified_tasks_line s (fields.areas - fields.reserve) n)) f.sum_is
-    ∙ ap (λ (q : PlanData). writes_files writes (certified_tasks_line (sum_of_needs i p t certs) (q.areas - q.reserve) n)) same
-    ∙ ap (λ (m : ℕ). writes_files writes (certified_tasks_line (sum_of_needs i p t certs) (p.areas - p.reserve) m)) many
-    ∙ ap (λ (ws : List ReportFile). writes_files ws (certified_tasks_line (sum_of_needs i p t certs) (p.areas - p.reserve) (count t))) f.files)
+    (let s = f.sum_is in let ws = f.files in cc)
 
 pub above_made : (names : List (List ℕ)) (i : ImageData) (fields p : PlanData) (t : TasksData) (writes : List ReportFile) (sum : ℕ) (r : Report) → fields ≡ p → HasRoutine i p t → AreTaskCertFiles names i p t writes sum
     → fields.areas - fields.reserve < sum → r ≡ says Refused (refused_sum_line sum (fields.areas - fields.reserve)) → IsTaskcerting names i p t r
 above_made names i fields p t writes sum r same has f more e =
     above f.certs has f.many f.made (subst (λ (s : ℕ). p.areas - p.reserve < s) f.sum_is (subst (λ (q : PlanData). q.areas - q.reserve < sum) same more))
-    (e ∙ ap (λ (s : ℕ). says Refused (refused_sum_line s (fields.areas - fields.reserve))) f.sum_is ∙ ap (λ (q : PlanData). says Refused (refused_sum_line (sum_of_needs i p t f.certs) (q.areas - q.reserve))) same)
+    (let s = f.sum_is in cc)
 
 -- ---- as many names as tasks
 pub comes_counted : (names : List (List ℕ)) (t : TasksData) (P : Report → Type 0) (files : FilesSeen) (o : Outcome) → length names ≡ count t → IsToldOutcome P ⊥ o → IsCommandOutcome (with_name_per_task names t (answer P)) files files o

@@ -134,9 +134,7 @@ pub certified_tasks : (i : ImageData) (fields p : PlanData) (parts t : TasksData
 certified_tasks i fields p parts t certs sum n r same is_plan same_t are fit has judged is within many e =
     let room : sum_of_needs i p t certs ≤ p.areas - p.reserve = subst (λ (s : ℕ). s ≤ p.areas - p.reserve) is (subst (λ (q : PlanData). sum ≤ q.areas - q.reserve) same within) in
     certified has judged room (tasks_are_safe i p t (cert_of_task certs) (subst IsPlan same is_plan) (subst AreTasks same_t are) fit has judged room)
-    (e ∙ ap (λ (s : ℕ). says Done (certified_tasks_line s (fields.areas - fields.reserve) n)) is
-    ∙ ap (λ (q : PlanData). says Done (certified_tasks_line (sum_of_needs i p t certs) (q.areas - q.reserve) n)) same
-    ∙ ap (λ (m : ℕ). says Done (certified_tasks_line (sum_of_needs i p t certs) (p.areas - p.reserve) m)) many)
+    cc
 
 -- ---- one task after another
 pub sum_next : (n : ℕ) (f : ℕ → ℕ) → sum_over_chains (n + 1) f ≡ sum_over_chains n f + f n

@@ -10,10 +10,9 @@ use Rattle.tcd_text.specs.HexNumbers.{hex_number_of}
 use Rattle.tc_script.specs.Numbers.{script_number}
 use Rattle.tcd_base.specs.Files.{FileMap, FilesSeen}
 use Rattle.tcd_base.specs.Sink.{SinkSeen, HasRoomFor, sink_with_appended}
-use Rattle.tcd_reading.specs.Reports.{Report, IsReportStatus, with_report_files}
+use Rattle.tcd_reading.specs.Reports.{Report, ReportFile, IsReportStatus, with_report_files}
 use Rattle.tcd_reading.specs.Inputs.{Reading, ReadingSays, HoldsAsked, HasAllInputs}
-use Rattle.tcd_reading.proofs.Decided.{said_done}
-use Rattle.tcd_reading.specs.Endings.{PrintsWithStatus, whole, cut, IsReported, HasEnded, Ends}
+use Rattle.tcd_reading.specs.Endings.{PrintsWithStatus, whole, cut, HasEnded, Ends}
 use Rattle.tcd_reading.specs.Endings as ending
 use Rattle.tcd_reading.specs.declared.status.Status.{Status}
 use Rattle.tcd_reading.specs.declared.status.Status.TheVariants.{Done, Refused, BadInput, Fault, NoMemory, BadWords}
@@ -21,10 +20,9 @@ use Rattle.tcd_driver.specs.BadInputLines.{bad_words_line}
 use Rattle.tcd_driver.specs.Commands as asked
 use Rattle.tcd_driver.specs.Commands.{Command, command, reading_of, is_link, is_ship, is_tasks, is_taskcert}
 use Rattle.tcd_driver.specs.DistinctNames.{are_distinct_names}
-use Rattle.tcd_driver.specs.Tool.{ToolCall, ToolCallMeans, EndsWithBadWords, CannotFail, CanEnd, IsOneEnd, MayPrintText, of_bad_words, when_done, when_refused, when_bad, CommandSays, ToolSays}
-use Rattle.tcd_driver.specs.Headlines.Asks.{Ask, IsFirstBad, BadInputOf}
-use Rattle.tcd_driver.proofs.CommandLaws.{command_decided}
-use Rattle.tcd_driver.proofs.Headlines.{Reports, bad_undone, held_nothing}
+use Rattle.tcd_driver.specs.Tool.{ToolCall, ToolCallMeans, EndsWithBadWords, CannotFail, CanEnd, IsOneEnd, MayPrintText, of_bad_words, when_done, when_refused, when_bad, CommandSays, ToolSays, Never}
+use Rattle.tcd_driver.specs.Headlines.Asks.{Ask, BadInputOf}
+use Rattle.tcd_driver.proofs.Headlines.{Means, is_bad, is_done, is_refused}
 use Rattle.tcd_driver.proofs.Headlines.Asks.{never_bad}
 use Rattle.tcd_driver.proofs.ToolEnds.{Answers, check_ends, cert_ends, cfg_ends, report_ends, run_ends, dis_ends, asm_ends, link_ends, ship_ends, boot_ends, bootgen_ends, cells_ends, cellcert_ends, gen_ends, tasks_end, taskcert_ends}
 
@@ -44,47 +42,35 @@ refused_told = record { no_fault = λ e. cc; some_memory = λ e. cc; good_words 
 bad_told : IsTold BadInput
 bad_told = record { no_fault = λ e. cc; some_memory = λ e. cc; good_words = λ e. cc }
 
--- a call that ends with this status has a report, which is written and printed
-record Told (reading : Reading) (files files' : FilesSeen) (sink sink' : SinkSeen) (status : Status) : Type 0 where
-  report : Report
-  said : ReadingSays reading files.held report
-  is : report.status ≡ status
-  held : files'.held ≡ with_report_files files.held report.writes
-  printed : sink'.written ≡ sink_with_appended sink.written report.text
+-- the files after a report's files were written, and what holds for them
+abbrev Leaves : FileMap → Report → (FileMap → FileMap → List ℕ → Type 0) → Type 0
+Leaves m r Holds = (after : FileMap) × (with_report_files (Some m) r.writes ≡ Some after) × Holds m after r.text
 
-module _ (reading : Reading) (files files' : FilesSeen) (sink sink' : SinkSeen) (status : Status) (is_told : IsTold status) where
-  by_printing : (r : Report) → ReadingSays reading files.held r → files'.held ≡ with_report_files files.held r.writes → PrintsWithStatus r.status r.text sink sink' status → Told reading files files' sink sink' status
-  by_printing r said held (whole e p) = record { report = r; said = said; is = sym e; held = held; printed = p.written }
-  by_printing r said held (cut e front counted full) = absurd (is_told.no_fault e)
+module _ (reading : Reading) (files files' : FilesSeen) (sink sink' : SinkSeen) (status : Status) (is_told : IsTold status) (Holds : Status → FileMap → FileMap → List ℕ → Type 0) (m : FileMap) (held : files.held ≡ Some m)
+    (leaves : (r : Report) → ReadingSays reading (Some m) r → Leaves m r (Holds r.status)) where
+  -- the files after a call, if they reveal their contents
+  left : HasEnded reading files files' sink sink' status →
+      (after : FileMap) × (printed : List ℕ) × (files'.held ≡ Some after) × ((text : List ℕ) → sink.written ≡ Some text → sink'.written ≡ Some (text ++ printed)) × Holds status m after printed
+  left (ending.reported r said (ending.printed is (whole e p))) =
+      let l = leaves r (subst (λ (o : Option FileMap). ReadingSays reading o r) held said) in
+      (l.0, r.text, is ∙ ap (λ (o : Option FileMap). with_report_files o r.writes) held ∙ l.1, (λ text written. p.written ∙ ap (λ (o : Option (List ℕ)). sink_with_appended o r.text) written), subst (λ (s : Status). Holds s m l.0 r.text) (sym e) l.2)
+  left (ending.reported r said (ending.printed is (cut e front counted full))) = absurd (is_told.no_fault e)
+  left (ending.reported r said (ending.unwritten e quiet stopped counted unsteady)) = absurd (is_told.no_fault e)
+  left (ending.reported r said (ending.no_memory e quiet stopped)) = absurd (is_told.some_memory e)
+  left (ending.unread e stays quiet counted unsure) = absurd (is_told.no_fault e)
+  left (ending.no_memory e stays quiet) = absurd (is_told.some_memory e)
 
-  by_report : (r : Report) → ReadingSays reading files.held r → IsReported r files files' sink sink' status → Told reading files files' sink sink' status
-  by_report r said (ending.printed held prints) = by_printing r said held prints
-  by_report r said (ending.unwritten e quiet stopped counted unsteady) = absurd (is_told.no_fault e)
-  by_report r said (ending.no_memory e quiet stopped) = absurd (is_told.some_memory e)
+-- ---- what a status means
+abbrev Meant : List Ask → (FileMap → FileMap → List ℕ → Type 0) → (FileMap → FileMap → List ℕ → Type 0) → Status → FileMap → FileMap → List ℕ → Type 0
+Meant asks D R Done = D
+Meant asks D R Refused = R
+Meant asks D R BadInput = BadInputOf asks
+Meant asks D R _ = Never
 
-  told : HasEnded reading files files' sink sink' status → Told reading files files' sink sink' status
-  told (ending.reported r said h) = by_report r said h
-  told (ending.unread e held quiet counted unsure) = absurd (is_told.no_fault e)
-  told (ending.no_memory e held quiet) = absurd (is_told.some_memory e)
-
--- the files after it, if they reveal their contents
-left : (reading : Reading) (files files' : FilesSeen) (sink sink' : SinkSeen) (status : Status) (Holds : FileMap → FileMap → List ℕ → Type 0) (m : FileMap) → IsTold status → files.held ≡ Some m →
-    Reports reading status Holds → Ends reading files files' sink sink' status →
-    (after : FileMap) × (printed : List ℕ) × (files'.held ≡ Some after) × ((text : List ℕ) → sink.written ≡ Some text → sink'.written ≡ Some (text ++ printed)) × Holds m after printed
-left reading files files' sink sink' status Holds m is_told held reports ends =
-    let t = told reading files files' sink sink' status is_told ends.ended in
-    let r = t.report in
-    let l = reports m r (subst (λ (o : Option FileMap). ReadingSays reading o r) held t.said) t.is in
-    (l.after, r.text, t.held ∙ ap (λ (o : Option FileMap). with_report_files o r.writes) held ∙ l.held, (λ text written. t.printed ∙ ap (λ (o : Option (List ℕ)). sink_with_appended o r.text) written), l.holds)
-
--- ---- bad input
--- a command that finds its input bad writes nothing
-pub bad_reports : (c : Command) (asks : List Ask) → ((m : FileMap) (r : Report) → ReadingSays (reading_of c) (Some m) r → r.status ≡ BadInput → IsFirstBad m asks r.text) → Reports (reading_of c) BadInput (BadInputOf asks)
-bad_reports c asks first m r said bad = record {
-  after = m;
-  held = held_nothing m r (said_done (reading_of c) (Some m) r (command_decided c) said (λ done. bad_undone r bad done));
-  holds = record { first = first m r said bad; stays = refl };
-}
+leaves_as : (m : FileMap) (asks : List Ask) (D R : FileMap → FileMap → List ℕ → Type 0) (r : Report) → Means m asks D R r → Leaves m r (Meant asks D R r.status)
+leaves_as m asks D R r (is_done after e w h) = (after, w, subst (λ (s : Status). Meant asks D R s m after r.text) (sym e) h)
+leaves_as m asks D R r (is_refused e w h) = (m, ap (λ (ws : List ReportFile). with_report_files (Some m) ws) w, subst (λ (s : Status). Meant asks D R s m m r.text) (sym e) h)
+leaves_as m asks D R r (is_bad e w h) = (m, ap (λ (ws : List ReportFile). with_report_files (Some m) ws) w, subst (λ (s : Status). Meant asks D R s m m r.text) (sym e) (record { first = h; stays = refl }))
 
 bad_words_is : bad_words_line ≡ codes "bad words" ++ 10 ∷ []
 unfolding bad_words_line
@@ -207,9 +193,6 @@ module _ (call : ToolCall) where
     none_by : (words : List (List ℕ)) → call.words ≡ words → IfNone (command words) BadEnd
     none_by words is = subst (λ (ws : List (List ℕ)). IfNone (command ws) BadEnd) is none
 
-    ends_with : (reading : Reading) (status : Status) → call.status ≡ status → Ends reading call.files call.files_after call.sink call.sink_after call.status → Ends reading call.files call.files_after call.sink call.sink_after status
-    ends_with reading status is ends = subst (λ (s : Status). Ends reading call.files call.files_after call.sink call.sink_after s) is ends
-
     -- the command that arguments ask for, and how the call ended as it
     record Found (asks : List Ask) (IfDone IfRefused : FileMap → FileMap → List ℕ → Type 0) : Type 0 where
       c : Command
@@ -217,13 +200,12 @@ module _ (call : ToolCall) where
       ended : Ended c
 
     module _ (words : List (List ℕ)) (asks : List Ask) (IfDone IfRefused : FileMap → FileMap → List ℕ → Type 0) (found : call.words ≡ words → (BadEnd → ⊥) → Found asks IfDone IfRefused) where
-      means : (status : Status) (Holds : FileMap → FileMap → List ℕ → Type 0) → IsTold status → ((f : Found asks IfDone IfRefused) → Reports (reading_of f.c) status Holds) → ToolCallMeans call words status Holds
-      means status Holds is_told reports m are is held =
+      means : (status : Status) → IsTold status → ToolCallMeans call words status (Meant asks IfDone IfRefused status)
+      means status is_told m are is held =
           let f = found are (no_bad_end status is_told is) in
-          left (reading_of f.c) call.files call.files_after call.sink call.sink_after status Holds m is_told held (reports f) (ends_with (reading_of f.c) status is f.ended)
-
-      bad_means : ToolCallMeans call words BadInput (BadInputOf asks)
-      bad_means = means BadInput (BadInputOf asks) bad_told (λ f. bad_reports f.c asks (f.answers).bad)
+          left (reading_of f.c) call.files call.files_after call.sink call.sink_after status is_told (Meant asks IfDone IfRefused) m held
+          (λ r said. leaves_as m asks IfDone IfRefused r (((f.answers).follows m).means r said))
+          (subst (λ (s : Status). HasEnded (reading_of f.c) call.files call.files_after call.sink call.sink_after s) is (f.ended).ended)
 
       module _ (m : FileMap) (are : call.words ≡ words) (sure : CannotFail call m asks (MayPrintText (IfDone m) (IfRefused m) (BadInputOf asks m))) (some_memory : call.status ≢ NoMemory) (good_words : call.status ≢ BadWords) where
         has_room : (text : List ℕ) → MayPrintText (IfDone m) (IfRefused m) (BadInputOf asks m) text → HasRoomFor call.sink text
@@ -239,62 +221,57 @@ module _ (call : ToolCall) where
         held_there : (r : Report) → ReadingSays (reading_of here.c) (call.files).held r → ReadingSays (reading_of here.c) (Some m) r
         held_there r said = subst (λ (o : Option FileMap). ReadingSays (reading_of here.c) o r) sure.held said
 
-        may_print : (r : Report) → ReadingSays (reading_of here.c) (Some m) r → IsReportStatus r.status → MayPrintText (IfDone m) (IfRefused m) (BadInputOf asks m) r.text
-        may_print r said (inl e) = let l = (here.answers).done m r said e in when_done l.after l.holds
-        may_print r said (inr (inl e)) = let l = (here.answers).refused m r said e in when_refused l.after l.holds
-        may_print r said (inr (inr e)) = let l = bad_reports here.c asks (here.answers).bad m r said e in when_bad l.after l.holds
+        may_print : (r : Report) → Means m asks IfDone IfRefused r → MayPrintText (IfDone m) (IfRefused m) (BadInputOf asks m) r.text
+        may_print r (is_done after e w h) = when_done after h
+        may_print r (is_refused e w h) = when_refused m h
+        may_print r (is_bad e w h) = when_bad m (record { first = h; stays = refl })
 
         asks_are : HasAllInputs (reading_of here.c) call.files
-        asks_are = record { steady = sure.steady; hold = subst (λ (o : Option FileMap). HoldsAsked (reading_of here.c) o) (sym sure.held) ((here.answers).asked m sure.there) }
-
-        by_prints_whole : (r : Report) → ReadingSays (reading_of here.c) (call.files).held r → PrintsWithStatus r.status r.text call.sink call.sink_after call.status → IsReportStatus call.status
-        by_prints_whole r said (whole e p) = subst IsReportStatus (sym e) ((here.ended).statuses r said)
-        by_prints_whole r said (cut e front counted full) = absurd (full (has_room r.text (may_print r (held_there r said) ((here.ended).statuses r said))))
-
-        by_reported : (r : Report) → ReadingSays (reading_of here.c) (call.files).held r → IsReported r call.files call.files_after call.sink call.sink_after call.status → IsReportStatus call.status
-        by_reported r said (ending.printed held prints) = by_prints_whole r said prints
-        by_reported r said (ending.unwritten e quiet stopped counted unsteady) = absurd (unsteady sure.steady)
-        by_reported r said (ending.no_memory e quiet stopped) = absurd (some_memory e)
+        asks_are = record { steady = sure.steady; hold = subst (λ (o : Option FileMap). HoldsAsked (reading_of here.c) o) (sym sure.held) (((here.answers).follows m).asked sure.there) }
 
         by_ended : HasEnded (reading_of here.c) call.files call.files_after call.sink call.sink_after call.status → IsReportStatus call.status
-        by_ended (ending.reported r said h) = by_reported r said h
+        by_ended (ending.reported r said h) =
+            elim ((here.ended).complete asks_are (λ q says. has_room q.text (may_print q (((here.answers).follows m).means q (held_there q says)))) r said) [
+              | inl e ↦ subst IsReportStatus (sym e) ((here.ended).statuses r said)
+              | inr e ↦ absurd (some_memory e)
+            ]
         by_ended (ending.unread e held quiet counted unsure) = absurd (unsure asks_are)
         by_ended (ending.no_memory e held quiet) = absurd (some_memory e)
 
         -- what an end with this status means
-        can : (status : Status) (Holds : FileMap → FileMap → List ℕ → Type 0) → ToolCallMeans call words status Holds → call.status ≡ status → CanEnd (Holds m)
-        can status Holds says is = let e = says m are is sure.held in (e.0, e.1, e.4)
+        can : (status : Status) → IsTold status → call.status ≡ status → CanEnd (Meant asks IfDone IfRefused status m)
+        can status is_told is = let e = means status is_told m are is sure.held in (e.0, e.1, e.4)
 
-        is_done : CanEnd (IfDone m) → IsReportStatus call.status → call.status ≡ Done
-        is_done d (inl e) = e
-        is_done d (inr (inl e)) = let k = can Refused IfRefused (means Refused IfRefused refused_told (λ f. (f.answers).refused)) e in absurd ((here.answers).apart m d.0 k.0 d.1 k.1 d.2 k.2)
-        is_done d (inr (inr e)) = let b = can BadInput (BadInputOf asks) bad_means e in absurd (never_bad m asks b.1 ((here.answers).good m d.0 d.1 (inl d.2)) (b.2).first)
+        end_is_done : CanEnd (IfDone m) → IsReportStatus call.status → call.status ≡ Done
+        end_is_done d (inl e) = e
+        end_is_done d (inr (inl e)) = let k = can Refused refused_told e in absurd ((here.answers).apart m d.0 k.0 d.1 k.1 d.2 k.2)
+        end_is_done d (inr (inr e)) = let b = can BadInput bad_told e in absurd (never_bad m asks b.1 ((here.answers).good m d.0 d.1 (inl d.2)) (b.2).first)
 
-        is_refused : CanEnd (IfRefused m) → IsReportStatus call.status → call.status ≡ Refused
-        is_refused k (inl e) = let d = can Done IfDone (means Done IfDone done_told (λ f. (f.answers).done)) e in absurd ((here.answers).apart m d.0 k.0 d.1 k.1 d.2 k.2)
-        is_refused k (inr (inl e)) = e
-        is_refused k (inr (inr e)) = let b = can BadInput (BadInputOf asks) bad_means e in absurd (never_bad m asks b.1 ((here.answers).good m k.0 k.1 (inr k.2)) (b.2).first)
+        end_is_refused : CanEnd (IfRefused m) → IsReportStatus call.status → call.status ≡ Refused
+        end_is_refused k (inl e) = let d = can Done done_told e in absurd ((here.answers).apart m d.0 k.0 d.1 k.1 d.2 k.2)
+        end_is_refused k (inr (inl e)) = e
+        end_is_refused k (inr (inr e)) = let b = can BadInput bad_told e in absurd (never_bad m asks b.1 ((here.answers).good m k.0 k.1 (inr k.2)) (b.2).first)
 
-        is_bad : CanEnd (BadInputOf asks m) → IsReportStatus call.status → call.status ≡ BadInput
-        is_bad b (inl e) = let d = can Done IfDone (means Done IfDone done_told (λ f. (f.answers).done)) e in absurd (never_bad m asks b.1 ((here.answers).good m d.0 d.1 (inl d.2)) (b.2).first)
-        is_bad b (inr (inl e)) = let k = can Refused IfRefused (means Refused IfRefused refused_told (λ f. (f.answers).refused)) e in absurd (never_bad m asks b.1 ((here.answers).good m k.0 k.1 (inr k.2)) (b.2).first)
-        is_bad b (inr (inr e)) = e
+        end_is_bad : CanEnd (BadInputOf asks m) → IsReportStatus call.status → call.status ≡ BadInput
+        end_is_bad b (inl e) = let d = can Done done_told e in absurd (never_bad m asks b.1 ((here.answers).good m d.0 d.1 (inl d.2)) (b.2).first)
+        end_is_bad b (inr (inl e)) = let k = can Refused refused_told e in absurd (never_bad m asks b.1 ((here.answers).good m k.0 k.1 (inr k.2)) (b.2).first)
+        end_is_bad b (inr (inr e)) = e
 
         one_end : IsOneEnd call.status (IfDone m) (IfRefused m) (BadInputOf asks m)
         one_end =
             let one = by_ended (here.ended).ended in
             record {
               one = one;
-              done = (λ e. can Done IfDone (means Done IfDone done_told (λ f. (f.answers).done)) e, λ d. is_done d one);
-              refused = (λ e. can Refused IfRefused (means Refused IfRefused refused_told (λ f. (f.answers).refused)) e, λ k. is_refused k one);
-              bad_input = (λ e. can BadInput (BadInputOf asks) bad_means e, λ b. is_bad b one);
+              done = (λ e. can Done done_told e, λ d. end_is_done d one);
+              refused = (λ e. can Refused refused_told e, λ k. end_is_refused k one);
+              bad_input = (λ e. can BadInput bad_told e, λ b. end_is_bad b one);
             }
 
       says : CommandSays call words asks IfDone IfRefused
       says = record {
-        done = means Done IfDone done_told (λ f. (f.answers).done);
-        refused = means Refused IfRefused refused_told (λ f. (f.answers).refused);
-        bad_input = bad_means;
+        done = means Done done_told;
+        refused = means Refused refused_told;
+        bad_input = means BadInput bad_told;
         decided = one_end;
       }
 

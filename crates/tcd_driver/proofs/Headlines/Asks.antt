@@ -1,7 +1,6 @@
 -- What a command asks of its input: it is good or bad, and never both.
-use Rattle.std.proofs.Common.{◌≡◌, ◌≤◌, ◌+◌, ◌^◌, ◌⊎◌, inl, inr, ℕ, List, [], ◌∷◌, ◌++◌, length, map, Option, Some, Ok, refl, sym, ap, subst, ◌∙◌, arith}
+use Rattle.std.proofs.Common.{◌≡◌, ◌≤◌, ◌+◌, ◌^◌, inl, inr, ℕ, List, [], ◌∷◌, ◌++◌, length, map, Option, Some, Ok, refl, sym, ap, subst, ◌∙◌, arith}
 use Rattle.std.specs.Prelude.{codes}
-use Rattle.std.specs.Fmt.{decimal}
 use Rattle.std.specs.FinMap.{get}
 use Rattle.elf_image.specs.Images.{ImageData}
 use Rattle.elf_image.specs.ReadElf.{image_of_file}
@@ -21,69 +20,18 @@ use Rattle.value_cells.specs.CellListText as cells
 use Rattle.task_chains.specs.Tasks.{TasksData, count}
 use Rattle.task_chains.specs.TaskListText as tasks
 use Rattle.tcd_base.specs.Files.{FileMap, HasFileOfName}
-use Rattle.tcd_base.specs.declared.errors.FormErr.{FormErr}
-use Rattle.tcd_reading.specs.Reports.{Report, RefusesInput}
-use Rattle.tcd_reading.specs.Inputs.{FormSeen, HoldsInput, IsInputRefusal, Reading, each, ReadingSays, HoldsAsked}
+use Rattle.tcd_reading.specs.Reports.{Report}
+use Rattle.tcd_reading.specs.Inputs.{FormSeen, HoldsInput, IsInputRefusal, Reading, each, ReadingSays, HoldsAsked, answer, input}
 use Rattle.tcd_forms.specs.Forms.{SourceData, elf_form, plan_form, cert_form, script_form, source_form, placed_source_form, layout_form, object_form}
 use Rattle.tcd_forms.specs.Lines.{long_elf_line, long_plan_line, long_cert_line, bad_cert_line, long_script_line, long_source_line, bad_source_line, long_layout_line, long_object_line, bad_object_line, long_cells_line, long_tasks_line, line_end_at_one, line_end_at_two}
 use Rattle.tcd_forms.proofs.FormLaws.{ok_err, elf_lawful, plan_lawful, cert_lawful, source_lawful, placed_source_lawful, layout_lawful, object_lawful}
-use Rattle.tcd_driver.specs.BadInputLines.{IsNoCert, IsNoObject, SourceBreaksRule, bad_source_words}
 use Rattle.tcd_driver.specs.CellAndTaskForms.{cells_form, tasks_form}
-use Rattle.tcd_driver.specs.Headlines.{HoldsFile, IsBadFile, too_long, faulty, HoldsImage, HoldsPlan, HoldsCert, HoldEachFile}
+use Rattle.tcd_driver.specs.Headlines.{HoldsFile, IsBadFile, too_long, faulty, HoldsImage, HoldsPlan, HoldsCert, HoldEachFile, AreCheckFiles, AreFirmwareFiles}
 use Rattle.tcd_driver.specs.Headlines.Builds.{IsObjectText, HoldsLayout, IsSourceText}
 use Rattle.tcd_driver.specs.Headlines.Asks.{Ask, is_elf, is_plan, is_cert, is_layout, is_object, is_source, is_script, are_cells, are_tasks, are_linked, are_linked_sources, is_cert_per_task, ask_each, HoldsCells, HoldsTasks, IsGood, IsBadWith, IsThere, AreThere, IsFirstBad}
 use Rattle.tcd_driver.proofs.CellsReports.{cells_lawful}
 use Rattle.tcd_driver.proofs.TasksReports.{tasks_lawful}
-use Rattle.tcd_driver.proofs.Headlines.{Tells, bad_file, bad_by, image_held, plan_held, cert_held, layout_held}
-
--- ---- lines
-elf_is : long_elf_line ≡ codes "bad elf 0" ++ 10 ∷ []
-unfolding long_elf_line
-elf_is = refl
-
-plan_is : long_plan_line ≡ codes "bad plan 0" ++ 10 ∷ []
-unfolding long_plan_line
-plan_is = refl
-
-cert_is : long_cert_line ≡ codes "bad cert 0" ++ 10 ∷ []
-unfolding long_cert_line
-cert_is = refl
-
-script_is : long_script_line ≡ codes "bad script 0" ++ 10 ∷ []
-unfolding long_script_line
-script_is = refl
-
-layout_is : long_layout_line ≡ codes "bad layout 0" ++ 10 ∷ []
-unfolding long_layout_line
-layout_is = refl
-
-cells_is : long_cells_line ≡ codes "bad cells 0" ++ 10 ∷ []
-unfolding long_cells_line
-cells_is = refl
-
-tasks_is : long_tasks_line ≡ codes "bad tasks 0" ++ 10 ∷ []
-unfolding long_tasks_line
-tasks_is = refl
-
-source_is : (place : ℕ) → long_source_line place ≡ codes "bad source 0 at " ++ (decimal place ++ 10 ∷ [])
-unfolding long_source_line line_end_at_one
-source_is place = refl
-
-object_is : (place : ℕ) → long_object_line place ≡ codes "bad object 0 at " ++ (decimal place ++ 10 ∷ [])
-unfolding long_object_line line_end_at_one
-object_is place = refl
-
-no_cert_is : (e : FormErr) → bad_cert_line e ≡ codes "bad cert " ++ (decimal e.kind ++ (codes " at " ++ (decimal e.at ++ 10 ∷ [])))
-unfolding bad_cert_line line_end_at_one
-no_cert_is e = refl
-
-no_source_is : (rule place line : ℕ) → bad_source_line place rule line ≡ bad_source_words rule place line
-unfolding bad_source_line line_end_at_two
-no_source_is rule place line = refl
-
-no_object_is : (place : ℕ) (e : FormErr) → bad_object_line place e ≡ codes "bad object " ++ (decimal e.kind ++ (codes " at " ++ (decimal place ++ (codes " " ++ (decimal e.at ++ 10 ∷ [])))))
-unfolding bad_object_line line_end_at_two
-no_object_is place e = refl
+use Rattle.tcd_driver.proofs.Headlines.{Tells, bad_file, Means, held_as, is_bad, is_done, is_refused}
 
 -- ---- what is asked of a file
 -- a file that is read in this form is good, bad or missing, as it is asked
@@ -94,86 +42,88 @@ pub record IsAskedAs {A : Type 0} (form : FormSeen A) (m : FileMap) (name : List
 
 module _ (m : FileMap) (name : List ℕ) where
   pub elf_asked : IsAskedAs elf_form m name (is_elf name)
-  elf_asked = record { good = λ x h. (x, image_held m name x h); bad = λ line h. bad_file elf_form m name line _ elf_is h; there = λ h. h }
+  unfolding long_elf_line
+  elf_asked = record { good = λ x h. (x, held_as elf_form m name x h); bad = λ line h. bad_file elf_form m name line _ refl h; there = λ h. h }
 
   pub plan_asked : IsAskedAs plan_form m name (is_plan name)
-  plan_asked = record { good = λ x h. (x, plan_held m name x h); bad = λ line h. bad_file plan_form m name line _ plan_is h; there = λ h. h }
+  unfolding long_plan_line
+  plan_asked = record { good = λ x h. (x, held_as plan_form m name x h); bad = λ line h. bad_file plan_form m name line _ refl h; there = λ h. h }
 
   pub cert_asked : IsAskedAs cert_form m name (is_cert name)
-  cert_asked = record {
-    good = λ x h. (x, cert_held m name x h);
-    bad = λ line h. bad_by m name (2 ^ 30) _ cert_form.IsBad IsNoCert line (λ bytes why. (why.0, why.1, why.2 ∙ no_cert_is why.0)) (bad_file cert_form m name line _ cert_is h);
-    there = λ h. h;
-  }
+  unfolding long_cert_line bad_cert_line line_end_at_one
+  cert_asked = record { good = λ x h. (x, held_as cert_form m name x h); bad = λ line h. bad_file cert_form m name line _ refl h; there = λ h. h }
 
   pub layout_asked : IsAskedAs layout_form m name (is_layout name)
-  layout_asked = record { good = λ x h. (x, layout_held m name x h); bad = λ line h. bad_file layout_form m name line _ layout_is h; there = λ h. h }
+  unfolding long_layout_line
+  layout_asked = record { good = λ x h. (x, held_as layout_form m name x h); bad = λ line h. bad_file layout_form m name line _ refl h; there = λ h. h }
 
   pub object_asked : (place : ℕ) → IsAskedAs (object_form place) m name (is_object place name)
-  object_asked place = record {
-    good = λ x h. (x, record { bytes = h.0; held = h.1; short = h.2; form = h.3 });
-    bad = λ line h. bad_by m name (2 ^ 24) _ (object_form place).IsBad (IsNoObject place) line (λ bytes why. (why.0, why.1, why.2 ∙ no_object_is place why.0)) (bad_file (object_form place) m name line _ (object_is place) h);
-    there = λ h. h;
-  }
+  unfolding long_object_line bad_object_line line_end_at_one line_end_at_two
+  object_asked place = record { good = λ x h. (x, held_as (object_form place) m name x h); bad = λ line h. bad_file (object_form place) m name line _ refl h; there = λ h. h }
 
   pub source_asked : IsAskedAs source_form m name (is_source 0 name)
-  source_asked = record {
-    good = λ x h. (x, record { bytes = h.0; held = h.1; short = h.2; form = h.3 });
-    bad = λ line h. bad_by m name (2 ^ 24) _ source_form.IsBad (SourceBreaksRule 0) line (λ bytes why. (why.0, why.1, why.2, why.3 ∙ no_source_is why.1 0 why.0)) (bad_file source_form m name line _ (source_is 0) h);
-    there = λ h. h;
-  }
+  unfolding long_source_line bad_source_line line_end_at_one line_end_at_two
+  source_asked = record { good = λ x h. (x, held_as source_form m name x h); bad = λ line h. bad_file source_form m name line _ refl h; there = λ h. h }
 
   pub placed_source_asked : (place : ℕ) → IsAskedAs (placed_source_form place) m name (is_source place name)
-  placed_source_asked place = record {
-    good = λ x h. (x.object, record { bytes = h.0; held = h.1; short = h.2; form = (h.3).1 });
-    bad = λ line h. bad_by m name (2 ^ 24) _ (placed_source_form place).IsBad (SourceBreaksRule place) line (λ bytes why. (why.0, why.1, why.2, why.3 ∙ no_source_is why.1 place why.0)) (bad_file (placed_source_form place) m name line _ (source_is place) h);
-    there = λ h. h;
-  }
+  unfolding long_source_line bad_source_line line_end_at_one line_end_at_two
+  placed_source_asked place = record { good = λ x h. (x.object, record { bytes = h.0; held = h.1; short = h.2; form = (h.3).1 }); bad = λ line h. bad_file (placed_source_form place) m name line _ refl h; there = λ h. h }
 
   -- files of a plan
-  module _ (plan_name : List ℕ) (p : PlanData) (plan : HoldsInput plan_form (Some m) plan_name p) where
+  module _ (plan_name : List ℕ) (p : PlanData) (plan : HoldsPlan m plan_name p) where
     pub script_asked : IsAskedAs (script_form p) m name (is_script plan_name name)
-    script_asked = record {
-      good = λ x h. (p, x, plan_held m plan_name p plan, record { bytes = h.0; held = h.1; short = h.2; form = h.3 });
-      bad = λ line h. (p, plan_held m plan_name p plan, bad_file (script_form p) m name line _ script_is h);
-      there = λ h. h;
-    }
+    unfolding long_script_line
+    script_asked = record { good = λ x h. (p, x, plan, held_as (script_form p) m name x h); bad = λ line h. (p, plan, bad_file (script_form p) m name line _ refl h); there = λ h. h }
 
     pub cells_asked : IsAskedAs (cells_form p) m name (are_cells plan_name name)
-    cells_asked = record {
-      good = λ x h. (p, x, plan_held m plan_name p plan, record { bytes = h.0; held = h.1; short = h.2; form = h.3 });
-      bad = λ line h. (p, plan_held m plan_name p plan, bad_file (cells_form p) m name line _ cells_is h);
-      there = λ h. h;
-    }
+    unfolding long_cells_line
+    cells_asked = record { good = λ x h. (p, x, plan, held_as (cells_form p) m name x h); bad = λ line h. (p, plan, bad_file (cells_form p) m name line _ refl h); there = λ h. h }
 
     pub tasks_asked : IsAskedAs (tasks_form p) m name (are_tasks plan_name name)
-    tasks_asked = record {
-      good = λ x h. (p, x, plan_held m plan_name p plan, record { bytes = h.0; held = h.1; short = h.2; form = h.3 });
-      bad = λ line h. (p, plan_held m plan_name p plan, bad_file (tasks_form p) m name line _ tasks_is h);
-      there = λ h. h;
-    }
+    unfolding long_tasks_line
+    tasks_asked = record { good = λ x h. (p, x, plan, held_as (tasks_form p) m name x h); bad = λ line h. (p, plan, bad_file (tasks_form p) m name line _ refl h); there = λ h. h }
 
 -- ---- one after another
--- the first that is bad is this one, or it is behind it
-pub bad_from : {A : Type 0} {Said : A → Type 0} {Rest : Type 0} (form : FormSeen A) (m : FileMap) (name : List ℕ) (ask : Ask) (r : Report) → IsAskedAs form m name ask →
-    RefusesInput (IsInputRefusal form (Some m) name) r ⊎ ((x : A) × HoldsInput form (Some m) name x × Said x) → ((x : A) → HoldsInput form (Some m) name x → Said x → Rest) → IsBadWith m ask r.text ⊎ (IsGood m ask × Rest)
-bad_from form m name ask r is (inl h) rest = inl (is.bad r.text h.line)
-bad_from form m name ask r is (inr h) rest = inr (is.good h.0 h.1, rest h.0 h.1 h.2)
+-- A reading follows what a command asks: so much its reports mean, and it needs no other files.
+pub record Follows (reading : Reading) (m : FileMap) (asks : List Ask) (IfDone IfRefused : FileMap → FileMap → List ℕ → Type 0) : Type 0 where
+  pub means : (r : Report) → ReadingSays reading (Some m) r → Means m asks IfDone IfRefused r
+  pub asked : AreThere m asks → HoldsAsked reading (Some m)
 
--- files of a list, and what is asked behind them
-module _ {A : Type 0} (form : ℕ → FormSeen A) (most : ℕ) (Is : List ℕ → A → Type 0) (tells : Tells form most Is) (ask : ℕ → List ℕ → Ask) (asks : List Ask) (m : FileMap) (is : (place : ℕ) (name : List ℕ) → IsAskedAs (form place) m name (ask place name)) where
-  pub bad_from_each : (place : ℕ) (names : List (List ℕ)) (next : List A → Reading) (r : Report) → ReadingSays (each A form place names next) (Some m) r →
-      ((xs : List A) → HoldEachFile m most Is names xs → ReadingSays (next xs) (Some m) r → IsFirstBad m asks r.text) → IsFirstBad m (ask_each ask place names asks) r.text
-  bad_from_each place [] next r said rest = rest [] tt said
-  bad_from_each place (name ∷ names) next r said rest =
-      bad_from (form place) m name (ask place name) r (is place name) said
-      (λ x h s. bad_from_each (place + 1) names (λ xs. next (x ∷ xs)) r s (λ xs held t. rest (x ∷ xs) (tells place m name x h, held) t))
+module _ {m : FileMap} {D R : FileMap → FileMap → List ℕ → Type 0} where
+  -- what is asked before is good
+  pub behind : {ask : Ask} {asks : List Ask} {r : Report} → IsGood m ask → Means m asks D R r → Means m (ask ∷ asks) D R r
+  behind good (is_done after e w h) = is_done after e w h
+  behind good (is_refused e w h) = is_refused e w h
+  behind good (is_bad e w h) = is_bad e w (inr (good, h))
 
-  pub asked_from_each : (place : ℕ) (names : List (List ℕ)) (next : List A → Reading) → AreThere m (ask_each ask place names asks) → (AreThere m asks → (xs : List A) → HoldsAsked (next xs) (Some m)) →
-      HoldsAsked (each A form place names next) (Some m)
-  asked_from_each place [] next there rest = rest there []
-  asked_from_each place (name ∷ names) next there rest =
-      ((is place name).there there.0, λ x h. asked_from_each (place + 1) names (λ xs. next (x ∷ xs)) there.1 (λ more xs. rest more (x ∷ xs)))
+  pub then_answer : {P : Report → Type 0} {asks : List Ask} → ((r : Report) → P r → Means m asks D R r) → Follows (answer P) m asks D R
+  then_answer means = record { means = means; asked = λ there. tt }
+
+  pub then_input : {A : Type 0} {form : FormSeen A} {name : List ℕ} {ask : Ask} {asks : List Ask} {next : A → Reading} → IsAskedAs form m name ask → ((x : A) → HoldsInput form (Some m) name x → Follows (next x) m asks D R) →
+      Follows (input A form name next) m (ask ∷ asks) D R
+  then_input {A} {form} {name} {ask} {asks} {next} is rest = record { means = by_input; asked = λ there. (is.there there.0, λ x h. (rest x h).asked there.1) }
+    where
+      by_input : (r : Report) → ReadingSays (input A form name next) (Some m) r → Means m (ask ∷ asks) D R r
+      by_input r (inl h) = is_bad h.status h.nothing (inl (is.bad r.text h.line))
+      by_input r (inr h) = behind (is.good h.0 h.1) ((rest h.0 h.1).means r h.2)
+
+  -- files of a list
+  pub then_each : {A : Type 0} (form : ℕ → FormSeen A) (most : ℕ) (Is : List ℕ → A → Type 0) (ask : ℕ → List ℕ → Ask) (asks : List Ask) → Tells form most Is → ((place : ℕ) (name : List ℕ) → IsAskedAs (form place) m name (ask place name)) →
+      (place : ℕ) (names : List (List ℕ)) (next : List A → Reading) → ((xs : List A) → HoldEachFile m most Is names xs → Follows (next xs) m asks D R) → Follows (each A form place names next) m (ask_each ask place names asks) D R
+  then_each form most Is ask asks tells is place [] next rest = rest [] tt
+  then_each form most Is ask asks tells is place (name ∷ names) next rest =
+      then_input (is place name) (λ x h. then_each form most Is ask asks tells is (place + 1) names (λ xs. next (x ∷ xs)) (λ xs held. rest (x ∷ xs) (tells place m name x h, held)))
+
+  -- an executable and a plan, and a certificate
+  pub then_firmware : {elf plan : List ℕ} {asks : List Ask} {next : ImageData → PlanData → Reading} → ((i : ImageData) (p : PlanData) → AreFirmwareFiles m elf plan i p → Follows (next i p) m asks D R) →
+      Follows (input ImageData elf_form elf (λ i. input PlanData plan_form plan (λ p. next i p))) m (is_elf elf ∷ is_plan plan ∷ asks) D R
+  then_firmware {elf} {plan} rest =
+      then_input (elf_asked m elf) (λ i i_is. then_input (plan_asked m plan) (λ p p_is. rest i p (record { elf_file = held_as elf_form m elf i i_is; plan_file = held_as plan_form m plan p p_is })))
+
+  pub then_checked : {elf plan cert : List ℕ} {P : ImageData → PlanData → CertData → Report → Type 0} → ((i : ImageData) (p : PlanData) (c : CertData) (r : Report) → AreCheckFiles m elf plan cert i p c → P i p c r → Means m [] D R r) →
+      Follows (input ImageData elf_form elf (λ i. input PlanData plan_form plan (λ p. input CertData cert_form cert (λ c. answer (P i p c))))) m (is_elf elf ∷ is_plan plan ∷ is_cert cert ∷ []) D R
+  then_checked {elf} {plan} {cert} means =
+      then_firmware (λ i p files. then_input (cert_asked m cert) (λ c c_is. then_answer (λ r h. means i p c r (record { elf_file = files.elf_file; plan_file = files.plan_file; cert_file = held_as cert_form m cert c c_is }) h)))
 
 -- ---- one value
 same_bytes : (o : Option (List ℕ)) (a b : List ℕ) → o ≡ Some a → o ≡ Some b → a ≡ b
