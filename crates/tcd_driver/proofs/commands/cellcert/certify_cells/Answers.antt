@@ -1,4 +1,5 @@
 use Rattle.tcd_reading.proofs.Told.{comes_stopped, leads_read, comes_told}
+use Rattle.tcd_driver.proofs.Words.{leads_firmware}
 use Rattle.tcd_driver.proofs.commands.cellcert.certify_cells.Goals as goal
 
 pub returns-in_err-image : goal.returns-in_err-image
@@ -11,13 +12,11 @@ returns-in_err-board g c =
 
 pub returns-in_err-words : goal.returns-in_err-words
 returns-in_err-words g c =
-    (leads_read _ _ _ _ _ _ _ c.in_ok-image.ensures.leaves c.in_ok-image.ensures.later c.in_ok-image.ensures.found).comes _ _
-    ((leads_read _ _ _ _ _ _ _ c.in_ok-board.ensures.leaves c.in_ok-board.ensures.later c.in_ok-board.ensures.found).comes _ _
-    (comes_stopped _ _ _ _ _ _ _ c.from_residual-in_err-words.result c.from_residual-in_err-words.ensures.1 c.in_err-words.ensures.leaves c.in_err-words.ensures.later c.in_err-words.ensures.stops))
+    (leads_firmware _ _ _ _ _ _ _ _ c.in_ok-image.ensures.leaves c.in_ok-image.ensures.later c.in_ok-image.ensures.found c.in_ok-board.ensures.leaves c.in_ok-board.ensures.later c.in_ok-board.ensures.found).comes _ _
+    (comes_stopped _ _ _ _ _ _ _ c.from_residual-in_err-words.result c.from_residual-in_err-words.ensures.1 c.in_err-words.ensures.leaves c.in_err-words.ensures.later c.in_err-words.ensures.stops)
 
 pub returns : goal.returns
 returns g c =
-    (leads_read _ _ _ _ _ _ _ c.in_ok-image.ensures.leaves c.in_ok-image.ensures.later c.in_ok-image.ensures.found).comes _ _
-    ((leads_read _ _ _ _ _ _ _ c.in_ok-board.ensures.leaves c.in_ok-board.ensures.later c.in_ok-board.ensures.found).comes _ _
+    (leads_firmware _ _ _ _ _ _ _ _ c.in_ok-image.ensures.leaves c.in_ok-image.ensures.later c.in_ok-image.ensures.found c.in_ok-board.ensures.leaves c.in_ok-board.ensures.later c.in_ok-board.ensures.found).comes _ _
     ((leads_read _ _ _ _ _ _ _ c.in_ok-words.ensures.leaves c.in_ok-words.ensures.later c.in_ok-words.ensures.found).comes _ _
-    (comes_told _ _ _ c.make_cells_cert.ensures)))
+    (comes_told _ _ _ c.make_cells_cert.ensures))

@@ -1,4 +1,5 @@
 use Rattle.tcd_reading.proofs.Told.{comes_stopped, leads_read, comes_told}
+use Rattle.tcd_driver.proofs.Words.{leads_firmware}
 use Rattle.tcd_driver.proofs.commands.cfg.draw_files.Goals as goal
 
 pub returns-in_err-image : goal.returns-in_err-image
@@ -11,5 +12,4 @@ returns-in_err-board g c =
 
 pub returns : goal.returns
 returns g c =
-    (leads_read _ _ _ _ _ _ _ c.in_ok-image.ensures.leaves c.in_ok-image.ensures.later c.in_ok-image.ensures.found).comes _ _
-    ((leads_read _ _ _ _ _ _ _ c.in_ok-board.ensures.leaves c.in_ok-board.ensures.later c.in_ok-board.ensures.found).comes _ _ (comes_told _ _ _ c.draw_graph.ensures))
+    (leads_firmware _ _ _ _ _ _ _ _ c.in_ok-image.ensures.leaves c.in_ok-image.ensures.later c.in_ok-image.ensures.found c.in_ok-board.ensures.leaves c.in_ok-board.ensures.later c.in_ok-board.ensures.found).comes _ _ (comes_told _ _ _ c.draw_graph.ensures)
