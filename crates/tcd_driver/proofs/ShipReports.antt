@@ -1,5 +1,5 @@
 -- The reports of `ship`, and the sources that it reads.
-use Rattle.std.proofs.Common.{◌≡◌, ◌≢◌, ◌≤◌, ◌+◌, ◌-◌, ℕ, List, [], ◌∷◌, ◌++◌, length, Option, Some, None, Result, Ok, Err, refl, sym, ap, subst, ◌∙◌, inr}
+use Rattle.std.proofs.Common.{◌≡◌, ◌≢◌, ◌≤◌, ◌+◌, ◌-◌, ℕ, List, [], ◌∷◌, ◌++◌, length, Option, Some, None, Ok, Err, refl, sym, ap, subst, ◌∙◌, inr}
 use Rattle.std.specs.Prelude.{IfSome, slice_get}
 use Rattle.std.proofs.lemmas.List.{length-append}
 use Rattle.elf_image.specs.Images.{ImageData}
@@ -41,9 +41,6 @@ shipping_side elf cert p i r (shipped c is reads e) = well _ e refl (c, is)
 shipping_alike : (elf cert : List ℕ) (p : PlanData) (i : ImageData) → AreAlike (IsShipping elf cert p i)
 shipping_alike elf cert p i = refusable (shipping_side elf cert p i)
 
-same_image : (o : Result ImageData Refusal) (i j : ImageData) → o ≡ Ok i → o ≡ Ok j → i ≡ j
-same_image o i j e f = cc
-
 module _ (elf cert : List ℕ) (p : PlanData) (l : LayoutData) (ss : List SourceData) where
   shipped_told : (r : Report) → IsShipped elf cert p l ss r → IsReportStatus r.status
   shipped_told r (unlinked q is e) = inr (inr (status_is r _ e))
@@ -58,7 +55,7 @@ module _ (elf cert : List ℕ) (p : PlanData) (l : LayoutData) (ss : List Source
   shipped_one r q (unlinked a is e) (of_image i of_sources h) = absurd (ok_err (image_of_objects (objects_of_sources ss) l) i a of_sources.linked_is is)
   shipped_one r q (of_image i of_sources h) (unlinked a is e) = absurd (ok_err (image_of_objects (objects_of_sources ss) l) i a of_sources.linked_is is)
   shipped_one r q (of_image i of_sources h) (of_image j of_sources2 k) =
-      let same = same_image (image_of_objects (objects_of_sources ss) l) j i of_sources2.linked_is of_sources.linked_is in
+      let same : j ≡ i = (let e = of_sources.linked_is in let f = of_sources2.linked_is in cc) in
       (shipping_alike elf cert p i).one r q h (subst (λ (x : ImageData). IsShipping elf cert p x q) same k)
 
   pub shipped_alike : AreAlike (IsShipped elf cert p l ss)

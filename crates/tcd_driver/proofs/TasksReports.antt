@@ -1,5 +1,5 @@
 -- What `tasks` reports.
-use Rattle.std.proofs.Common.{◌≡◌, ◌-◌, ◌*◌, ◌+◌, ◌^◌, ◌<◌, ◌≤◌, ◌==◌, inl, inr, true, false, ℕ, suc, Bool, List, [], length, get_or, Option, Some, Ok, Err, sym, ap, subst, ◌∙◌, arith, refl}
+use Rattle.std.proofs.Common.{◌≡◌, ◌-◌, ◌*◌, ◌+◌, ◌^◌, ◌<◌, ◌≤◌, ◌==◌, inl, inr, true, false, ℕ, suc, Bool, List, [], length, get_or, Ok, Err, sym, ap, subst, ◌∙◌, arith, refl}
 use Rattle.std.specs.Prelude.{max, if◌then◌else◌}
 use Rattle.std.proofs.lemmas.Bool.Decides.{eqb_tells}
 use Rattle.std.proofs.lemmas.Bool.{cases_lt}
@@ -159,9 +159,6 @@ next_tallied i p t certs c n total need more at small tallied judged counts =
       few = omega arith;
     }
 
-some_same : (o : Option CertData) (a b : CertData) → o ≡ Some a → o ≡ Some b → a ≡ b
-some_same o a b e f = cc
-
 -- the certificate at this place
 pub cert_here : (certs : List CertData) (n : ℕ) (x : CertData) → n < length certs → x ≡ get_or certs n x → cert_of_task certs n ≡ x
-cert_here certs n x lt is = some_same _ _ _ (slice_get-get_or certs n (record { version = 1; nodes = [] }) lt) (slice_get-get_or certs n x lt) ∙ sym is
+cert_here certs n x lt is = let e = slice_get-get_or certs n (record { version = 1; nodes = [] }) lt in let f = slice_get-get_or certs n x lt in cc

@@ -1,6 +1,6 @@
 -- How each command ends: what its ends mean, what it asks of its input, and that no two ends are of
 -- the same files.
-use Rattle.std.proofs.Common.{◌≡◌, ◌≢◌, ◌<◌, ◌≤◌, ◌+◌, ◌^◌, ◌==◌, ◌⊎◌, inl, inr, ℕ, suc, Bool, true, false, List, [], ◌∷◌, length, map, Option, Some, Result, Ok, refl, sym, ap, subst, ◌∙◌, arith}
+use Rattle.std.proofs.Common.{◌≡◌, ◌≢◌, ◌<◌, ◌≤◌, ◌+◌, ◌^◌, ◌==◌, ◌⊎◌, inl, inr, ℕ, suc, Bool, true, false, List, [], ◌∷◌, length, map, Option, Some, Ok, refl, sym, ap, subst, ◌∙◌, arith}
 use Rattle.std.specs.Prelude.{max, if◌then◌else◌}
 use Rattle.std.proofs.lemmas.Bool.{eqb-true, eqb-false}
 use Rattle.csa_chain.specs.SeveralChains.{sum_over_chains}
@@ -171,10 +171,7 @@ shipped_one m plan layout sources p q i j h k =
     let l = layout_one m layout h.layout k.layout h.layout_file k.layout_file in
     let ss = sources_one m sources h.sources k.sources h.source_files k.source_files in
     let linked = ap (λ (x : LayoutData). image_of_objects (map (λ s. s.object) h.sources) x) l ∙ ap (λ (xs : List SourceData). image_of_objects (map (λ s. s.object) xs) k.layout) ss in
-    (same_ok (image_of_objects (map (λ s. s.object) h.sources) h.layout) i j h.linked (linked ∙ k.linked), plan_one m plan p q h.plan_file k.plan_file)
-  where
-    same_ok : {E : Type 0} (r : Result ImageData E) (x y : ImageData) → r ≡ Ok x → r ≡ Ok y → x ≡ y
-    same_ok r x y e f = cc
+    ((let e = h.linked in let f = linked ∙ k.linked in cc), plan_one m plan p q h.plan_file k.plan_file)
 
 image_good : (m : FileMap) (plan layout : List ℕ) (sources : List (List ℕ)) (p : PlanData) (i : ImageData) → IsImageOfFiles m plan layout sources p i →
     AreGood m (is_plan plan ∷ is_layout layout ∷ ask_each is_source 0 sources (are_linked_sources layout sources ∷ []))
