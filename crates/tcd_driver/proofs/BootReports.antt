@@ -1,5 +1,5 @@
 -- The reports of `boot`.
-use Rattle.std.proofs.Common.{◌≡◌, ◌-◌, ℕ, ap, subst, ◌∙◌, refl}
+use Rattle.std.proofs.Common.{◌≡◌, ◌-◌, ℕ, subst, refl}
 use Rattle.elf_image.specs.Images.{ImageData, IsImage}
 use Rattle.tcd_plan.specs.PlanData.{PlanData, IsPlan}
 use Rattle.tc_machine.specs.Safe.{Safe}

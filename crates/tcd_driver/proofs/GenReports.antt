@@ -17,7 +17,6 @@ use Rattle.tcd_forms.proofs.FormLaws.{plan_lawful}
 use Rattle.tc_machine.specs.Safe.{Safe}
 use Rattle.depth_cert.specs.Certs.{CertData, IsCert}
 use Rattle.depth_cert.specs.Nodes.{count_points}
-use Rattle.cfg_recover.specs.RulesHoldOrFail.{certified_need}
 use Rattle.depth_maker.specs.LeastCertMade.{IsMade}
 use Rattle.tcd_reading.specs.Reports.{Report, says}
 use Rattle.tcd_forms.specs.Lines.{generated_line}
