@@ -47,7 +47,9 @@ pub(crate) fn draft_of(bytes: &[u8]) -> Result<TasksDraft, TasksErr>
     Ok(draft)
 }
 
-/// Adds what line `number` says, or returns the error of its form.
+/// Adds what line `number` says, or returns the error of its form. The first line that isn't empty
+/// names the addresses, and each later one a task. After seven tasks, only the number of the next
+/// one's line is kept.
 fn add_line(draft: &mut TasksDraft, number: u32, line: &[u8]) -> Result<(), TasksErr>
     ensures ok { OnOk result (TakesTaskLine draft.old number line.now draft.new) }
     ensures err { IfErr result (IsLineBad draft.old number line.now) }
@@ -55,57 +57,20 @@ fn add_line(draft: &mut TasksDraft, number: u32, line: &[u8]) -> Result<(), Task
     if line.is_empty() {
         return Ok(());
     }
-    match draft.places {
-        Some(_) => add_other(draft, number, line),
-        None => add_first(draft, number, line),
+    if draft.places.is_none() {
+        let Some(places) = switch_places_in(line) else {
+            return Err(TasksErr::BadLine(number));
+        };
+        draft.places = Some(places);
+        return Ok(());
     }
-}
-
-/// Adds the task of a later line that isn't empty: `task ENTRY SP`.
-fn add_other(draft: &mut TasksDraft, number: u32, line: &[u8]) -> Result<(), TasksErr>
-    requires places { IsSome draft.old.places }
-    requires some { 0 < length line.now }
-    ensures ok { OnOk result (TakesTaskLine draft.old number line.now draft.new) }
-    ensures err { IfErr result (IsLineBad draft.old number line.now) }
-{
-    match task_pair_in_line(b"task".as_slice(), line) {
-        Some((entry, sp)) => {
-            add_task(draft, number, Task { entry, sp });
-            Ok(())
-        }
-        None => Err(TasksErr::BadLine(number)),
-    }
-}
-
-/// Adds the addresses of the first line that isn't empty.
-fn add_first(draft: &mut TasksDraft, number: u32, line: &[u8]) -> Result<(), TasksErr>
-    requires none { draft.old.places ≡ None }
-    requires some { 0 < length line.now }
-    ensures ok { OnOk result (TakesTaskLine draft.old number line.now draft.new) }
-    ensures err { IfErr result (IsLineBad draft.old number line.now) }
-{
-    match switch_places_in(line) {
-        Some(places) => {
-            draft.places = Some(places);
-            Ok(())
-        }
-        None => Err(TasksErr::BadLine(number)),
-    }
-}
-
-/// Adds the task of line `number`. If there are seven already, only the number is kept.
-fn add_task(draft: &mut TasksDraft, number: u32, task: Task)
-    ensures places { draft.new.places ≡ draft.old.places }
-    ensures room { length draft.old.list.items < 7
-        → (draft.new.list.items ≡ draft.old.list.items ++ task ∷ [])
-        × (draft.new.eighth ≡ draft.old.eighth) }
-    ensures full { 7 ≤ length draft.old.list.items
-        → (draft.new.list.items ≡ draft.old.list.items)
-        × (draft.new.eighth ≡ option_or draft.old.eighth (Some number)) }
-{
+    let Some((entry, sp)) = task_pair_in_line(b"task".as_slice(), line) else {
+        return Err(TasksErr::BadLine(number));
+    };
     if draft.list.len() < MOST_TASKS {
-        draft.list.push(task);
-    } else {
-        draft.eighth = draft.eighth.or(Some(number));
+        draft.list.push(Task { entry, sp });
+        return Ok(());
     }
+    draft.eighth = draft.eighth.or(Some(number));
+    Ok(())
 }

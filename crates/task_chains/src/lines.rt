@@ -30,18 +30,13 @@ pub(crate) fn switch_places_in(line: &[u8]) -> Option<Places>
 pub(crate) fn task_pair_in_line(name: &[u8], line: &[u8]) -> Option<(u32, u32)>
     ensures { result ≡ task_pair_of_words name.now (line_words line.now) }
 {
-    match words_in(line) {
-        Words::One(_) => None,
-        Words::Two(_, _) => None,
-        Words::Three(word, x, y) => {
-            if word != name {
-                return None;
-            }
-            let first = hex_number(x)?;
-            let second = hex_number(y)?;
-            Some((first, second))
-        }
-        Words::Four(_, _, _, _) => None,
-        Words::More => None,
+    let Words::Three(word, x, y) = words_in(line) else {
+        return None;
+    };
+    if word != name {
+        return None;
     }
+    let first = hex_number(x)?;
+    let second = hex_number(y)?;
+    Some((first, second))
 }

@@ -29,9 +29,7 @@ pub(crate) fn routine_bytes_of_words(words: &[u32; 18]) -> [u8; 72]
 {
     let mut bytes = ArrayVec::new();
     for w in words {
-        bytes
-            .try_extend_from_slice(&routine_word_bytes(*w))
-            .unwrap();
+        bytes.try_extend_from_slice(&w.to_le_bytes()).unwrap();
     }
     match bytes.into_inner() {
         Ok(all) => all,
@@ -79,13 +77,6 @@ pub(crate) fn view_routine(tasks: &Tasks) -> [u8; 72]
     ensures { result ≡ view_routine_bytes tasks.now }
 {
     routine_bytes_of_words(&view_routine_words(tasks.list.len() as u32, tasks.block))
-}
-
-/// Returns the bytes of a word, the lowest first.
-fn routine_word_bytes(w: u32) -> [u8; 4]
-    ensures { result ≡ four_bytes w }
-{
-    w.to_le_bytes()
 }
 
 /// Returns the words of the routine of `n` tasks whose block is at `b`.
