@@ -1,8 +1,7 @@
 // The printed lines on results: runs, files that were written, certified needs, and refusals.
-ghost use Rattle.std.specs.Prelude.{◌≡◌, ◌++◌, length, codes, IfOk, ◌<◌, OnOk};
-ghost use Rattle.std.specs.Fmt.{decimal};
+ghost use Rattle.std.specs.Prelude.{◌≡◌, length, IfOk, ◌<◌};
 ghost use Rattle.depth_cert.specs.Nodes.{count_points};
-ghost use Rattle.tcd_forms.specs.Lines.{boots_line, generated_boot_line, certified_cells_line, certified_tasks_line, generated_line, assembled_line, linked_line, printed_death_cause, run_end_text, run_line, certified_line, key_line, refused_line, refused_switch_line, line_with_task, refused_task_line, refused_sum_line};
+ghost use Rattle.tcd_forms.specs.Lines.{boots_line, generated_boot_line, certified_cells_line, certified_tasks_line, generated_line, assembled_line, linked_line, printed_death_cause, run_line, certified_line, refused_line, refused_switch_line, line_with_task, refused_task_line, refused_sum_line};
 ghost use Rattle.tcd_text.specs.HexNumbers.{hex_word};
 
 use crate::error_lines::{append_to_printed_line, copy_printed_line};
@@ -90,12 +89,21 @@ pub fn certified_line(alloc: Global, need: u32, areas: u32) -> Result<Vec<u8>, N
 }
 
 /// The line on a run: its events, the peak of CSAs in use, and the state of the machine at its end.
-#[tactic(auto, unfolding(crate::specs::Lines::run_line))]
+#[tactic(auto, unfolding(crate::specs::Lines::run_line, crate::specs::Lines::run_end_text))]
 pub fn run_line(alloc: Global, events: u32, peak: u32, m: &Machine) -> Result<Vec<u8>, NoMemory>
     ensures { IfOk result (λ line. line.items ≡ run_line events peak m.now) }
 {
     let mut line = format!(in alloc; "events {events} peak {peak} ")?.into_bytes();
-    append_run_end(&mut line, m.end, m.pc)?;
+    match m.end {
+        End::Running => append_to_printed_line(&mut line, b"running\n")?,
+        End::Dead(cause) => {
+            append_to_printed_line(&mut line, b"dead ")?;
+            append_to_printed_line(&mut line, printed_death_cause(cause))?;
+            append_to_printed_line(&mut line, b" at ")?;
+            append_to_printed_line(&mut line, &hex_word(m.pc))?;
+            append_to_printed_line(&mut line, b"\n")?;
+        }
+    }
     Ok(line)
 }
 
@@ -118,14 +126,19 @@ pub fn linked_line(alloc: Global, bytes: &[u8]) -> Result<Vec<u8>, NoMemory>
 }
 
 /// The line on a rule that fails, with the address and the frame.
-#[tactic(auto, unfolding(crate::specs::Lines::refused_line))]
+#[tactic(auto, unfolding(crate::specs::Lines::refused_line, crate::specs::Lines::key_line))]
 pub fn refused_line(alloc: Global, rule: u8, key: Key, addr: u32) -> Result<Vec<u8>, NoMemory>
     ensures { IfOk result (λ line. line.items ≡ refused_line rule key addr) }
 {
-    let mut line = refused_line_front(alloc, rule)?;
+    let mut line = format!(in alloc; "refused K{rule} at ")?.into_bytes();
     append_to_printed_line(&mut line, &hex_word(addr))?;
     append_to_printed_line(&mut line, b" in ")?;
-    append_key_to_line(alloc, &mut line, key)?;
+    append_to_printed_line(&mut line, key_kind_text(key.kind).as_bytes())?;
+    append_to_printed_line(&mut line, &hex_word(key.entry))?;
+    let prio = key.prio;
+    let text = format!(in alloc; " prio {prio} is ")?.into_bytes();
+    append_to_printed_line(&mut line, &text)?;
+    append_to_printed_line(&mut line, if key.is { b"1\n" } else { b"0\n" })?;
     Ok(line)
 }
 
@@ -167,23 +180,6 @@ pub fn refused_sum_line(alloc: Global, sum: u64, areas: u32) -> Result<Vec<u8>, 
     Ok(format!(in alloc; "refused sum {sum} of {areas} areas\n")?.into_bytes())
 }
 
-// Appends whether the machine runs, or the cause and the address of its death, and the line feed.
-#[tactic(auto, unfolding(crate::specs::Lines::run_end_text))]
-fn append_run_end(line: &mut Vec<u8>, end: End, pc: u32) -> Result<(), NoMemory>
-    ensures { OnOk result (line.new.items ≡ line.old.items ++ run_end_text end pc) }
-{
-    match end {
-        End::Running => append_to_printed_line(line, b"running\n"),
-        End::Dead(cause) => {
-            append_to_printed_line(line, b"dead ")?;
-            append_to_printed_line(line, printed_death_cause(cause))?;
-            append_to_printed_line(line, b" at ")?;
-            append_to_printed_line(line, &hex_word(pc))?;
-            append_to_printed_line(line, b"\n")
-        }
-    }
-}
-
 /// Returns the word for a cause of death in the printed line on the result of a run.
 #[tactic(auto, unfolding(crate::specs::Lines::printed_death_cause))]
 fn printed_death_cause(cause: Cause) -> &'static [u8]
@@ -198,25 +194,4 @@ fn printed_death_cause(cause: Cause) -> &'static [u8]
         Cause::NoCode => b"nocode",
         Cause::NoArea => b"noarea",
     }
-}
-
-/// Returns the start of the line on a refusal, with the rule that fails.
-fn refused_line_front(alloc: Global, rule: u8) -> Result<Vec<u8>, NoMemory>
-    ensures { IfOk result
-        (λ line. line.items ≡ codes "refused K" ++ (decimal rule ++ codes " at ")) }
-{
-    Ok(format!(in alloc; "refused K{rule} at ")?.into_bytes())
-}
-
-// Appends a frame and the line feed.
-#[tactic(auto, unfolding(crate::specs::Lines::key_line))]
-fn append_key_to_line(alloc: Global, line: &mut Vec<u8>, key: Key) -> Result<(), NoMemory>
-    ensures { OnOk result (line.new.items ≡ line.old.items ++ key_line key) }
-{
-    append_to_printed_line(line, key_kind_text(key.kind).as_bytes())?;
-    append_to_printed_line(line, &hex_word(key.entry))?;
-    let prio = key.prio;
-    let text = format!(in alloc; " prio {prio} is ")?.into_bytes();
-    append_to_printed_line(line, &text)?;
-    append_to_printed_line(line, if key.is { b"1\n" } else { b"0\n" })
 }
