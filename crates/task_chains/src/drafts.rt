@@ -1,6 +1,5 @@
 // The lines of a text of tasks, read one after another.
-ghost use Rattle.std.specs.Prelude.{◌≡◌, ◌≤◌, ◌<◌, ◌+◌, ◌^◌, [], ◌∷◌, ◌++◌, ℕ, Some, None, IsSome, length, IfOk, OnOk, IfErr};
-ghost use Rattle.std.specs.Option.{option_or};
+ghost use Rattle.std.specs.Prelude.{◌≡◌, ◌≤◌, ◌^◌, ℕ, length, IfOk, OnOk, IfErr};
 ghost use Rattle.tcd_text.specs.Lines.{text_lines};
 ghost use Rattle.task_chains.specs.declared.task_lists.TasksErr.TheVariants.{BadLine};
 ghost use Rattle.task_chains.specs.TaskListText.{FirstBadTaskLine, IsTasksDraft, TakesTaskLine, IsLineBad};
