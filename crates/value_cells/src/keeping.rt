@@ -1,16 +1,11 @@
 // The test of K16: stores keep the cells' bounds.
 ghost use Rattle.std.specs.Prelude.{◌≤◌, ◌+◌, ◌^◌, ◌↔◌, ℕ, IsTrue, All};
-ghost use Rattle.tc_isa.specs.InBounds.{IsShape};
 ghost use Rattle.value_domain.specs.Values.{IsWell, IsMember};
-ghost use Rattle.value_domain.specs.State.{AreValues};
 ghost use Rattle.store_ranges.specs.Accesses.{IsAccessSize};
-ghost use Rattle.value_cells.specs.Keeping.{KeepsAll, KeepsFrom, FitsCell, AreWithinCellBounds, IsCellKept, KeepsCellsAt};
+ghost use Rattle.value_cells.specs.Keeping.{KeepsAll, KeepsFrom, FitsCell, AreWithinCellBounds, IsCellKept};
 
 use crate::cells::Cell;
-use tc_isa::Shape;
-use tcd_plan::Plan;
-use value_domain::{Bounds, State, Val, extent_of, member};
-use vd_transfer::{address_by, reg};
+use value_domain::{Val, extent_of, member};
 
 /// Returns whether a store keeps each cell that it touches: it stores the cell's whole word, and a
 /// number inside the cell's bounds. The store has 1, 2 or 4 bytes (`size`); its address can be any
@@ -28,24 +23,6 @@ pub(crate) fn keeps_cells(at: &Val, size: u8, stored: &Val, cells: &[Cell]) -> b
         }
     }
     true
-}
-
-/// Returns whether an instruction of this shape, with this state before it, keeps the cells.
-pub(crate) fn keeps_at(b: &Bounds, plan: &Plan, shape: Shape, s: &State, cells: &[Cell]) -> bool
-    requires shape { IsShape shape }
-    requires values { AreValues b.now s.now.regs }
-    requires cells { All (λ c. c.at + 4 ≤ 2 ^ 32) cells.now }
-    ensures { IsTrue result ↔ KeepsCellsAt b.now plan.now cells.now s.now shape }
-{
-    match shape {
-        Shape::Store { src, size, .. } => keeps_cells(
-            &address_by(b, plan, shape, s),
-            size,
-            &reg(plan, s, src),
-            cells,
-        ),
-        _ => true,
-    }
 }
 
 /// Returns whether a store keeps one cell. Only stores from at most three bytes below the cell up

@@ -4,11 +4,13 @@ ghost use Rattle.value_domain.specs.State.{AreValues};
 ghost use Rattle.value_cells.specs.Keeping.{KeepsCellsAtPoint};
 
 use crate::cells::Cell;
-use crate::keeping::keeps_at;
+use crate::keeping::keeps_cells;
 use cfg_recover::KnownCodes;
 use elf_image::Image;
+use tc_isa::Shape;
 use tcd_plan::Plan;
 use value_domain::{Bounds, State};
+use vd_transfer::{address_by, reg};
 
 /// The number of the rule on cells: every store keeps their bounds.
 pub const CELLS_RULE: u8 = 16;
@@ -32,8 +34,15 @@ pub(crate) fn keeps_rule_16(rule: &CellsRule, codes: &mut KnownCodes, addr: u32,
         ↔ KeepsCellsAtPoint r.bounds.now r.image.now r.plan.now r.cells.now
         (record { addr = addr; state = s.now }) }
 {
-    match codes.locate(rule.image, rule.plan, addr) {
-        Some(found) => keeps_at(rule.bounds, rule.plan, found.shape, s, rule.cells),
-        None => true,
+    let Some(found) = codes.locate(rule.image, rule.plan, addr) else {
+        return true;
+    };
+    let shape = found.shape;
+    match shape {
+        Shape::Store { src, size, .. } => {
+            let at = address_by(rule.bounds, rule.plan, shape, s);
+            keeps_cells(&at, size, &reg(rule.plan, s, src), rule.cells)
+        }
+        _ => true,
     }
 }

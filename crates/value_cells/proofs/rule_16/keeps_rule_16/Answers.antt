@@ -1,7 +1,18 @@
+use Rattle.std.proofs.Common.{rules, sym, refl}
+use Rattle.value_cells.specs.Keeping.{KeepsCellsAt}
+use Rattle.value_cells.proofs.KeepingLaws.{at_store}
 use Rattle.value_cells.proofs.FaultLaws.{keeps_found}
 use Rattle.value_cells.proofs.rule_16.keeps_rule_16.Goals as goal
 
-pub returns-in-Some : goal.returns-in-Some
-returns-in-Some c =
+pub returns-in-Store : goal.returns-in-Store
+returns-in-Store c =
     let r = c.args.rule.now in
-    keeps_found r.bounds.now r.image.now r.plan.now r.cells.now (record { addr = c.args.addr; state = c.args.s.now }) _ _ c.keeps_at.result c.in-Some.ensures.code c.keeps_at.ensures
+    let i = c.in-Store in
+    keeps_found r.bounds.now r.image.now r.plan.now r.cells.now (record { addr = c.args.addr; state = c.args.s.now }) _ _ c.keeps_cells.result c.in-Some.ensures.code
+    (at_store r.bounds.now r.plan.now r.cells.now c.args.s.now c.in-Some.found.shape i.src i.base i.offset i.size i.after c.address_by-at.result c.reg.result c.keeps_cells.result (sym i.is) c.address_by-at.ensures.address c.reg.ensures c.keeps_cells.ensures)
+
+pub returns-in_default-shape : goal.returns-in_default-shape
+returns-in_default-shape c =
+    let r = c.args.rule.now in
+    let other : KeepsCellsAt r.bounds.now r.plan.now r.cells.now c.args.s.now c.in-Some.found.shape = search rules in
+    keeps_found r.bounds.now r.image.now r.plan.now r.cells.now (record { addr = c.args.addr; state = c.args.s.now }) _ _ _ c.in-Some.ensures.code (λ t. other, λ keeps. refl)
