@@ -1,34 +1,37 @@
--- Entries of functions that the last call shows as covered, the call that a point notes, and the
--- two halves of a call.
+-- Entries of functions that a last call shows as covered, the call that a point notes, and the two
+-- halves of a call.
 use Rattle.std.proofs.Common.{◌≡◌, ℕ, inl, inr, List, [], ◌∷◌, ◌++◌, map, false, Some, subst, arith, Contains}
 use Rattle.std.specs.Prelude.{Result, Ok, Err, OnOk}
 use Rattle.std.specs.List.{flat_map}
+use Rattle.std.specs.declared.vec.Vec.{Vec}
+use Rattle.std.specs.declared.alloc.Global.{Global}
 use Rattle.std.proofs.lemmas.List.Elements.{Contains-append_left, Contains-append_right, Contains-push_cases}
 use Rattle.elf_image.specs.Images.{ImageData}
 use Rattle.tcd_plan.specs.PlanData.{PlanData}
 use Rattle.value_domain.specs.declared.states.State.{State}
 use Rattle.value_domain.specs.Limits.{Limits}
 use Rattle.depth_cert.specs.declared.keys.Key.{Key}
-use Rattle.depth_cert.specs.Known.{state}
-use Rattle.depth_cert.specs.WellFormed.{IsWellFormedState}
-use Rattle.cfg_recover.specs.Assignments.{point}
+use Rattle.depth_cert.specs.Known.{Known, CoversKnown, joined_known, state}
+use Rattle.depth_cert.specs.WellFormed.{IsWellFormedKnown, IsWellFormedState}
+use Rattle.cfg_recover.specs.Assignments.{CoversAt, point}
 use Rattle.cfg_recover.specs.Duties.{Owed, enter, entered_and_back, owed, resume}
 use Rattle.cfg_recover.specs.Entries.{call_entry, call_key}
 use Rattle.cfg_recover.proofs.Members.{contains_first, contains_flat, contains_map}
 use Rattle.frame_places.specs.Marks.{is_queued, mark_for}
 use Rattle.frame_places.specs.declared.refusals.Refusal.{Refusal}
-use Rattle.depth_maker.specs.Covered.{AreCallsCovered, IsCallOf, IsWithinCall}
+use Rattle.depth_maker.specs.Covered.{AreCallsCovered, AreLastCallsCovered, IsCallOf}
 use Rattle.depth_maker.specs.TableLevels.{level}
 use Rattle.depth_maker.specs.MakerLaws.{AreMakerLaws}
 use Rattle.depth_maker.specs.SpotsAsPlaces.{spot_of}
-use Rattle.depth_maker.specs.TableInvariant.{IsFine}
-use Rattle.depth_maker.specs.TableView.{seen}
+use Rattle.depth_maker.specs.TableInvariant.{IsFine, Settled}
+use Rattle.depth_maker.specs.TableView.{TableView, seen}
 use Rattle.depth_maker.specs.VisitDuties.{DutiesJoined, VisitedPointOwes}
 use Rattle.depth_maker.specs.Visits.{IsVisited}
 use Rattle.depth_maker.specs.declared.last_call.LastCall.{LastCall}
 use Rattle.depth_maker.specs.declared.table.Table as made
-use Rattle.depth_maker.proofs.CoveredLaws.{call_new, call_settles}
+use Rattle.depth_maker.proofs.CoveredLaws.{both_covered, call_covers, call_settles}
 use Rattle.depth_maker.proofs.DutyGrowth.{contained_flat, contained_map}
+use Rattle.depth_maker.proofs.TableLaws.{derived_well_formed}
 use Rattle.depth_maker.proofs.PartLemmas.{duties_both, keeps_all}
 
 module _ (b : Limits) (image : ImageData) (plan : PlanData) (k : Key) (p : ℕ) (u : State) where
@@ -46,25 +49,40 @@ module _ (b : Limits) (image : ImageData) (plan : PlanData) (k : Key) (p : ℕ) 
   entry_well_formed well_formed = record { regs = well_formed.regs; values = well_formed.values; few = omega arith }
 
   -- nothing has to be joined
-  pub enters_already : (laws : AreMakerLaws b image plan) (s : made.Table) (h : LastCall) (targets : List ℕ) → IsFine b image plan s → IsWellFormedState b u → AreCallsCovered b (seen s).cells h → IsWithinCall h k targets (state (call_entry u))
+  pub enters_already : (laws : AreMakerLaws b image plan) (s : made.Table) (h : LastCall) (targets : List ℕ) → IsFine b image plan s → IsWellFormedState b u → AreCallsCovered b (seen s).cells h → IsCallOf h k targets h.entry → CoversKnown h.entry (state (call_entry u))
       → DutiesJoined b image plan s s k p u (map entered targets)
-  enters_already laws s h targets fine well_formed covered asks = record {
+  enters_already laws s h targets fine well_formed covered of below = record {
     fine = fine;
     keeps = keeps_all b image plan s;
-    settled = λ free d c. call_settles b image plan laws (seen s) k p u (call_entry u) h targets covered (entry_well_formed well_formed) asks d c;
+    settled = λ free d c. call_settles b image plan laws (seen s) k p u (call_entry u) h targets covered of (entry_well_formed well_formed) below d c;
   }
 
+  -- the entry of a call is covered at each of its functions if the point's duties are
+  pub entry_covered : (t : TableView) (targets : List ℕ) → ((d : Owed) → Contains (map entered targets) d → Settled t k p u d.duty) → (q : ℕ) → Contains targets q → CoversAt t.cells (point (call_key k q) q) (state (call_entry u))
+  entry_covered t targets settled q c = settled (entered q) (contains_map entered targets q c)
+
+  -- so is its join with the state of a last call of these functions
+  pub both_entries : (laws : AreMakerLaws b image plan) (s : made.Table) (h : LastCall) (targets : List ℕ) (e : Known) → IsFine b image plan s → IsWellFormedState b u → Contains (s.covered).calls.items h → IsCallOf h k targets h.entry
+      → joined_known b h.entry (state (call_entry u)) ≡ Some e
+      → IsWellFormedKnown b e × (((d : Owed) → Contains (map entered targets) d → Settled (seen s) k p u d.duty) → (q : ℕ) → Contains targets q → CoversAt (seen s).cells (point (call_key k q) q) e)
+  both_entries laws s h targets e fine well_formed last of is =
+      let covered = fine.covered.1 h last in (
+        laws.joined_well_formed h.entry (state (call_entry u)) e covered.well_formed (entry_well_formed well_formed) is,
+        λ settled q c. both_covered b image plan laws (seen s).cells (point (call_key k q) q) h.entry (state (call_entry u)) e (derived_well_formed b image plan laws (seen s).cells (fine.table).derived) covered.well_formed (entry_well_formed well_formed) is
+            (call_covers b (seen s).cells h k targets covered of q c) (entry_covered (seen s) targets settled q c),
+      )
+
   -- the call of the point is noted
-  pub call_noted : (s m : made.Table) (h : LastCall) (targets : List ℕ) → IsCallOf h k targets (state (call_entry u)) → IsWellFormedState b u
-      → is_queued (mark_for m.places (spot_of (point k p))) ≡ false → DutiesJoined b image plan s m k p u (map entered targets)
-      → DutiesJoined b image plan s (record m { covered = record { interrupts = (m.covered).interrupts; call = Some h } }) k p u (map entered targets)
+  pub call_noted : (s m : made.Table) (calls : Vec LastCall Global) (targets : List ℕ)
+      → is_queued (mark_for m.places (spot_of (point k p))) ≡ false → (((d : Owed) → Contains (map entered targets) d → Settled (seen m) k p u d.duty) → AreLastCallsCovered b (seen m).cells calls.items) → DutiesJoined b image plan s m k p u (map entered targets)
+      → DutiesJoined b image plan s (record m { covered = record { interrupts = (m.covered).interrupts; calls = calls } }) k p u (map entered targets)
   unfolding seen level
-  call_noted s m h targets from well_formed free paid = record {
+  call_noted s m calls targets free covered paid = record {
     fine = record {
       table = (paid.fine).table;
       listed = (paid.fine).listed;
       counted = (paid.fine).counted;
-      covered = ((paid.fine).covered.0, call_new b (seen m) k p u (call_entry u) h targets from (entry_well_formed well_formed) (λ d c. paid.settled free d c));
+      covered = ((paid.fine).covered.0, covered (paid.settled free));
       exits = (paid.fine).exits;
       readers = (paid.fine).readers;
       plain = (paid.fine).plain;

@@ -37,7 +37,7 @@ module _ (b : Limits) (image : ImageData) (plan : PlanData) (k : Key) (p : ℕ) 
 
   -- other contexts are noted
   contexts_noted : (s m : made.Table) (interrupts : LastInterrupts) → ContextsEntered b plan (seen m).cells interrupts
-      → DutiesJoined b image plan s m k p u (interrupts_of plan k u) → DutiesJoined b image plan s (record m { covered = record { interrupts = interrupts; call = (m.covered).call } }) k p u (interrupts_of plan k u)
+      → DutiesJoined b image plan s m k p u (interrupts_of plan k u) → DutiesJoined b image plan s (record m { covered = record { interrupts = interrupts; calls = (m.covered).calls } }) k p u (interrupts_of plan k u)
   unfolding seen level
   contexts_noted s m interrupts entered paid = record {
     fine = record {
@@ -69,12 +69,12 @@ module _ (b : Limits) (image : ImageData) (plan : PlanData) (k : Key) (p : ℕ) 
 
     -- the context of the point is noted
     pub joined_and_noted : (h : InterruptContext) → IsContextOf h k.is u
-        → DutiesJoined b image plan s (record m { covered = record { interrupts = record { last = Some h; before = (m.covered).interrupts.last }; call = (m.covered).call } }) k p u (interrupts_of plan k u)
+        → DutiesJoined b image plan s (record m { covered = record { interrupts = record { last = Some h; before = (m.covered).interrupts.last }; calls = (m.covered).calls } }) k p u (interrupts_of plan k u)
     joined_and_noted h from = contexts_noted s m (record { last = Some h; before = (m.covered).interrupts.last }) (point_entered h from, (paid.fine).covered.0.0) paid
 
     -- it is joined with the last one
     pub joined_with_last : (h : InterruptContext) → AreLimits b → IsAlike h k.is u → (m.covered).interrupts.last ≡ Some h
-        → DutiesJoined b image plan s (record m { covered = record { interrupts = record { last = Some (joined_context b h (a10_of u)); before = (m.covered).interrupts.before }; call = (m.covered).call } }) k p u (interrupts_of plan k u)
+        → DutiesJoined b image plan s (record m { covered = record { interrupts = record { last = Some (joined_context b h (a10_of u)); before = (m.covered).interrupts.before }; calls = (m.covered).calls } }) k p u (interrupts_of plan k u)
     joined_with_last h limits alike last =
         let g : InterruptContext = record { is = k.is; sp = a10_of u; ccpn = u.ccpn } in
         let cells = (seen m).cells in

@@ -13,7 +13,8 @@ use Rattle.cfg_recover.specs.Entries.{start_key, start_state}
 use Rattle.cfg_recover.specs.LocalFaults.{IsFaultless}
 use Rattle.cfg_recover.specs.Assignments.{Assignment, Place, point, exit, same_place, Derived, begins, Closed, first_place, AllFaultless}
 use Rattle.depth_cert.specs.Known.{IsKnownState, Known, state, leaving}
-use Rattle.depth_maker.specs.Covered.{EntriesCovered}
+use Rattle.depth_maker.specs.Covered.{AreLastCallsCovered, EntriesCovered}
+use Rattle.depth_maker.specs.InterruptHandlers.{ContextsEntered}
 use Rattle.depth_maker.specs.MakerLaws.{AreMakerLaws}
 use Rattle.depth_maker.proofs.TableLaws.{derived_well_formed, table_closed, table_marked, settled_again}
 use Rattle.depth_maker.proofs.PlaceKinds.{IsOfKind, derived_kinds}
@@ -223,9 +224,9 @@ duties_settled b image plan s t x paid opening k p u e at =
 -- ---- the start, and the end
 pub begun_table : (b : Limits) (image : ImageData) (plan : PlanData) (t : made.Table) (x : Spot) (v : Known) → x ≡ spot_of (first_place image plan) → v ≡ state (start_state plan)
     → ((q : Spot) → value_for t.places q ≡ (if spot_eq x q then Some v else None)) → ((q : Spot) → mark_for t.places q ≡ (if spot_eq x q then Some Queued else None)) → AllListed t.places (all_work t.work)
-    → t.points.items ≡ x ∷ [] → t.frames.items ≡ start_key image plan ∷ [] → t.covered ≡ record { interrupts = record { last = None; before = None }; call = None } → ((z : Spot) → get spot_eq t.readers z ≡ None) → IsFine b image plan t × NoVisitOpen t
+    → t.points.items ≡ x ∷ [] → t.frames.items ≡ start_key image plan ∷ [] → (t.covered).interrupts ≡ record { last = None; before = None } → (t.covered).calls.items ≡ [] → ((z : Spot) → get spot_eq t.readers z ≡ None) → IsFine b image plan t × NoVisitOpen t
 unfolding seen
-begun_table b image plan t x v place known cells marks listed points frames none unread =
+begun_table b image plan t x v place known cells marks listed points frames none uncalled unread =
     let side : (q : Spot) → ((spot_eq x q ≡ true) × (mark_for t.places q ≡ Some Queued)) ⊎ ((spot_eq x q ≡ false) × (mark_for t.places q ≡ None)) =
     λ q. sides (spot_eq x q) (Some Queued) None (mark_for t.places q) (marks q) in
     let never : (q : Spot) → is_idle (mark_for t.places q) ≡ true → ⊥ =
@@ -245,7 +246,10 @@ begun_table b image plan t x v place known cells marks listed points frames none
         listed = listed;
         counted = counted_start t.places t.points.items t.frames.items (start_key image plan) v
             (λ q. cells (spot_of q) ∙ ap (λ e. if e then Some v else None) (test q)) (points ∙ ap (λ (z : Spot). z ∷ []) place) frames;
-        covered = subst (EntriesCovered b plan (seen t).cells) (sym none) ((tt, tt), tt);
+        covered = (
+          subst (ContextsEntered b plan (seen t).cells) (sym none) (tt, tt),
+          subst (AreLastCallsCovered b (seen t).cells) (sym uncalled) (λ h c. absurd (omega (arith, c.1))),
+        );
         exits = λ k p q h. unread_by (Point k p) q h;
         readers = λ z q h. absurd (unread_by z q h);
         plain = λ q at.

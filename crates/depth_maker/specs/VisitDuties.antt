@@ -14,7 +14,9 @@ use Rattle.cfg_recover.specs.LocalFaults.{StandsFaultless, IsFaultless}
 use Rattle.cfg_recover.specs.Code.{IsCode}
 use Rattle.cfg_recover.specs.Entries.{call_key, call_entry, sys_key, sys_entry}
 use Rattle.cfg_recover.specs.Duties.{Duty, Owed, duties_of, entered_and_back, entries_of, interrupts_of, loaded_for_duties, misaligned_entry, misaligned_of, next_of, owed, successors_of, enter, resume}
-use Rattle.cfg_recover.specs.Assignments.{point}
+use Rattle.cfg_recover.specs.Assignments.{CoversAt, point}
+use Rattle.depth_cert.specs.Known.{Known}
+use Rattle.depth_cert.specs.WellFormed.{IsWellFormedKnown}
 use Rattle.depth_maker.specs.TableView.{seen}
 use Rattle.depth_maker.specs.TableInvariant.{Settled, IsFine}
 use Rattle.depth_maker.specs.SpotsAsPlaces.{spot_of}
@@ -113,6 +115,12 @@ enters_by v targets = map (λ t. owed 5 (enter (call_key v.key t) (call_entry v.
 -- to return after each of these functions
 abbrev pub resumes_by : Visit → ℕ → List ℕ → List Owed
 resumes_by v back targets = map (λ t. owed 4 (resume (call_key v.key t) back)) targets
+
+-- a state that is covered at the entry of each of these functions if the point's is
+abbrev pub IsCoveredEntry : Visit → made.Table → List ℕ → Known → Type 0
+IsCoveredEntry v t targets e =
+    IsWellFormedKnown (v.ground.now).bounds.now e
+    × (((d : Owed) → Contains (enters_by v targets) d → Settled (seen t) v.key v.addr v.state.now d.duty) → (q : ℕ) → Contains targets q → CoversAt (seen t).cells (point (call_key v.key q) q) e)
 
 -- all duties that the visited point owes are covered
 pub record AllSettledByVisit (b : Limits) (image : ImageData) (plan : PlanData) (t : made.Table) (k : Key) (p : ℕ) (u : State) : Type 0 where

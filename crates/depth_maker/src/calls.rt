@@ -1,23 +1,23 @@
 // Joins the entries of the functions that the visited point calls, and the states after them.
-ghost use Rattle.std.specs.Prelude.{◌≡◌, OnOk, IfErr, IsTrue, [], unwrap_or};
+ghost use Rattle.std.specs.Prelude.{◌≡◌, OnOk, IfErr, IfOk, IsTrue, [], unwrap_or};
 ghost use Rattle.tc_isa.specs.InBounds.{IsTarget};
 ghost use Rattle.vd_transfer.specs.Changes.{state_after};
 ghost use Rattle.cfg_recover.specs.Entries as entries;
 ghost use Rattle.cfg_recover.specs.LocalRules.{targets_of};
 ghost use Rattle.depth_maker.specs.Answers.{RefusalIsRight};
-ghost use Rattle.depth_maker.specs.VisitDuties.{enters_by, resumes_by, OwesAll, JoinedBy, StayJoined, calls_by};
+ghost use Rattle.depth_maker.specs.VisitDuties.{enters_by, resumes_by, OwesAll, JoinedBy, StayJoined, IsCoveredEntry, calls_by};
 ghost use Rattle.depth_maker.specs.Visits.{VisitedBy};
 
 use crate::inputs_and_limits::Visit;
 use crate::join_entries::{join_each_entry, join_entry_and_back, join_return_after_entry};
-use crate::last_call::LastCall;
+use crate::last_call::{LastCall, MOST_CALLS, find_call};
 use crate::table::Table;
 use arrayvec::ArrayVec;
 use cfg_recover::{direct_target, entered_key, targets};
 use depth_cert::CALL;
 use frame_places::{Refusal, has_queued_mark};
-use small_states::Incoming;
-use std::alloc::Global;
+use small_states::{Incoming, SmallKnown};
+use std::alloc::{AllocError, Global};
 use tc_isa::Target;
 use value_domain::State;
 use vd_transfer::Change;
@@ -129,18 +129,18 @@ fn join_call_returns(
     Ok(())
 }
 
-/// Returns true only if the visited point's call joins no new entries: the last stored call of
-/// several functions shows that the entries of these are covered.
+/// Returns true only if the visited point's call joins no new entries: the last call of these
+/// functions shows that their entries are covered.
 fn is_call_covered(table: &Table, v: &Visit, entry: &Change, targets: &ArrayVec<u32, 128>) -> bool
     requires visited { VisitedBy v.now table.now }
     requires entry { state_after v.now.state.now entry.now ≡ entries.call_entry v.now.state.now }
     ensures { IsTrue result
         → JoinedBy v.now table.now table.now (enters_by v.now targets.now.items) }
 {
-    match &table.covered.call {
+    match find_call(table.covered.calls.as_slice(), &v.key, targets) {
         Some(last) => {
             let incoming = Incoming::Changed(v.state, entry);
-            last.covers(v.ground.bounds, &v.key, targets, &incoming)
+            last.entry.covers(v.ground.bounds, &incoming)
         }
         None => false,
     }
@@ -168,11 +168,33 @@ fn store_last_call(
     if has_queued_mark(&table.places, table.near) {
         return Ok(());
     }
-    let Some((_, own)) = table.places.get_index(table.near) else {
-        unreachable!();
-    };
-    let incoming = Incoming::Changed(v.state, entry);
-    let entry = own.value.apply(alloc, &incoming)?;
-    table.covered.call = Some(LastCall::of(&v.key, targets, entry));
+    let entry = covered_entry(alloc, &*table, v, entry, targets)?;
+    let calls = &mut table.covered.calls;
+    calls.truncate(MOST_CALLS - 1);
+    calls.insert(0, LastCall::of(&v.key, targets, entry))?;
     Ok(())
+}
+
+/// Returns a state that is covered at each entry if the point's is. If the entries are covered for
+/// the last call of these functions too, they are for the join of both.
+fn covered_entry(
+    alloc: Global,
+    table: &Table,
+    v: &Visit,
+    entry: &Change,
+    targets: &ArrayVec<u32, 128>,
+) -> Result<SmallKnown, AllocError>
+    requires visited { VisitedBy v.now table.now }
+    requires entry { state_after v.now.state.now entry.now ≡ entries.call_entry v.now.state.now }
+    ensures { IfOk result (IsCoveredEntry v.now table.now targets.now.items) }
+{
+    let b = v.ground.bounds;
+    let incoming = Incoming::Changed(v.state, entry);
+    if let Some(last) = find_call(table.covered.calls.as_slice(), &v.key, targets) {
+        if let Some(joined) = last.entry.join(alloc, b, &incoming)? {
+            return Ok(joined);
+        }
+    }
+    let entry = SmallKnown::new(alloc, b, &incoming)?;
+    Ok(entry)
 }

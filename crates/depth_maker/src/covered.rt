@@ -7,6 +7,6 @@ use crate::last_call::LastCall;
 pub(crate) struct CoveredEntries {
     /// The last contexts of interrupts.
     pub(crate) interrupts: LastInterrupts,
-    /// The last call of several functions.
-    pub(crate) call: Option<LastCall>,
+    /// The last calls of several functions, the last one first.
+    pub(crate) calls: Vec<LastCall>,
 }

@@ -61,6 +61,7 @@ fn begin_fixpoint(alloc: Global, ground: &Ground) -> Result<Table, Refusal>
     let mut work = Work::new(alloc);
     let mut points = Vec::new(alloc);
     let mut frames = Vec::new(alloc);
+    let calls = Vec::new(alloc);
     points.push(place)?;
     frames.push(key)?;
     add_queued_place(&mut places, &mut work, place, cell)?;
@@ -75,7 +76,7 @@ fn begin_fixpoint(alloc: Global, ground: &Ground) -> Result<Table, Refusal>
                 last: None,
                 before: None,
             },
-            call: None,
+            calls,
         },
         near: 0,
     })

@@ -1,23 +1,23 @@
-// Fast path: the last call of several functions, whose entries are covered. With it `cert` takes
+// Fast path: the last calls of several functions, whose entries are covered. With it `cert` takes
 // a third of the instructions for 200 calls of 128 functions, if 15 sets of 128 words are known.
-ghost use Rattle.std.specs.Prelude.{IsTrue};
-ghost use Rattle.depth_cert.specs.WellFormed.{IsWellFormedKnown};
-ghost use Rattle.small_states.specs.Incoming.{incoming_known};
-ghost use Rattle.depth_maker.specs.Covered.{IsCallOf, IsWithinCall};
+ghost use Rattle.std.specs.Prelude.{Contains, IfSome};
+ghost use Rattle.depth_maker.specs.Covered.{IsCallOf};
 
 use arrayvec::ArrayVec;
 use depth_cert::Key;
-use small_states::{Incoming, SmallKnown};
-use value_domain::Bounds;
+use small_states::SmallKnown;
 
-/// The last call of several functions of which all entries are covered.
+/// The greatest number of last calls: as many as address registers.
+pub(crate) const MOST_CALLS: usize = 16;
+
+/// A call of several functions of which all entries are covered.
 #[derive(Drop)]
 pub(crate) struct LastCall {
     /// The interrupt priority of the functions' frames.
     pub(crate) prio: u8,
     /// The functions run on the interrupt stack.
     pub(crate) is: bool,
-    /// The state at the entries.
+    /// A state that is covered at each entry.
     pub(crate) entry: SmallKnown,
     /// The addresses of the functions.
     pub(crate) targets: ArrayVec<u32, 128>,
@@ -37,24 +37,24 @@ impl LastCall {
             targets: copy,
         }
     }
+}
 
-    /// Returns true only if a call of these functions, from a frame of this key, asks for no more
-    /// at their entries.
-    pub(crate) fn covers(
-        &self,
-        b: &Bounds,
-        key: &Key,
-        targets: &ArrayVec<u32, 128>,
-        incoming: &Incoming,
-    ) -> bool
-        requires own { IsWellFormedKnown b.now self.now.entry }
-        requires incoming { IsWellFormedKnown b.now (incoming_known incoming.now) }
-        ensures { IsTrue result
-            → IsWithinCall self.now key.now targets.now.items (incoming_known incoming.now) }
-    {
-        self.targets.as_slice() == targets.as_slice()
-            && self.prio == key.prio
-            && self.is == key.is
-            && self.entry.covers(b, incoming)
+/// Returns the last of these calls that is of these functions, from a frame of this key.
+pub(crate) fn find_call<'a>(
+    calls: &'a [LastCall],
+    key: &Key,
+    targets: &ArrayVec<u32, 128>,
+) -> Option<&'a LastCall>
+    ensures { IfSome result (λ h. Contains calls.now h.now
+        × IsCallOf h.now key.now targets.now.items h.now.entry) }
+{
+    for call in calls {
+        if call.targets.as_slice() == targets.as_slice()
+            && call.prio == key.prio
+            && call.is == key.is
+        {
+            return Some(call);
+        }
     }
+    None
 }

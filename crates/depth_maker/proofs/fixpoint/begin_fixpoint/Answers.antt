@@ -43,5 +43,5 @@ returns-clause-ok c =
     (λ q. puts.marks q ∙ ap (λ (o : Option Mark). (if spot_eq x q then Some Queued else o)) (ap (option_map (λ (m : Marked Known). m.mark)) (get_none c.in_ok-places.places q c.in_ok-places.ensures.empty)))
     c.in_ok-add_queued_place.ensures.work
     (c.in_ok-push.ensures.items ∙ ap (λ (w : List Spot). w ++ x ∷ []) c.new-points.ensures.items)
-    (c.in_ok-push-2.ensures.items ∙ ap (λ (w : List Key). w ++ k ∷ []) c.new-frames.ensures.items ∙ ap (λ (z : Key). z ∷ []) c.start_key-key.ensures) refl
+    (c.in_ok-push-2.ensures.items ∙ ap (λ (w : List Key). w ++ k ∷ []) c.new-frames.ensures.items ∙ ap (λ (z : Key). z ∷ []) c.start_key-key.ensures) refl c.new-calls.ensures.items
     (λ z. c.fixpoint_start_readers.ensures z)

@@ -21,19 +21,19 @@ pub returns-then-is_alike : goal.returns-then-is_alike
 returns-then-is_alike c before paid =
     let v = c.args.v.now in
     let t = c.args.table.now in
-    subst (λ (h : InterruptContext). JoinedBy v before (record t { covered = record { interrupts = record { last = Some h; before = (t.covered).interrupts.before }; call = (t.covered).call } }) (interrupts_by v)) (sym c.join_stack.ensures)
+    subst (λ (h : InterruptContext). JoinedBy v before (record t { covered = record { interrupts = record { last = Some h; before = (t.covered).interrupts.before }; calls = (t.covered).calls } }) (interrupts_by v)) (sym c.join_stack.ensures)
     (joined_with_last _ _ _ v.key v.addr v.state.now (lawful _ _ _ v.ground.now.sound) before t c.requires.well_formed c.requires.on c.requires.owes (sym (c.has_queued_mark.ensures _ c.requires.near) ∙ c.if-has_queued_mark.false) paid c.in-Some.last v.ground.now.sound.limits (c.is_alike.ensures c.if-is_alike.true) c.in-Some.is)
 
 pub returns : goal.returns
 returns c before paid =
     let v = c.args.v.now in
     let t = c.args.table.now in
-    let with_last : Option InterruptContext → made.Table = λ o. record t { covered = record { interrupts = record { last = o; before = (t.covered).interrupts.before }; call = (t.covered).call } } in
+    let with_last : Option InterruptContext → made.Table = λ o. record t { covered = record { interrupts = record { last = o; before = (t.covered).interrupts.before }; calls = (t.covered).calls } } in
     let same : c.match-table.table ≡ t = elim c.match-table.branch [
       | in-Some+else-is_alike w ↦ w.table-is ∙ ap with_last (sym w.in-Some.is)
       | in_default w ↦ w.table-is
     ] in
     let taken = c.take-before.ensures.value ∙ ap (λ (x : made.Table). (x.covered).interrupts.last) same in
-    subst (λ (x : made.Table). JoinedBy v before (record x { covered = record { interrupts = record { last = Some c.at-context.result; before = c.take-before.result }; call = (x.covered).call } }) (interrupts_by v)) (sym same)
-    (subst (λ (o : Option InterruptContext). JoinedBy v before (record t { covered = record { interrupts = record { last = Some c.at-context.result; before = o }; call = (t.covered).call } }) (interrupts_by v)) (sym taken)
+    subst (λ (x : made.Table). JoinedBy v before (record x { covered = record { interrupts = record { last = Some c.at-context.result; before = c.take-before.result }; calls = (x.covered).calls } }) (interrupts_by v)) (sym same)
+    (subst (λ (o : Option InterruptContext). JoinedBy v before (record t { covered = record { interrupts = record { last = Some c.at-context.result; before = o }; calls = (t.covered).calls } }) (interrupts_by v)) (sym taken)
     (joined_and_noted _ _ _ v.key v.addr v.state.now (lawful _ _ _ v.ground.now.sound) before t c.requires.well_formed c.requires.on c.requires.owes (sym (c.has_queued_mark.ensures _ c.requires.near) ∙ c.if-has_queued_mark.false) paid c.at-context.result c.at-context.ensures))
