@@ -5,7 +5,7 @@ use Rattle.tcd_plan.specs.PlanData.{PlanData, IsPlan}
 use Rattle.tc_machine.specs.Safe.{Safe}
 use Rattle.depth_cert.specs.Certs.{CertData}
 use Rattle.cfg_recover.specs.RulesHoldOrFail.{Accepts, certified_need}
-use Rattle.depth_check.proofs.FirstLaws.{fails_refutes}
+use Rattle.cfg_recover.proofs.FaultLaws.{fails_refutes}
 use Rattle.tc_boot.specs.Sequence.{boot_events}
 use Rattle.tc_boot.specs.Judging.{HasBoot}
 use Rattle.tc_boot.proofs.BootWhole.{safe_boots}

@@ -5,7 +5,7 @@ use Rattle.tcd_plan.specs.PlanData.{PlanData, IsPlan}
 use Rattle.tc_machine.specs.Safe.{Safe}
 use Rattle.depth_cert.specs.Certs.{CertData, IsCert}
 use Rattle.cfg_recover.specs.RulesHoldOrFail.{Accepts, certified_need}
-use Rattle.depth_check.proofs.FirstLaws.{fails_refutes}
+use Rattle.cfg_recover.proofs.FaultLaws.{fails_refutes}
 use Rattle.depth_check.proofs.Held as held
 use Rattle.value_cells.specs.declared.cells.Cell.{Cell}
 use Rattle.value_cells.specs.Cells.{with_cells, AreCells}

@@ -7,7 +7,7 @@ use Rattle.tc_machine.specs.Safe.{Safe}
 use Rattle.tc_machine.specs.declared.state.Machine.{Machine}
 use Rattle.depth_cert.specs.Certs.{CertData}
 use Rattle.cfg_recover.specs.RulesHoldOrFail.{Accepts, certified_need}
-use Rattle.depth_check.proofs.FirstLaws.{fails_refutes}
+use Rattle.cfg_recover.proofs.FaultLaws.{fails_refutes}
 use Rattle.tc_script.specs.declared.driving.Peak.{Peak}
 use Rattle.tc_script.specs.DrivenRuns.{driven_peak}
 use Rattle.tc_script.specs.ScriptRuns.{script_events, IsScriptRun}

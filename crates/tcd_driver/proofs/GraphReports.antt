@@ -4,7 +4,7 @@ use Rattle.elf_image.specs.Images.{ImageData}
 use Rattle.tcd_plan.specs.PlanData.{PlanData, IsPlan}
 use Rattle.depth_cert.specs.Certs.{CertData}
 use Rattle.cfg_recover.specs.RulesHoldOrFail.{Accepts}
-use Rattle.depth_check.proofs.FirstLaws.{fails_refutes}
+use Rattle.cfg_recover.proofs.FaultLaws.{fails_refutes}
 use Rattle.depth_check.proofs.Held.{edges_are_owed}
 use Rattle.tcd_report.specs.Graphs.{IsGraph}
 use Rattle.tcd_report.proofs.GraphLemmas.EdgeProofs.{edges_stand}

@@ -12,7 +12,7 @@ use Rattle.tc_machine.specs.Safe.{Safe}
 use Rattle.depth_cert.specs.Certs.{CertData, IsCert}
 use Rattle.depth_cert.specs.declared.keys.Key.{Key}
 use Rattle.cfg_recover.specs.RulesHoldOrFail.{Accepts, IsFirstFault, certified_need}
-use Rattle.depth_check.proofs.FirstLaws.{fails_refutes}
+use Rattle.cfg_recover.proofs.FaultLaws.{fails_refutes}
 use Rattle.depth_check.proofs.Held as held
 use Rattle.task_chains.specs.Tasks.{TasksData, AreTasks, count}
 use Rattle.task_chains.specs.SwitchRoutine.{HasRoutine}
