@@ -34,7 +34,7 @@ use Rattle.depth_maker.specs.TableLevels.{level_of_place}
 use Rattle.depth_maker.proofs.CoveredLaws.{covered_stay}
 use Rattle.frame_places.proofs.SpotLemmas.{spot_tells}
 use Rattle.depth_maker.proofs.SpotLemmas.{forth, agrees}
-use Rattle.frame_places.specs.Marks.{AllListed, is_idle, is_queued, mark_for, value_for, AreKnown, IsAmongReaders, Requeues}
+use Rattle.frame_places.specs.Marks.{AllListed, is_idle, is_queued, mark_for, value_for, AreKnown, ForgetsReaders, IsAmongReaders, Requeues}
 use Rattle.depth_maker.specs.AssignmentCounts.{AreFew, IsCountedIn}
 use Rattle.depth_maker.specs.Answers.{Answered}
 use Rattle.frame_places.proofs.MarkLemmas.{sides}
@@ -53,7 +53,7 @@ cells_well_formed b image plan laws t fine q v at =
 -- v was joined at y alone, and then the readers of y were queued
 module _ (b : Limits) (image : ImageData) (plan : PlanData) (laws : AreMakerLaws b image plan) (s m t : made.Table) (y : Spot) (v : Known)
     (asks : Asks b image plan (seen s).cells (place_of_spot y) v) (rose : JoinedAlone b s m y v) (tells : Requeues m.places t.places (IsAmongReaders (get spot_eq s.readers y)))
-    (listed : AllListed t.places (all_work t.work)) (near : t.near ≡ m.near) (readers : t.readers ≡ m.readers) (covered : t.covered ≡ m.covered) (points : t.points.items ≡ m.points.items)
+    (listed : AllListed t.places (all_work t.work)) (near : t.near ≡ m.near) (readers : ForgetsReaders m.readers t.readers y) (covered : t.covered ≡ m.covered) (points : t.points.items ≡ m.points.items)
     (frames : t.frames.items ≡ m.frames.items) (fine : IsFine b image plan s) (small : known_priority v < 256) where
   abbrev u : Known
   u = rose.known
@@ -62,8 +62,12 @@ module _ (b : Limits) (image : ImageData) (plan : PlanData) (laws : AreMakerLaws
   after : (q : Spot) → value_for t.places q ≡ (if spot_eq y q then Some u else value_for s.places q)
   after q = tells.values q ∙ (rose.puts).values q
 
-  readers_stay : t.readers ≡ s.readers
-  readers_stay = readers ∙ rose.readers
+  readers_stay : (z x : Spot) → IsAmongReaders (get spot_eq s.readers z) x → (IsAmongReaders (get spot_eq s.readers y) x → ⊥) → IsAmongReaders (get spot_eq t.readers z) x
+  readers_stay z x h none =
+      readers.kept z x (subst (λ r. IsAmongReaders (get spot_eq r z) x) (sym rose.readers) h) (λ i. none (subst (λ r. IsAmongReaders (get spot_eq r y) x) rose.readers i))
+
+  read_before : (z x : Spot) → IsAmongReaders (get spot_eq t.readers z) x → IsAmongReaders (get spot_eq s.readers z) x
+  read_before z x h = subst (λ r. IsAmongReaders (get spot_eq r z) x) rose.readers (readers.alone z x h)
 
   marks_by : (q : Spot) → ((mark_for t.places q ≡ Some Queued) × ((spot_eq y q ≡ true) ⊎ IsAmongReaders (get spot_eq s.readers y) q))
       ⊎ ((mark_for t.places q ≡ mark_for s.places q) × (spot_eq y q ≡ false) × (IsAmongReaders (get spot_eq s.readers y) q → ⊥))
@@ -98,7 +102,7 @@ module _ (b : Limits) (image : ImageData) (plan : PlanData) (laws : AreMakerLaws
           | inl l ↦ inl (ap is_queued l.0, ap is_idle l.0)
           | inr r ↦ inr (ap is_idle r.0, ap is_queued r.0, sym (test q) ∙ r.1, (λ h. r.2 (subst (λ (z : Spot). IsAmongReaders (get spot_eq s.readers z) (spot_of q)) (forth y) h)))
         ];
-    reads = λ z x h. subst (λ m. IsAmongReaders (get spot_eq m (spot_of z)) (spot_of x)) (sym readers_stay) h;
+    reads = λ z x h none. readers_stay (spot_of z) (spot_of x) h (λ i. none (subst (λ (q : Spot). IsAmongReaders (get spot_eq s.readers q) (spot_of x)) (sym (forth y)) i));
   }
 
   not_same : (q : Spot) → spot_eq y q ≡ false → value_for t.places q ≡ value_for s.places q
@@ -139,7 +143,11 @@ module _ (b : Limits) (image : ImageData) (plan : PlanData) (laws : AreMakerLaws
           | inl l ↦ (let no : true ≡ false = sym (ap is_queued l.0) ∙ free in cc)
           | inr r ↦ (r.0, not_same x r.1)
         ];
-    readers = λ z x h. subst (λ m. IsAmongReaders (get spot_eq m z) x) (sym readers_stay) h;
+    readers = λ z x h free.
+        elim (marks_by x) [
+          | inl l ↦ (let no : true ≡ false = sym (ap is_queued l.0) ∙ free in cc)
+          | inr r ↦ readers_stay z x h r.2
+        ];
     read = λ z x h free.
         elim (marks_by x) [
           | inl l ↦ (let no : true ≡ false = sym (ap is_queued l.0) ∙ free in cc)
@@ -164,8 +172,8 @@ module _ (b : Limits) (image : ImageData) (plan : PlanData) (laws : AreMakerLaws
       listed = listed;
       counted = the_counted;
       covered = the_covered;
-      exits = λ k p q h. fine.exits k p q (subst (λ m. IsAmongReaders (get spot_eq m (Point k p)) q) readers_stay h);
-      readers = λ z q h. known_stays q (fine.readers z q (subst (λ (r : IndexMap Spot (Vec Spot Global) _). IsAmongReaders (get spot_eq r z) q) readers_stay h));
+      exits = λ k p q h. fine.exits k p q (read_before (Point k p) q h);
+      readers = λ z q h. known_stays q (fine.readers z q (read_before z q h));
       plain = λ q at.
           elim (marks_by q) [
             | inl l ↦ (let no : Some Queued ≡ Some Plain = sym l.0 ∙ at in cc)
@@ -194,7 +202,7 @@ unfolding seen
 stays_joined b image plan s y v fine covers = record {
   fine = fine;
   covers = covers;
-  keeps = record { each = λ x free. (refl, refl); readers = λ z x h. h; read = λ z x h free. refl; settled = λ k p w d free ps pd h. h; rises = inr (refl, refl); near = refl; numbers = λ n q h. h };
+  keeps = record { each = λ x free. (refl, refl); readers = λ z x h free. h; read = λ z x h free. refl; settled = λ k p w d free ps pd h. h; rises = inr (refl, refl); near = refl; numbers = λ n q h. h };
 }
 
 -- a join that fails is a fault

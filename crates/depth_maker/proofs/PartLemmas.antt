@@ -56,15 +56,15 @@ use Rattle.frame_places.specs.Marks.{is_idle, is_queued, IsAmongReaders, Registe
 use Rattle.frame_places.specs.Work.{all_work}
 
 pub keeps_all : (b : Limits) (image : ImageData) (plan : PlanData) (s : made.Table) → JoinKeeps b image plan s s
-keeps_all b image plan s = record { each = λ x free. (refl, refl); readers = λ z x h. h; read = λ z x h free. refl; settled = λ k p u d free pu pd h. h; rises = inr (refl, refl); near = refl; numbers = λ n q h. h }
+keeps_all b image plan s = record { each = λ x free. (refl, refl); readers = λ z x h free. h; read = λ z x h free. refl; settled = λ k p u d free pu pd h. h; rises = inr (refl, refl); near = refl; numbers = λ n q h. h }
 
 pub Keeps-trans : (b : Limits) (image : ImageData) (plan : PlanData) (s m t : made.Table) → JoinKeeps b image plan s m → JoinKeeps b image plan m t → JoinKeeps b image plan s t
 Keeps-trans b image plan s m t k l =
     let free : (x : Spot) → is_queued (mark_for t.places x) ≡ false → is_queued (mark_for m.places x) ≡ false = λ x f. sym (ap is_queued (l.each x f).0) ∙ f in
     record {
       each = λ x f. ((l.each x f).0 ∙ (k.each x (free x f)).0, (l.each x f).1 ∙ (k.each x (free x f)).1);
-      readers = λ z x h. l.readers z x (k.readers z x h);
-      read = λ z x h f. l.read z x (k.readers z x h) f ∙ k.read z x h (free x f);
+      readers = λ z x h f. l.readers z x (k.readers z x h (free x f)) f;
+      read = λ z x h f. l.read z x (k.readers z x h (free x f)) f ∙ k.read z x h (free x f);
       settled = λ j p u d f pu pd h. l.settled j p u d f pu pd (k.settled j p u d (free (spot_of (point j p)) f) pu pd h);
       rises = rises_then s m t k.rises l.rises;
       near = l.near ∙ k.near;
@@ -139,7 +139,7 @@ module _ (b : Limits) (image : ImageData) (plan : PlanData) (k : Key) (p : ℕ) 
           (λ y at.
               let old : leaving x ≡ y = (let f : Some (leaving x) ≡ Some y = sym there ∙ sym ((j.keeps).read (spot_of (exit l)) (spot_of (point k p)) told free) ∙ at in cc) in
               subst (IsResumed (seen t) k u l q) old j.covers),
-          (j.keeps).readers (spot_of (exit l)) (spot_of (point k p)) told,
+          (j.keeps).readers (spot_of (exit l)) (spot_of (point k p)) told free,
         );
   }
 
@@ -360,7 +360,7 @@ registered_fine b image plan laws s t places near work points frames covered rea
       },
       record {
         each = λ x free. (marked x, same x);
-        readers = readers;
+        readers = λ z x h free. readers z x h;
         read = λ z x h free. same z;
         settled = λ k p u d free pu pd h. settled_again b image plan laws (seen s) (seen t) (λ q. same (spot_of q)) (λ z q i. readers (spot_of z) (spot_of q) i) k p u d h;
         rises = inr (same_level s t same points frames, work);

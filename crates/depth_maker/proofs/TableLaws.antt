@@ -106,13 +106,14 @@ module _ (b : Limits) (image : ImageData) (plan : PlanData) (laws : AreMakerLaws
     settled_stays k p s (enter l v) free ps pd h = covers_stays t.cells u.cells y well_formed j (point l l.entry) (state v) pd h
     settled_stays k p s (leave x) free ps pd h = covers_stays t.cells u.cells y well_formed j (exit k) (leaving x) pd h
     settled_stays k p s (resume l q) free ps pd h =
-        let told : (same_place (exit l) y ≡ true) → ⊥ =
-        λ eq. elim (m.each (point k p)) [
+        let none : t.reads y (point k p) → ⊥ =
+        λ reads. elim (m.each (point k p)) [
           | inl n ↦ (let r : true ≡ false = sym n.0 ∙ free in cc)
-          | inr n ↦ n.3 (subst (λ (z : Place). t.reads z (point k p)) (place_tells (exit l) y eq) h.1)
+          | inr n ↦ n.3 reads
         ] in
+        let told : (same_place (exit l) y ≡ true) → ⊥ = λ eq. none (subst (λ (z : Place). t.reads z (point k p)) (place_tells (exit l) y eq) h.1) in
         let apart : same_place (exit l) y ≡ false = elim (same_or_not (same_place (exit l) y)) [ inl n ↦ absurd (told n) | inr n ↦ n ] in
-        ((λ x at. let old : t.cells (exit l) ≡ Some x = sym (joined_other t.cells u.cells y well_formed j (exit l) apart) ∙ at in back x old (h.0 x old)), m.reads (exit l) (point k p) h.1)
+        ((λ x at. let old : t.cells (exit l) ≡ Some x = sym (joined_other t.cells u.cells y well_formed j (exit l) apart) ∙ at in back x old (h.0 x old)), m.reads (exit l) (point k p) h.1 none)
       where
         back : (x : Known) → t.cells (exit l) ≡ Some x → IsResumed t k s l q x → IsResumed u k s l q x
         back (state v) at h = tt

@@ -46,7 +46,7 @@ pub record JoinKeeps (b : Limits) (image : ImageData) (plan : PlanData) (s t : m
   pub each :
       (x : Spot) → is_queued (mark_for t.places x) ≡ false
       → (mark_for t.places x ≡ mark_for s.places x) × (value_for t.places x ≡ value_for s.places x)
-  pub readers : (z x : Spot) → IsAmongReaders (get spot_eq s.readers z) x → IsAmongReaders (get spot_eq t.readers z) x
+  pub readers : (z x : Spot) → IsAmongReaders (get spot_eq s.readers z) x → is_queued (mark_for t.places x) ≡ false → IsAmongReaders (get spot_eq t.readers z) x
   pub read :
       (z x : Spot) → IsAmongReaders (get spot_eq s.readers z) x → is_queued (mark_for t.places x) ≡ false → value_for t.places z ≡ value_for s.places z
   pub settled :
@@ -96,9 +96,9 @@ abbrev pub JoinedOn : Ground → made.Table → made.Table → Spot → Known �
 JoinedOn g s t y v = Joined g.bounds.now g.image.now g.plan.now s t y v
 
 -- what a join at y does to the maker's marks: y and its readers are queued, each other place is
--- queued or keeps its marks, and readers stay readers
+-- queued or keeps its marks, and all but the readers of y stay readers
 pub record Marks (a b : TableView) (y : Place) : Type 0 where
   pub each :
       (q : Place) → ((b.queued q ≡ true) × (b.idle q ≡ false))
       ⊎ ((b.idle q ≡ a.idle q) × (b.queued q ≡ a.queued q) × (same_place q y ≡ false) × (a.reads y q → ⊥))
-  pub reads : (z x : Place) → a.reads z x → b.reads z x
+  pub reads : (z x : Place) → a.reads z x → (a.reads y x → ⊥) → b.reads z x

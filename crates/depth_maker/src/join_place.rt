@@ -5,7 +5,7 @@ ghost use Rattle.cfg_recover.specs.Assignments.{point};
 ghost use Rattle.depth_cert.specs.Known.{state};
 ghost use Rattle.small_states.specs.Incoming.{incoming_known, sender_state};
 ghost use Rattle.frame_places.specs.declared.places.Spot.TheVariants.{Point};
-ghost use Rattle.frame_places.specs.Marks.{AllListed, AreKnown, IsAmongReaders, Requeues};
+ghost use Rattle.frame_places.specs.Marks.{AllListed, AreKnown, ForgetsReaders, IsAmongReaders, Requeues};
 ghost use Rattle.frame_places.specs.Work.{all_work};
 ghost use Rattle.frame_places.specs.Numbers.{PlaceHasNumber};
 ghost use Rattle.frame_places.specs.Spots.{spot_eq};
@@ -73,7 +73,7 @@ pub(crate) fn join_at_place(
     let known = table.places.len();
     if join_place_alone(alloc, table, v, y, incoming)? {
         let again = table.places.len() == known;
-        requeue_readers_after_join(&mut table.places, &mut table.work, &table.readers, y, again)?;
+        requeue_readers_after_join(&mut table.places, &mut table.work, &mut table.readers, y, again)?;
     }
     Ok(())
 }
@@ -111,20 +111,22 @@ fn join_place_alone(
     }
 }
 
-/// Queues all readers of `y`. They wait for the next round, or are next. A point has no readers.
+/// Queues all readers of `y`, and forgets that they read it. They wait for the next round, or are
+/// next. A point has no readers.
 fn requeue_readers_after_join(
     places: &mut IndexMap<Spot, Marked<SmallKnown>>,
     work: &mut Work,
-    readers: &IndexMap<Spot, Vec<Spot>>,
+    readers: &mut IndexMap<Spot, Vec<Spot>>,
     y: &Spot,
     waits: bool,
 ) -> Result<(), AllocError>
     requires listed { AllListed places.old (all_work work.old) }
-    requires exits { TableReadsExits readers.now }
-    requires known { AreKnown places.old (IsAmongReaders (get spot_eq readers.now y.now)) }
+    requires exits { TableReadsExits readers.old }
+    requires known { AreKnown places.old (IsAmongReaders (get spot_eq readers.old y.now)) }
     ensures marks { OnOk result
-        (Requeues places.old places.new (IsAmongReaders (get spot_eq readers.now y.now))) }
+        (Requeues places.old places.new (IsAmongReaders (get spot_eq readers.old y.now))) }
     ensures work { OnOk result (AllListed places.new (all_work work.new)) }
+    ensures readers { OnOk result (ForgetsReaders readers.old readers.new y.now) }
 {
     if let Spot::Point(_, _) = *y {
         return Ok(());

@@ -1,4 +1,4 @@
--- Readers: one more.
+-- Readers: one more, or none.
 use Rattle.std.proofs.Common.{◌≡◌, ◌⊎◌, inl, inr, List, [], ◌∷◌, ◌++◌, Option, Some, refl, sym, ap, subst, ◌∙◌, Contains}
 use Rattle.std.specs.Prelude.{if◌then◌else◌, ◌↔◌}
 use Rattle.std.proofs.lemmas.List.Elements.{Contains-append_left, Contains-push, Contains-push_cases}
@@ -10,7 +10,7 @@ use Rattle.std.specs.declared.alloc.Global.{Global}
 use Rattle.frame_places.specs.declared.places.Spot.{Spot}
 use Rattle.frame_places.specs.Spots.{spot_eq}
 use Rattle.frame_places.proofs.SpotLemmas.{spot_tells, spot_refl}
-use Rattle.frame_places.specs.Marks.{IsAmongReaders, RegistersReader}
+use Rattle.frame_places.specs.Marks.{ForgetsReaders, IsAmongReaders, RegistersReader}
 use Rattle.frame_places.proofs.MarkLemmas.{sides}
 
 -- the readers of z are those before and x; others stay
@@ -44,6 +44,10 @@ registered_by old new z x list more at adds is =
       | inl b ↦ inl (subst (λ (o : Option (Vec Spot Global)). IsAmongReaders o q) (sym at) b)
       | inr e ↦ inr e
     ])
+
+-- no place read y
+pub none_forgotten : {S : Type 0} (readers : IndexMap Spot (Vec Spot Global) S) (y : Spot) → ForgetsReaders readers readers y
+none_forgotten readers y = record { kept = λ p q h free. h; alone = λ p q h. h }
 
 -- ---- duplicates
 -- with x appended, or there already, these are all places up to it

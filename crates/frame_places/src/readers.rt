@@ -1,7 +1,7 @@
 // Which points read which exits.
 ghost use Rattle.std.specs.Prelude.{◌↔◌, ◌⊎◌, ◌≡◌, Contains, OnOk, None, Some, IfOk};
 ghost use Rattle.frame_places.specs.declared.places.Spot as spots;
-ghost use Rattle.frame_places.specs.Marks.{RegistersReader, AllListed, AreKnown, IsAmongReaders, Requeues};
+ghost use Rattle.frame_places.specs.Marks.{RegistersReader, ForgetsReaders, AllListed, AreKnown, IsAmongReaders, Requeues};
 ghost use Rattle.indexmap.specs.IndexMap.{get};
 ghost use Rattle.frame_places.specs.declared.places.Spot.{Spot};
 ghost use Rattle.frame_places.specs.Spots.{spot_eq};
@@ -50,24 +50,27 @@ pub fn register_reader(
     Ok(())
 }
 
-/// Queues all places that read `y`. They are known.
+/// Queues all places that read `y`, which are known. They read it no more until they say so again.
 pub fn requeue_readers_of<V>(
     places: &mut IndexMap<Spot, Marked<V>>,
     work: &mut Work,
-    readers: &IndexMap<Spot, Vec<Spot>>,
+    readers: &mut IndexMap<Spot, Vec<Spot>>,
     y: Spot,
     waits: bool,
 ) -> Result<(), AllocError>
     requires listed { AllListed places.old (all_work work.old) }
-    requires known { AreKnown places.old (IsAmongReaders (get spot_eq readers.now y)) }
+    requires known { AreKnown places.old (IsAmongReaders (get spot_eq readers.old y)) }
     ensures marks { OnOk result
-        (Requeues places.old places.new (IsAmongReaders (get spot_eq readers.now y))) }
+        (Requeues places.old places.new (IsAmongReaders (get spot_eq readers.old y))) }
     ensures work { OnOk result (AllListed places.new (all_work work.new)) }
+    ensures readers { OnOk result (ForgetsReaders readers.old readers.new y) }
 {
-    match readers.get(&y) {
-        None => Ok(()),
-        Some(readers) => requeue_all(places, work, readers.as_slice(), waits),
-    }
+    let Some(list) = readers.get_mut(&y) else {
+        return Ok(());
+    };
+    requeue_all(places, work, list.as_slice(), waits)?;
+    list.clear();
+    Ok(())
 }
 
 /// Returns a list of readers without the places that equal the one before them.

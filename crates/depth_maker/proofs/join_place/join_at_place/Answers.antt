@@ -26,7 +26,7 @@ returns-in_ok-requeue_readers_after_join-clause-ok c =
     let s = c.args.table.now in
     let m = c.join_place_alone.new.table in
     the_joined _ _ _ (lawful _ _ _ c.args.v.now.ground.now.sound) s m _ c.args.y.now (incoming_known c.args.incoming.now) c.requires.incoming h
-    (subst (λ r. Requeues m.places c.requeue_readers_after_join.new.places (IsAmongReaders (get spot_eq r c.args.y.now))) h.readers c.in_ok-requeue_readers_after_join.ensures.marks) c.in_ok-requeue_readers_after_join.ensures.work refl refl refl refl refl c.requires.fine
+    (subst (λ r. Requeues m.places c.requeue_readers_after_join.new.places (IsAmongReaders (get spot_eq r c.args.y.now))) h.readers c.in_ok-requeue_readers_after_join.ensures.marks) c.in_ok-requeue_readers_after_join.ensures.work refl c.in_ok-requeue_readers_after_join.ensures.readers refl refl refl c.requires.fine
     (let e = c.incoming_priority-byte.ensures in let t = c.incoming_priority-byte.type_inv in omega (arith, e, t))
 
 pub returns-else-branch-clause-ok : goal.returns-else-branch-clause-ok
