@@ -1,9 +1,8 @@
 -- The work list: what is put on it and taken off it, in any part.
 use Rattle.std.proofs.Common.{◌≡◌, ◌⊎◌, inl, inr, arith, ℕ, Bool, true, false, List, [], ◌∷◌, ◌++◌, Option, None, Some, length, refl, sym, ap, ◌∙◌, subst, Contains}
 use Rattle.std.specs.Prelude.{IfSome, IfNone}
-use Rattle.std.proofs.lemmas.List.{append_assoc}
 use Rattle.std.proofs.lemmas.List.Elements.{Contains-append_cases, Contains-append_left, Contains-append_right, Contains-push, Contains-push_cases}
-use Rattle.std.proofs.lemmas.List.Sorted.{Contains-permutation, IsPermutation-append_comm, IsPermutation-append_left, IsPermutation-refl, IsPermutation-sym, IsPermutation-to_front, IsPermutation-trans, length_permutation}
+use Rattle.std.proofs.lemmas.List.Sorted.{Contains-permutation, IsPermutation-append_left, IsPermutation-append_right, IsPermutation-middle, IsPermutation-refl, IsPermutation-sym, IsPermutation-to_front, IsPermutation-trans, length_permutation}
 use Rattle.std.specs.List.Sorted.{IsPermutation}
 use Rattle.frame_places.specs.Work.{BeginsRound, HasNoNext, WorkLists, PutsAs, PutsEntry, PutsNew, PutsNext, PutsWaiting, Takes, TakesFirst, TakesLast, TakesRound, Turns, all_work}
 
@@ -44,50 +43,36 @@ parts w first next round waiting a b c d =
     ap (λ (xs : List ℕ). xs ++ (w.next ++ (w.round ++ w.waiting))) a ∙ ap (λ (xs : List ℕ). first ++ (xs ++ (w.round ++ w.waiting))) b
     ∙ ap (λ (xs : List ℕ). first ++ (next ++ (xs ++ w.waiting))) c ∙ ap (λ (xs : List ℕ). first ++ (next ++ (round ++ xs))) d
 
--- one more after some lists, and before others
-more_between : (xs ys zs : List ℕ) (number : ℕ) → IsPermutation (number ∷ (xs ++ (ys ++ zs))) (xs ++ ((ys ++ number ∷ []) ++ zs))
-more_between xs ys zs number =
-    subst (λ (l : List ℕ). IsPermutation (number ∷ l) (xs ++ ((ys ++ number ∷ []) ++ zs))) (append_assoc xs ys zs)
-    (subst (λ (l : List ℕ). IsPermutation (number ∷ ((xs ++ ys) ++ zs)) l) (append_assoc xs (ys ++ number ∷ []) zs)
-    (subst (λ (l : List ℕ). IsPermutation (number ∷ ((xs ++ ys) ++ zs)) (l ++ zs)) (append_assoc xs ys (number ∷ []))
-    (IsPermutation-append_left zs (number ∷ (xs ++ ys)) ((xs ++ ys) ++ number ∷ []) (at_end (xs ++ ys) number))))
+-- one more behind a list
+behind : (xs ys zs : List ℕ) (number : ℕ) → Adds ys zs number → Adds (xs ++ ys) (xs ++ zs) number
+behind xs ys zs number adds =
+    IsPermutation-trans (number ∷ (xs ++ ys)) (xs ++ number ∷ ys) (xs ++ zs) (IsPermutation-sym (xs ++ number ∷ ys) (number ∷ (xs ++ ys)) (IsPermutation-middle xs number ys))
+    (IsPermutation-append_right xs (number ∷ ys) zs adds)
 
 pub adds_next : (old new : WorkLists) (number : ℕ) → PutsNext old new number → Adds (all_work old) (all_work new) number
 adds_next old new number puts =
-    subst (λ (l : List ℕ). Adds (all_work old) l number) (sym (parts new old.first (old.next ++ number ∷ []) old.round old.waiting puts.first puts.next puts.round puts.waiting))
-    (more_between old.first old.next (old.round ++ old.waiting) number)
+    let rest = old.round ++ old.waiting in
+    let more = old.next ++ number ∷ [] in
+    subst (λ (l : List ℕ). Adds (all_work old) l number) (sym (parts new old.first more old.round old.waiting puts.first puts.next puts.round puts.waiting))
+    (behind old.first (old.next ++ rest) (more ++ rest) number (IsPermutation-append_left rest (number ∷ old.next) more (at_end old.next number)))
 
 pub adds_waiting : (old new : WorkLists) (number : ℕ) → PutsWaiting old new number → Adds (all_work old) (all_work new) number
 adds_waiting old new number puts =
-    let all = all_work old in
-    let behind : IsPermutation (number ∷ all) (old.first ++ (old.next ++ (old.round ++ (old.waiting ++ number ∷ [])))) =
-    subst (λ (l : List ℕ). IsPermutation (number ∷ all) (old.first ++ (old.next ++ l))) (append_assoc old.round old.waiting (number ∷ []))
-    (subst (λ (l : List ℕ). IsPermutation (number ∷ all) (old.first ++ l)) (append_assoc old.next (old.round ++ old.waiting) (number ∷ []))
-    (subst (λ (l : List ℕ). IsPermutation (number ∷ all) l) (append_assoc old.first (old.next ++ (old.round ++ old.waiting)) (number ∷ [])) (at_end all number))) in
-    subst (λ (l : List ℕ). Adds all l number) (sym (parts new old.first old.next old.round (old.waiting ++ number ∷ []) puts.first puts.next puts.round puts.waiting)) behind
+    let rest = old.round ++ old.waiting in
+    let more = old.round ++ new.waiting in
+    subst (λ (l : List ℕ). Adds (all_work old) l number) (sym (parts new old.first old.next old.round new.waiting puts.first puts.next puts.round refl))
+    (behind old.first (old.next ++ rest) (old.next ++ more) number (behind old.next rest more number (behind old.round old.waiting new.waiting number puts.waiting)))
 
 pub adds_either : (waits : Bool) (old new : WorkLists) (number : ℕ) → PutsAs waits old new number → Adds (all_work old) (all_work new) number
 adds_either true old new number puts = adds_waiting old new number puts
 adds_either false old new number puts = adds_next old new number puts
 
--- others between lists
-between_same : (front xs ys back : List ℕ) → IsPermutation xs ys → IsPermutation (front ++ (xs ++ back)) (front ++ (ys ++ back))
-between_same front xs ys back h =
-    IsPermutation-trans (front ++ (xs ++ back)) ((xs ++ back) ++ front) (front ++ (ys ++ back)) (IsPermutation-append_comm front (xs ++ back))
-    (IsPermutation-trans ((xs ++ back) ++ front) ((ys ++ back) ++ front) (front ++ (ys ++ back))
-    (IsPermutation-append_left front (xs ++ back) (ys ++ back) (IsPermutation-append_left back xs ys h)) (IsPermutation-append_comm (ys ++ back) front))
-
 pub adds_entry : (old new : WorkLists) (number : ℕ) → PutsEntry old new number → Adds (all_work old) (all_work new) number
 adds_entry old new number puts =
-    let front = old.first ++ old.next in
-    let more = old.round ++ number ∷ [] in
-    let turned : IsPermutation more new.round = IsPermutation-trans more (number ∷ old.round) new.round (IsPermutation-to_front old.round number) puts.round in
-    let put : IsPermutation (number ∷ (front ++ (old.round ++ old.waiting))) (front ++ (new.round ++ old.waiting)) =
-    IsPermutation-trans (number ∷ (front ++ (old.round ++ old.waiting))) (front ++ (more ++ old.waiting)) (front ++ (new.round ++ old.waiting))
-    (more_between front old.round old.waiting number) (between_same front more new.round old.waiting turned) in
+    let rest = old.round ++ old.waiting in
+    let more = new.round ++ old.waiting in
     subst (λ (l : List ℕ). Adds (all_work old) l number) (sym (parts new old.first old.next new.round old.waiting puts.first puts.next refl puts.waiting))
-    (subst (λ (l : List ℕ). IsPermutation (number ∷ l) (old.first ++ (old.next ++ (new.round ++ old.waiting)))) (append_assoc old.first old.next (old.round ++ old.waiting))
-    (subst (λ (l : List ℕ). IsPermutation (number ∷ (front ++ (old.round ++ old.waiting))) l) (append_assoc old.first old.next (new.round ++ old.waiting)) put))
+    (behind old.first (old.next ++ rest) (old.next ++ more) number (behind old.next rest more number (IsPermutation-append_left old.waiting (number ∷ old.round) new.round puts.round)))
 
 pub adds_new : (entry : Bool) (old new : WorkLists) (number : ℕ) → PutsNew entry old new number → Adds (all_work old) (all_work new) number
 adds_new true old new number puts = adds_entry old new number puts
@@ -164,6 +149,12 @@ turned_none old mid turned new None same none turns left =
     }
 turned_none old mid turned new (Some number) same none turns left = left
 
+-- places that wait came into the round
+pub moved_same : (old new : WorkLists) → new.first ≡ old.first → new.next ≡ old.next → IsPermutation (old.round ++ old.waiting) (new.round ++ new.waiting) → IsPermutation (all_work old) (all_work new)
+moved_same old new first next both =
+    subst (λ (l : List ℕ). IsPermutation (all_work old) l) (sym (parts new old.first old.next new.round new.waiting first next refl refl))
+    (IsPermutation-append_right old.first (old.next ++ (old.round ++ old.waiting)) (old.next ++ (new.round ++ new.waiting)) (IsPermutation-append_right old.next (old.round ++ old.waiting) (new.round ++ new.waiting) both))
+
 -- one of this round
 pub takes_round : (old mid new : WorkLists) (number : ℕ) → HasNoNext old mid → TakesRound mid new number → Takes old new number
 takes_round old mid new number has takes =
@@ -173,37 +164,36 @@ takes_round old mid new number has takes =
     (parts new [] [] new.round new.waiting (takes.first ∙ has.first) (takes.next ∙ has.next) refl refl) (from_end new.round new.waiting number))
 
 -- or of a new round
-begun_all : (old mid begun : WorkLists) → HasNoNext old mid → mid.round ≡ [] → BeginsRound mid begun → HasNoNext old begun
-begun_all old mid begun has over begins = record {
+begun_all : (old mid begun : WorkLists) → HasNoNext old mid → BeginsRound mid begun → HasNoNext old begun
+begun_all old mid begun has begins = record {
   first = begins.first ∙ has.first;
   next = begins.next ∙ has.next;
   same = IsPermutation-trans (all_work old) (all_work mid) (all_work begun) has.same
-      (same_of mid begun mid.waiting (begun.round ++ begun.waiting) (parts mid [] [] [] mid.waiting has.first has.next over refl)
-      (parts begun [] [] begun.round begun.waiting (begins.first ∙ has.first) (begins.next ∙ has.next) refl refl)
-      (IsPermutation-trans mid.waiting (begun.waiting ++ begun.round) (begun.round ++ begun.waiting) begins.both (IsPermutation-append_comm begun.waiting begun.round)));
+      (same_of mid begun (mid.round ++ mid.waiting) (begun.round ++ begun.waiting) (parts mid [] [] mid.round mid.waiting has.first has.next refl refl)
+      (parts begun [] [] begun.round begun.waiting (begins.first ∙ has.first) (begins.next ∙ has.next) refl refl) begins.both);
 }
 
-pub begun_some : (old mid begun new : WorkLists) (r : Option ℕ) → HasNoNext old mid → mid.round ≡ [] → BeginsRound mid begun → IfSome r (TakesRound begun new) → IfSome r (Takes old new)
-begun_some old mid begun new None has over begins takes = takes
-begun_some old mid begun new (Some number) has over begins takes = takes_round old begun new number (begun_all old mid begun has over begins) takes
+pub begun_some : (old mid begun new : WorkLists) (r : Option ℕ) → HasNoNext old mid → BeginsRound mid begun → IfSome r (TakesRound begun new) → IfSome r (Takes old new)
+begun_some old mid begun new None has begins takes = takes
+begun_some old mid begun new (Some number) has begins takes = takes_round old begun new number (begun_all old mid begun has begins) takes
 
 pub empty_list : (xs : List ℕ) → length xs ≡ 0 → xs ≡ []
 empty_list [] e = refl
 empty_list (x ∷ xs) e = absurd (omega arith)
 
 -- none is left
-pub begun_empty : (old mid begun new : WorkLists) (r : Option ℕ) → HasNoNext old mid → mid.round ≡ [] → BeginsRound mid begun → IfNone r ((begun.round ≡ []) × (new ≡ begun)) → IfNone r (all_work new ≡ [])
-begun_empty old mid begun new None has over begins left =
+pub begun_empty : (old mid begun new : WorkLists) (r : Option ℕ) → HasNoNext old mid → BeginsRound mid begun → IfNone r ((begun.round ≡ []) × (new ≡ begun)) → IfNone r (all_work new ≡ [])
+begun_empty old mid begun new None has begins left =
     ap all_work left.1 ∙ parts begun [] [] [] [] (begins.first ∙ has.first) (begins.next ∙ has.next) left.0 (begins.some left.0)
-begun_empty old mid begun new (Some number) has over begins left = left
+begun_empty old mid begun new (Some number) has begins left = left
 
 -- nor was any before
-pub begun_none : (old mid begun new : WorkLists) (r : Option ℕ) → HasNoNext old mid → mid.round ≡ [] → BeginsRound mid begun → IfNone r ((begun.round ≡ []) × (new ≡ begun)) → IfNone r (all_work old ≡ [])
-begun_none old mid begun new None has over begins left =
-    let same = length_permutation (all_work old) (all_work begun) (begun_all old mid begun has over begins).same in
+pub begun_none : (old mid begun new : WorkLists) (r : Option ℕ) → HasNoNext old mid → BeginsRound mid begun → IfNone r ((begun.round ≡ []) × (new ≡ begun)) → IfNone r (all_work old ≡ [])
+begun_none old mid begun new None has begins left =
+    let same = length_permutation (all_work old) (all_work begun) (begun_all old mid begun has begins).same in
     let gone = ap (λ (xs : List ℕ). length xs) (parts begun [] [] [] [] (begins.first ∙ has.first) (begins.next ∙ has.next) left.0 (begins.some left.0)) in
     empty_list (all_work old) (omega (arith, same, gone))
-begun_none old mid begun new (Some number) has over begins left = left
+begun_none old mid begun new (Some number) has begins left = left
 
 -- the place that was taken was listed
 pub takes_there : (old new : WorkLists) (number : ℕ) → Takes old new number → Contains (all_work old) number

@@ -21,12 +21,12 @@ pub record PutsNext (old new : WorkLists) (number : ℕ) : Type 0 where
   pub round : new.round ≡ old.round
   pub waiting : new.waiting ≡ old.waiting
 
--- this place waits too
+-- this place waits too, at any position
 pub record PutsWaiting (old new : WorkLists) (number : ℕ) : Type 0 where
   pub first : new.first ≡ old.first
   pub next : new.next ≡ old.next
   pub round : new.round ≡ old.round
-  pub waiting : new.waiting ≡ old.waiting ++ number ∷ []
+  pub waiting : IsPermutation (number ∷ old.waiting) new.waiting
 
 -- this place is in this round too, at any position
 pub record PutsEntry (old new : WorkLists) (number : ℕ) : Type 0 where
@@ -45,11 +45,11 @@ abbrev pub PutsAs : Bool → WorkLists → WorkLists → ℕ → Type 0
 PutsAs true old new number = PutsWaiting old new number
 PutsAs false old new number = PutsNext old new number
 
--- some of the places that wait, one at least if any waits, become this round
+-- some of the places that wait, one at least if any waits, come into this round
 pub record BeginsRound (old new : WorkLists) : Type 0 where
   pub first : new.first ≡ old.first
   pub next : new.next ≡ old.next
-  pub both : IsPermutation old.waiting (new.waiting ++ new.round)
+  pub both : IsPermutation (old.round ++ old.waiting) (new.round ++ new.waiting)
   pub some : new.round ≡ [] → new.waiting ≡ []
 
 -- the places that are next become the first, in some order, and the first ones are next

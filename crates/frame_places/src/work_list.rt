@@ -3,6 +3,8 @@ ghost use Rattle.std.specs.Prelude.{◌≡◌, ◌<◌, ◌^◌, ◌==◌, IfOk,
 ghost use Rattle.frame_places.specs.Work.{BeginsRound, HasNoNext, HasSameWork, PutsEntry, PutsNext, PutsWaiting, Takes, TakesFirst, TakesLast, TakesRound, Turns, all_work, PutsAs, PutsNew};
 
 use std::alloc::{AllocError, Global};
+use std::cmp::Reverse;
+use std::collections::BinaryHeap;
 use std::marker::Model;
 use std::mem::swap;
 
@@ -29,16 +31,18 @@ pub struct Work {
     first: Vec<usize>,
     next: Vec<usize>,
     round: Vec<usize>,
-    waiting: Vec<usize>,
+    waiting: BinaryHeap<Reverse<usize>>,
     base: usize,
 }
 
 impl Model for Work {
     ghost use Rattle.frame_places.specs.Work.{WorkLists};
+    ghost use Rattle.std.specs.BinaryHeap.{heap_items};
+    ghost use Rattle.std.specs.Prelude.{map};
 
     ghost Value = { WorkLists };
 
-    ghost view = { λ w. record { first = w.first.items; next = w.next.items; round = w.round.items; waiting = w.waiting.items } };
+    ghost view = { λ w. record { first = w.first.items; next = w.next.items; round = w.round.items; waiting = map (λ n. n.0) (heap_items w.waiting) } };
 }
 
 impl Work {
@@ -50,7 +54,7 @@ impl Work {
             first: Vec::new(alloc),
             next: Vec::new(alloc),
             round: Vec::new(alloc),
-            waiting: Vec::new(alloc),
+            waiting: BinaryHeap::new(alloc),
             base: 0,
         }
     }
@@ -88,7 +92,7 @@ impl Work {
     pub(crate) fn push_waiting(&mut self, number: usize) -> Result<(), AllocError>
         ensures { OnOk result (PutsWaiting self.old self.new number) }
     {
-        self.waiting.push(number)?;
+        self.waiting.push(Reverse(number))?;
         Ok(())
     }
 
@@ -152,15 +156,20 @@ impl Work {
     }
 
     /// Begins a round, if the last one is over, with the places that wait and were found first. The
-    /// least number is the last, where places are taken.
+    /// least number is the last, where places are taken. Room comes first, so that no place that
+    /// leaves the heap is lost.
     fn begin_round(&mut self) -> Result<(), AllocError>
         ensures round { OnOk result (BeginsRound self.old self.new) }
         ensures err { OnErr result (HasSameWork self.old self.new) }
     {
-        self.waiting
-            .sort_unstable_by_key(|number| usize::MAX - *number);
-        let left = self.waiting.len().saturating_sub(MOST_IN_ROUND);
-        self.round = self.waiting.split_off(left)?;
+        while self.round.len() < MOST_IN_ROUND {
+            self.round.reserve(1)?;
+            let Some(number) = self.waiting.pop() else {
+                break;
+            };
+            self.round.push(number.0)?;
+        }
+        self.round.reverse();
         Ok(())
     }
 

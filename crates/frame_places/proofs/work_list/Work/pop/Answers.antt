@@ -12,19 +12,19 @@ pub returns-clause-some : goal.returns-clause-some
 returns-clause-some c =
     let left = c.in_default-pop_round.ensures.none in
     let has = subst (λ (w : WorkLists). HasNoNext c.args.self.now w) (sym left.1) c.in_default.ensures.none in
-    begun_some c.args.self.now c.pop_round.new.self c.begin_round.new.self c.pop_round-2.new.self c.pop_round-2.result has (ap (λ (w : WorkLists). w.round) left.1 ∙ left.0) c.in_ok-begin_round.ensures.round c.pop_round-2.ensures.some
+    begun_some c.args.self.now c.pop_round.new.self c.begin_round.new.self c.pop_round-2.new.self c.pop_round-2.result has c.in_ok-begin_round.ensures.round c.pop_round-2.ensures.some
 
 pub returns-clause-none : goal.returns-clause-none
 returns-clause-none c =
     let left = c.in_default-pop_round.ensures.none in
     let has = subst (λ (w : WorkLists). HasNoNext c.args.self.now w) (sym left.1) c.in_default.ensures.none in
-    begun_none c.args.self.now c.pop_round.new.self c.begin_round.new.self c.pop_round-2.new.self c.pop_round-2.result has (ap (λ (w : WorkLists). w.round) left.1 ∙ left.0) c.in_ok-begin_round.ensures.round c.pop_round-2.ensures.none
+    begun_none c.args.self.now c.pop_round.new.self c.begin_round.new.self c.pop_round-2.new.self c.pop_round-2.result has c.in_ok-begin_round.ensures.round c.pop_round-2.ensures.none
 
 pub returns-clause-empty : goal.returns-clause-empty
 returns-clause-empty c =
     let left = c.in_default-pop_round.ensures.none in
     let has = subst (λ (w : WorkLists). HasNoNext c.args.self.now w) (sym left.1) c.in_default.ensures.none in
-    begun_empty c.args.self.now c.pop_round.new.self c.begin_round.new.self c.pop_round-2.new.self c.pop_round-2.result has (ap (λ (w : WorkLists). w.round) left.1 ∙ left.0) c.in_ok-begin_round.ensures.round c.pop_round-2.ensures.none
+    begun_empty c.args.self.now c.pop_round.new.self c.begin_round.new.self c.pop_round-2.new.self c.pop_round-2.result has c.in_ok-begin_round.ensures.round c.pop_round-2.ensures.none
 
 pub returns-in_err-begin_round-clause-err : goal.returns-in_err-begin_round-clause-err
 returns-in_err-begin_round-clause-err c =
