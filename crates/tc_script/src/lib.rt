@@ -16,6 +16,7 @@ mod statements;
 pub use driving::{Peak, drive};
 pub use errors::ScriptErr;
 pub use laws::script_laws;
+pub use numbers::script_number;
 pub use ports::Ports;
 pub use script_runs::drive_by_script;
 pub use scripts::{AnswerRange, Script, Turn};

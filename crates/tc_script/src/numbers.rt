@@ -5,9 +5,10 @@ ghost use Rattle.std.specs.List.{list_all};
 ghost use Rattle.std.specs.Str.Parse.{digits_value};
 ghost use Rattle.tc_script.specs.Numbers.{is_decimal, script_number};
 
-/// Returns the number that a script's word spells: decimal, no leading zeros, below 2^32.
+/// Returns the number that a script's word spells: decimal, no leading zeros, below 2^32. So does
+/// the word of `gen`.
 #[tactic(auto, unfolding(crate::specs::Numbers::script_number))]
-pub(crate) fn script_number(word: &[u8]) -> Option<u32>
+pub fn script_number(word: &[u8]) -> Option<u32>
     ensures { result ≡ script_number word.now }
 {
     if !is_decimal(word) {

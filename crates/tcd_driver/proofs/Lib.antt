@@ -3,7 +3,6 @@ pub mod BootReports
 pub mod CellcertReports
 pub mod CellsReports
 pub mod CommandLaws
-pub mod FunctionCounts
 pub mod GenReports
 pub mod LinkLaws
 pub mod ShipReports

@@ -1,5 +1,5 @@
 // The command that the arguments ask for.
-ghost use Rattle.std.specs.Prelude.{◌≡◌, ◌≤◌, ◌==◌, ◌&&◌, ◌||◌, nat_le, map, slice_index, string_bytes, IfSome};
+ghost use Rattle.std.specs.Prelude.{◌≡◌, ◌≤◌, ◌&&◌, nat_le, map, string_bytes, IfSome};
 ghost use Rattle.std.specs.Bool.{then_some};
 ghost use Rattle.std.specs.Option.{option_map};
 ghost use Rattle.tcd_driver.specs.Commands.{command, link_command_of, is_link, ship_command_of, is_ship, tasks_command_of, is_tasks, is_taskcert, fixed_command_of, one_word_command, two_word_command, three_word_command, four_word_command, boot_command_of, bootgen_command_of, command_of_value, generate, reading_of, CommandKeepsLimits};
@@ -24,6 +24,7 @@ use crate::commands::taskcert::certify_tasks;
 use crate::commands::tasks::check_tasks;
 use crate::distinct_names::are_distinct_names;
 use std::alloc::Global;
+use tc_script::script_number;
 use tcd_base::Files;
 use tcd_reading::Outcome;
 use tcd_text::hex_number;
@@ -381,32 +382,8 @@ fn gen_command<'a>(word: &str) -> Option<Command<'a>>
         ≡ option_map generate (gen_function_count word.now) }
     ensures limits { IfSome result CommandKeepsLimits }
 {
-    let functions = gen_function_count(word)?;
+    let functions = gen_count_in_range(script_number(word.as_bytes())?)?;
     Some(Command::Gen { functions })
-}
-
-/// The number of functions that the argument of `gen` asks for.
-fn gen_function_count(word: &str) -> Option<u32>
-    ensures is { result ≡ gen_function_count word.now }
-    ensures limits { IfSome result (λ n. (1 ≤ n) × (n ≤ 500)) }
-{
-    if has_zero_or_plus(word) {
-        return None;
-    }
-    match word.parse::<u32>() {
-        Ok(n) => gen_count_in_range(n),
-        Err(_) => None,
-    }
-}
-
-/// Whether an argument begins with 0 or a plus sign, so that `gen` doesn't take it as a number.
-fn has_zero_or_plus(word: &str) -> bool
-    ensures { result ≡ (slice_index word.now 0 == 48 || slice_index word.now 0 == 43) }
-{
-    match word.as_bytes().first() {
-        Some(first) => *first == b'0' || *first == b'+',
-        None => false,
-    }
 }
 
 // The number of functions, if it is in the range of `gen`.
