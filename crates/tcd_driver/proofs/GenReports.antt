@@ -1,8 +1,7 @@
 -- The reports of `gen`.
-use Rattle.std.proofs.Common.{◌≡◌, ◌≤◌, ◌-◌, ◌^◌, ℕ, List, length, Result, Ok, sym, ap, subst, ◌∙◌, arith, refl}
+use Rattle.std.proofs.Common.{◌≡◌, ◌≤◌, ◌-◌, ◌^◌, ℕ, List, length, Ok, sym, subst, ◌∙◌, arith, refl}
+use Rattle.std.specs.Prelude.{IsUtf8}
 use Rattle.elf_image.specs.Images.{ImageData}
-use Rattle.elf_image.specs.ReadElf.{image_of_file}
-use Rattle.elf_image.specs.declared.errors.ImageErr.{ImageErr}
 use Rattle.tcd_plan.specs.PlanData.{PlanData}
 use Rattle.tcd_plan.specs.PlanReader.{GivesPlan}
 use Rattle.tcd_base.specs.Files.{FilesSeen}
@@ -13,7 +12,7 @@ use Rattle.tcd_reading.proofs.Told.{comes_told}
 use Rattle.tcd_driver.specs.Commands.{command_of_value, reading_of}
 use Rattle.tcd_driver.specs.declared.command.Command.{Command as Words}
 use Rattle.tcd_driver.specs.declared.command.Command.TheVariants as held
-use Rattle.tcd_forms.proofs.FormLaws.{plan_lawful}
+use Rattle.tcd_report.proofs.ImageLemmas.PlanText.{text_tells}
 use Rattle.tc_machine.specs.Safe.{Safe}
 use Rattle.depth_cert.specs.Certs.{CertData, IsCert}
 use Rattle.depth_cert.specs.Nodes.{count_points}
@@ -37,17 +36,11 @@ counted_report n i fields p c need r same least e =
     (let k = least.need_is in cc)
 
 -- ---- reading what was generated
-pub read_image : (i j : ImageData) (lent bytes : List ℕ) → lent ≡ bytes → image_of_file bytes ≡ Ok i → image_of_file lent ≡ Ok j → j ≡ i
-read_image i j lent bytes same e f = same_image (image_of_file bytes) i j e (ap image_of_file (sym same) ∙ f)
-  where
-    same_image : (o : Result ImageData ImageErr) (x y : ImageData) → o ≡ Ok x → o ≡ Ok y → y ≡ x
-    same_image o x y h k = cc
+pub text_gives : (lent text : List ℕ) → lent ≡ text → text ≡ generated_text → IsUtf8 text → GivesPlan lent (Ok generated_plan)
+text_gives lent text same is utf8 = subst (λ (b : List ℕ). GivesPlan b (Ok generated_plan)) (sym (same ∙ is)) (text_tells (subst IsUtf8 is utf8))
 
-pub read_plan : (p q : PlanData) (lent bytes : List ℕ) → lent ≡ bytes → GivesPlan bytes (Ok p) → GivesPlan lent (Ok q) → q ≡ p
-read_plan p q lent bytes same e f = plan_lawful.one bytes q p (subst (λ (b : List ℕ). GivesPlan b (Ok q)) same f) e
-
-pub text_most : (lent bytes : List ℕ) → lent ≡ bytes → bytes ≡ generated_text → length lent ≤ 2 ^ 30
-text_most lent bytes same e = subst (λ (b : List ℕ). length b ≤ 2 ^ 30) (sym (same ∙ e)) (omega arith)
+pub text_most : (lent text : List ℕ) → lent ≡ text → text ≡ generated_text → length lent ≤ 2 ^ 30
+text_most lent text same is = subst (λ (b : List ℕ). length b ≤ 2 ^ 30) (sym (same ∙ is)) (omega arith)
 
 -- ---- the command as a value of the program
 pub comes_generated : (command words : Words) (n : ℕ) (files : FilesSeen) (o : Outcome) → words ≡ held.Gen n → command ≡ words → IsToldOutcome (IsGenReport n (generated_image n) generated_plan) ⊥ o → IsCommandOutcome (reading_of (command_of_value command)) files files o

@@ -9,7 +9,9 @@ mod laws;
 mod reports;
 mod texts;
 
-pub use generating::generated_files::{Generated, generate};
+pub use generating::generated_files::{
+    Generated, generate, generated_plan_text, image_of_functions,
+};
 pub use graphs::graph;
 pub use laws::graph_law;
 pub use reports::report;

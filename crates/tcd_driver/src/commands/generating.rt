@@ -1,6 +1,5 @@
 // The command `gen`.
 ghost use Rattle.std.specs.Prelude.{◌≡◌, ◌≤◌};
-ghost use Rattle.elf_image.specs.declared.errors.ImageErr.TheVariants as image_error;
 ghost use Rattle.tcd_plan.specs.declared.plans.PlanErr.TheVariants as plan_error;
 ghost use Rattle.tcd_report.specs.Generated.{generated_image};
 ghost use Rattle.tcd_report.specs.Generated.Planned.{generated_plan};
@@ -8,12 +7,12 @@ ghost use Rattle.tcd_driver.specs.Gen.{IsGenReport};
 ghost use Rattle.tcd_reading.specs.Outcomes.{IsToldOutcome};
 
 use crate::cert_making::{make_least_cert, report_unmade};
-use elf_image::{Image, ImageErr};
+use elf_image::Image;
 use std::alloc::Global;
 use tcd_forms::generated_line;
 use tcd_plan::{Plan, PlanErr};
 use tcd_reading::{Outcome, Report, Status, Stop};
-use tcd_report::generate;
+use tcd_report::{generated_plan_text, image_of_functions};
 
 /// Generates the image with this number of functions and its plan, and certifies them.
 #[inline(never)]
@@ -22,15 +21,8 @@ pub(crate) fn certify_generated_image(alloc: Global, functions: u32) -> Outcome
     ensures { IsToldOutcome (IsGenReport functions (generated_image functions) generated_plan) ⊥
         result }
 {
-    let files = generate(alloc, functions)?;
-    let image = match Image::read(alloc, &files.elf) {
-        Ok(image) => image,
-        Err(e) => {
-            own_image_memory_error(e);
-            return Err(Stop::NoMemory);
-        }
-    };
-    match Plan::read(alloc, &files.plan) {
+    let image = image_of_functions(alloc, functions)?;
+    match Plan::read(alloc, generated_plan_text().as_bytes()) {
         Ok(plan) => report_generated_image(alloc, functions, &image, &plan),
         Err(e) => {
             own_plan_memory_error(e);
@@ -51,16 +43,6 @@ fn report_generated_image(alloc: Global, functions: u32, image: &Image, plan: &P
             Ok(Report::of(alloc, Status::Done, line))
         }
         Err(e) => report_unmade(alloc, e),
-    }
-}
-
-/// The cause of an error in reading an executable that the program wrote: memory ran out.
-fn own_image_memory_error(e: ImageErr)
-    requires { e ≡ image_error.NoMemory }
-{
-    match e {
-        ImageErr::NoMemory => {}
-        _ => unreachable!(),
     }
 }
 

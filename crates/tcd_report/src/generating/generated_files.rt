@@ -49,7 +49,7 @@ pub fn generate(alloc: Global, n: u32) -> Result<Generated, NoMemory>
 /// Returns the image of n functions that is generated with its plan: all segments, from the main
 /// program to the functions.
 #[tactic(auto, using(crate::proofs::ImageLemmas::Instructions::system_bytes))]
-fn image_of_functions(alloc: Global, n: u32) -> Result<Image, NoMemory>
+pub fn image_of_functions(alloc: Global, n: u32) -> Result<Image, NoMemory>
     requires some { 1 ≤ n }
     requires few { n ≤ 500 }
     ensures { IfOk result (λ i. i ≡ generated_image n) }
@@ -91,8 +91,8 @@ fn image_of_functions(alloc: Global, n: u32) -> Result<Image, NoMemory>
     })
 }
 
-// The text of the plan, the same for each image.
-fn generated_plan_text() -> &'static str
+/// The text of the plan, the same for each image.
+pub fn generated_plan_text() -> &'static str
     ensures { result.now ≡ generated_text }
 {
     r#"{"rom":[{"at":"0x80000000","len":"0x20000"}],"ram":[{"at":"0xD0010000","len":"0x8000"}],"devices":[{"at":"0xF0000000","len":"0x100","lo":0,"hi":15}],"csa":{"at":"0xD0000000","areas":256,"reserve":16},"sp":"0xD0018000","isp":"0xD0014000","biv":"0x80002000","btv":"0x80004000","irqs":[10,20,30,40,50,60,70,80,90,100,110,120,130,140,150,160],"traps":["sys"],"start":{"ie":1,"ccpn":0,"is":0},"globals":{"a0":0,"a1":0,"a8":0,"a9":0}}"#

@@ -1,16 +1,24 @@
-use Rattle.std.proofs.Common.{subst}
+use Rattle.std.proofs.Common.{Ok, subst, arith}
 use Rattle.elf_image.specs.Images.{ImageData}
 use Rattle.tcd_plan.specs.PlanData.{PlanData}
+use Rattle.tcd_plan.specs.PlanReader.{GivesPlan}
 use Rattle.tcd_report.specs.Generated.Planned.{generated_plan}
 use Rattle.tcd_reading.specs.Outcomes.{IsToldOutcome}
+use Rattle.tcd_forms.proofs.FormLaws.{plan_lawful}
 use Rattle.tcd_driver.specs.Gen.{IsGenReport}
-use Rattle.tcd_driver.proofs.GenReports.{read_image, read_plan, text_most}
+use Rattle.tcd_driver.proofs.GenReports.{text_gives, text_most}
 use Rattle.tcd_driver.proofs.commands.generating.certify_generated_image.Goals as goal
 
-pub read-requires-2 : goal.read-requires-2
-read-requires-2 c = text_most _ _ c.deref-2.ensures.value c.in_ok-files.ensures.text
+pub read-requires : goal.read-requires
+read-requires c = text_most _ _ c.as_bytes.ensures.value c.generated_plan_text.ensures
 
-pub returns-in-Ok-read : goal.returns-in-Ok-read
-returns-in-Ok-read c =
-    subst (λ (i : ImageData). IsToldOutcome (IsGenReport c.args.functions i generated_plan) ⊥ c.report_generated_image.result) (read_image _ _ _ _ c.deref.ensures.value c.in_ok-files.ensures.image c.in-Ok.ensures)
-    (subst (λ (p : PlanData). IsToldOutcome (IsGenReport c.args.functions c.in-Ok.image p) ⊥ c.report_generated_image.result) (read_plan _ _ _ _ c.deref-2.ensures.value c.in_ok-files.ensures.plan c.in-Ok-read.ensures.answer) c.report_generated_image.ensures)
+pub own_plan_memory_error-requires : goal.own_plan_memory_error-requires
+own_plan_memory_error-requires c =
+    let gives : GivesPlan c.as_bytes.result.now (Ok generated_plan) = text_gives _ _ c.as_bytes.ensures.value c.generated_plan_text.ensures c.generated_plan_text.utf8 in
+    grind arith
+
+pub returns-in-Ok : goal.returns-in-Ok
+returns-in-Ok c =
+    subst (λ (i : ImageData). IsToldOutcome (IsGenReport c.args.functions i generated_plan) ⊥ c.report_generated_image.result) c.in_ok-image.ensures
+    (subst (λ (p : PlanData). IsToldOutcome (IsGenReport c.args.functions c.in_ok-image.image p) ⊥ c.report_generated_image.result)
+    (plan_lawful.one c.as_bytes.result.now _ _ c.in-Ok.ensures.answer (text_gives _ _ c.as_bytes.ensures.value c.generated_plan_text.ensures c.generated_plan_text.utf8)) c.report_generated_image.ensures)
