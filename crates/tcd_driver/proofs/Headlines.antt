@@ -6,16 +6,12 @@ pub mod Builds
 pub mod Cells
 pub mod Tasks
 pub mod Texts
-use Rattle.std.proofs.Common.{◌≡◌, ◌≢◌, ◌<◌, ◌+◌, ◌^◌, inl, inr, ℕ, List, [], ◌∷◌, ◌++◌, length, Option, Some, None, refl, sym, ap, subst, ◌∙◌, append_assoc, ◌⊎◌, Bool, true, false, cond}
+use Rattle.std.proofs.Common.{◌≡◌, ◌≢◌, ◌<◌, ◌+◌, ◌^◌, inl, inr, ℕ, List, [], ◌∷◌, ◌++◌, length, Option, Some, None, refl, sym, ap, subst, ◌∙◌, append_assoc, ◌⊎◌}
 use Rattle.std.specs.Prelude.{codes, if◌then◌else◌, IsSomeAnd}
 use Rattle.tcd_text.specs.HexNumbers.{hex_word}
 use Rattle.tcd_report.specs.Texts.{key_kind_words}
 use Rattle.std.specs.Fmt.{decimal}
-use Rattle.std.specs.FinMap.{get, insert, get-insert}
-use Rattle.std.specs.Cmp.Lexicographic.{nat_list_cmp_total}
-use Rattle.std.specs.Str.{bytes_eq}
-use Rattle.std.proofs.lemmas.Map.Text.{is_eq-slice_cmp}
-use Rattle.std.proofs.lemmas.Slice.Eq.{bytes_eq-Decides}
+use Rattle.std.specs.FinMap.{get, insert}
 use Rattle.elf_image.specs.Images.{ImageData}
 use Rattle.elf_image.specs.WrittenElf.{file_of}
 use Rattle.tcd_plan.specs.PlanData.{PlanData}
@@ -38,6 +34,7 @@ use Rattle.tcd_reading.specs.Reports.{Report, with_report_files}
 use Rattle.tcd_reading.specs.Inputs.{FormSeen, HoldsInput, IsInputRefusal, each}
 use Rattle.tcd_reading.specs.Inputs as inputs
 use Rattle.tcd_reading.specs.declared.status.Status.TheVariants.{Done, Refused, BadInput}
+use Rattle.tcd_reading.proofs.EndingWords.{get_here, get_apart}
 use Rattle.tcd_forms.specs.Forms.{SourceData, placed_source_form}
 use Rattle.tcd_forms.specs.Lines.{certified_line, run_line, refused_line, key_line, key_kind_text}
 use Rattle.tcd_driver.specs.Headlines.{certified_words, HoldsFile, IsBadFile, too_long, faulty, HoldsPlan, HoldEachFile, AreFirmwareFiles, AreCheckFiles, IsOnlyFileWritten, IsAcceptedWithNeed, IsBestWithNeed, refused_text, refused_words, HeadlineOfCheck, RefusalByCheck, HeadlineOfCert, RefusalByCert, HeadlineOfRun}
@@ -67,24 +64,8 @@ pub means_as : {m : FileMap} {asks : List Ask} {D R : FileMap → FileMap → Li
 means_as {m} {asks} {D} {R} e h = subst (λ (x : Report). Means m asks D R x) (sym e) h
 
 -- ---- one file that is written
-get_written : (m : FileMap) (name bytes q : List ℕ) → get (insert m name bytes) q ≡ cond (bytes_eq q name) (Some bytes) (get m q)
-get_written m name bytes q = get-insert nat_list_cmp_total m name bytes q ∙ ap (λ b. cond b (Some bytes) (get m q)) (is_eq-slice_cmp q name)
-
-pub get_same : (m : FileMap) (name bytes : List ℕ) → get (insert m name bytes) name ≡ Some bytes
-get_same m name bytes = get_written m name bytes name ∙ ap (λ b. cond b (Some bytes) (get m name)) ((bytes_eq-Decides name name).1 refl)
-
-pub differ : (q name : List ℕ) → q ≢ name → bytes_eq q name ≡ false
-differ q name other = by_test (bytes_eq q name) refl
-  where
-    by_test : (b : Bool) → bytes_eq q name ≡ b → bytes_eq q name ≡ false
-    by_test true e = absurd (other ((bytes_eq-Decides q name).0 e))
-    by_test false e = e
-
-pub get_other : (m : FileMap) (name bytes q : List ℕ) → q ≢ name → get (insert m name bytes) q ≡ get m q
-get_other m name bytes q other = get_written m name bytes q ∙ ap (λ b. cond b (Some bytes) (get m q)) (differ q name other)
-
 pub is_written : (m : FileMap) (name bytes : List ℕ) → IsOnlyFileWritten m (insert m name bytes) name bytes
-is_written m name bytes = record { written = get_same m name bytes; others = λ other apart. get_other m name bytes other apart }
+is_written m name bytes = record { written = get_here m name bytes name refl; others = λ other apart. get_apart m name bytes other (λ e. apart (sym e)) }
 
 -- ---- files that are read
 pub held_as : {A : Type 0} (form : FormSeen A) (m : FileMap) (name : List ℕ) (x : A) → HoldsInput form (Some m) name x → HoldsFile m name form.limit (λ bytes. form.Is bytes x)
@@ -249,9 +230,9 @@ module _ (names : ShipNames) (apart : names.elf ≢ names.cert) (m : FileMap) (p
         image_is = image_of_files i of;
         image_reads = reads;
         best = best_of i p c is;
-        elf_written = get_other one names.cert (bytes_of_cert c) names.elf apart ∙ get_same m names.elf (file_of i);
-        cert_written = get_same one names.cert (bytes_of_cert c);
-        others = λ other not_elf not_cert. get_other one names.cert (bytes_of_cert c) other not_cert ∙ get_other m names.elf (file_of i) other not_elf;
+        elf_written = get_apart one names.cert (bytes_of_cert c) names.elf (λ e. apart (sym e)) ∙ get_here m names.elf (file_of i) names.elf refl;
+        cert_written = get_here one names.cert (bytes_of_cert c) names.cert refl;
+        others = λ other not_elf not_cert. get_apart one names.cert (bytes_of_cert c) other (λ e. not_cert (sym e)) ∙ get_apart m names.elf (file_of i) other (λ e. not_elf (sym e));
         prints = certified_is _ _;
       }))
 

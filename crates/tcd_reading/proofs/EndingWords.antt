@@ -24,11 +24,12 @@ use Rattle.tcd_reading.specs.declared.status.Status.{Status}
 use Rattle.tcd_reading.specs.declared.status.Status.TheVariants.{Fault, NoMemory}
 
 -- ---- files that are written one after another
-get_here : (m : FileMap) (k v q : List ℕ) → k ≡ q → get (insert m k v) q ≡ Some v
+-- what a name holds after one file is written
+pub get_here : (m : FileMap) (k v q : List ℕ) → k ≡ q → get (insert m k v) q ≡ Some v
 get_here m k v q same =
     get-insert nat_list_cmp_total m k v q ∙ ap (λ t. cond t (Some v) (get m q)) (is_eq-slice_cmp q k ∙ (bytes_eq-Decides q k).1 (sym same))
 
-get_apart : (m : FileMap) (k v q : List ℕ) → k ≢ q → get (insert m k v) q ≡ get m q
+pub get_apart : (m : FileMap) (k v q : List ℕ) → k ≢ q → get (insert m k v) q ≡ get m q
 get_apart m k v q apart =
     get-insert nat_list_cmp_total m k v q ∙ ap (λ t. cond t (Some v) (get m q)) (is_eq-slice_cmp q k ∙ differs (bytes_eq q k) refl)
   where

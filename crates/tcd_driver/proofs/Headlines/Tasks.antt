@@ -25,6 +25,7 @@ use Rattle.task_chains.specs.Views.{view_image_of, view_plan_of}
 use Rattle.task_chains.specs.SafeTasks.{SafeTasks, IsJudged, need_of_task}
 use Rattle.tcd_base.specs.Files.{FileMap}
 use Rattle.tcd_reading.specs.Reports.{Report, with_report_files}
+use Rattle.tcd_reading.proofs.EndingWords.{get_here, get_apart}
 use Rattle.tcd_forms.specs.Forms.{cert_form}
 use Rattle.tcd_forms.specs.Lines.{certified_tasks_line, refused_switch_line, refused_task_line, line_with_task, refused_sum_line}
 use Rattle.tcd_driver.specs.Headlines.Tasks.{certified_tasks_words, refused_sum_words, AreTaskFiles, IsAcceptedForTask, AreSafeTogether, switch_words, refused_task_words, HeadlineOfTasks, IsFirstRefusedTask, IsTasksFault, no_switch, refused_task, above, RefusalByTasks, HoldTaskCerts, IsLeastForTask, HeadlineOfTaskcert, NoCertForTask, unaccepted, not_apart, IsFirstWithoutCert, IsTaskcertFault, switch_missing, without, sum_above, RefusalByTaskcert}
@@ -34,7 +35,7 @@ use Rattle.tcd_driver.specs.Tasks.{TasksNames, cert_of_task, IsTaskRefused, IsFi
 use Rattle.tcd_driver.specs.Taskcert as making
 use Rattle.tcd_driver.specs.Taskcert.{TaskcertNames, AreTasksMade, IsTaskUncertified, IsFirstUncertified, cert_files, IsTaskcerting, IsTaskCertMade}
 use Rattle.tcd_driver.specs.Headlines.{HoldEachFile, refused_text}
-use Rattle.tcd_driver.proofs.Headlines.{Tells, refused_is, get_same, get_other, held_as, least_of, Means, is_done, is_refused, means_as}
+use Rattle.tcd_driver.proofs.Headlines.{Tells, refused_is, held_as, least_of, Means, is_done, is_refused, means_as}
 
 tasks_is : (sum areas n : ℕ) → certified_tasks_line sum areas n ≡ certified_tasks_words sum areas n
 unfolding certified_tasks_line
@@ -138,7 +139,7 @@ unfolding written
 others_stay m [] cs other apart = refl
 others_stay m (name ∷ names) [] other apart = refl
 others_stay m (name ∷ names) (c ∷ cs) other apart =
-    others_stay (insert m name (bytes_of_cert c)) names cs other (All-tail (λ n. other ≢ n) name names apart) ∙ get_other m name (bytes_of_cert c) other (All-head (λ n. other ≢ n) name names apart)
+    others_stay (insert m name (bytes_of_cert c)) names cs other (All-tail (λ n. other ≢ n) name names apart) ∙ get_apart m name (bytes_of_cert c) other (λ e. All-head (λ n. other ≢ n) name names apart (sym e))
 
 -- a name that isn't found among others is another than each of them
 unequal : (name other : List ℕ) → bytes_eq name other ≡ false → name ≢ other
@@ -158,7 +159,7 @@ hold_certs m (name ∷ names) [] different many = absurd (omega (arith, many))
 hold_certs m (name ∷ names) (c ∷ cs) different many =
     let parts = and_parts (not (list_any (bytes_eq name) names)) (are_distinct_names names) different in
     let one = insert m name (bytes_of_cert c) in
-    (others_stay one names cs name (all_apart name names (not-true (list_any (bytes_eq name) names) parts.0)) ∙ get_same m name (bytes_of_cert c), hold_certs one names cs parts.1 (omega (arith, many)))
+    (others_stay one names cs name (all_apart name names (not-true (list_any (bytes_eq name) names) parts.0)) ∙ get_here m name (bytes_of_cert c) name refl, hold_certs one names cs parts.1 (omega (arith, many)))
 
 least_for : (i : ImageData) (p : PlanData) (t : TasksData) (u : ℕ) (c : CertData) → IsTaskCertMade i p t u c → IsLeastForTask i p t u c
 least_for i p t u c h = record {
