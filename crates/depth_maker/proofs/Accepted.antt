@@ -1,6 +1,6 @@
 -- An accepted certificate is a closed assignment without faults, within the limits, whose needs are
 -- met.
-use Rattle.std.proofs.Common.{◌≡◌, ℕ, suc, ◌+◌, ◌-◌, ◌*◌, ◌^◌, ◌<◌, ◌≤◌, ◌⊎◌, inl, inr, Bool, true, false, cond, List, [], ◌∷◌, length, refl, sym, ap, ◌∙◌, subst, arith, Option, Some, None, Contains, All, eqb}
+use Rattle.std.proofs.Common.{◌≡◌, ℕ, suc, ◌+◌, ◌-◌, ◌^◌, ◌<◌, ◌≤◌, ◌⊎◌, inl, inr, true, false, cond, List, [], ◌∷◌, length, refl, sym, ap, ◌∙◌, subst, arith, Option, Some, None, Contains, All, eqb}
 use Rattle.std.specs.Prelude.{find, option_map, option_and_then, IsSomeAnd, IfSome}
 use Rattle.std.proofs.lemmas.Bool.{cases_Bool, eqb-true, eq-eqb}
 use Rattle.elf_image.specs.Images.{ImageData}
@@ -11,7 +11,7 @@ use Rattle.value_domain.specs.State.{Covers, AreValues}
 use Rattle.depth_cert.specs.declared.keys.Key.{Key}
 use Rattle.depth_cert.specs.declared.points.Exit.{Exit}
 use Rattle.depth_cert.specs.declared.points.Point.{Point}
-use Rattle.depth_cert.specs.Keys.{cert_flag_byte, key_number, number_of_key, IsKey, same_key}
+use Rattle.depth_cert.specs.Keys.{number_of_key, IsKey, same_key}
 use Rattle.depth_cert.specs.Points.{find_point, IsPoint}
 use Rattle.depth_cert.specs.Exits.{IsExit, state_after_exit, ExitCovers}
 use Rattle.depth_cert.specs.Nodes.{NodeData, IsNode, need_of, find_node}
@@ -31,6 +31,7 @@ use Rattle.depth_maker.specs.WellFormedAssignments.{AllWellFormed}
 use Rattle.frame_places.proofs.KeyLaws.{key_tells, key_same}
 use Rattle.depth_maker.proofs.PlaceLaws.{resumed_some, one_state}
 use Rattle.depth_maker.proofs.KeyDuties.{HasKey, duties_keys}
+use Rattle.depth_cert.proofs.KeyLaws.{found_in, one_number}
 
 -- ---- options and lists
 and_then_some : {A B : Type 0} (f : A → Option B) (o : Option A) (r : B) → option_and_then f o ≡ Some r → (x : A) × (o ≡ Some x) × (f x ≡ Some r)
@@ -48,39 +49,7 @@ some_and P (Some x) h = (x, refl, h)
 pub All-at : {X : Type 0} (P : X → Type 0) (xs : List X) (x : X) → All P xs → Contains xs x → P x
 All-at P xs x all c = subst P c.2 (all c.0 x c.1)
 
-pub found_in : {X : Type 0} (p : X → Bool) (xs : List X) (x : X) → find p xs ≡ Some x → Contains xs x × (p x ≡ true)
-found_in p [] x h = absurd (let f : None ≡ Some x = h in cc)
-found_in p (y ∷ ys) x h =
-    elim (p y) as (λ t. p y ≡ t → cond t (Some y) (find p ys) ≡ Some x → Contains (y ∷ ys) x × (p x ≡ true)) [
-      | true ↦ λ e g. let same : y ≡ x = cc in subst (λ z. Contains (y ∷ ys) z × (p z ≡ true)) same ((0, omega arith, refl), e)
-      | false ↦ λ e g. let rest = found_in p ys x g in ((suc (rest.0).0, (let lt = (rest.0).1 in omega arith), (rest.0).2), rest.1)
-    ] refl h
-
 -- ---- keys
-byte_lt : (t : Bool) → cert_flag_byte t < 2
-byte_lt true = omega arith
-byte_lt false = omega arith
-
-byte_same : (s t : Bool) → cert_flag_byte s ≡ cert_flag_byte t → s ≡ t
-byte_same true true e = refl
-byte_same false false e = refl
-byte_same true false e = absurd (let f : 1 ≡ 0 = e in omega arith)
-byte_same false true e = absurd (let f : 0 ≡ 1 = e in omega arith)
-
-number_parts : (a b c d e f g h : ℕ) → b < 2 ^ 32 → c < 2 ^ 8 → d < 2 → f < 2 ^ 32 → g < 2 ^ 8 → h < 2 → key_number a b c d ≡ key_number e f g h → (a ≡ e) × (b ≡ f) × (c ≡ g) × (d ≡ h)
-number_parts a b c d e f g h b_lt c_lt d_lt f_lt g_lt h_lt same =
-    let last : d ≡ h = omega arith in
-    let rest : (a * 2 ^ 32 + b) * 2 ^ 8 + c ≡ (e * 2 ^ 32 + f) * 2 ^ 8 + g = omega arith in
-    let prio : c ≡ g = omega arith in
-    let more : a * 2 ^ 32 + b ≡ e * 2 ^ 32 + f = omega arith in
-    let entry : b ≡ f = omega arith in
-    (omega arith, entry, prio, last)
-
-pub one_number : (j k : Key) → IsKey j → IsKey k → number_of_key j ≡ number_of_key k → j ≡ k
-one_number j k hj hk e =
-    let p = number_parts j.kind j.entry j.prio (cert_flag_byte j.is) k.kind k.entry k.prio (cert_flag_byte k.is) hj.entry hj.prio (byte_lt j.is) hk.entry hk.prio (byte_lt k.is) e in
-    let is = byte_same j.is k.is p.3 in
-    λ i. record { kind = p.0 i; entry = p.1 i; prio = p.2 i; is = is i }
 
 same_test : (j k : Key) → IsKey j → IsKey k → same_key j k ≡ eqb (number_of_key j) (number_of_key k)
 same_test j k hj hk =

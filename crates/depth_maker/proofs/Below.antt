@@ -17,7 +17,8 @@ use Rattle.cfg_recover.specs.CertRefusals.{HasManyNodes, HasManyPoints, IsPastCe
 use Rattle.depth_maker.specs.DutiesMonotone.{IsDutyBelow}
 use Rattle.depth_maker.specs.WellFormedAssignments.{IsWellFormedDuty, AllWellFormed}
 use Rattle.depth_maker.specs.MakerLaws.{AreMakerLaws}
-use Rattle.depth_maker.proofs.PlaceLaws.{place_tells, over_state, over_exit, resumed_some, from_if}
+use Rattle.depth_maker.proofs.PlaceLaws.{place_tells, over_exit, resumed_some, from_if}
+use Rattle.cfg_recover.proofs.KnownPlaces.{over_state}
 
 module _ (b : Limits) (image : ImageData) (plan : PlanData) (laws : AreMakerLaws b image plan) where
   -- ---- what flows in

@@ -1,5 +1,5 @@
 -- Searches in lists that were mapped or filtered, and the length of filters by frames.
-use Rattle.std.proofs.Common.{◌≡◌, ◌⊎◌, inl, inr, ℕ, zero, suc, ◌+◌, ◌<◌, ◌≤◌, Bool, true, false, cond, List, [], ◌∷◌, ◌++◌, length, map, get_or, refl, sym, ap, ◌∙◌, subst, arith, Some, None, Contains}
+use Rattle.std.proofs.Common.{◌≡◌, ◌⊎◌, inl, inr, ℕ, ◌+◌, ◌<◌, ◌≤◌, Bool, true, false, cond, List, [], ◌∷◌, ◌++◌, length, map, get_or, refl, sym, ap, ◌∙◌, subst, arith, Some, None, Contains}
 use Rattle.std.specs.Prelude.{filter, find, sum_by}
 use Rattle.std.specs.List.{IsDistinct, AllByRecursion, list_any, flat_map}
 use Rattle.std.specs.List.Sorted.{IsStrictlyIncreasing, IsNonDecreasingBy}
@@ -9,6 +9,7 @@ use Rattle.std.proofs.lemmas.List.Elements.{Contains-append_right}
 use Rattle.std.proofs.lemmas.List.Sums.{sum_by-cons}
 use Rattle.std.proofs.lemmas.Map.Keys.{IsDistinct-head, IsDistinct-tail}
 use Rattle.depth_maker.proofs.Sizes.{any_contained, contained_any}
+use Rattle.depth_maker.proofs.SpotLemmas.{front_cases}
 
 -- ---- maps
 pub map_twice : {X Y Z : Type 0} (g : Y → Z) (f : X → Y) (xs : List X) → map g (map f xs) ≡ map (λ x. g (f x)) xs
@@ -31,12 +32,6 @@ has_or_not same tells own xs x =
       | inr e ↦ inr (λ c. let f : true ≡ false = sym (contained_any same tells own xs x c) ∙ e in cc)
     ]
 
-rest_of : {X : Type 0} (y : X) (ys : List X) (x : X) → Contains (y ∷ ys) x → (y ≡ x) ⊎ Contains ys x
-rest_of {X} y ys x c = at c.0 c.1 c.2 where
-  at : (k : ℕ) → k < length (y ∷ ys) → get_or (y ∷ ys) k x ≡ x → (y ≡ x) ⊎ Contains ys x
-  at zero lt e = inl e
-  at (suc k) lt e = inr (k, omega arith, e)
-
 pub tail_has : {X : Type 0} (y : X) (ys : List X) (x : X) → Contains ys x → Contains (y ∷ ys) x
 tail_has y ys x c = Contains-append_right (y ∷ []) ys x c
 
@@ -47,7 +42,7 @@ find_mapped {X} {Y} test f x passes one (y ∷ ys) c =
     elim (cases_Bool (test (f y))) [
       | inl e ↦ ap (λ t. cond t (Some (f y)) (find test (map f ys))) e ∙ ap (λ (z : Y). Some z) (one y e)
       | inr e ↦ ap (λ t. cond t (Some (f y)) (find test (map f ys))) e ∙ find_mapped test f x passes one ys
-          (elim (rest_of y ys x c) [
+          (elim (front_cases y ys x c) [
             | inl same ↦ absurd (let g : true ≡ false = sym passes ∙ ap (λ (z : X). test (f z)) (sym same) ∙ e in cc)
             | inr more ↦ more
           ])
@@ -65,9 +60,9 @@ filter_has test [] x c passes = absurd (omega (arith, c.1))
 filter_has {X} test (y ∷ ys) x c passes =
     elim (cases_Bool (test y)) [
       | inl e ↦ subst (λ t. Contains (cond t (y ∷ filter test ys) (filter test ys)) x) (sym e)
-          (elim (rest_of y ys x c) [ inl same ↦ (0, omega arith, same) | inr more ↦ tail_has y (filter test ys) x (filter_has test ys x more passes) ])
+          (elim (front_cases y ys x c) [ inl same ↦ (0, omega arith, same) | inr more ↦ tail_has y (filter test ys) x (filter_has test ys x more passes) ])
       | inr e ↦ subst (λ t. Contains (cond t (y ∷ filter test ys) (filter test ys)) x) (sym e)
-          (elim (rest_of y ys x c) [
+          (elim (front_cases y ys x c) [
             | inl same ↦ absurd (let g : true ≡ false = sym passes ∙ ap test (sym same) ∙ e in cc)
             | inr more ↦ filter_has test ys x more passes
           ])
@@ -78,7 +73,7 @@ has_filter test [] x c = absurd (omega (arith, c.1))
 has_filter {X} test (y ∷ ys) x c =
     elim (cases_Bool (test y)) [
       | inl e ↦
-          elim (rest_of y (filter test ys) x (subst (λ t. Contains (cond t (y ∷ filter test ys) (filter test ys)) x) e c)) [
+          elim (front_cases y (filter test ys) x (subst (λ t. Contains (cond t (y ∷ filter test ys) (filter test ys)) x) e c)) [
             | inl same ↦ ((0, omega arith, same), ap test (sym same) ∙ e)
             | inr more ↦ (let r = has_filter test ys x more in (tail_has y ys x r.0, r.1))
           ]

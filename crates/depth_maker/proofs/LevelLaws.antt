@@ -11,8 +11,8 @@ use Rattle.value_domain.specs.declared.states.State.{State}
 use Rattle.value_domain.specs.Limits.{Limits, AreLimits}
 use Rattle.value_domain.specs.Sets.{Among, Within, Rising}
 use Rattle.value_domain.specs.Values.{IsBelow, IsWell, count_in, first_in_span, members}
-use Rattle.value_domain.specs.State.{AreBelow, AreValues, AreWell, Covers, FlagsImpliedBy}
-use Rattle.value_domain.proofs.CoverLaws.{among_member, has_step, length-multiples, member_among, rising_multiples, step_cases, unit_some}
+use Rattle.value_domain.specs.State.{AreBelow, AreWell, Covers, FlagsImpliedBy}
+use Rattle.value_domain.proofs.CoverLaws.{among_member, has_step, length-multiples, member_among, step_cases}
 use Rattle.value_domain.proofs.SetLaws.{length_within}
 use Rattle.depth_cert.specs.Keys.{cert_flag_byte}
 use Rattle.depth_cert.specs.declared.points.Exit as exits
@@ -21,6 +21,8 @@ use Rattle.depth_cert.specs.Known.{Known, state, leaving, CoversKnown, known_pri
 use Rattle.depth_cert.specs.WellFormed.{IsWellFormedState, IsWellFormedExit, IsWellFormedKnown}
 use Rattle.depth_maker.specs.TableLevels.{level_of_place, level_of_known, level_of_values}
 use Rattle.depth_maker.specs.MakerLaws.{AreMakerLaws}
+use Rattle.vd_transfer.proofs.OpLaws.{rising_members}
+use Rattle.small_states.proofs.IncomingLemmas.{values_well}
 
 -- ---- values
 -- an ascending list within another that is no longer has all that the other has
@@ -42,20 +44,16 @@ within_back (x ∷ xs) (y ∷ ys) rx ry w le z i =
             | inr k ↦ elim (w u (inr k)) [ inl f ↦ absurd (let a = rx.0 u k in let c = ry.0 x j in omega arith) | inr m ↦ m ]
           ]
 
-members_rising : (v : Val) → IsWell v → Rising (members v)
-members_rising (Set ws) w = w.rising
-members_rising (Span lo last step) w = rising_multiples (count_in lo last step) (first_in_span lo step) (2 ^ step) (unit_some step)
-
 members_within : (v w : Val) → IsWell v → IsWell w → IsBelow v w → Within (members v) (members w)
 members_within v w wv ww h z i = among_member w z (has_step w ww) (h z (member_among v z (has_step v wv) i))
 
 size_below : (v w : Val) → IsWell v → IsWell w → IsBelow v w → length (members v) ≤ length (members w)
-size_below v w wv ww h = length_within (members v) (members w) (members_rising v wv) (members_rising w ww) (members_within v w wv ww h)
+size_below v w wv ww h = length_within (members v) (members w) (rising_members v wv) (rising_members w ww) (members_within v w wv ww h)
 
 size_back : (v w : Val) → IsWell v → IsWell w → IsBelow v w → length (members w) ≤ length (members v) → IsBelow w v
 size_back v w wv ww h le z m =
     member_among v z (has_step v wv)
-    (within_back (members v) (members w) (members_rising v wv) (members_rising w ww) (members_within v w wv ww h) le z (among_member w z (has_step w ww) m))
+    (within_back (members v) (members w) (rising_members v wv) (rising_members w ww) (members_within v w wv ww h) le z (among_member w z (has_step w ww) m))
 
 count_most : (s : ℕ) → s ≤ 2 → (lo last : ℕ) → last < 2 ^ 32 → count_in lo last s ≤ 2 ^ 32
 count_most =
@@ -107,9 +105,6 @@ regs_most vs w = sum_by-le (λ (x : Val). length (members x)) (2 ^ 32) vs (λ k 
   at [] h k d lt = absurd (omega arith)
   at (u ∷ us) h zero d lt = size_most u (head u us h)
   at (u ∷ us) h (suc k) d lt = at us (tail u us h) k d (omega arith)
-
-values_well : (b : Limits) (vs : List Val) → AreValues b vs → AreWell vs
-values_well b vs h r lt = (h r lt).well
 
 -- ---- flags
 flag_below : (x y : Bool) → (IsTrue x → IsTrue y) → cert_flag_byte x ≤ cert_flag_byte y

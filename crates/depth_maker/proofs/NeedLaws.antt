@@ -16,11 +16,11 @@ use Rattle.depth_maker.specs.DutiesMonotone.{IsGround, IsDutyBelow}
 use Rattle.depth_maker.proofs.StateGrowth.{same_locals}
 use Rattle.depth_maker.specs.WellFormedAssignments.{AllWellFormed}
 use Rattle.depth_maker.specs.MakerLaws.{AreMakerLaws}
-use Rattle.depth_maker.proofs.PlaceLaws.{over_state}
 use Rattle.depth_maker.proofs.Below.{derived_below, duty_above, fault_refuted}
 use Rattle.depth_maker.proofs.Lawful.{lawful}
 use Rattle.depth_maker.proofs.Accepted.{accepted_well_formed, accepted_faultless, accepted_closed, accepted_needs, accepted_start_need, need_in}
 use Rattle.depth_maker.proofs.Sizes.{accepted_within}
+use Rattle.cfg_recover.proofs.KnownPlaces.{over_state}
 
 -- a duty that asks for no less than an entry is an entry of the same frame
 enters_above : (t : Key) (u : State) (e : Duty) → IsDutyBelow (enter t u) e → (w : State) × (e ≡ enter t w)

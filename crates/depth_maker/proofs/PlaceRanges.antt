@@ -5,7 +5,6 @@ use Rattle.elf_image.specs.Images.{ImageData}
 use Rattle.tcd_plan.specs.PlanData.{PlanData}
 use Rattle.tc_isa.specs.declared.shapes.Shape.{Shape}
 use Rattle.tc_isa.specs.InBounds.{IsShape}
-use Rattle.tc_machine.specs.Instructions.{machine_address_ahead}
 use Rattle.value_domain.specs.declared.states.State.{State}
 use Rattle.value_domain.specs.Limits.{Limits}
 use Rattle.depth_cert.specs.declared.keys.Key.{Key}
@@ -25,6 +24,7 @@ use Rattle.depth_maker.proofs.OwnGrowth.{setting_of}
 use Rattle.depth_maker.proofs.KeyDuties.{HasKey, duties_keys, target_small}
 use Rattle.depth_maker.proofs.Lawful.{lawful}
 use Rattle.depth_maker.proofs.TableLaws.{derived_well_formed}
+use Rattle.tc_machine.proofs.Saves.{moved-lt}
 
 -- a frame that may have an exit
 abbrev pub MayLeave : Key → Type 0
@@ -42,19 +42,16 @@ StaysInRange key (enter k t) = Unit {0}
 StaysInRange key (resume k q) = q < 2 ^ 32
 StaysInRange key (leave x) = MayLeave key
 
-moved_small : (p n : ℕ) → machine_address_ahead p n < 2 ^ 32
-moved_small p n = omega arith
-
 module _ (b : Limits) (image : ImageData) (plan : PlanData) (key : Key) (p : ℕ) (s : State) (ground : IsGround b image plan) (well_formed : IsWellFormedState b s) (is_key : IsKey key) where
   -- only a called function returns; of the handlers, only that of system calls returns to its
   -- caller
   stays_by : (shape : Shape) (n : ℕ) (d : Owed) → IsShape shape → LocalRule b plan key p s shape 6 → DutyAt b image plan key p s n shape d → StaysInRange key d.duty
-  stays_by _ n _ is own (next shape e) = moved_small p n
-  stays_by _ n _ is own (straight test x y by lowers t e) = moved_small p n
-  stays_by _ n _ is own (taken test x y by lowers t e) = moved_small p by
+  stays_by _ n _ is own (next shape e) = moved-lt p n
+  stays_by _ n _ is own (straight test x y by lowers t e) = moved-lt p n
+  stays_by _ n _ is own (taken test x y by lowers t e) = moved-lt p by
   stays_by _ n _ is own (target to q c) = target_small b image plan key p s (setting_of b image plan s ground well_formed) is_key to is q c
-  stays_by _ n _ is own (called_back to q c) = moved_small p n
-  stays_by _ n _ is own (system_back tin) = moved_small p n
+  stays_by _ n _ is own (called_back to q c) = moved-lt p n
+  stays_by _ n _ is own (system_back tin) = moved-lt p n
   stays_by _ n _ is own returns = inl (own.returns refl).0
   stays_by _ n _ is own (resumes e) = inr e
   stays_by _ n _ is own _ = tt

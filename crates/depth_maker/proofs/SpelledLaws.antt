@@ -39,7 +39,6 @@ use Rattle.depth_maker.specs.SpelledCert.{HasSpelledCcpns, spelled_addresses_in,
 use Rattle.depth_maker.specs.SpotsAsPlaces.{place_of_spot}
 use Rattle.frame_places.specs.declared.places.Spot.{Spot}
 use Rattle.frame_places.specs.declared.places.Spot.TheVariants.{Point, Exit}
-use Rattle.depth_maker.proofs.Accepted.{one_number}
 use Rattle.depth_maker.proofs.DutyGrowth.{contained_map}
 use Rattle.depth_maker.proofs.FindLemmas.{map_twice, sum_twice, has_or_not, find_mapped, find_unmapped, filter_has, has_filter, strict, sum_of_filters, one_at_most, one_if}
 use Rattle.depth_maker.proofs.Lawful.{lawful}
@@ -51,6 +50,7 @@ use Rattle.depth_maker.proofs.PlaceRanges.{IsInRange, derived_in_range}
 use Rattle.depth_maker.proofs.PointEntries.{placed}
 use Rattle.depth_maker.proofs.Sizes.{decides}
 use Rattle.depth_maker.proofs.TableLaws.{derived_well_formed}
+use Rattle.depth_cert.proofs.KeyLaws.{one_number}
 
 -- ---- values
 -- a value at the limits is one that certificates of the format may have
