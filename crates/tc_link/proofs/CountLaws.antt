@@ -25,17 +25,14 @@ add_one old name q n seen new s u e = by_test (bytes_eq name q) refl
   where
     by_test : (b : Bool) → bytes_eq name q ≡ b → new ≡ twice_of_count (n + cond (bytes_eq q name) 1 0)
     by_test true t =
-        let same : name ≡ q = (bytes_eq-Decides name q).0 t in
-        let back : bytes_eq q name ≡ true = bytes_eq-sym q name ∙ t in
         u ∙ ap (λ b. cond b (Some seen) (old q)) t
-        ∙ ap (λ (b : Bool). Some b) (s ∙ ap (λ (x : List ℕ). is_some (old x)) same ∙ ap is_some e)
+        ∙ ap (λ (b : Bool). Some b) (s ∙ ap (λ (x : List ℕ). is_some (old x)) ((bytes_eq-Decides name q).0 t) ∙ ap is_some e)
         ∙ kept_more n
-        ∙ ap (λ b. twice_of_count (n + cond b 1 0)) (sym back)
+        ∙ ap (λ b. twice_of_count (n + cond b 1 0)) (sym (bytes_eq-sym q name ∙ t))
     by_test false t =
-        let back : bytes_eq q name ≡ false = bytes_eq-sym q name ∙ t in
         u ∙ ap (λ b. cond b (Some seen) (old q)) t ∙ e
         ∙ ap twice_of_count (sym (add-zero n))
-        ∙ ap (λ b. twice_of_count (n + cond b 1 0)) (sym back)
+        ∙ ap (λ b. twice_of_count (n + cond b 1 0)) (sym (bytes_eq-sym q name ∙ t))
 
 not_zero : (n : ℕ) → eqb (suc n) 0 ≡ false
 not_zero n = grind (arith, nat_tests)

@@ -18,9 +18,8 @@ more_from {A} {B} f n (x ∷ xs) zero d h e g =
     ap (λ (o : Option B). option_or o (first_refusal_from f (n + 1) (take zero xs))) (ap (λ k. f k x) (sym (add-zero n)) ∙ g)
 more_from {A} {B} f n (x ∷ xs) (suc i) d h e g =
     let p = none_first (f n x) (first_refusal_from f (n + 1) (take i xs)) e in
-    let same : n + 1 + i ≡ n + suc i = omega arith in
     ap (λ (o : Option B). option_or o (first_refusal_from f (n + 1) (take (suc i) xs))) p.0
-    ∙ more_from f (n + 1) xs i d (omega arith) p.1 (ap (λ k. f k (get_or xs i d)) same ∙ g)
+    ∙ more_from f (n + 1) xs i d (omega arith) p.1 (ap (λ k. f k (get_or xs i d)) (omega arith) ∙ g)
 
 -- none so far, and one at the next item
 found_from : {A B : Type 0} (f : ℕ → A → Option B) (n : ℕ) (xs : List A) (i : ℕ) (d : A) (r : B) → i < length xs → first_refusal_from f n (take i xs) ≡ None → f (n + i) (get_or xs i d) ≡ Some r → first_refusal_from f n xs ≡ Some r
@@ -30,20 +29,15 @@ found_from {A} {B} f n (x ∷ xs) zero d r h e g =
     ap (λ (o : Option B). option_or o (first_refusal_from f (n + 1) xs)) (ap (λ k. f k x) (sym (add-zero n)) ∙ g)
 found_from {A} {B} f n (x ∷ xs) (suc i) d r h e g =
     let p = none_first (f n x) (first_refusal_from f (n + 1) (take i xs)) e in
-    let same : n + 1 + i ≡ n + suc i = omega arith in
     ap (λ (o : Option B). option_or o (first_refusal_from f (n + 1) xs)) p.0
-    ∙ found_from f (n + 1) xs i d r (omega arith) p.1 (ap (λ k. f k (get_or xs i d)) same ∙ g)
+    ∙ found_from f (n + 1) xs i d r (omega arith) p.1 (ap (λ k. f k (get_or xs i d)) (omega arith) ∙ g)
 
 pub first_more : {A B : Type 0} (f : ℕ → A → Option B) (xs : List A) (i : ℕ) (d : A) → i < length xs → first_refusal_from f 0 (take i xs) ≡ None → f i (get_or xs i d) ≡ None → first_refusal_from f 0 (take (i + 1) xs) ≡ None
 first_more f xs i d h e g =
-    let same : 0 + i ≡ i = omega arith in
-    let next : suc i ≡ i + 1 = omega arith in
-    ap (λ k. first_refusal_from f 0 (take k xs)) (sym next) ∙ more_from f 0 xs i d h e (ap (λ k. f k (get_or xs i d)) same ∙ g)
+    ap (λ k. first_refusal_from f 0 (take k xs)) (sym (omega arith)) ∙ more_from f 0 xs i d h e (ap (λ k. f k (get_or xs i d)) (omega arith) ∙ g)
 
 pub first_found : {A B : Type 0} (f : ℕ → A → Option B) (xs : List A) (i : ℕ) (d : A) (r : B) → i < length xs → first_refusal_from f 0 (take i xs) ≡ None → f i (get_or xs i d) ≡ Some r → first_refusal_from f 0 xs ≡ Some r
-first_found f xs i d r h e g =
-    let same : 0 + i ≡ i = omega arith in
-    found_from f 0 xs i d r h e (ap (λ k. f k (get_or xs i d)) same ∙ g)
+first_found f xs i d r h e g = found_from f 0 xs i d r h e (ap (λ k. f k (get_or xs i d)) (omega arith) ∙ g)
 
 pub first_end : {A B : Type 0} (f : ℕ → A → Option B) (xs : List A) (i : ℕ) → length xs ≤ i → first_refusal_from f 0 (take i xs) ≡ None → first_refusal_from f 0 xs ≡ None
 first_end f xs i h e = ap (first_refusal_from f 0) (sym (take_all i xs h)) ∙ e

@@ -48,9 +48,7 @@ pub keep_global : (old : List ℕ → Option ℕ) (name : List ℕ) (address : �
 keep_global old name address q there = by_test (bytes_eq q name) refl
   where
     by_test : (b : Bool) → bytes_eq q name ≡ b → old q ≡ option_or (old q) (cond b (Some address) None)
-    by_test true t =
-        let same : q ≡ name = (bytes_eq-Decides q name).0 t in
-        some_or (old q) (Some address) (ap (λ (x : List ℕ). is_some (old x)) same ∙ there)
+    by_test true t = some_or (old q) (Some address) (ap (λ (x : List ℕ). is_some (old x)) ((bytes_eq-Decides q name).0 t) ∙ there)
     by_test false t = or_none (old q)
 
 -- a name that isn't gets one
@@ -60,9 +58,8 @@ put_global old name address q new none u = by_test (bytes_eq q name) refl
   where
     by_test : (b : Bool) → bytes_eq q name ≡ b → new ≡ option_or (old q) (cond b (Some address) None)
     by_test true t =
-        let same : q ≡ name = (bytes_eq-Decides q name).0 t in
         u ∙ ap (λ b. cond b (Some address) (old q)) (bytes_eq-sym name q ∙ t)
-        ∙ none_or (old q) (Some address) (ap (λ (x : List ℕ). is_some (old x)) same ∙ none)
+        ∙ none_or (old q) (Some address) (ap (λ (x : List ℕ). is_some (old x)) ((bytes_eq-Decides q name).0 t) ∙ none)
     by_test false t = u ∙ ap (λ b. cond b (Some address) (old q)) (bytes_eq-sym name q ∙ t) ∙ or_none (old q)
 
 -- a fact of a value that is put at a name

@@ -27,9 +27,8 @@ fits_from : (contents sections : List SectionData) (before places : List PlaceDa
 fits_from contents sections before [] same turn e = tt
 fits_from contents sections before (p ∷ ps) same turn e =
     let parts = or_false (ltb p.most (taken_place_size p.section sections)) (list_any (λ q. ltb q.most (taken_place_size q.section sections)) ps) e in
-    let most : taken_place_size p.section sections ≤ p.most = ltb-false _ _ parts.0 in
     let len : length (joined_sections p.section contents) ≡ taken_place_size p.section sections = length-joined p.section contents ∙ taken-shapes p.section contents sections same in
-    ((turn.0.place, omega arith), fits_from contents sections (before ++ p ∷ []) ps same turn.1 parts.1)
+    ((turn.0.place, omega (arith, ltb-false _ _ parts.0)), fits_from contents sections (before ++ p ∷ []) ps same turn.1 parts.1)
 
 abbrev has_bytes : SegmentData → Bool
 has_bytes s = ltb 0 (length s.bytes)
@@ -43,10 +42,7 @@ all_segments contents [] h = refl
 all_segments contents (p ∷ ps) h = by_bytes (all_segments contents ps h.1) (has_bytes (segment_of contents p)) refl
   where
     by_bytes : list_all is_segment (segments contents ps) ≡ true → (b : Bool) → has_bytes (segment_of contents p) ≡ b → list_all is_segment (cond b (segment_of contents p ∷ segments contents ps) (segments contents ps)) ≡ true
-    by_bytes rest true e =
-        let place : IsPlace p = h.0.0 in
-        let fits : p.at + length (joined_sections p.section contents) ≤ 2 ^ 32 = omega (arith, place.within, h.0.1) in
-        and_from _ _ (and_from _ _ e (le-leb _ _ fits)) rest
+    by_bytes rest true e = and_from _ _ (and_from _ _ e (le-leb _ _ (omega (arith, h.0.0.within, h.0.1)))) rest
     by_bytes rest false e = rest
 
 -- ---- no two share an address
@@ -62,9 +58,7 @@ of_more : (before : List PlaceData) (p q : PlaceData) → IsOf before p → IsOf
 of_more before p q h f e = h f (or_false (list_any f before) (list_any f (q ∷ [])) (sym (list_any-append f before (q ∷ [])) ∙ e)).0
 
 of_last : (before : List PlaceData) (p : PlaceData) → IsOf (before ++ p ∷ []) p
-of_last before p f e =
-    let last = or_false (list_any f before) (list_any f (p ∷ [])) (sym (list_any-append f before (p ∷ [])) ∙ e) in
-    (or_false (f p) false last.1).0
+of_last before p f e = (or_false (f p) false (or_false (list_any f before) (list_any f (p ∷ [])) (sym (list_any-append f before (p ∷ [])) ∙ e)).1).0
 
 apart_from : (p : PlaceData) (before qs : List PlaceData) → IsOf before p → InTurn IsPlaceAfter before qs → ApartFrom p qs
 apart_from p before [] h turn = tt
@@ -78,11 +72,7 @@ two_apart p q m n fm fn sm sn e = by_first (leb (p.at + m) q.at) refl
 
     by_first : (b : Bool) → leb (p.at + m) q.at ≡ b → (b || leb (q.at + n) p.at) ≡ true
     by_first true f = refl
-    by_first false f =
-        let past : q.at < p.at + m = leb-false _ _ f in
-        let low : min (q.at + q.most) (p.at + p.most) ≤ max q.at p.at = met in
-        let under : q.at + n ≤ p.at = omega arith in
-        le-leb _ _ under
+    by_first false f = le-leb _ _ (omega (arith, leb-false _ _ f, met))
 
 apart_one : (contents : List SectionData) (p : PlaceData) (qs : List PlaceData) → length (joined_sections p.section contents) ≤ p.most → 0 < length (joined_sections p.section contents) → Fits contents qs → ApartFrom p qs
     → list_all (are_apart (segment_of contents p)) (segments contents qs) ≡ true
@@ -146,13 +136,10 @@ unfolding are_places_overfull total_place_size segments_of
 image_is layout contents sections entry good same room small =
     let parts = or_false (list_any (λ p. ltb p.most (taken_place_size p.section sections)) layout.places) (ltb (2 ^ 24) (sum_by (λ p. taken_place_size p.section sections) layout.places)) room in
     let fits = fits_from contents sections [] layout.places same good.places parts.0 in
-    let few : length (segments contents layout.places) ≤ length layout.places = few_segments contents layout.places in
-    let most : sum_by (λ p. taken_place_size p.section sections) layout.places ≤ 2 ^ 24 = ltb-false _ _ parts.1 in
-    let size : sum_by (λ s. length s.bytes) (segments contents layout.places) ≤ sum_by (λ p. taken_place_size p.section sections) layout.places = small_segments contents sections layout.places same in
     record {
       entry = small;
-      few = omega (arith, few, good.few);
+      few = omega (arith, few_segments contents layout.places, good.few);
       segments = all_segments contents layout.places fits;
       apart = apart_all contents [] layout.places good.places fits;
-      small = omega (arith, size, most);
+      small = omega (arith, small_segments contents sections layout.places same, ltb-false _ _ parts.1);
     }

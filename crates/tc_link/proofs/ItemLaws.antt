@@ -16,10 +16,7 @@ good_more {A} P xs i x h is p below k d l = by_test (ltb k i) refl
   where
     by_test : (b : Bool) → ltb k i ≡ b → P (get_or xs k d)
     by_test true t = below k d (ltb-true _ _ t)
-    by_test false t =
-        let past : i ≤ k = ltb-false _ _ t in
-        let same : i ≡ k = omega (arith, past, l) in
-        subst (λ (j : ℕ). P (get_or xs j d)) same (subst P (is ∙ same_item xs i x d h) p)
+    by_test false t = subst (λ (j : ℕ). P (get_or xs j d)) (omega (arith, ltb-false _ _ t, l)) (subst P (is ∙ same_item xs i x d h) p)
 
 pub zero_at : (n k : ℕ) → get_or {A = ℕ} (replicate n 0) k 0 ≡ 0
 zero_at n k = by_test (ltb k n) refl
@@ -27,9 +24,8 @@ zero_at n k = by_test (ltb k n) refl
     by_test : (b : Bool) → ltb k n ≡ b → get_or {A = ℕ} (replicate n 0) k 0 ≡ 0
     by_test true t = get_or-replicate {A = ℕ} n k 0 0 (ltb-true _ _ t)
     by_test false t =
-        let past : n ≤ k = ltb-false _ _ t in
         let len : length (replicate {A = ℕ} n 0) ≡ n = length-replicate {A = ℕ} n 0 in
-        let short : length (replicate {A = ℕ} n 0) ≤ k = omega (arith, past, len) in
+        let short : length (replicate {A = ℕ} n 0) ≤ k = omega (arith, ltb-false _ _ t, len) in
         get_or-eq_default (replicate {A = ℕ} n 0) 0 short
 
 -- items at equal places of equal lists are equal

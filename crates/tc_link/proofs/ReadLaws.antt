@@ -46,9 +46,8 @@ next_fault : (all : List (List ℕ)) (n : ℕ) (rest line after : List ℕ) (d :
     → option_or (fault_of (n + 1) d.entries d.places (layout_line_contents line)) (first_fault (take n all ++ line ∷ []) (text_lines after)) ≡ first_fault [] all
 unfolding first_fault
 next_fault all n rest line after d r e =
-    let len : length (take n all) ≡ n = length-take-le n all r.count in
     let at : first_fault (take n all) (line ∷ text_lines after) ≡ first_fault [] all = ap (first_fault (take n all)) (sym e) ∙ r.good in
-    rw (r.entries, r.places) (rw len at at)
+    rw (r.entries, r.places) (rw (length-take-le n all r.count) at at)
 
 pub reached_more : (all : List (List ℕ)) (n : ℕ) (rest line after : List ℕ) (d new : LayoutDraftData) → Reached all n rest d → text_lines rest ≡ line ∷ text_lines after
     → fault_of (n + 1) d.entries d.places (layout_line_contents line) ≡ None → new ≡ with_layout_line d (layout_line_contents line) → Reached all (n + 1) after new
@@ -83,14 +82,11 @@ reached_fault all n rest line after d e r lines f = by_err e f
 end_at : (all : List (List ℕ)) (n : ℕ) (d : LayoutDraftData) → Reached all n [] d → layout_in all ≡ with_entry n d.entries d.places
 unfolding text_lines first_fault
 end_at all n d r =
-    let none : length (drop n all) ≡ 0 = ap length r.rest_lines in
-    let whole : n ≡ length all = omega (arith, none, length-drop n all, r.count) in
+    let whole : n ≡ length all = omega (arith, ap length r.rest_lines, length-drop n all, r.count) in
     let taken : take n all ≡ all = take_all n all (omega (arith, whole)) in
-    let entries : layout_entries all ≡ d.entries = ap layout_entries (sym taken) ∙ sym r.entries in
-    let places : places_of all ≡ d.places = ap places_of (sym taken) ∙ sym r.places in
     ap (λ (o : Option LayoutErr). unless_refused o (with_entry (length all) (layout_entries all) (places_of all))) (sym r.good)
-    ∙ ap (λ (es : List (List ℕ)). with_entry (length all) es (places_of all)) entries
-    ∙ ap (λ (ps : List PlaceData). with_entry (length all) d.entries ps) places
+    ∙ ap (λ (es : List (List ℕ)). with_entry (length all) es (places_of all)) (ap layout_entries (sym taken) ∙ sym r.entries)
+    ∙ ap (λ (ps : List PlaceData). with_entry (length all) d.entries ps) (ap places_of (sym taken) ∙ sym r.places)
     ∙ ap (λ k. with_entry k d.entries d.places) (sym whole)
 
 pub reached_end : (all : List (List ℕ)) (n : ℕ) (rest : List ℕ) (d : LayoutDraftData) → Reached all n rest d → length rest ≡ 0 → layout_in all ≡ with_entry n d.entries d.places

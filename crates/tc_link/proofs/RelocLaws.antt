@@ -44,8 +44,7 @@ with_reloc_shapes g p ss r h = by_section (slice_get ss r.section) refl
     by_section : (o : Option SectionData) → slice_get ss r.section ≡ o → map section_shape (option_map_or (λ x. set ss r.section (with_relocation g p r x)) o ss) ≡ map section_shape ss
     by_section None at = refl
     by_section (Some x) at =
-        let room : r.offset + 4 ≤ length x.bytes = omega (arith, h, ap section_size at) in
-        set_shape ss r.section x (with_relocation g p r x) at (filled_shape r (field_place p r) (reloc_value g p r) x room)
+        set_shape ss r.section x (with_relocation g p r x) at (filled_shape r (field_place p r) (reloc_value g p r) x (omega (arith, h, ap section_size at)))
 
 relocs_shapes : (g : List GlobalData) (p : PlacedData) (sections ss : List SectionData) (symbols : ℕ) (before rs : List Reloc) → map section_shape ss ≡ map section_shape sections → InTurn (IsReloc sections symbols) before rs
     → map section_shape (fold (with_reloc g p) ss rs) ≡ map section_shape sections
@@ -81,8 +80,7 @@ reloc_at o i d good h = turn_at (IsReloc o.sections (length o.symbols)) [] o.rel
 
 pub section_in : (ss sections : List SectionData) (n : ℕ) → map section_shape ss ≡ map section_shape sections → n < length sections → n < length ss
 section_in ss sections n same h =
-    let e : length ss ≡ length sections = sym (length-map ss section_shape) ∙ ap (λ (l : List SectionShape). length l) same ∙ length-map sections section_shape in
-    omega arith
+    omega (arith, sym (length-map ss section_shape) ∙ ap (λ (l : List SectionShape). length l) same ∙ length-map sections section_shape)
 
 pub room_in : (ss sections : List SectionData) (n k : ℕ) → map section_shape ss ≡ map section_shape sections → k ≤ section_size_at sections n → k ≤ section_size_at ss n
 room_in ss sections n k same h = omega (arith, h, size_at-shapes ss sections n same)
@@ -131,5 +129,4 @@ pub shapes_at : (r : Reloc) (ss : List SectionData) (y d : SectionData) (place v
 shapes_at r ss y d place value h room e =
     let x : SectionData = get_or ss r.section d in
     let is : x ≡ get_or ss r.section x = same_item ss r.section d x h in
-    let fits : r.offset + 4 ≤ length x.bytes = omega (arith, room, size_here ss r.section x h is) in
-    shapes_in r ss (set ss r.section y) x place value h is fits (ap (set ss r.section) e)
+    shapes_in r ss (set ss r.section y) x place value h is (omega (arith, room, size_here ss r.section x h is)) (ap (set ss r.section) e)

@@ -91,8 +91,7 @@ none_from false n e = refl
 
 pub find_none : {A : Type 0} (p : A → Bool) (xs : List A) → position p xs ≡ None → find p xs ≡ None
 find_none p xs e =
-    let past : length xs ≤ position_or_len p xs = ltb-false _ _ (none_from (ltb (position_or_len p xs) (length xs)) (position_or_len p xs) e) in
-    find_at p xs ∙ slice_get_past xs (position_or_len p xs) past
+    find_at p xs ∙ slice_get_past xs (position_or_len p xs) (ltb-false _ _ (none_from (ltb (position_or_len p xs) (length xs)) (position_or_len p xs) e))
 
 pub find_some : {A : Type 0} (p : A → Bool) (xs : List A) (i : ℕ) (d : A) → position p xs ≡ Some i → find p xs ≡ Some (get_or xs i d)
 find_some {A} p xs i d e =

@@ -16,12 +16,10 @@ use Rattle.tc_link.proofs.global_symbols.add_symbol.Goals as goal
 pub returns-in_default-clause-counts : goal.returns-in_default-clause-counts
 returns-in_default-clause-counts c = λ q n e.
     let v : SymbolData = record { name = c.symbol.inside.name.now; kind = c.symbol.inside.kind; section = c.symbol.inside.section; offset = c.symbol.inside.offset } in
-    let is : is_global v ≡ true = grind (arith, common_steps, c.if-not-is_global.false) in
     let twice : Definition → Bool = λ d. d.is_twice in
-    let none : global_at_name c.args.names.now v.name ≡ None = sym c.in_ok-first.ensures.old ∙ c.in_default.is in
-    named_on (is_global v) (bytes_eq q v.name) n (twice_at c.insert.new.self q) is
+    named_on (is_global v) (bytes_eq q v.name) n (twice_at c.insert.new.self q) (grind (arith, common_steps, c.if-not-is_global.false))
     (add_one (twice_at c.args.names.now) v.name q n false (twice_at c.insert.new.self q)
-    (sym (ap (λ (o : Option Definition). is_some (option_map twice o)) none))
+    (sym (ap (λ (o : Option Definition). is_some (option_map twice o)) (sym c.in_ok-first.ensures.old ∙ c.in_default.is)))
     (ap (option_map twice) (hash_map_updates_str v.name c.args.names.now c.insert.new.self _ c.in_ok-first.ensures.updates q)
     ∙ map_cond twice (bytes_eq v.name q) _ (global_at_name c.args.names.now q))
     e)
@@ -33,9 +31,8 @@ returns-in_default-clause-globals c = λ placed p before at rel q.
     let is : is_global v ≡ true = grind (arith, common_steps, c.if-not-is_global.false) in
     let d : Definition = record { object = c.args.object; section = v.section; offset = v.offset; is_twice = false } in
     let f : Definition → ℕ = address_of placed in
-    let none : global_at_name c.args.names.now v.name ≡ None = sym c.in_ok-first.ensures.old ∙ c.in_default.is in
     put_global (address_named c.args.names.now placed) v.name (f d) q (address_named c.insert.new.self placed q)
-    (ap (λ (o : Option Definition). is_some (option_map f o)) none)
+    (ap (λ (o : Option Definition). is_some (option_map f o)) (sym c.in_ok-first.ensures.old ∙ c.in_default.is))
     (ap (option_map f) (hash_map_updates_str v.name c.args.names.now c.insert.new.self _ c.in_ok-first.ensures.updates q)
     ∙ map_cond f (bytes_eq v.name q) d (global_at_name c.args.names.now q))
     ∙ ap (λ (o : Option ℕ). option_or o (cond (bytes_eq q v.name) (Some (f d)) None)) (rel q)
@@ -46,12 +43,10 @@ returns-in_default-clause-globals c = λ placed p before at rel q.
 pub returns-clause-counts : goal.returns-clause-counts
 returns-clause-counts c = λ q n e.
     let v : SymbolData = record { name = c.symbol.inside.name.now; kind = c.symbol.inside.kind; section = c.symbol.inside.section; offset = c.symbol.inside.offset } in
-    let is : is_global v ≡ true = grind (arith, common_steps, c.if-not-is_global.false) in
     let twice : Definition → Bool = λ d. d.is_twice in
-    let some : global_at_name c.args.names.now v.name ≡ Some c.in-Some.first = sym c.in_ok-first.ensures.old ∙ c.in-Some.is in
-    named_on (is_global v) (bytes_eq q v.name) n (twice_at c.insert-2.new.self q) is
+    named_on (is_global v) (bytes_eq q v.name) n (twice_at c.insert-2.new.self q) (grind (arith, common_steps, c.if-not-is_global.false))
     (add_one (twice_at c.args.names.now) v.name q n true (twice_at c.insert-2.new.self q)
-    (sym (ap (λ (o : Option Definition). is_some (option_map twice o)) some))
+    (sym (ap (λ (o : Option Definition). is_some (option_map twice o)) (sym c.in_ok-first.ensures.old ∙ c.in-Some.is)))
     (ap (option_map twice) (put_twice (bytes_eq v.name q) _ _ (global_at_name c.args.names.now q) (global_at_name c.insert.new.self q) (global_at_name c.insert-2.new.self q)
     (hash_map_updates_str v.name c.args.names.now c.insert.new.self _ c.in_ok-first.ensures.updates q)
     (hash_map_updates_str v.name c.insert.new.self c.insert-2.new.self _ c.in_ok-insert.ensures.updates q))
