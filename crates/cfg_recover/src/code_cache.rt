@@ -7,9 +7,9 @@ ghost use Rattle.tc_encode.specs.Decoding.{decoded_of};
 ghost use Rattle.cfg_recover.specs.Code.{LocatesCode, located_code_of};
 ghost use Rattle.cfg_recover.specs.KnownCodes.{located_code_in, IsKnownCode};
 
-use crate::decoded_inst::decoded_at;
+use crate::decoded_inst::decode_at;
 use crate::local_rules::Located;
-use crate::rom_code::{code_byte_at, four_in_rom};
+use crate::rom_code::{code_byte_at, four_bytes_in_rom};
 use elf_image::Image;
 use tc_encode::decode;
 use tc_isa::shape;
@@ -37,7 +37,7 @@ impl KnownCodes {
     #[inline(never)]
     pub fn new() -> KnownCodes {
         KnownCodes {
-            codes: [known_code(0); 256],
+            codes: [decode_word(0); 256],
             near: 0,
         }
     }
@@ -52,16 +52,16 @@ impl KnownCodes {
         if addr % 2 == 1 {
             return None;
         }
-        let Some(bytes) = four_in_rom(image, plan, addr, &mut self.near) else {
-            return decoded_at(image, plan, addr);
+        let Some(bytes) = four_bytes_in_rom(image, plan, addr, &mut self.near) else {
+            return decode_at(image, plan, addr);
         };
-        let word = code_word(bytes);
-        let place = code_cache_place(word);
+        let word = cache_word_of_bytes(bytes);
+        let place = code_cache_slot(word);
         let known = self.codes[place];
         if known.word == word {
             return known.found;
         }
-        let code = known_code(word);
+        let code = decode_word(word);
         self.codes[place] = code;
         code.found
     }
@@ -86,7 +86,7 @@ impl KnownCodes {
 
 /// Decodes the bytes of a word.
 #[inline(never)]
-fn known_code(word: u32) -> KnownCode
+fn decode_word(word: u32) -> KnownCode
     ensures { result.word ≡ word }
 {
     let found = match decode(&word.to_le_bytes()) {
@@ -102,7 +102,7 @@ fn known_code(word: u32) -> KnownCode
 /// Returns the word by which the cache knows the instruction that four bytes begin with. An even
 /// first byte means two bytes, and the word is those two alone.
 #[inline(always)]
-fn code_word(bytes: [u8; 4]) -> u32
+fn cache_word_of_bytes(bytes: [u8; 4]) -> u32
     ensures { located_code_in result ≡ located_code_of (decoded_of bytes) }
 {
     code_cache_byte_bounds(&bytes);
@@ -118,7 +118,7 @@ fn code_cache_byte_bounds(bytes: &[u8])
 /// The place of a word: the highest byte of its product with 01010101. Except for carries, this is
 /// the sum of the word's bytes.
 #[inline(always)]
-fn code_cache_place(word: u32) -> usize
+fn code_cache_slot(word: u32) -> usize
     ensures { result < 256 }
 {
     (word.wrapping_mul(0x0101_0101) / 0x100_0000) as usize

@@ -19,7 +19,7 @@ pub(crate) struct InstAt<'a> {
 
 /// Decodes the instruction at an address.
 #[inline(never)]
-pub(crate) fn decoded_at(image: &Image, plan: &Plan, addr: u32) -> Option<Located>
+pub(crate) fn decode_at(image: &Image, plan: &Plan, addr: u32) -> Option<Located>
     ensures code { LocatesCode image.now plan.now addr result }
     ensures shape { IfSome result (λ found. IsShape found.shape) }
 {

@@ -17,7 +17,7 @@ use store_ranges::aligned;
 use tc_isa::Shape;
 use tcd_plan::Plan;
 use value_domain::{Bounds, State};
-use vd_transfer::address_by;
+use vd_transfer::address_by_shape;
 
 /// Appends the keys of the frames that a call or a system call enters, in the order of its duties.
 pub fn push_entered_keys(
@@ -70,7 +70,7 @@ fn has_misaligned_address(b: &Bounds, plan: &Plan, s: &State, shape: Shape, size
     ensures { result ≡ not (are_aligned (address_of b.now plan.now shape s.now) size) }
 {
     let _most_words = b.most_words();
-    let at = address_by(b, plan, shape, s);
+    let at = address_by_shape(b, plan, shape, s);
     !aligned(&at, size)
 }
 

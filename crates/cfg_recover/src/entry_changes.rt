@@ -53,7 +53,7 @@ pub fn handler_change(b: &Bounds, plan: &Plan, key: &Key, s: &State, ccpn: u8) -
     ensures values { AreValues b.now (state_after s.now result).regs }
 {
     let _most_words = b.most_words();
-    handler_with(s, handler_entry_stack(b, plan, key, s), ccpn)
+    handler_change_with_stack(s, handler_entry_stack(b, plan, key, s), ccpn)
 }
 
 /// The change at the entry of the handler of misaligned accesses.
@@ -63,7 +63,7 @@ pub fn misaligned_change(b: &Bounds, plan: &Plan, key: &Key, s: &State) -> Chang
     ensures values { AreValues b.now (state_after s.now result).regs }
 {
     let _most_words = b.most_words();
-    let mut c = handler_with(s, handler_entry_stack(b, plan, key, s), s.ccpn);
+    let mut c = handler_change_with_stack(s, handler_entry_stack(b, plan, key, s), s.ccpn);
     c.second = put_register(D15, entry_constant(b, ALN_TIN));
     c
 }
@@ -93,7 +93,7 @@ fn entry_constant(b: &Bounds, x: u32) -> Val
 }
 
 /// The change at the entry of a handler with this stack pointer and CCPN.
-fn handler_with(s: &State, sp: Val, ccpn: u8) -> Change
+fn handler_change_with_stack(s: &State, sp: Val, ccpn: u8) -> Change
     ensures { result ≡ changes.handler_change sp ccpn }
 {
     let mut c = identity_change(s);

@@ -19,7 +19,7 @@ ghost use Rattle.vd_transfer.specs.EffectsOnStates.{access_of, address_of};
 use crate::rom_code::code_at;
 use depth_cert::{ALN, CALL, IRQ, Key, SYS};
 use elf_image::Image;
-use store_ranges::{aligned, is_in_range, store_ok};
+use store_ranges::{aligned, is_store_in_range, store_ok};
 use tc_isa::{Arg, Inst, Op, Shape, Target, alu, shape};
 use tcd_plan::Plan;
 use value_domain::{Bounds, State, Val};
@@ -62,7 +62,7 @@ pub struct Located {
 }
 
 /// The instruction at a point, if no rule's own part fails there; else the least rule that fails.
-pub fn local_check(
+pub fn check_local_rules(
     b: &Bounds,
     image: &Image,
     plan: &Plan,
@@ -89,7 +89,7 @@ pub fn local_check(
 
 /// The instruction at an address and its length, if no rule's own part fails there; else the least
 /// rule that fails.
-pub(crate) fn local_or_code(
+pub(crate) fn check_local_rules_of_inst(
     b: &Bounds,
     image: &Image,
     plan: &Plan,
@@ -168,22 +168,22 @@ pub(crate) fn first_local_fault(
             after,
             ..
         } => {
-            let loading = local_access_fault(b, plan, s, *shape);
+            let loading = access_fault(b, plan, s, *shape);
             loading.or(rule_unless(
                 keeps_fixed_registers_in_load(dst, base, after),
                 FIXED_REGISTER,
             ))
         }
         Shape::Store { base, after, .. } => {
-            let storing = local_access_fault(b, plan, s, *shape);
+            let storing = access_fault(b, plan, s, *shape);
             storing.or(rule_unless(keeps_fixed_base(base, after), FIXED_REGISTER))
         }
         Shape::Branch { x, lowers, .. } => rule_unless(
             keeps_fixed_registers_in_branch(x, lowers),
             FIXED_REGISTER,
         ),
-        Shape::Jump { to } => rule_unless(knows_target(plan, s, to), UNKNOWN_TARGETS),
-        Shape::Call { to } => rule_unless(knows_target(plan, s, to), UNKNOWN_TARGETS),
+        Shape::Jump { to } => rule_unless(has_known_targets(plan, s, to), UNKNOWN_TARGETS),
+        Shape::Call { to } => rule_unless(has_known_targets(plan, s, to), UNKNOWN_TARGETS),
         Shape::Ret => rule_unless(may_return(key, s), BAD_RETURN),
         Shape::Rfe => rule_unless(may_return_from_exception(key, s), BAD_EXCEPTION_RETURN),
         Shape::Svlcx => rule_unless(may_save(b, s), BAD_LOCALS),
@@ -207,12 +207,12 @@ pub fn rule_unless(holds: bool, rule: u8) -> Option<u8>
 }
 
 /// Tries the rules for an access with one address.
-pub(crate) fn local_fault_at_word(plan: &Plan, x: u32, shape: Shape) -> Option<u8>
+pub(crate) fn access_fault_at_word(plan: &Plan, x: u32, shape: Shape) -> Option<u8>
     requires shape { IsShape shape }
     ensures { (b : Limits) (s : State) → address_of b plan.now shape s ≡ word_val x
         → IsAccessFault b plan.now s shape result }
 {
-    if !stores_in_range_at(plan, x, shape) {
+    if !may_store_at(plan, x, shape) {
         return Some(STORE_OUT_OF_RANGE);
     }
     if !may_access_at(plan, x, shape) {
@@ -224,14 +224,14 @@ pub(crate) fn local_fault_at_word(plan: &Plan, x: u32, shape: Shape) -> Option<u
 /// Tries the rules for an access with any addresses. It is a function of its own, so that an access
 /// with one address makes no value.
 #[inline(never)]
-pub(crate) fn local_fault_at_value(b: &Bounds, plan: &Plan, s: &State, shape: Shape) -> Option<u8>
+pub(crate) fn access_fault_at_value(b: &Bounds, plan: &Plan, s: &State, shape: Shape) -> Option<u8>
     requires shape { IsShape shape }
     requires values { AreValues b.now s.now.regs }
     ensures { IsAccessFault b.now plan.now s.now shape result }
 {
     let mut at = Val::any();
     write_address(b, plan, shape, s, &mut at);
-    if !stores_in_range(plan, &at, shape) {
+    if !may_store(plan, &at, shape) {
         return Some(STORE_OUT_OF_RANGE);
     }
     if !may_access(plan, &at, shape) {
@@ -241,7 +241,7 @@ pub(crate) fn local_fault_at_value(b: &Bounds, plan: &Plan, s: &State, shape: Sh
 }
 
 /// K5: the targets of a jump or a call are a known list of addresses.
-pub(crate) fn knows_target(plan: &Plan, s: &State, to: Target) -> bool
+pub(crate) fn has_known_targets(plan: &Plan, s: &State, to: Target) -> bool
     requires { IsTarget to }
     ensures { (p : ℕ) → IsTrue result ↔ IsSome (targets_of plan.now s.now p to) }
 {
@@ -281,7 +281,7 @@ pub(crate) fn may_restore(s: &State) -> bool
 
 /// K9: each possible store is in one ram range or one peripheral range as a whole, and doesn't pass
 /// 2^32.
-pub(crate) fn stores_in_range(plan: &Plan, at: &Val, shape: Shape) -> bool
+pub(crate) fn may_store(plan: &Plan, at: &Val, shape: Shape) -> bool
     requires shape { IsShape shape }
     requires well { IsWell at.now }
     ensures { IsTrue result ↔ StoresInRangeAt plan.now at.now shape }
@@ -294,11 +294,11 @@ pub(crate) fn stores_in_range(plan: &Plan, at: &Val, shape: Shape) -> bool
 
 /// Returns true if K9's own part holds at an instruction whose access has only one address: a store
 /// is in one ram or peripheral range.
-pub(crate) fn stores_in_range_at(plan: &Plan, x: u32, shape: Shape) -> bool
+pub(crate) fn may_store_at(plan: &Plan, x: u32, shape: Shape) -> bool
     ensures { IsTrue result ↔ StoresInRangeAt plan.now (word_val x) shape }
 {
     match shape {
-        Shape::Store { size, .. } => is_in_range(plan, x, size),
+        Shape::Store { size, .. } => is_store_in_range(plan, x, size),
         _ => true,
     }
 }
@@ -311,8 +311,8 @@ pub(crate) fn may_access(plan: &Plan, at: &Val, shape: Shape) -> bool
     ensures { IsTrue result ↔ MayAccessAt plan.now at.now shape }
 {
     match shape {
-        Shape::Load { size, .. } => is_allowed(plan, at, size),
-        Shape::Store { size, .. } => is_allowed(plan, at, size),
+        Shape::Load { size, .. } => may_access_by_size(plan, at, size),
+        Shape::Store { size, .. } => may_access_by_size(plan, at, size),
         _ => true,
     }
 }
@@ -323,8 +323,8 @@ pub(crate) fn may_access_at(plan: &Plan, x: u32, shape: Shape) -> bool
     ensures { IsTrue result ↔ MayAccessAt plan.now (word_val x) shape }
 {
     match shape {
-        Shape::Load { size, .. } => is_allowed_at(plan, x, size),
-        Shape::Store { size, .. } => is_allowed_at(plan, x, size),
+        Shape::Load { size, .. } => may_access_by_size_at(plan, x, size),
+        Shape::Store { size, .. } => may_access_by_size_at(plan, x, size),
         _ => true,
     }
 }
@@ -337,14 +337,14 @@ pub(crate) fn may_call_system(plan: &Plan) -> bool
 }
 
 /// Tries K9, then K10, for an access.
-fn local_access_fault(b: &Bounds, plan: &Plan, s: &State, shape: Shape) -> Option<u8>
+fn access_fault(b: &Bounds, plan: &Plan, s: &State, shape: Shape) -> Option<u8>
     requires shape { IsShape shape }
     requires values { AreValues b.now s.now.regs }
     ensures { IsAccessFault b.now plan.now s.now shape result }
 {
     match rule_address_by_shape(b, plan, s, shape) {
-        Some(x) => local_fault_at_word(plan, x, shape),
-        None => local_fault_at_value(b, plan, s, shape),
+        Some(x) => access_fault_at_word(plan, x, shape),
+        None => access_fault_at_value(b, plan, s, shape),
     }
 }
 
@@ -432,7 +432,7 @@ fn may_handler_return(key: &Key, s: &State) -> bool
 
 /// Returns true if K10's own part holds for an access of this size: each address is a multiple of
 /// it, or the plan states the trap of misaligned accesses.
-fn is_allowed(plan: &Plan, at: &Val, size: u8) -> bool
+fn may_access_by_size(plan: &Plan, at: &Val, size: u8) -> bool
     requires well { IsWell at.now }
     requires size { IsShapeAccessSize size }
     ensures { IsTrue result ↔ ((are_aligned at.now size ≡ true) ⊎ (plan.now.aln ≡ true)) }
@@ -441,7 +441,7 @@ fn is_allowed(plan: &Plan, at: &Val, size: u8) -> bool
 }
 
 /// K10, for an access of this size with only one address.
-fn is_allowed_at(plan: &Plan, x: u32, size: u8) -> bool
+fn may_access_by_size_at(plan: &Plan, x: u32, size: u8) -> bool
     requires { IsShapeAccessSize size }
     ensures { IsTrue result
         ↔ ((are_aligned (word_val x) size ≡ true) ⊎ (plan.now.aln ≡ true)) }

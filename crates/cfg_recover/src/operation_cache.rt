@@ -63,7 +63,7 @@ fn is_cached_set(v: &Val, words: &[u32]) -> bool
 /// The operation of an instruction of this shape, if it works on two data registers whose values
 /// are sets of many words, and writes a data register.
 #[inline(always)]
-fn set_operation(shape: Shape, s: &State) -> Option<SetOperation<'_>>
+fn cacheable_operation(shape: Shape, s: &State) -> Option<SetOperation<'_>>
     ensures shape { IfSome result (λ o. o.shape ≡ shape) }
     ensures operation { IfSome result (IsSetOperation s.now) }
 {
@@ -205,7 +205,7 @@ impl OperationCache {
         ensures values { IsTrue result → AreValues b.now (state_after s.now c.new).regs }
         ensures results { HoldsCachedResults b.now self.new }
     {
-        let Some(operation) = set_operation(shape, s) else {
+        let Some(operation) = cacheable_operation(shape, s) else {
             return false;
         };
         match operation.dst % 4 {

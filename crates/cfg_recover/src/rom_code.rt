@@ -20,9 +20,9 @@ pub fn code_at(image: &Image, plan: &Plan, addr: u32) -> Option<(Inst, u32)>
         return None;
     }
     let mut near = 0;
-    match four_in_rom(image, plan, addr, &mut near) {
+    match four_bytes_in_rom(image, plan, addr, &mut near) {
         Some(bytes) => code_in_bytes(&bytes),
-        None => match two_in_rom(image, plan, addr) {
+        None => match two_bytes_in_rom(image, plan, addr) {
             Some(bytes) => code_in_bytes(&bytes),
             None => None,
         },
@@ -32,7 +32,7 @@ pub fn code_at(image: &Image, plan: &Plan, addr: u32) -> Option<(Inst, u32)>
 /// Four bytes of the image in one rom range. The segment with the number `near` is tried first, and
 /// `near` becomes the number of the one that holds them.
 #[inline(always)]
-pub(crate) fn four_in_rom(
+pub(crate) fn four_bytes_in_rom(
     image: &Image,
     plan: &Plan,
     addr: u32,
@@ -75,7 +75,7 @@ fn code_in_bytes(bytes: &[u8]) -> Option<(Inst, u32)>
 
 /// Two bytes of the image in one rom range.
 #[inline(always)]
-fn two_in_rom(image: &Image, plan: &Plan, addr: u32) -> Option<[u8; 2]>
+fn two_bytes_in_rom(image: &Image, plan: &Plan, addr: u32) -> Option<[u8; 2]>
     ensures { FindsHeldBytes image.now plan.now addr 2 result }
 {
     if is_code_in_rom(plan, addr, 2) {

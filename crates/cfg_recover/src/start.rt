@@ -14,7 +14,7 @@ use value_domain::{A10_SLOT, State, Val};
 pub fn start_state(plan: &Plan) -> State
     ensures { result ≡ entries.start_state plan.now }
 {
-    let mut regs = any_regs();
+    let mut regs = unknown_regs();
     regs[A10_SLOT] = Val::one(plan.sp);
     State {
         regs,
@@ -26,7 +26,7 @@ pub fn start_state(plan: &Plan) -> State
 }
 
 /// The values of the 27 registers at the start, before A10 is set: all are unknown.
-pub(crate) fn any_regs() -> [Val; 27]
+pub(crate) fn unknown_regs() -> [Val; 27]
     ensures { result ≡ replicate 27 any_val }
 {
     std::array::from_fn(|_| Val::any())

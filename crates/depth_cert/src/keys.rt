@@ -46,14 +46,14 @@ pub struct Key {
 }
 
 /// Returns the number of a key. Keys are ordered by it.
-pub fn number_of(key: &Key) -> u64
+pub fn key_number(key: &Key) -> u64
     ensures { result ≡ number_of_key key.now }
 {
-    number_of_key_fields(key.kind, key.entry, key.prio, if key.is { 1 } else { 0 })
+    key_number_of_fields(key.kind, key.entry, key.prio, if key.is { 1 } else { 0 })
 }
 
 /// Returns the fields of a key as one number. Keys are ordered by it.
-pub(crate) fn number_of_key_fields(kind: u8, entry: u32, prio: u8, is: u8) -> u64
+pub(crate) fn key_number_of_fields(kind: u8, entry: u32, prio: u8, is: u8) -> u64
     ensures { result ≡ key_number kind entry prio is }
 {
     ((u64::from(kind) * 4_294_967_296 + u64::from(entry)) * 256 + u64::from(prio)) * 256

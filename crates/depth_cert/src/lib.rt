@@ -15,9 +15,9 @@ mod writing;
 
 pub use cert_reader::{read_magic, read_node_count, read_version};
 pub use errors::CertErr;
-pub use keys::{ALN, CALL, IRQ, Key, START, SYS, key_kind_text, number_of};
+pub use keys::{ALN, CALL, IRQ, Key, START, SYS, key_kind_text, key_number};
 pub use laws::spelling_laws;
-pub use lower_registers::lower_value;
+pub use lower_registers::lower_register_value;
 pub use node_reader::{read_exit, read_has_exit, read_key, read_need, read_point_count};
 pub use nodes::no_exit;
 pub use point_reader::{read_address, read_locals};

@@ -7,7 +7,7 @@ use value_domain::Val;
 
 /// Returns the value of a lower register, by its number among them: D0 to D7, A2 to A7.
 #[inline(always)]
-pub fn lower_value(regs: &[Val; 27], i: usize) -> &Val
+pub fn lower_register_value(regs: &[Val; 27], i: usize) -> &Val
     requires { i < 14 }
     ensures { result.now ≡ slice_index_or (lower_values regs.now) i any_val }
 {

@@ -3,7 +3,7 @@ ghost use Rattle.std.specs.Prelude.{◌≡◌, ◌≤◌, ◌<◌, ◌+◌, ◌^
 ghost use Rattle.tcd_base.specs.FieldReaders.{ReadsField};
 ghost use Rattle.depth_cert.specs.Grammar.{is_above_last_read, key_after, need_at, has_exit_at, exit_at, point_count_at};
 
-use crate::keys::number_of_key_fields;
+use crate::keys::key_number_of_fields;
 use crate::point_reader::MOST_POINTS;
 use crate::value_reader::{read_flag, read_values};
 use crate::{ALN, CALL, Exit, Key, SYS};
@@ -28,7 +28,7 @@ pub fn read_key(c: &mut FileCursor<'_>, last: Option<u64>) -> Result<Key, FormEr
     let prio = read_u8(c)?;
     let at = c.place();
     let is = read_u8(c)?;
-    if !is_next_node_number(last, number_of_key_fields(kind, entry, prio, is)) {
+    if !is_next_node_number(last, key_number_of_fields(kind, entry, prio, is)) {
         return Err(form_err_at(BAD_ORDER, start));
     }
     if is > 1 {

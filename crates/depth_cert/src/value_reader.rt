@@ -7,7 +7,7 @@ ghost use Rattle.depth_cert.specs.Grammar.{flag_at, set_word_after, set_at, span
 
 use arrayvec::ArrayVec;
 use tcd_base::{BAD_VALUE, FileCursor, FormErr, form_err_at, read_u8, read_u32};
-use value_domain::{Val, count_of, set_span, set_words, write_any};
+use value_domain::{Val, span_len, set_span, set_words, write_any};
 
 /// The first byte of a Span is this plus its step.
 pub const SPAN: u8 = 240;
@@ -47,7 +47,7 @@ fn read_set<const N: usize>(c: &mut FileCursor<'_>, n: usize, out: &mut Val) -> 
         let word = read_set_word(c, words.as_slice())?;
         words.push(word);
     }
-    make_read_set(words.as_slice(), out);
+    make_set_of_ascending(words.as_slice(), out);
     Ok(())
 }
 
@@ -105,7 +105,7 @@ fn read_set_word(c: &mut FileCursor<'_>, before: &[u32]) -> Result<u32, FormErr>
 }
 
 /// Makes a value the Set of ascending words.
-fn make_read_set(words: &[u32], out: &mut Val)
+fn make_set_of_ascending(words: &[u32], out: &mut Val)
     requires some { 1 ≤ length words.now }
     requires few { length words.now ≤ 128 }
     requires rising { IsStrictlyIncreasing words.now }
@@ -155,5 +155,5 @@ fn is_cert_span(version: u8, lo: u32, last: u32, step: u8) -> bool
     ensures { result ≡ is_cert_span version lo last step }
 {
     let width = if version == 1 { 64 } else { 128 };
-    width < count_of(lo, last, step) && !(lo == 0 && last == u32::MAX && step == 0)
+    width < span_len(lo, last, step) && !(lo == 0 && last == u32::MAX && step == 0)
 }

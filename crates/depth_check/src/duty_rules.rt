@@ -23,7 +23,7 @@ use crate::rules::{
     NO_EXCEPTION_RETURN, NO_FUNCTION, NO_INTERRUPT, NO_MISALIGNED, NO_POINT, NO_RETURN,
     NO_SYSTEM_CALL, SMALL_NEED, lesser_broken_rule,
 };
-use crate::successor_rules::broken_by_successors;
+use crate::successor_rules::rule_broken_by_successors;
 use cfg_recover::{
     Located, aln_key, call_change, direct_target, entered_key, handler_change, interrupts, irq_key,
     may_be_misaligned, misaligned_change, rule_unless, sys_key, system_change, targets,
@@ -36,7 +36,7 @@ use vd_transfer::Change;
 
 /// Returns the least rule that the duties of a point break: what it enters, its interrupts, how it
 /// leaves the node, or its successors. The instruction breaks no rule by itself.
-pub(crate) fn broken_by_duties(
+pub(crate) fn rule_broken_by_duties(
     at: &PointCheck<'_, '_>,
     found: &Located,
     scratch: &mut PointScratch,
@@ -51,11 +51,11 @@ pub(crate) fn broken_by_duties(
     ensures results { HoldsCachedResults at.now.bounds scratch.new.cache }
     ensures registers { RegistersHoldAt at.now scratch.new.registers }
 {
-    let jumps = broken_by_successors(at, found, scratch);
-    let entered = broken_by_entries(at, found.shape, found.size, &mut scratch.registers.called);
-    let misaligned = broken_by_access(at, found);
-    let irqs = broken_by_interrupts(at);
-    let leave = broken_by_leaving(at.node, at.point.state, found.shape);
+    let jumps = rule_broken_by_successors(at, found, scratch);
+    let entered = rule_broken_by_entries(at, found.shape, found.size, &mut scratch.registers.called);
+    let misaligned = rule_broken_by_access(at, found);
+    let irqs = rule_broken_by_interrupts(at);
+    let leave = rule_broken_by_leaving(at.node, at.point.state, found.shape);
     lesser_broken_rule(
         lesser_broken_rule(
             lesser_broken_rule(lesser_broken_rule(jumps, entered), misaligned),
@@ -67,7 +67,7 @@ pub(crate) fn broken_by_duties(
 
 /// Returns the least rule that a point's duties to enter interrupt handlers break. They are passed
 /// over if they are known to hold.
-pub(crate) fn broken_by_interrupts(at: &PointCheck<'_, '_>) -> Option<u8>
+pub(crate) fn rule_broken_by_interrupts(at: &PointCheck<'_, '_>) -> Option<u8>
     ensures { LeastBrokenByDuties at.now
         (interrupts_of at.now.plan at.now.node.key at.now.point.state) result }
 {
@@ -83,12 +83,12 @@ pub(crate) fn broken_by_interrupts(at: &PointCheck<'_, '_>) -> Option<u8>
     if irqs.is_empty() {
         return None;
     }
-    broken_by_taken(at, irqs.as_slice())
+    rule_broken_by_taken_irqs(at, irqs.as_slice())
 }
 
 /// The least rule that the entries of these interrupts break. `entry` is their change, except for
 /// its CCPN.
-pub(crate) fn broken_by_irqs(at: &PointCheck<'_, '_>, irqs: &[u8], entry: Change) -> Option<u8>
+pub(crate) fn rule_broken_by_irqs(at: &PointCheck<'_, '_>, irqs: &[u8], entry: Change) -> Option<u8>
     requires { AreWell (state_after at.now.point.state entry).regs }
     ensures { LeastBrokenByDuties at.now
         (duties_of_irqs at.now.plan (state_after at.now.point.state entry) irqs.now) result }
@@ -97,14 +97,14 @@ pub(crate) fn broken_by_irqs(at: &PointCheck<'_, '_>, irqs: &[u8], entry: Change
     let mut found = None;
     for p in irqs {
         entry.ccpn = *p;
-        let one = broken_by_entry(at, NO_INTERRUPT, &irq_key(at.plan, *p), &entry, None);
+        let one = rule_broken_by_entry(at, NO_INTERRUPT, &irq_key(at.plan, *p), &entry, None);
         found = lesser_broken_rule(found, one);
     }
     found
 }
 
 /// The least rule that the entries of a call or a system call break.
-fn broken_by_entries(
+fn rule_broken_by_entries(
     at: &PointCheck<'_, '_>,
     shape: Shape,
     size: u32,
@@ -119,15 +119,15 @@ fn broken_by_entries(
 {
     let back = at.point.addr.wrapping_add(size);
     match shape {
-        Shape::Call { to } => broken_by_call_kept(at, to, back, called),
-        Shape::Syscall { tin } => broken_by_system(at, tin, back),
+        Shape::Call { to } => rule_broken_by_unknown_call(at, to, back, called),
+        Shape::Syscall { tin } => rule_broken_by_system_call(at, tin, back),
         _ => None,
     }
 }
 
 /// The least rule that the trap of a misaligned access breaks. Without that trap in the plan no
 /// entry is owed, since K10 holds.
-fn broken_by_access(at: &PointCheck<'_, '_>, found: &Located) -> Option<u8>
+fn rule_broken_by_access(at: &PointCheck<'_, '_>, found: &Located) -> Option<u8>
     requires { StandsFaultless at.now.bounds at.now.image at.now.plan
         at.now.node.key at.now.point.addr at.now.point.state found.now }
     ensures { LeastBrokenByDuties at.now
@@ -141,13 +141,13 @@ fn broken_by_access(at: &PointCheck<'_, '_>, found: &Located) -> Option<u8>
     if !may_be_misaligned(at.bounds, at.plan, at.point.state, found.shape) {
         return None;
     }
-    broken_by_trap(at)
+    rule_broken_by_trap_entry(at)
 }
 
 /// Returns the least rule that a point's duty to leave its node breaks: by RET, or by RFE in the
 /// handler of system calls.
 #[tactic(auto, unfolding(cfg_recover::specs::FlowDuties::flow_leave_of))]
-fn broken_by_leaving(node: &Node<'_>, s: &State, shape: Shape) -> Option<u8>
+fn rule_broken_by_leaving(node: &Node<'_>, s: &State, shape: Shape) -> Option<u8>
     requires { AreWell s.now.regs }
     ensures { FindsLeastBroken (LeavingHolds node.now s.now (flows.flow_leave_of shape)) result }
 {
@@ -166,7 +166,7 @@ fn broken_by_leaving(node: &Node<'_>, s: &State, shape: Shape) -> Option<u8>
 
 /// The least rule that a call breaks. Calls by the register `called` are passed over if the point
 /// after them has the current state; if calls by another register hold, that one is kept.
-fn broken_by_call_kept(
+fn rule_broken_by_unknown_call(
     at: &PointCheck<'_, '_>,
     to: Target,
     back: u32,
@@ -182,16 +182,16 @@ fn broken_by_call_kept(
     ensures called { RegisterCallsHoldAt at.now called.new }
 {
     let Target::Reg(r) = to else {
-        return broken_by_call(at, to, back);
+        return rule_broken_by_call(at, to, back);
     };
     let call = Target::Reg(r);
     if at.point.next != Some(back) {
-        return broken_by_call(at, call, back);
+        return rule_broken_by_call(at, call, back);
     }
     if *called == Some(r) {
         return None;
     }
-    let found = broken_by_call(at, call, back);
+    let found = rule_broken_by_call(at, call, back);
     if found.is_none() {
         *called = Some(r);
     }
@@ -201,7 +201,7 @@ fn broken_by_call_kept(
 /// Returns the least rule that the entry of the handler of the system call `tin` breaks, with the
 /// point to which it returns.
 #[inline(never)]
-fn broken_by_system(at: &PointCheck<'_, '_>, tin: u8, back: u32) -> Option<u8>
+fn rule_broken_by_system_call(at: &PointCheck<'_, '_>, tin: u8, back: u32) -> Option<u8>
     ensures { LeastBrokenByDuties at.now
         (entered_and_back 12 (entries.sys_key at.now.plan at.now.node.key)
         (entries.sys_entry at.now.plan at.now.node.key at.now.point.state tin) back) result }
@@ -209,13 +209,13 @@ fn broken_by_system(at: &PointCheck<'_, '_>, tin: u8, back: u32) -> Option<u8>
     let node = at.node;
     let entry = system_change(at.bounds, at.plan, &node.key, at.point.state, tin);
     let key = sys_key(at.plan, &node.key);
-    broken_by_entry(at, NO_SYSTEM_CALL, &key, &entry, Some(back))
+    rule_broken_by_entry(at, NO_SYSTEM_CALL, &key, &entry, Some(back))
 }
 
 /// Returns the least rule that the entries of a call's functions break, with the points to which
 /// they return.
 #[inline(never)]
-fn broken_by_call(at: &PointCheck<'_, '_>, to: Target, back: u32) -> Option<u8>
+fn rule_broken_by_call(at: &PointCheck<'_, '_>, to: Target, back: u32) -> Option<u8>
     requires { IsTarget to }
     ensures { LeastBrokenByDuties at.now
         (flat_map (λ t. entered_and_back 5 (call_key at.now.node.key t)
@@ -225,13 +225,13 @@ fn broken_by_call(at: &PointCheck<'_, '_>, to: Target, back: u32) -> Option<u8>
 {
     let entry = call_change(at.bounds, at.point.state);
     match direct_target(at.point.addr, to) {
-        Some(target) => broken_by_calls(at, &entry, &[target], back),
-        None => broken_by_listed_calls(at, &entry, to, back),
+        Some(target) => rule_broken_by_calls(at, &entry, &[target], back),
+        None => rule_broken_by_call_list(at, &entry, to, back),
     }
 }
 
 /// The least rule that calls of these targets break. They return to `back`.
-fn broken_by_calls(
+fn rule_broken_by_calls(
     at: &PointCheck<'_, '_>,
     entry: &Change,
     targets: &[u32],
@@ -247,7 +247,7 @@ fn broken_by_calls(
     let mut held = None;
     for t in targets {
         let key = entered_key(&node.key, CALL, *t);
-        let one = broken_by_called(at, &key, entry, back, &mut held);
+        let one = rule_broken_by_called_node(at, &key, entry, back, &mut held);
         found = lesser_broken_rule(found, one);
     }
     found
@@ -255,7 +255,7 @@ fn broken_by_calls(
 
 /// The least rule that a call of a key's node breaks. If the call of the key `held` holds and both
 /// nodes have the same entry and exit, only needs are compared. If a call holds, its key is kept.
-fn broken_by_called(
+fn rule_broken_by_called_node(
     at: &PointCheck<'_, '_>,
     key: &Key,
     entry: &Change,
@@ -270,7 +270,7 @@ fn broken_by_called(
     ensures held { IfSome held.new (IsHeldCall at.now entry.now back) }
 {
     if let Some(last) = *held {
-        if at.cert.are_entered_alike(&last, key) {
+        if at.cert.have_same_entry_and_exit(&last, key) {
             let Some(entered) = at.cert.node(key) else {
                 return Some(NO_FUNCTION);
             };
@@ -278,7 +278,7 @@ fn broken_by_called(
             return rule_unless(has_need, SMALL_NEED);
         }
     }
-    let found = broken_by_entry(at, NO_FUNCTION, key, entry, Some(back));
+    let found = rule_broken_by_entry(at, NO_FUNCTION, key, entry, Some(back));
     if found.is_none() {
         *held = Some(*key);
     }
@@ -287,7 +287,7 @@ fn broken_by_called(
 
 /// The least rule that a call breaks whose targets are those of a register.
 #[inline(never)]
-fn broken_by_listed_calls(
+fn rule_broken_by_call_list(
     at: &PointCheck<'_, '_>,
     entry: &Change,
     to: Target,
@@ -302,12 +302,12 @@ fn broken_by_listed_calls(
         result }
 {
     let targets = targets(at.plan, at.point.state, at.point.addr, to);
-    broken_by_calls(at, entry, targets.as_slice(), back)
+    rule_broken_by_calls(at, entry, targets.as_slice(), back)
 }
 
 /// The least rule that the entry of a key's node with a changed state breaks. `rule` asks for the
 /// entry; the frame returns to `back`.
-fn broken_by_entry(
+fn rule_broken_by_entry(
     at: &PointCheck<'_, '_>,
     rule: u8,
     key: &Key,
@@ -363,7 +363,7 @@ fn has_point_after_entry(
 
 /// The least rule that the entry of the handler of misaligned accesses breaks.
 #[inline(never)]
-fn broken_by_trap(at: &PointCheck<'_, '_>) -> Option<u8>
+fn rule_broken_by_trap_entry(at: &PointCheck<'_, '_>) -> Option<u8>
     ensures { LeastBrokenByDuties at.now
         (owed 10 (enter (entries.aln_key at.now.plan at.now.node.key)
         (entries.aln_entry at.now.plan at.now.node.key at.now.point.state)) ∷ [])
@@ -372,17 +372,17 @@ fn broken_by_trap(at: &PointCheck<'_, '_>) -> Option<u8>
     let node = at.node;
     let entry = misaligned_change(at.bounds, at.plan, &node.key, at.point.state);
     let key = aln_key(at.plan, &node.key);
-    broken_by_entry(at, NO_MISALIGNED, &key, &entry, None)
+    rule_broken_by_entry(at, NO_MISALIGNED, &key, &entry, None)
 }
 
 /// The least rule that the entries of these interrupts break, which are all that may be taken.
 #[inline(never)]
-fn broken_by_taken(at: &PointCheck<'_, '_>, irqs: &[u8]) -> Option<u8>
+fn rule_broken_by_taken_irqs(at: &PointCheck<'_, '_>, irqs: &[u8]) -> Option<u8>
     requires { irqs.now ≡ irqs_of at.now.plan at.now.point.state }
     ensures { LeastBrokenByDuties at.now
         (interrupts_of at.now.plan at.now.node.key at.now.point.state) result }
 {
     let node = at.node;
     let entry = handler_change(at.bounds, at.plan, &node.key, at.point.state, 0);
-    broken_by_irqs(at, irqs, entry)
+    rule_broken_by_irqs(at, irqs, entry)
 }

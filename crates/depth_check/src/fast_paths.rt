@@ -114,7 +114,7 @@ impl CheckedRegisters {
     /// The registers that are known at the next point too, whose address is `next` if it has the
     /// current state.
     #[inline(always)]
-    pub(crate) fn if_repeated(self, next: Option<u32>) -> CheckedRegisters
+    pub(crate) fn kept_if_repeated(self, next: Option<u32>) -> CheckedRegisters
         ensures { result ≡ record {
           called = option_and next self.called;
           jumped = option_and next self.jumped;
@@ -134,7 +134,7 @@ pub(crate) const NO_REGISTERS: CheckedRegisters = CheckedRegisters {
 };
 
 /// The least rule that a step breaks which changes nothing.
-pub(crate) fn broken_by_pass(at: &PointCheck<'_, '_>, next: u32) -> Option<u8>
+pub(crate) fn rule_broken_by_kept_state(at: &PointCheck<'_, '_>, next: u32) -> Option<u8>
     ensures { LeastBrokenByDuties at.now (owed 4 (jump next at.now.point.state) ∷ []) result }
 {
     rule_unless(is_own_state_covered(at, next), NO_POINT)

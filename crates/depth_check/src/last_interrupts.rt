@@ -7,7 +7,7 @@ ghost use Rattle.vd_transfer.specs.Registers.{a10_of};
 ghost use Rattle.tcd_plan.specs.PlanData.{PlanData};
 ghost use Rattle.depth_check.specs.Interrupts.{IsContext, FitsContext, IsBelowContext, InterruptsHold, AreWellStacks, LastInterruptsHold, InterruptsHoldWith};
 
-use crate::duty_rules::broken_by_irqs;
+use crate::duty_rules::rule_broken_by_irqs;
 use crate::points::PointCheck;
 use cfg_recover::interrupts;
 use packed_cert::Node;
@@ -61,7 +61,7 @@ impl LastInterrupts {
     {
         match &self.last {
             Some(context) => {
-                if context.is && context.is_like(node, s) {
+                if context.is && context.is_equal_except_stack(node, s) {
                     Some(join(b, &context.sp, &s.regs[A10_SLOT]))
                 } else {
                     None
@@ -79,9 +79,9 @@ impl LastInterrupts {
         requires interrupts { LastInterruptsHold at.now.plan at.now.cert self.old }
         ensures { LastInterruptsHold at.now.plan at.now.cert self.new }
     {
-        let sp = common_stack(at, &*self);
+        let sp = stack_to_keep(at, &*self);
         self.before = self.last.take();
-        self.last = Some(InterruptContext::at(at.node, at.point.state, sp));
+        self.last = Some(InterruptContext::of_state(at.node, at.point.state, sp));
     }
 }
 
@@ -99,7 +99,7 @@ pub(crate) struct InterruptContext {
 
 impl InterruptContext {
     /// The context of a state of the node's point, with this A10.
-    fn at(node: &Node<'_>, s: &State, sp: Val) -> InterruptContext
+    fn of_state(node: &Node<'_>, s: &State, sp: Val) -> InterruptContext
         ensures same { IsContext result node.now s.now }
         ensures sp { result.sp ≡ sp }
     {
@@ -114,7 +114,7 @@ impl InterruptContext {
 
     /// Whether a state of the node's point has this context, apart from A10, with no fewer areas
     /// left.
-    fn is_like(&self, node: &Node<'_>, s: &State) -> bool
+    fn is_equal_except_stack(&self, node: &Node<'_>, s: &State) -> bool
         ensures { IsTrue result → FitsContext self.now node.now s.now }
     {
         self.ie == s.ie
@@ -131,7 +131,7 @@ fn context_covers(context: &Option<InterruptContext>, node: &Node<'_>, s: &State
     ensures { IsTrue result → IsSomeAnd context.now (λ a. IsBelowContext a node.now s.now) }
 {
     match context {
-        Some(context) => context.is_like(node, s)
+        Some(context) => context.is_equal_except_stack(node, s)
             && (!context.is || leq(&s.regs[A10_SLOT], &context.sp)),
         None => false,
     }
@@ -143,7 +143,7 @@ fn context_covers(context: &Option<InterruptContext>, node: &Node<'_>, s: &State
 ///
 /// With the join kept, an A10 that changes from point to point soon needs nothing more: after some
 /// 64 points the join has all of its values.
-fn common_stack(at: &PointCheck<'_, '_>, kept: &LastInterrupts) -> Val
+fn stack_to_keep(at: &PointCheck<'_, '_>, kept: &LastInterrupts) -> Val
     requires holds { InterruptsHold at.now.plan at.now.cert at.now.node at.now.point.state }
     requires interrupts { LastInterruptsHold at.now.plan at.now.cert kept.now }
     ensures value { IsValue at.now.bounds result }
@@ -162,7 +162,7 @@ fn common_stack(at: &PointCheck<'_, '_>, kept: &LastInterrupts) -> Val
     entry.ie = false;
     entry.lower = true;
     entry.locals.clear();
-    match broken_by_irqs(at, interrupts(at.plan, s).as_slice(), entry) {
+    match rule_broken_by_irqs(at, interrupts(at.plan, s).as_slice(), entry) {
         Some(_) => own,
         None => sp,
     }

@@ -98,7 +98,7 @@ pub(crate) fn has_point_after_return(
         return true;
     };
     match node.point(at) {
-        Some(upper) => upper.covers_after(s, &exit, kind),
+        Some(upper) => upper.covers_after_return(s, &exit, kind),
         None => false,
     }
 }

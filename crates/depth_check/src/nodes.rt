@@ -9,7 +9,7 @@ ghost use Rattle.depth_check.specs.NodeFaults as nodes;
 
 use crate::fast_paths::NO_REGISTERS;
 use crate::last_interrupts::LastInterrupts;
-use crate::points::{PointCheck, PointScratch, are_point_values, broken_by_point, walked_point};
+use crate::points::{PointCheck, PointScratch, are_point_values, rule_broken_at, point_of_walk};
 use crate::rules::BAD_VALUES;
 use elf_image::Image;
 use packed_cert::{Cert, Node, PointWalk};
@@ -60,7 +60,7 @@ pub(crate) fn node_fault<'a>(
     let mut next = 0usize;
     while let Some(addr) = scratch.walk.step() {
         node_address_limit(addr);
-        let here = walked_point(b, node, addr, next > 0, &scratch.interrupts, &scratch.walk);
+        let here = point_of_walk(b, node, addr, next > 0, &scratch.interrupts, &scratch.walk);
         next = next.wrapping_add(1);
         if !are_point_values(b, here) {
             return earlier_node_fault(good, entry, addr, Some(BAD_VALUES));
@@ -74,11 +74,11 @@ pub(crate) fn node_fault<'a>(
             node: &hinted,
             point: here,
         };
-        let found = broken_by_point(&at, &mut scratch.point);
+        let found = rule_broken_at(&at, &mut scratch.point);
         if let Some(fault) = earlier_node_fault(good, entry, addr, found) {
             return Some(fault);
         }
-        scratch.point.registers = scratch.point.registers.if_repeated(here.next);
+        scratch.point.registers = scratch.point.registers.kept_if_repeated(here.next);
         // Entries were checked here, so their context is kept.
         let is_checked = here.state.ie && !here.again && !plan.irqs.is_empty();
         if is_checked {
@@ -134,7 +134,7 @@ pub(crate) fn holds_at_entry(b: &Bounds, node: &Node<'_>) -> bool
         return false;
     }
     match node.exit() {
-        Some(exit) => exit.are_values(b),
+        Some(exit) => exit.has_lattice_values(b),
         None => true,
     }
 }

@@ -16,8 +16,8 @@ ghost use Rattle.value_domain.specs.Values.{IsWell};
 ghost use Rattle.depth_cert.specs.Certs.{CertData};
 ghost use Rattle.packed_cert.specs.Walks.{RepeatsAt};
 
-use crate::duty_rules::{broken_by_duties, broken_by_interrupts};
-use crate::fast_paths::{CheckedRegisters, broken_by_pass, fast_path_next};
+use crate::duty_rules::{rule_broken_by_duties, rule_broken_by_interrupts};
+use crate::fast_paths::{CheckedRegisters, rule_broken_by_kept_state, fast_path_next};
 use crate::last_interrupts::LastInterrupts;
 use crate::rules::{SMALL_NEED, has_own_need, lesser_broken_rule};
 use arrayvec::ArrayVec;
@@ -81,7 +81,7 @@ pub(crate) struct PointScratch {
 
 /// Returns a change that puts nothing. It is room for other changes.
 #[inline(always)]
-pub(crate) fn point_scratch_change() -> Change {
+pub(crate) fn empty_change() -> Change {
     Change {
         base: Base::Same,
         first: Put {
@@ -105,7 +105,7 @@ pub(crate) fn point_scratch_change() -> Change {
 
 /// Returns the least rule that fails at a point whose values are values of the plan: on a fast
 /// path, or by its instruction, duties and need. `scratch.change` is overwritten.
-pub(crate) fn broken_by_point(at: &PointCheck<'_, '_>, scratch: &mut PointScratch) -> Option<u8>
+pub(crate) fn rule_broken_at(at: &PointCheck<'_, '_>, scratch: &mut PointScratch) -> Option<u8>
     requires results { HoldsCachedResults at.now.bounds scratch.old.cache }
     requires registers { RegistersHoldAt at.now scratch.old.registers }
     ensures found { FindsLeastBroken
@@ -115,10 +115,10 @@ pub(crate) fn broken_by_point(at: &PointCheck<'_, '_>, scratch: &mut PointScratc
 {
     let _bounds = at.bounds;
     let Some(next) = fast_path_next(at, &mut scratch.codes) else {
-        return broken_by_decoded_point(at, scratch);
+        return rule_broken_by_decoded_point(at, scratch);
     };
-    let jump = broken_by_pass(at, next);
-    let irqs = broken_by_interrupts(at);
+    let jump = rule_broken_by_kept_state(at, next);
+    let irqs = rule_broken_by_interrupts(at);
     let need = rule_unless(has_own_need(at), SMALL_NEED);
     lesser_broken_rule(lesser_broken_rule(jump, irqs), need)
 }
@@ -126,7 +126,7 @@ pub(crate) fn broken_by_point(at: &PointCheck<'_, '_>, scratch: &mut PointScratc
 /// Writes what the instruction changes into the change of `scratch`. The result of an operation on
 /// two sets may be in its cache.
 #[inline(always)]
-pub(crate) fn change_at(at: &PointCheck<'_, '_>, found: &Located, scratch: &mut PointScratch)
+pub(crate) fn write_change_at(at: &PointCheck<'_, '_>, found: &Located, scratch: &mut PointScratch)
     requires found { StandsFaultless at.now.bounds at.now.image at.now.plan
         at.now.node.key at.now.point.addr at.now.point.state found.now }
     requires results { HoldsCachedResults at.now.bounds scratch.old.cache }
@@ -159,7 +159,7 @@ pub(crate) fn change_at(at: &PointCheck<'_, '_>, found: &Located, scratch: &mut 
 /// Returns the point that is to be checked, at which the walk is, with facts for the fast paths. If
 /// `known`, the values of the point before it are the plan's.
 #[inline(always)]
-pub(crate) fn walked_point<'b>(
+pub(crate) fn point_of_walk<'b>(
     b: &Bounds,
     node: &Node<'_>,
     addr: u32,
@@ -184,7 +184,7 @@ pub(crate) fn walked_point<'b>(
         state,
         again: interrupts.covers(node, state),
         known: known && are_plan_values(b, walk.anew()),
-        next: walk.repeats_at(),
+        next: walk.next_address_if_same_state(),
         walk,
     }
 }
@@ -216,7 +216,7 @@ pub(crate) fn are_point_values(b: &Bounds, point: CurrentPoint<'_>) -> bool
 /// Returns the least rule that fails at a point whose values are values of the plan. Its
 /// instruction is decoded and checked by itself, and then its duties and its need are checked.
 #[inline(never)]
-fn broken_by_decoded_point(at: &PointCheck<'_, '_>, scratch: &mut PointScratch) -> Option<u8>
+fn rule_broken_by_decoded_point(at: &PointCheck<'_, '_>, scratch: &mut PointScratch) -> Option<u8>
     requires results { HoldsCachedResults at.now.bounds scratch.old.cache }
     requires registers { RegistersHoldAt at.now scratch.old.registers }
     ensures found { FindsLeastBroken (RuleHolds at.now.image at.now.plan at.now.cert
@@ -230,7 +230,7 @@ fn broken_by_decoded_point(at: &PointCheck<'_, '_>, scratch: &mut PointScratch) 
     match check_located(at.bounds, at.plan, &node.key, s, &located) {
         Err(rule) => Some(rule),
         Ok(found) => {
-            let duties = broken_by_duties(at, found, scratch);
+            let duties = rule_broken_by_duties(at, found, scratch);
             let need = rule_unless(has_own_need(at), SMALL_NEED);
             lesser_broken_rule(duties, need)
         }

@@ -10,9 +10,9 @@ ghost use Rattle.depth_check.specs.CheckedRegisters.{RegistersHoldAt, RegisterJu
 ghost use Rattle.vd_transfer.specs.Registers.{reg_of};
 ghost use Rattle.vd_transfer.specs.Branches.{refine_of};
 
-use crate::fast_paths::{broken_by_pass, may_skip_change, may_skip_refinement};
+use crate::fast_paths::{rule_broken_by_kept_state, may_skip_change, may_skip_refinement};
 use crate::node_covers::{has_covering_points, is_changed_state_covered, is_kept_state_covered};
-use crate::points::{PointCheck, PointScratch, change_at};
+use crate::points::{PointCheck, PointScratch, write_change_at};
 use crate::rules::{NO_POINT, lesser_broken_rule};
 use cfg_recover::{Located, rule_unless, targets};
 use tc_isa::{Shape, Target};
@@ -20,7 +20,7 @@ use vd_transfer::{Change, change_on};
 
 /// The least rule that the successors in the frame break. What follows a call or a system call is
 /// none of them.
-pub(crate) fn broken_by_successors(
+pub(crate) fn rule_broken_by_successors(
     at: &PointCheck<'_, '_>,
     found: &Located,
     scratch: &mut PointScratch,
@@ -38,23 +38,23 @@ pub(crate) fn broken_by_successors(
     let addr = at.point.addr;
     let next = addr.wrapping_add(found.size);
     match found.shape {
-        Shape::Branch { by, .. } => broken_by_sides(
+        Shape::Branch { by, .. } => rule_broken_by_branch_sides(
             at,
             found.shape,
             next,
             addr.wrapping_add(by),
             &mut scratch.change,
         ),
-        Shape::Jump { to } => broken_by_jump(at, to, &mut scratch.registers.jumped),
+        Shape::Jump { to } => rule_broken_by_jump(at, to, &mut scratch.registers.jumped),
         Shape::Call { .. } | Shape::Ret | Shape::Rfe | Shape::Syscall { .. } | Shape::Mtcr { .. } =>
             None,
-        _ => broken_by_next(at, found, scratch),
+        _ => rule_broken_by_next(at, found, scratch),
     }
 }
 
 /// The least rule that both sides of a branch break.
 #[inline(never)]
-fn broken_by_sides(
+fn rule_broken_by_branch_sides(
     at: &PointCheck<'_, '_>,
     shape: Shape,
     next: u32,
@@ -66,14 +66,14 @@ fn broken_by_sides(
         (jump_on next (refine_of at.now.bounds at.now.plan shape at.now.point.state false)
         ++ jump_on to (refine_of at.now.bounds at.now.plan shape at.now.point.state true)) result }
 {
-    let straight = broken_by_side(at, shape, false, next, c);
-    let taken = broken_by_side(at, shape, true, to, c);
+    let straight = rule_broken_by_branch_side(at, shape, false, next, c);
+    let taken = rule_broken_by_branch_side(at, shape, true, to, c);
     lesser_broken_rule(straight, taken)
 }
 
 /// Returns the least rule that a point breaks by its successors, if its instruction is a jump. A
 /// list of targets is made only for a jump by a register.
-fn broken_by_jump(at: &PointCheck<'_, '_>, to: Target, jumped: &mut Option<u8>) -> Option<u8>
+fn rule_broken_by_jump(at: &PointCheck<'_, '_>, to: Target, jumped: &mut Option<u8>) -> Option<u8>
     requires target { IsTarget to }
     requires jumped { RegisterJumpsHoldAt at.now jumped.old }
     ensures found { LeastBrokenByDuties at.now
@@ -82,14 +82,14 @@ fn broken_by_jump(at: &PointCheck<'_, '_>, to: Target, jumped: &mut Option<u8>) 
     ensures jumped { RegisterJumpsHoldAt at.now jumped.new }
 {
     match to {
-        Target::Rel(by) => broken_by_pass(at, at.point.addr.wrapping_add(by)),
-        Target::Abs(x) => broken_by_pass(at, x),
-        Target::Reg(r) => broken_by_listed_jumps(at, r, jumped),
+        Target::Rel(by) => rule_broken_by_kept_state(at, at.point.addr.wrapping_add(by)),
+        Target::Abs(x) => rule_broken_by_kept_state(at, x),
+        Target::Reg(r) => rule_broken_by_jump_list(at, r, jumped),
     }
 }
 
 /// The least rule that an instruction breaks whose only successor is the next one.
-fn broken_by_next(
+fn rule_broken_by_next(
     at: &PointCheck<'_, '_>,
     found: &Located,
     scratch: &mut PointScratch,
@@ -104,14 +104,14 @@ fn broken_by_next(
     ensures registers { scratch.new.registers ≡ scratch.old.registers }
 {
     if may_skip_change(found.shape) {
-        return broken_by_pass(at, at.point.addr.wrapping_add(found.size));
+        return rule_broken_by_kept_state(at, at.point.addr.wrapping_add(found.size));
     }
-    broken_by_step(at, found, scratch)
+    rule_broken_by_changed_state(at, found, scratch)
 }
 
 /// The least rule that a side of a branch breaks, if the side is possible. If the side allows no
 /// more than the state before it, a point that covers that state suffices.
-fn broken_by_side(
+fn rule_broken_by_branch_side(
     at: &PointCheck<'_, '_>,
     shape: Shape,
     taken: bool,
@@ -128,13 +128,13 @@ fn broken_by_side(
             return None;
         }
     }
-    broken_by_change(at, shape, taken, to, c)
+    rule_broken_by_refined_side(at, shape, taken, to, c)
 }
 
 /// The least rule that a side of a branch breaks, if the side is possible. The changed state is
 /// compared.
 #[inline(never)]
-fn broken_by_change(
+fn rule_broken_by_refined_side(
     at: &PointCheck<'_, '_>,
     shape: Shape,
     taken: bool,
@@ -154,7 +154,7 @@ fn broken_by_change(
 /// The least rule that a jump to the targets of a register breaks. Jumps by the register `jumped`
 /// are passed over; if jumps by another register hold, that one is kept.
 #[inline(never)]
-fn broken_by_listed_jumps(at: &PointCheck<'_, '_>, r: u8, jumped: &mut Option<u8>) -> Option<u8>
+fn rule_broken_by_jump_list(at: &PointCheck<'_, '_>, r: u8, jumped: &mut Option<u8>) -> Option<u8>
     requires register { r < 32 }
     requires jumped { RegisterJumpsHoldAt at.now jumped.old }
     ensures found { LeastBrokenByDuties at.now
@@ -177,7 +177,7 @@ fn broken_by_listed_jumps(at: &PointCheck<'_, '_>, r: u8, jumped: &mut Option<u8
 
 /// The least rule that the step to the next instruction breaks.
 #[inline(never)]
-fn broken_by_step(
+fn rule_broken_by_changed_state(
     at: &PointCheck<'_, '_>,
     found: &Located,
     scratch: &mut PointScratch,
@@ -191,7 +191,7 @@ fn broken_by_step(
     ensures results { HoldsCachedResults at.now.bounds scratch.new.cache }
     ensures registers { scratch.new.registers ≡ scratch.old.registers }
 {
-    change_at(at, found, scratch);
+    write_change_at(at, found, scratch);
     let next = at.point.addr.wrapping_add(found.size);
     rule_unless(
         is_changed_state_covered(at, next, &scratch.change),

@@ -6,7 +6,7 @@ use crate::certificates::start_node;
 use crate::fast_paths::NO_REGISTERS;
 use crate::last_interrupts::LastInterrupts;
 use crate::nodes::{NodeScratch, node_fault};
-use crate::points::{PointScratch, point_scratch_change};
+use crate::points::{PointScratch, empty_change};
 use crate::rules::NO_START;
 use cfg_recover::{KnownCodes, OperationCache, start_key};
 use depth_cert::Key;
@@ -38,7 +38,7 @@ pub(crate) fn judge(image: &Image, plan: &Plan, cert: &Cert) -> Verdict
     };
     let mut scratch = NodeScratch {
         point: PointScratch {
-            change: point_scratch_change(),
+            change: empty_change(),
             cache: OperationCache::empty(),
             codes: KnownCodes::new(),
             registers: NO_REGISTERS,

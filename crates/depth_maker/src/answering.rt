@@ -10,7 +10,7 @@ ghost use Rattle.depth_maker.specs.declared.answering.MakeErr.TheVariants.{NoMem
 use crate::fixpoint::least_fixpoint;
 use crate::inputs_and_limits::Ground;
 use crate::interrupt_handlers::all_handler_frames;
-use crate::needs::{frame_needs, needs_error};
+use crate::needs::{least_frame_needs, need_refusal};
 use crate::rows::Source;
 use crate::spelling::spelled_cert_bytes;
 use crate::table::Table;
@@ -82,24 +82,24 @@ fn make_bytes(alloc: Global, image: &Image, plan: &Plan, version: u8) -> Result<
         image,
         plan,
     };
-    answer_on_ground(alloc, &ground, version)
+    make_bytes_within_limits(alloc, &ground, version)
 }
 
 /// Returns the bytes of the least certificate within these limits, or why there is none.
-fn answer_on_ground(alloc: Global, ground: &Ground, version: u8) -> Result<Vec<u8>, MakeErr>
+fn make_bytes_within_limits(alloc: Global, ground: &Ground, version: u8) -> Result<Vec<u8>, MakeErr>
     requires version { (version ≡ 1) ⊎ (version ≡ 2) }
     requires limits { IsGroundOf ground.now version }
     ensures made { IfOk result (λ out. AreMadeOn ground.now version out.items) }
     ensures refused { IfErr result (IsRefusedOn ground.now version) }
 {
     match least_fixpoint(alloc, ground) {
-        Ok(table) => answer_from_table(alloc, ground, &table, version),
-        Err(refusal) => Err(answer_for_refusal(ground, refusal)),
+        Ok(table) => cert_bytes_from_table(alloc, ground, &table, version),
+        Err(refusal) => Err(make_err_from_refusal(ground, refusal)),
     }
 }
 
 /// Returns the bytes of the certificate of a table without work, or why its needs are too great.
-fn answer_from_table(
+fn cert_bytes_from_table(
     alloc: Global,
     ground: &Ground,
     table: &Table,
@@ -119,11 +119,11 @@ fn answer_from_table(
         numbers: &numbers,
         handlers: handlers.as_slice(),
     };
-    answer_from_source(alloc, &source, version)
+    cert_bytes_with_needs(alloc, &source, version)
 }
 
 /// Returns the refusal for a fault of a derived assignment.
-fn answer_for_refusal(_ground: &Ground, refusal: Refusal) -> MakeErr
+fn make_err_from_refusal(_ground: &Ground, refusal: Refusal) -> MakeErr
     requires { RefusalIsRight _ground.now refusal }
     ensures { Refuses _ground.now result }
 {
@@ -141,15 +141,15 @@ fn answer_for_refusal(_ground: &Ground, refusal: Refusal) -> MakeErr
 }
 
 /// Returns the bytes of the certificate of a table without work, or why its needs are too great.
-fn answer_from_source(alloc: Global, source: &Source, version: u8) -> Result<Vec<u8>, MakeErr>
+fn cert_bytes_with_needs(alloc: Global, source: &Source, version: u8) -> Result<Vec<u8>, MakeErr>
     requires source { IsRowSource source.now }
     requires version { (version ≡ 1) ⊎ (version ≡ 2) }
     requires limits { IsGroundOf source.now.ground.now version }
     ensures ok { IfOk result (λ out. AreSpelledBytes source.now.ground.now version out.items) }
     ensures err { IfErr result (Refuses source.now.ground.now) }
 {
-    match frame_needs(alloc, source)? {
+    match least_frame_needs(alloc, source)? {
         Ok(needs) => Ok(spelled_cert_bytes(alloc, source, version, needs.as_slice())?),
-        Err(place) => Err(needs_error(source, place)),
+        Err(place) => Err(need_refusal(source, place)),
     }
 }

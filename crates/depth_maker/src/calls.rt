@@ -9,7 +9,7 @@ ghost use Rattle.depth_maker.specs.VisitDuties.{enters_by, resumes_by, OwesAll, 
 ghost use Rattle.depth_maker.specs.Visits.{VisitedBy};
 
 use crate::inputs_and_limits::Visit;
-use crate::join_entries::{join_each_entry, join_entry_and_back, join_return_after_entry};
+use crate::join_entries::{join_call_entries, join_entry_and_return, join_return_after_entry};
 use crate::last_call::{LastCall, MOST_CALLS, find_call};
 use crate::table::Table;
 use arrayvec::ArrayVec;
@@ -40,11 +40,11 @@ pub(crate) fn join_call(
         (unwrap_or (targets_of v.now.ground.now.plan.now v.now.state.now v.now.addr to) []))) }
     ensures err { IfErr result (RefusalIsRight v.now.ground.now) }
 {
-    enter_by_call(c, v.state);
+    write_call_entry_change(c, v.state);
     match direct_target(v.addr, to) {
         Some(target) => {
             let key = entered_key(&v.key, CALL, target);
-            join_entry_and_back(alloc, table, v, key, &*c, back)
+            join_entry_and_return(alloc, table, v, key, &*c, back)
         }
         None => join_listed_calls(alloc, table, v, &*c, to, back),
     }
@@ -53,7 +53,7 @@ pub(crate) fn join_call(
 /// Writes the change of the visited point's state by a call. The entries of the called functions
 /// are joined with it.
 #[inline(always)]
-fn enter_by_call(c: &mut Change, s: &State)
+fn write_call_entry_change(c: &mut Change, s: &State)
     ensures { state_after s.now c.new ≡ entries.call_entry s.now }
 {
     c.keep(s);
@@ -103,7 +103,7 @@ fn join_listed_call_entries(
     if is_call_covered(&*table, v, entry, targets) {
         return Ok(());
     }
-    join_each_entry(alloc, table, v, entry, targets.as_slice())?;
+    join_call_entries(alloc, table, v, entry, targets.as_slice())?;
     store_last_call(alloc, table, v, entry, targets)?;
     Ok(())
 }

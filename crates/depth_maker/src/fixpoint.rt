@@ -41,7 +41,7 @@ pub(crate) fn least_fixpoint(alloc: Global, ground: &Ground) -> Result<Table, Re
         state: ScratchState::new(start_state(ground.plan)),
         codes: KnownCodes::new(),
     };
-    while fixpoint_turn(alloc, ground, &mut table, &mut scratch)? {}
+    while visit_listed_places(alloc, ground, &mut table, &mut scratch)? {}
     Ok(table)
 }
 
@@ -67,7 +67,7 @@ fn begin_fixpoint(alloc: Global, ground: &Ground) -> Result<Table, Refusal>
     add_queued_place(&mut places, &mut work, place, cell)?;
     Ok(Table {
         places,
-        readers: fixpoint_start_readers(alloc),
+        readers: no_exit_readers(alloc),
         work,
         points,
         frames,
@@ -85,7 +85,7 @@ fn begin_fixpoint(alloc: Global, ground: &Ground) -> Result<Table, Refusal>
 /// Takes up to as many places off the list as it has now, and 1,024 more, and visits those with
 /// work. Returns whether some are left.
 #[inline(never)]
-fn fixpoint_turn(
+fn visit_listed_places(
     alloc: Global,
     ground: &Ground,
     table: &mut Table,
@@ -98,7 +98,7 @@ fn fixpoint_turn(
     let mut change = identity_change(scratch.state.state());
     let mut cache = OperationCache::empty();
     for _done in 0..table.work.len() + 1024 {
-        if !fixpoint_step(alloc, ground, table, scratch, &mut change, &mut cache)? {
+        if !visit_next_place(alloc, ground, table, scratch, &mut change, &mut cache)? {
             return Ok(false);
         }
     }
@@ -106,7 +106,7 @@ fn fixpoint_turn(
 }
 
 /// Returns the readers of exits at the start of the fixpoint: there are none.
-fn fixpoint_start_readers(alloc: Global) -> IndexMap<Spot, Vec<Spot>>
+fn no_exit_readers(alloc: Global) -> IndexMap<Spot, Vec<Spot>>
     ensures { (z : spots.Spot) → get spot_eq result z ≡ None }
 {
     IndexMap::new(alloc)
@@ -114,7 +114,7 @@ fn fixpoint_start_readers(alloc: Global) -> IndexMap<Spot, Vec<Spot>>
 
 /// Takes the next place off the list, and visits it if it still has work. Returns false if the list
 /// is empty.
-fn fixpoint_step(
+fn visit_next_place(
     alloc: Global,
     ground: &Ground,
     table: &mut Table,

@@ -39,7 +39,7 @@ pub(crate) struct LastInterrupts {
 impl InterruptContext {
     /// Returns the context of a frame with this state. `is` says whether it runs on the interrupt
     /// stack.
-    pub(crate) fn at(is: bool, s: &State) -> InterruptContext
+    pub(crate) fn of_state(is: bool, s: &State) -> InterruptContext
         ensures { IsContextOf result is s.now }
     {
         InterruptContext {
@@ -68,7 +68,7 @@ impl InterruptContext {
     }
 
     /// Returns true only if the context of a frame with this state differs at most in A10.
-    pub(crate) fn is_alike(&self, is: bool, s: &State) -> bool
+    pub(crate) fn is_equal_except_stack(&self, is: bool, s: &State) -> bool
         ensures { IsTrue result → IsAlike self.now is s.now }
     {
         self.is == is && self.ccpn == s.ccpn
@@ -96,7 +96,7 @@ impl InterruptContext {
 
 /// Returns true only if the last contexts of interrupts show that the entries of all interrupts
 /// that may be taken are covered.
-pub(crate) fn is_interrupt_context_noted(table: &Table, v: &Visit) -> bool
+pub(crate) fn are_interrupts_covered(table: &Table, v: &Visit) -> bool
     requires { VisitedBy v.now table.now }
     ensures { IsTrue result → JoinedBy v.now table.now table.now (interrupts_by v.now) }
 {
@@ -114,7 +114,7 @@ pub(crate) fn is_interrupt_context_noted(table: &Table, v: &Visit) -> bool
 /// Returns true only if the last context of interrupts shows that the entries of all interrupts
 /// that may be taken are covered in each frame with this CCPN.
 #[inline(always)]
-pub(crate) fn has_noted_interrupts(table: &Table, is: bool, ccpn: u8) -> bool
+pub(crate) fn are_interrupts_covered_at(table: &Table, is: bool, ccpn: u8) -> bool
     ensures { IsTrue result → HasNotedInterrupts table.now is ccpn }
 {
     match &table.covered.interrupts.last {
@@ -139,12 +139,12 @@ pub(crate) fn store_last_interrupts(table: &mut Table, v: &Visit)
         return;
     }
     if let Some(last) = &mut table.covered.interrupts.last {
-        if last.is_alike(v.key.is, v.state) {
+        if last.is_equal_except_stack(v.key.is, v.state) {
             last.join_stack(v.ground.bounds, v.state);
             return;
         }
     }
-    let context = InterruptContext::at(v.key.is, v.state);
+    let context = InterruptContext::of_state(v.key.is, v.state);
     let before = table.covered.interrupts.last.take();
     table.covered.interrupts = LastInterrupts {
         last: Some(context),

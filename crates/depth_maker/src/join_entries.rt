@@ -15,7 +15,7 @@ ghost use Rattle.depth_cert.specs.Known.{state};
 use crate::calls::join_call;
 use crate::entered_frames::may_enter_misaligned_handler;
 use crate::inputs_and_limits::Visit;
-use crate::interrupt_contexts::{is_interrupt_context_noted, store_last_interrupts};
+use crate::interrupt_contexts::{are_interrupts_covered, store_last_interrupts};
 use crate::join_place::join_at_place;
 use crate::join_successors::join_return;
 use crate::table::Table;
@@ -84,7 +84,7 @@ pub(crate) fn join_interrupts(alloc: Global, table: &mut Table, v: &Visit) -> Re
     if !v.state.ie {
         return Ok(());
     }
-    if is_interrupt_context_noted(&*table, v) {
+    if are_interrupts_covered(&*table, v) {
         return Ok(());
     }
     let irqs = interrupts(v.ground.plan, v.state);
@@ -97,7 +97,7 @@ pub(crate) fn join_interrupts(alloc: Global, table: &mut Table, v: &Visit) -> Re
 }
 
 /// Joins the entries of the functions at these addresses.
-pub(crate) fn join_each_entry(
+pub(crate) fn join_call_entries(
     alloc: Global,
     table: &mut Table,
     v: &Visit,
@@ -164,7 +164,7 @@ pub(crate) fn join_return_after_entry(
 }
 
 /// Joins a changed state at the entry of a frame, and the state after its return at `back`.
-pub(crate) fn join_entry_and_back(
+pub(crate) fn join_entry_and_return(
     alloc: Global,
     table: &mut Table,
     v: &Visit,
@@ -202,7 +202,7 @@ fn join_system_call_entry(
 {
     let g = v.ground;
     let entry = system_change(g.bounds, g.plan, &v.key, v.state, tin);
-    join_entry_and_back(alloc, table, v, sys_key(g.plan, &v.key), &entry, back)
+    join_entry_and_return(alloc, table, v, sys_key(g.plan, &v.key), &entry, back)
 }
 
 /// Joins the entry of the handler of misaligned accesses, as the other entries of the visited

@@ -20,7 +20,7 @@ ghost use Rattle.depth_maker.specs.declared.inputs_and_limits.Ground.{Ground};
 use crate::inputs_and_limits::Visit;
 use crate::table::Table;
 use frame_places::{
-    LOCALS_RULE, Marked, Refusal, Spot, Work, add_or_find_place, count_place, put_place,
+    LOCALS_RULE, Marked, Refusal, Spot, Work, add_or_find_place, count_place, put_place_value,
     requeue_readers_of,
 };
 use indexmap::IndexMap;
@@ -28,7 +28,7 @@ use small_states::{Incoming, SmallKnown, incoming_priority};
 use std::alloc::{AllocError, Global};
 
 /// Adds the place `y` with this value, which flows in, and counts it. If `y` is known, returns its
-/// number and adds nothing. It is never inlined: if `join_place_alone` and `pass_on` each had its
+/// number and adds nothing. It is never inlined: if `join_without_readers` and `pass_on` each had its
 /// text, LLVM would inline neither `add_or_find_place` nor the pushes of `count_place`.
 #[inline(never)]
 pub(crate) fn add_joined_place(
@@ -71,7 +71,7 @@ pub(crate) fn join_at_place(
 {
     let _byte = incoming_priority(incoming);
     let known = table.places.len();
-    if join_place_alone(alloc, table, v, y, incoming)? {
+    if join_without_readers(alloc, table, v, y, incoming)? {
         let again = table.places.len() == known;
         requeue_readers_after_join(&mut table.places, &mut table.work, &mut table.readers, y, again)?;
     }
@@ -80,7 +80,7 @@ pub(crate) fn join_at_place(
 
 /// Joins what flows into `y` alone, unless it is covered. Returns whether it wasn't. After the last
 /// place that was found mostly nothing is known, so `y` is looked up as it is added.
-fn join_place_alone(
+fn join_without_readers(
     alloc: Global,
     table: &mut Table,
     v: &Visit,
@@ -167,7 +167,7 @@ fn join_known_place(
     let Some(cell) = place.value.join_from(alloc, b, &own.value, incoming)? else {
         return Err(Refusal::Fault(LOCALS_RULE, *y));
     };
-    put_place(
+    put_place_value(
         &mut table.places,
         &mut table.work,
         number,

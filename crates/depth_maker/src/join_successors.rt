@@ -71,12 +71,12 @@ pub(crate) fn join_successors(
                 taken: true,
                 to: v.addr.wrapping_add(by),
             };
-            join_sides(alloc, table, v, straight, taken, c)
+            join_branch_sides(alloc, table, v, straight, taken, c)
         }
-        Shape::Jump { to } => join_targets(alloc, table, v, to, c),
+        Shape::Jump { to } => join_jump_targets(alloc, table, v, to, c),
         Shape::Call { .. } | Shape::Ret | Shape::Rfe | Shape::Syscall { .. } | Shape::Mtcr { .. } =>
             Ok(()),
-        _ => join_step(alloc, table, v, found, c, cache),
+        _ => join_next_instruction(alloc, table, v, found, c, cache),
     }
 }
 
@@ -171,7 +171,7 @@ pub(crate) fn join_return(
 }
 
 /// Joins the exit if the instruction leaves the frame: RET, or RFE in a system call's handler.
-pub(crate) fn join_leavings(
+pub(crate) fn join_exit_if_left(
     alloc: Global,
     table: &mut Table,
     v: &Visit,
@@ -196,7 +196,7 @@ pub(crate) fn join_leavings(
 }
 
 /// Joins both sides of a branch.
-fn join_sides(
+fn join_branch_sides(
     alloc: Global,
     table: &mut Table,
     v: &Visit,
@@ -216,13 +216,13 @@ fn join_sides(
         ++ jump_on taken.to (side_by v.now taken.shape taken.taken))) }
     ensures err { IfErr result (RefusalIsRight v.now.ground.now) }
 {
-    join_side(alloc, table, v, next, c)?;
-    join_side(alloc, table, v, taken, c)
+    join_branch_side(alloc, table, v, next, c)?;
+    join_branch_side(alloc, table, v, taken, c)
 }
 
 /// Joins the unchanged state at the targets of a jump, before anything else is joined. The list of
 /// targets is made only for a jump by a register.
-fn join_targets(
+fn join_jump_targets(
     alloc: Global,
     table: &mut Table,
     v: &Visit,
@@ -251,7 +251,7 @@ fn join_targets(
 }
 
 /// Joins the state after the instruction at the next one, before anything else is joined.
-fn join_step(
+fn join_next_instruction(
     alloc: Global,
     table: &mut Table,
     v: &Visit,
@@ -274,7 +274,7 @@ fn join_step(
 }
 
 /// Joins a side of a branch if it is possible.
-fn join_side(
+fn join_branch_side(
     alloc: Global,
     table: &mut Table,
     v: &Visit,

@@ -5,7 +5,7 @@ ghost use Rattle.depth_maker.specs.MakerLaws.{RefusalsHold, AcceptedIsClosed, De
 
 /// Laws of the maker: what a point owes grows with its state, and is at the limits. A point without
 /// a fault of its own has none with a smaller state.
-pub fn growth_laws()
+pub fn duty_monotonicity_laws()
     ensures faults { FaultsFall }
     ensures duties { DutiesMonotone }
     ensures well_formed { DutiesAreWellFormed }
@@ -13,14 +13,14 @@ pub fn growth_laws()
 
 /// Laws of the maker: the state after a return grows with the caller's state and with the exit, and
 /// it is at the limits.
-pub fn after_laws()
+pub fn return_state_laws()
     ensures grows { AfterMonotone }
     ensures well_formed { AfterIsWellFormed }
 {}
 
 /// Laws of the maker: duties grow with states, since effects of instructions do. A side of a branch
 /// that is possible is possible with a larger state.
-pub fn effect_growth_laws()
+pub fn effect_monotonicity_laws()
     ensures transfers { TransfersMonotone }
     ensures addresses { AddressesMonotone }
     ensures sides { SidesMonotone }

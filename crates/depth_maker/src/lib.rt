@@ -24,5 +24,5 @@ mod visit;
 
 pub use answering::{MakeErr, make};
 pub use laws::{
-    accepted_laws, after_laws, derived_laws, effect_growth_laws, growth_laws, making_laws,
+    accepted_laws, return_state_laws, derived_laws, effect_monotonicity_laws, duty_monotonicity_laws, making_laws,
 };

@@ -6,12 +6,12 @@ ghost use Rattle.depth_maker.specs.Answers.{Refuses};
 ghost use Rattle.depth_maker.specs.Recursing.{IsRecursion};
 
 use crate::answering::MakeErr;
-use crate::recursion::recursion;
-use crate::rows::{Source, rows};
+use crate::recursion::first_recursion;
+use crate::rows::{Source, need_rows};
 use cfg_recover::start_key;
 use depth_cert::Key;
 use frame_places::{
-    NEEDS_RULE, NeedRow, frame_edges, least_needs, node_ranks, number_at, soon_needs,
+    NEEDS_RULE, NeedRow, frame_edges, least_needs, node_ranks, number_or_zero, needs_by_few_passes,
 };
 use std::alloc::{AllocError, Global};
 use tcd_plan::Plan;
@@ -29,33 +29,33 @@ pub(crate) fn need_limit(plan: &Plan) -> u32
 /// without the reserve, it returns the first recursion, if there is one. Passes begin at the last
 /// row, and interrupts enter frames of higher priority, so the rows of these are last. If a few
 /// passes don't find the needs, rows are in the order of the ranks.
-pub(crate) fn frame_needs(
+pub(crate) fn least_frame_needs(
     alloc: Global,
     source: &Source,
 ) -> Result<Result<Vec<u32>, Option<(Key, u32)>>, AllocError>
     requires { IsRowSource source.now }
     ensures { IfOk result (NeedsOrRecursion source.now) }
 {
-    let mut rows = rows(alloc, source)?;
+    let mut rows = need_rows(alloc, source)?;
     let frames = source.table.frames.as_slice();
     rows.sort_by_key(|row| match frames.get(row.node) {
         Some(key) => key.prio,
         None => 0,
     })?;
     let cap = need_limit(source.ground.plan);
-    let soon = soon_needs(alloc, frames.len(), rows.as_slice(), cap)?;
+    let soon = needs_by_few_passes(alloc, frames.len(), rows.as_slice(), cap)?;
     if let Some(found) = soon {
         return Ok(Ok(found));
     }
     let edges = frame_edges(alloc, rows.as_slice())?;
     let ranks = node_ranks(alloc, frames.len(), edges.as_slice())?;
-    rows.sort_by_key(|row| number_at(ranks.as_slice(), row.node))?;
-    let recurs = recursion(alloc, source, edges.as_slice(), ranks.as_slice(), frames)?;
-    needs_by(alloc, source, rows.as_slice(), recurs, frames)
+    rows.sort_by_key(|row| number_or_zero(ranks.as_slice(), row.node))?;
+    let recurs = first_recursion(alloc, source, edges.as_slice(), ranks.as_slice(), frames)?;
+    needs_from_rows(alloc, source, rows.as_slice(), recurs, frames)
 }
 
 /// Returns the refusal if no needs are within the areas: at the first recursion, or at the start.
-pub(crate) fn needs_error(source: &Source, place: Option<(Key, u32)>) -> MakeErr
+pub(crate) fn need_refusal(source: &Source, place: Option<(Key, u32)>) -> MakeErr
     requires source { IsRowSource source.now }
     requires none { NeedsOn source.now None }
     requires place { IsRecursion source.now place }
@@ -80,7 +80,7 @@ pub(crate) fn needs_error(source: &Source, place: Option<(Key, u32)>) -> MakeErr
 
 /// Returns the least needs that meet these rows of all points, or the first recursion, if any, if
 /// no needs are within the areas.
-fn needs_by(
+fn needs_from_rows(
     alloc: Global,
     source: &Source,
     rows: &[NeedRow],

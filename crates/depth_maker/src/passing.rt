@@ -9,7 +9,7 @@ ghost use Rattle.depth_maker.specs.TableInvariant.{TableHolds};
 ghost use Rattle.tc_isa.specs.InBounds.{IsShape};
 
 use crate::inputs_and_limits::Site;
-use crate::interrupt_contexts::has_noted_interrupts;
+use crate::interrupt_contexts::are_interrupts_covered_at;
 use crate::join_place::add_joined_place;
 use crate::spelling::ccpn_fits_byte;
 use crate::table::Table;
@@ -24,7 +24,7 @@ use tc_isa::Shape;
 ///
 /// This is tried only at the place that was found last. The successors of other places are mostly
 /// known already, and the look-up here would be in vain.
-pub(crate) fn pass_on(alloc: Global, table: &mut Table, site: &Site) -> Result<bool, Refusal>
+pub(crate) fn share_state(alloc: Global, table: &mut Table, site: &Site) -> Result<bool, Refusal>
     requires fine { TableHolds site.now.ground.now table.old }
     requires near { PlaceHasNumber table.old.places table.old.near
         (Point site.now.key site.now.addr) }
@@ -33,10 +33,10 @@ pub(crate) fn pass_on(alloc: Global, table: &mut Table, site: &Site) -> Result<b
     requires shape { IfSome site.now.located.now (λ found. IsShape found.shape) }
     ensures { StateSharedBy site.now table.old table.new result }
 {
-    let Some(to) = passed_to(site) else {
+    let Some(to) = unchanged_state_successor(site) else {
         return Ok(false);
     };
-    if !may_pass_state_on(&*table, site) {
+    if !may_share_state(&*table, site) {
         return Ok(false);
     }
     let Some((_, own)) = table.places.get_index(table.near) else {
@@ -52,7 +52,7 @@ pub(crate) fn pass_on(alloc: Global, table: &mut Table, site: &Site) -> Result<b
 /// Returns the address after an instruction that only passes the state on: one that does nothing,
 /// or a jump to one address.
 #[inline(always)]
-fn passed_to(site: &Site) -> Option<u32>
+fn unchanged_state_successor(site: &Site) -> Option<u32>
     requires code { LocatesCode site.now.ground.now.image.now site.now.ground.now.plan.now
         site.now.addr site.now.located.now }
     requires shape { IfSome site.now.located.now (λ found. IsShape found.shape) }
@@ -72,7 +72,7 @@ fn passed_to(site: &Site) -> Option<u32>
 /// Returns true only if the visited point is the place that was found last, and the entries of all
 /// interrupts that may be taken there are covered.
 #[inline(always)]
-fn may_pass_state_on(table: &Table, site: &Site) -> bool
+fn may_share_state(table: &Table, site: &Site) -> bool
     requires fine { TableHolds site.now.ground.now table.now }
     requires near { PlaceHasNumber table.now.places table.now.near
         (Point site.now.key site.now.addr) }
@@ -87,7 +87,7 @@ fn may_pass_state_on(table: &Table, site: &Site) -> bool
     match own.value.outline() {
         Some(outline) => {
             ccpn_fits_byte(outline.ccpn);
-            !outline.ie || has_noted_interrupts(table, site.key.is, outline.ccpn)
+            !outline.ie || are_interrupts_covered_at(table, site.key.is, outline.ccpn)
         }
         None => false,
     }

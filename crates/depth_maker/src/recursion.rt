@@ -7,15 +7,15 @@ use crate::rows::{KnownPoint, Source, point_row};
 use cfg_recover::start_state;
 use depth_cert::Key;
 use frame_places::{
-    FrameEdge, Spot, address_in_frame, first_recurring, frame_number, frame_orders,
-    has_reaching_node, nodes_reaching,
+    FrameEdge, Spot, address_in_frame, first_recursive_node, frame_number, frame_order_numbers,
+    has_marked_node, nodes_reaching,
 };
 use small_states::ScratchState;
 use std::alloc::{AllocError, Global};
 
 /// Returns the first point, by key and address, that enters a frame from which its own is reached,
 /// or `None` if no point does. It is told the edges between frames, and their ranks.
-pub(crate) fn recursion(
+pub(crate) fn first_recursion(
     alloc: Global,
     source: &Source,
     edges: &[FrameEdge],
@@ -27,8 +27,8 @@ pub(crate) fn recursion(
     requires edges { RecursionEdgesOn source.now edges.now }
     ensures { IfOk result (IsRecursion source.now) }
 {
-    let orders = frame_orders(alloc, frames)?;
-    let Some(node) = first_recurring(alloc, orders.as_slice(), edges, ranks)? else {
+    let orders = frame_order_numbers(alloc, frames)?;
+    let Some(node) = first_recursive_node(alloc, orders.as_slice(), edges, ranks)? else {
         return Ok(None);
     };
     let marks = nodes_reaching(alloc, frames.len(), edges, node)?;
@@ -53,14 +53,14 @@ fn first_recursive_address(
 {
     let mut first = None;
     for place in points {
-        first = recursive_address_at_place(alloc, source, marks, key, *place, first)?;
+        first = lesser_recursive_address(alloc, source, marks, key, *place, first)?;
     }
     Ok(first)
 }
 
 /// Returns the first address among some places and this one, which may be in any frame. `first` is
 /// that of the others.
-fn recursive_address_at_place(
+fn lesser_recursive_address(
     alloc: Global,
     source: &Source,
     marks: &[bool],
@@ -79,7 +79,7 @@ fn recursive_address_at_place(
             return Ok(Some(other));
         }
     }
-    if is_recursive_by_marks(alloc, source, marks, key, addr)? {
+    if enters_marked_frame(alloc, source, marks, key, addr)? {
         Ok(Some(addr))
     } else {
         Ok(first)
@@ -87,7 +87,7 @@ fn recursive_address_at_place(
 }
 
 /// Returns whether the point enters a marked frame.
-fn is_recursive_by_marks(
+fn enters_marked_frame(
     alloc: Global,
     source: &Source,
     marks: &[bool],
@@ -110,5 +110,5 @@ fn is_recursive_by_marks(
     };
     let mut state = ScratchState::new(start_state(source.ground.plan));
     let row = point_row(alloc, source, &mut state, &at)?;
-    Ok(has_reaching_node(marks, row.into.as_slice()))
+    Ok(has_marked_node(marks, row.into.as_slice()))
 }

@@ -12,7 +12,7 @@ use crate::entered_frames::entered_frames;
 use crate::inputs_and_limits::{Ground, Visit};
 use crate::interrupt_handlers::{Handler, add_taken_handlers};
 use crate::table::Table;
-use cfg_recover::{Located, local_check, start_state};
+use cfg_recover::{Located, check_local_rules, start_state};
 use depth_cert::Key;
 use frame_places::{Marked, NeedRow, Spot, frame_number_near, frame_numbers, is_plain_mark};
 use indexmap::IndexMap;
@@ -60,14 +60,14 @@ pub(crate) fn point_row(
         addr: at.addr,
         state: state.state(),
     };
-    match local_check(g.bounds, g.image, g.plan, &v.key, v.addr, v.state) {
-        Ok(found) => Ok(row_with(alloc, &v, source, at.node, &found)?),
+    match check_local_rules(g.bounds, g.image, g.plan, &v.key, v.addr, v.state) {
+        Ok(found) => Ok(visited_point_row(alloc, &v, source, at.node, &found)?),
         Err(_) => unreachable!(),
     }
 }
 
 /// Returns the row of a point, from its instruction.
-fn row_with(
+fn visited_point_row(
     alloc: Global,
     v: &Visit,
     source: &Source,
@@ -107,7 +107,7 @@ pub(crate) struct RowsDraft {
 
 /// Returns the rows of all points. A plain point has none of its own if its outline is that of the
 /// last plain point of its frame.
-pub(crate) fn rows(alloc: Global, source: &Source) -> Result<Vec<NeedRow>, AllocError>
+pub(crate) fn need_rows(alloc: Global, source: &Source) -> Result<Vec<NeedRow>, AllocError>
     requires { IsRowSource source.now }
     ensures { IfOk result (λ rows. RowsOn source.now.ground.now source.now.table.now rows.items) }
 {

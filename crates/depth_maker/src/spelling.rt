@@ -10,7 +10,7 @@ ghost use Rattle.depth_maker.specs.SpotsAsPlaces.{spots_on};
 use crate::rows::Source;
 use depth_cert::{Key, put_u16, write_key, write_no_exit};
 use frame_places::{
-    PointEntry, Spot, frame_number, frames_in_order, ordered_frame_points, place_address,
+    PointEntry, Spot, frame_number, frames_in_order, sorted_frame_points, place_address,
     points_in_order,
 };
 use std::alloc::Global;
@@ -84,7 +84,7 @@ fn spell_table_exit(out: &mut Vec<u8>, source: &Source, key: Key) -> Result<(), 
 }
 
 /// Returns the need of a frame.
-fn spelled_need_at(source: &Source, needs: &[u32], key: Key) -> u16
+fn spelled_need(source: &Source, needs: &[u32], key: Key) -> u16
     requires source { IsRowSource source.now }
     requires needs { NeedsAre source.now needs.now }
     requires key { IsSpelledFrameOf source.now key }
@@ -154,9 +154,9 @@ fn spell_table_node(out: &mut Vec<u8>, ordered: &Ordered, key: Key) -> Result<()
     ensures { OnOk result (SpellsTableNode ordered.now key out.old.items out.new.items) }
 {
     let source = ordered.source;
-    let points = ordered_frame_points(ordered.points, key);
+    let points = sorted_frame_points(ordered.points, key);
     write_key(out, &key)?;
-    put_u16(out, spelled_need_at(source, ordered.needs, key))?;
+    put_u16(out, spelled_need(source, ordered.needs, key))?;
     spell_table_exit(out, source, key)?;
     put_u32(out, points.len() as u32)?;
     spell_table_points(out, source, key, points)?;

@@ -22,8 +22,8 @@ use crate::entered_frames::enters_no_frame;
 use crate::fixpoint::VisitScratch;
 use crate::inputs_and_limits::{Ground, Site, Visit};
 use crate::join_entries::{join_access_entry, join_entries, join_interrupts};
-use crate::join_successors::{join_leavings, join_successors};
-use crate::passing::pass_on;
+use crate::join_successors::{join_exit_if_left, join_successors};
+use crate::passing::share_state;
 use crate::table::Table;
 use cfg_recover::{Located, OperationCache, check_located, successor_change};
 use frame_places::{Refusal, Spot};
@@ -65,10 +65,10 @@ pub(crate) fn visit_place(
         addr,
         located: &located,
     };
-    if pass_on(alloc, table, &site)? {
+    if share_state(alloc, table, &site)? {
         return Ok(true);
     }
-    read_and_visit(alloc, table, &site, scratch, change, cache)
+    visit_point(alloc, table, &site, scratch, change, cache)
 }
 
 /// Writes what the instruction makes of the state into `c`. The result of an operation on two sets
@@ -116,12 +116,12 @@ fn join_visit_duties(
     join_entries(alloc, table, v, found.shape, found.size, c)?;
     join_access_entry(alloc, table, v, found)?;
     join_interrupts(alloc, table, v)?;
-    join_leavings(alloc, table, v, found.shape)
+    join_exit_if_left(alloc, table, v, found.shape)
 }
 
 /// Reads the state of the visited point over `scratch`, and joins what the point owes, or a part of
 /// it if the point has new work. Returns true only if its instruction enters no frame by itself.
-fn read_and_visit(
+fn visit_point(
     alloc: Global,
     table: &mut Table,
     site: &Site,

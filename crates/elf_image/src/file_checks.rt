@@ -7,12 +7,12 @@ ghost use Rattle.elf_image.specs.ReadElf.{headers_of, is_bad_header, start_refus
 use crate::ImageErr;
 use crate::headers::{
     E_MACHINE, E_PHENTSIZE, E_PHNUM, E_TYPE, EM_TRICORE, ET_EXEC, Header, PT_LOAD, elf_half_at,
-    header_at, program_header_offset,
+    program_header_at, program_header_offset,
 };
 
 // Checks that the file begins with the header of an executable for this machine.
 #[tactic(auto, unfolding(crate::specs::ReadElf::start_refusal))]
-pub(crate) fn check_start(bytes: &[u8]) -> Result<(), ImageErr>
+pub(crate) fn check_elf_header(bytes: &[u8]) -> Result<(), ImageErr>
     ensures refusal { result_err result ≡ start_refusal bytes.now }
     ensures long { OnOk result (52 ≤ length bytes.now) }
 {
@@ -33,14 +33,14 @@ pub(crate) fn check_start(bytes: &[u8]) -> Result<(), ImageErr>
 
 // Checks that no program header is bad.
 #[tactic(auto, unfolding(crate::specs::ReadElf::segment_refusal))]
-pub(crate) fn check_segments(bytes: &[u8]) -> Result<(), ImageErr>
+pub(crate) fn check_program_headers(bytes: &[u8]) -> Result<(), ImageErr>
     requires { 52 ≤ length bytes.now }
     ensures { result_err result ≡ segment_refusal bytes.now }
 {
     if elf_half_at(bytes, E_PHNUM) > 0 && elf_half_at(bytes, E_PHENTSIZE) != 32 {
         return Err(ImageErr::BadSegment(0));
     }
-    match first_bad(bytes) {
+    match first_bad_header(bytes) {
         Some(number) => Err(ImageErr::BadSegment(number)),
         None => Ok(()),
     }
@@ -48,11 +48,11 @@ pub(crate) fn check_segments(bytes: &[u8]) -> Result<(), ImageErr>
 
 // Checks that no two of the headers that load bytes share an address.
 #[tactic(auto, unfolding(crate::specs::ReadElf::overlap_refusal))]
-pub(crate) fn check_apart(loads: &[Header]) -> Result<(), ImageErr>
+pub(crate) fn check_no_overlap(loads: &[Header]) -> Result<(), ImageErr>
     ensures { result_err result ≡ overlap_refusal loads.now }
 {
     for (i, header) in loads.iter().enumerate() {
-        if let Some(other) = first_meeting(header, &loads[i + 1..]) {
+        if let Some(other) = first_overlapping_header(header, &loads[i + 1..]) {
             return Err(ImageErr::Overlap(header.number, other));
         }
     }
@@ -61,7 +61,7 @@ pub(crate) fn check_apart(loads: &[Header]) -> Result<(), ImageErr>
 
 /// Returns true if a check refuses a program header: its bytes pass the end of a file of this
 /// length, address 2^32 or its own memory size.
-pub(crate) fn passes_bounds(len: usize, header: &Header) -> bool
+pub(crate) fn exceeds_bounds(len: usize, header: &Header) -> bool
     ensures { result ≡ passes_bounds len header.now }
 {
     let size = u64::from(header.file_size);
@@ -80,8 +80,8 @@ pub(crate) fn is_bad_header(bytes: &[u8], number: u16) -> bool
     if program_header_offset(bytes, number) + 32 > bytes.len() {
         return true;
     }
-    let header = header_at(bytes, number);
-    header.kind == PT_LOAD && passes_bounds(bytes.len(), &header)
+    let header = program_header_at(bytes, number);
+    header.kind == PT_LOAD && exceeds_bounds(bytes.len(), &header)
 }
 
 /// Returns true if the bytes that two program headers load share an address, for the check that
@@ -95,7 +95,7 @@ pub(crate) fn has_overlap_with(header: &Header, other: &Header) -> bool
 }
 
 // Returns the number of the first bad program header.
-fn first_bad(bytes: &[u8]) -> Option<u32>
+fn first_bad_header(bytes: &[u8]) -> Option<u32>
     requires { 52 ≤ length bytes.now }
     ensures { result ≡ option_map (λ h. h.number)
         (find (is_bad_header bytes.now) (headers_of bytes.now)) }
@@ -110,7 +110,7 @@ fn first_bad(bytes: &[u8]) -> Option<u32>
 }
 
 // Returns the number of the first of `others` that shares an address with `header`.
-fn first_meeting(header: &Header, others: &[Header]) -> Option<u32>
+fn first_overlapping_header(header: &Header, others: &[Header]) -> Option<u32>
     ensures { result ≡ option_map (λ k. k.number) (find (has_overlap_with header.now) others.now) }
 {
     for other in others {

@@ -8,7 +8,7 @@ use std::alloc::Global;
 
 // Returns the ELF file of these segments, with the address at which the program begins.
 #[tactic(auto, unfolding(crate::specs::WrittenElf::file_of))]
-pub(crate) fn file_of(alloc: Global, entry: u32, segments: &[Segment]) -> Result<Vec<u8>, ImageErr>
+pub(crate) fn elf_file(alloc: Global, entry: u32, segments: &[Segment]) -> Result<Vec<u8>, ImageErr>
     requires few { length segments.now ≤ 64 }
     requires small { sum_by (λ s. length s.bytes) (map segment_data segments.now) ≤ 2 ^ 24 }
     ensures ok { IfOk result (λ v.
@@ -18,8 +18,8 @@ pub(crate) fn file_of(alloc: Global, entry: u32, segments: &[Segment]) -> Result
     let mut out = Vec::new(alloc);
     let header = elf_header(entry, segments.len() as u16);
     out.extend_from_slice(&header)?;
-    put_headers(&mut out, segments)?;
-    put_contents(&mut out, segments)?;
+    put_program_headers(&mut out, segments)?;
+    put_segment_bytes(&mut out, segments)?;
     Ok(out)
 }
 
@@ -40,7 +40,7 @@ fn elf_header(entry: u32, count: u16) -> [u8; 52]
 
 // Appends the program headers.
 #[tactic(auto, unfolding(crate::specs::WrittenElf::program_headers))]
-fn put_headers(out: &mut Vec<u8>, segments: &[Segment]) -> Result<(), ImageErr>
+fn put_program_headers(out: &mut Vec<u8>, segments: &[Segment]) -> Result<(), ImageErr>
     requires few { length segments.now ≤ 64 }
     requires small { sum_by (λ s. length s.bytes) (map segment_data segments.now) ≤ 2 ^ 24 }
     ensures ok { let all = map segment_data segments.now in
@@ -59,7 +59,7 @@ fn put_headers(out: &mut Vec<u8>, segments: &[Segment]) -> Result<(), ImageErr>
 
 // Appends the segments' bytes.
 #[tactic(auto, unfolding(crate::specs::WrittenElf::elf_contents))]
-fn put_contents(out: &mut Vec<u8>, segments: &[Segment]) -> Result<(), ImageErr>
+fn put_segment_bytes(out: &mut Vec<u8>, segments: &[Segment]) -> Result<(), ImageErr>
     ensures ok { OnOk result
         (out.new.items ≡ out.old.items ++ elf_contents (map segment_data segments.now)) }
     ensures err { IfErr result (λ e. e ≡ ImageErr.NoMemory) }

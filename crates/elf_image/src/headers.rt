@@ -72,7 +72,7 @@ pub(crate) fn program_header_offset(bytes: &[u8], number: u16) -> usize
 
 // Reads the program header with this number, which is wholly in the file.
 #[tactic(auto, unfolding(crate::specs::ReadElf::header_at))]
-pub(crate) fn header_at(bytes: &[u8], number: u16) -> Header
+pub(crate) fn program_header_at(bytes: &[u8], number: u16) -> Header
     requires long { 52 ≤ length bytes.now }
     requires whole { program_header_offset bytes.now number + 32 ≤ length bytes.now }
     ensures { result ≡ header_at bytes.now number }
@@ -90,14 +90,14 @@ pub(crate) fn header_at(bytes: &[u8], number: u16) -> Header
 
 // Returns true if the program header loads bytes of the file (type PT_LOAD).
 #[tactic(auto, unfolding(crate::specs::ReadElf::has_bytes))]
-pub(crate) fn has_bytes(header: &Header) -> bool
+pub(crate) fn loads_file_bytes(header: &Header) -> bool
     ensures { result ≡ has_bytes header.now }
 {
     header.kind == PT_LOAD && header.file_size > 0
 }
 
 // Collects the headers that load bytes, in order: at most 64, with at most 2^24 bytes together.
-pub(crate) fn loads_of(alloc: Global, bytes: &[u8]) -> Result<Vec<Header>, ImageErr>
+pub(crate) fn load_headers(alloc: Global, bytes: &[u8]) -> Result<Vec<Header>, ImageErr>
     requires long { 52 ≤ length bytes.now }
     requires good { segment_refusal bytes.now ≡ None }
     ensures ok { IfOk result (λ v.
@@ -110,8 +110,8 @@ pub(crate) fn loads_of(alloc: Global, bytes: &[u8]) -> Result<Vec<Header>, Image
     let mut total = 0u32;
     let count = elf_half_at(bytes, E_PHNUM);
     for number in 0..count {
-        let header = header_at(bytes, number);
-        if has_bytes(&header) {
+        let header = program_header_at(bytes, number);
+        if loads_file_bytes(&header) {
             if loads.len() == 64 || header.file_size > 16_777_216 - total {
                 return Err(ImageErr::TooLarge);
             }

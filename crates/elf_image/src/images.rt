@@ -1,8 +1,8 @@
 // An image: the segments of an executable, within limits that always hold.
 use crate::ImageErr;
-use crate::file_checks::{check_apart, check_segments, check_start};
-use crate::file_writer::file_of;
-use crate::headers::{E_ENTRY, elf_word_at, loads_of};
+use crate::file_checks::{check_no_overlap, check_program_headers, check_elf_header};
+use crate::file_writer::elf_file;
+use crate::headers::{E_ENTRY, elf_word_at, load_headers};
 use crate::segments::{Segment, is_held_by_segment, segment_byte, segments_of};
 use std::alloc::Global;
 use std::marker::Model;
@@ -38,10 +38,10 @@ impl Image {
         requires { length bytes.now ≤ 2 ^ 30 }
         ensures { GivesImage result (image_of_file bytes.now) }
     {
-        check_start(bytes)?;
-        check_segments(bytes)?;
-        let loads = loads_of(alloc, bytes)?;
-        check_apart(&loads)?;
+        check_elf_header(bytes)?;
+        check_program_headers(bytes)?;
+        let loads = load_headers(alloc, bytes)?;
+        check_no_overlap(&loads)?;
         let segments = segments_of(alloc, bytes, &loads)?;
         Ok(Image {
             entry: elf_word_at(bytes, E_ENTRY),
@@ -57,7 +57,7 @@ impl Image {
         ensures again { IfOk result (λ v. image_of_file v.items ≡ Ok self.now) }
         ensures err { IfErr result (λ e. e ≡ ImageErr.NoMemory) }
     {
-        file_of(alloc, self.entry, &self.segments)
+        elf_file(alloc, self.entry, &self.segments)
     }
 
     /// Returns the byte at an address, or `None` if no segment holds the address.

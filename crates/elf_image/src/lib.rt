@@ -10,4 +10,4 @@ mod segments;
 
 pub use errors::ImageErr;
 pub use images::Image;
-pub use segments::{Segment, read_segments};
+pub use segments::{Segment, establish_segment_bytes};

@@ -31,7 +31,7 @@ pub(crate) fn segment_byte(segment: &Segment, addr: u32) -> Option<u8>
 
 /// Establishes that the bytes of segments are numbers below 256, which an image requires. It reads
 /// each byte and changes nothing.
-pub fn read_segments(segments: &[Segment])
+pub fn establish_segment_bytes(segments: &[Segment])
     ensures { AreSegmentBytes (map segment_data segments.now) }
 {
     for segment in segments {

@@ -15,19 +15,19 @@ mod work_list;
 
 pub use counting::count_place;
 pub use marks::{begin_visit, end_visit, has_queued_mark, is_plain_mark};
-pub use needs::least::{least_needs, soon_needs};
-pub use needs::ranks::{node_ranks, number_at};
+pub use needs::least::{least_needs, needs_by_few_passes};
+pub use needs::ranks::{node_ranks, number_or_zero};
 pub use needs::reach::{
-    FrameEdge, first_recurring, frame_edges, has_reaching_node, nodes_reaching,
+    FrameEdge, first_recursive_node, frame_edges, has_marked_node, nodes_reaching,
 };
 pub use needs::row::NeedRow;
 pub use numbers::{frame_number, frame_number_near, frame_numbers, number_frames};
 pub use ordering::{
-    PointEntry, frame_orders, frames_in_order, ordered_frame_points, points_in_order,
+    PointEntry, frame_order_numbers, frames_in_order, sorted_frame_points, points_in_order,
 };
 pub use places::{
     Mark, Marked, Spot, add_or_find_place, add_queued_place, address_in_frame, place_address,
-    put_place,
+    put_place_value,
 };
 pub use readers::{register_reader, requeue_readers_of};
 pub use refusals::{LIMITS_RULE, LOCALS_RULE, NEEDS_RULE, Refusal};

@@ -37,7 +37,7 @@ const PATIENT: u8 = 2;
 /// Returns whether a place that is marked as queued again waits for the next round: it is told to,
 /// or was visited often. So a call of many functions waits until their exits have risen.
 #[inline(always)]
-pub(crate) fn is_requeued_later<V>(
+pub(crate) fn must_wait_for_round<V>(
     places: &IndexMap<Spot, Marked<V>>,
     number: usize,
     waits: bool,
@@ -108,7 +108,7 @@ pub fn end_visit<V>(places: &mut IndexMap<Spot, Marked<V>>, number: usize, plain
         → MarksAs places.old places.new x (settled_mark plain (mark_for places.old x)) }
 {
     if let Some(place) = places.get_index_mut(number) {
-        place.mark = mark_after(place.mark, plain);
+        place.mark = mark_after_visit(place.mark, plain);
     }
 }
 
@@ -129,7 +129,7 @@ pub(crate) fn requeue<V>(
         return Ok(());
     };
     if !has_queued_mark(&*places, number) {
-        let later = is_requeued_later(&*places, number, waits);
+        let later = must_wait_for_round(&*places, number, waits);
         mark_place(places, number, Mark::Queued);
         enqueue(work, number, later)?;
     }
@@ -138,18 +138,18 @@ pub(crate) fn requeue<V>(
 
 /// Returns the mark of a place whose visit ends.
 #[inline(always)]
-fn mark_after(mark: Mark, plain: bool) -> Mark
+fn mark_after_visit(mark: Mark, plain: bool) -> Mark
     ensures { result ≡ settled_mark plain (Some mark) }
 {
     match mark {
         Mark::Queued => Mark::Queued,
-        _ => mark_without_work(plain),
+        _ => plain_or_idle_mark(plain),
     }
 }
 
 /// Returns the mark of a place that has no work after its visit: plain or idle.
 #[inline(always)]
-fn mark_without_work(plain: bool) -> Mark
+fn plain_or_idle_mark(plain: bool) -> Mark
     ensures { result ≡ idle_mark plain }
 {
     if plain { Mark::Plain } else { Mark::Idle }

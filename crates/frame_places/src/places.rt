@@ -11,7 +11,7 @@ ghost use Rattle.frame_places.specs.Marks.{AddsOrFinds, AllListed, PutsPlaceValu
 
 use crate::marks::is_unvisited_entry;
 use crate::work_list::{Work, enqueue, enqueue_new};
-use depth_cert::{Key, number_of};
+use depth_cert::{Key, key_number};
 use indexmap::IndexMap;
 use indexmap::map::Entry;
 use std::alloc::AllocError;
@@ -32,12 +32,12 @@ pub enum Spot {
 impl Spot {
     /// Returns the number that orders places.
     #[inline(always)]
-    pub(crate) fn number(&self) -> u128
+    pub(crate) fn order_number(&self) -> u128
         ensures { result ≡ spot_number self.now }
     {
         match self {
-            Spot::Point(key, addr) => u128::from(number_of(key)) * ADDRESSES + u128::from(*addr),
-            Spot::Exit(key) => u128::from(number_of(key)) * ADDRESSES,
+            Spot::Point(key, addr) => u128::from(key_number(key)) * ADDRESSES + u128::from(*addr),
+            Spot::Exit(key) => u128::from(key_number(key)) * ADDRESSES,
         }
     }
 
@@ -53,13 +53,13 @@ impl Spot {
 
     /// Returns the word for hashing: the low four bytes of the frame's number, and the address.
     #[inline(always)]
-    fn word(&self) -> u64
+    fn hash_word(&self) -> u64
         ensures { result ≡ hashed_word self.now }
     {
         match self {
-            Spot::Point(key, addr) => number_of(key) % 4_294_967_296 * 4_294_967_296
+            Spot::Point(key, addr) => key_number(key) % 4_294_967_296 * 4_294_967_296
                 + u64::from(*addr),
-            Spot::Exit(key) => number_of(key) % 4_294_967_296 * 4_294_967_296,
+            Spot::Exit(key) => key_number(key) % 4_294_967_296 * 4_294_967_296,
         }
     }
 }
@@ -73,7 +73,7 @@ impl Hash for Spot {
     ghost respects_eq = { λ x y e. hashed_alike x y e };
 
     fn hash<H: Hasher>(&self, state: &mut H) {
-        state.write_u64(self.word());
+        state.write_u64(self.hash_word());
     }
 }
 
@@ -177,7 +177,7 @@ pub fn add_or_find_place<V: Drop>(
 /// waits for the next round, any other place is next. An entry point that is queued and wasn't
 /// visited yet is queued again, before the places found earlier.
 #[inline(always)]
-pub fn put_place<V: Drop>(
+pub fn put_place_value<V: Drop>(
     places: &mut IndexMap<Spot, Marked<V>>,
     work: &mut Work,
     number: usize,

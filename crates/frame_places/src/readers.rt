@@ -18,7 +18,7 @@ use std::alloc::{AllocError, Global};
 const MANY: usize = 1024;
 
 /// Appends `x`, unless it is the last one.
-pub(crate) fn push_other_reader(out: &mut Vec<Spot>, x: Spot) -> Result<(), AllocError>
+pub(crate) fn push_reader_unless_last(out: &mut Vec<Spot>, x: Spot) -> Result<(), AllocError>
     ensures { OnOk result ((q : spots.Spot)
         → Contains out.new.items q ↔ (Contains out.old.items q ⊎ (q ≡ x))) }
 {
@@ -74,13 +74,13 @@ pub fn requeue_readers_of<V>(
 }
 
 /// Returns a list of readers without the places that equal the one before them.
-pub(crate) fn without_doubles(alloc: Global, list: &[Spot]) -> Result<Vec<Spot>, AllocError>
+pub(crate) fn dedup_readers(alloc: Global, list: &[Spot]) -> Result<Vec<Spot>, AllocError>
     ensures { IfOk result (λ out. (q : spots.Spot)
         → Contains out.items q ↔ Contains list.now q) }
 {
     let mut out = Vec::new(alloc);
     for x in list {
-        push_other_reader(&mut out, *x)?;
+        push_reader_unless_last(&mut out, *x)?;
     }
     Ok(out)
 }
@@ -95,19 +95,19 @@ fn push_reader(alloc: Global, list: &mut Vec<Spot>, x: Spot) -> Result<(), Alloc
 {
     list.push(x)?;
     if list.len() >= MANY && list.len().is_power_of_two() {
-        drop_doubles(alloc, list)?;
+        sort_and_dedup_readers(alloc, list)?;
     }
     Ok(())
 }
 
 /// Sorts the list, and drops its duplicates if they are at least half of it.
 #[inline(never)]
-fn drop_doubles(alloc: Global, list: &mut Vec<Spot>) -> Result<(), AllocError>
+fn sort_and_dedup_readers(alloc: Global, list: &mut Vec<Spot>) -> Result<(), AllocError>
     ensures { OnOk result ((q : spots.Spot)
         → Contains list.new.items q ↔ Contains list.old.items q) }
 {
-    list.sort_by_key(|x| x.number())?;
-    let out = without_doubles(alloc, list.as_slice())?;
+    list.sort_by_key(|x| x.order_number())?;
+    let out = dedup_readers(alloc, list.as_slice())?;
     if out.len() <= list.len() / 2 {
         *list = out;
     }

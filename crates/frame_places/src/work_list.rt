@@ -80,7 +80,7 @@ impl Work {
 
     /// Puts a place after those that are next.
     #[inline(always)]
-    pub(crate) fn push(&mut self, number: usize) -> Result<(), AllocError>
+    pub(crate) fn push_next(&mut self, number: usize) -> Result<(), AllocError>
         ensures { OnOk result (PutsNext self.old self.new number) }
     {
         self.next.push(number)?;
@@ -138,7 +138,7 @@ impl Work {
             return Some(number);
         }
         if self.next.len() > 1 {
-            self.turn();
+            self.refill_first();
             return self.pop_first();
         }
         self.pop_last()
@@ -184,7 +184,7 @@ impl Work {
 
     /// Makes the places that are next the first ones, in reverse, since they are taken from the
     /// end.
-    fn turn(&mut self)
+    fn refill_first(&mut self)
         ensures { Turns self.old self.new }
     {
         swap(&mut self.first, &mut self.next);
@@ -209,7 +209,7 @@ pub(crate) fn enqueue(work: &mut Work, number: usize, waits: bool) -> Result<(),
     if waits {
         work.push_waiting(number)
     } else {
-        work.push(number)
+        work.push_next(number)
     }
 }
 
@@ -222,6 +222,6 @@ pub(crate) fn enqueue_new(work: &mut Work, number: usize, entry: bool) -> Result
     if entry {
         work.push_entry(number)
     } else {
-        work.push(number)
+        work.push_next(number)
     }
 }

@@ -7,9 +7,9 @@ ghost use Rattle.packed_cert.specs.NodesInBytes.{HasPlaces};
 ghost use Rattle.packed_cert.specs.EnteredAlike.{IsEnteredAt};
 
 use crate::cert_reader::read_cert_parts;
-use crate::nodes::{Node, node_point_place};
+use crate::nodes::{Node, count_points_below};
 use crate::places::NodePlaces;
-use depth_cert::{CertErr, Key, number_of};
+use depth_cert::{CertErr, Key, key_number};
 use std::alloc::Global;
 use std::marker::Model;
 
@@ -85,7 +85,7 @@ impl Cert {
     pub fn count_points(&self) -> usize
         ensures { result ≡ count_points self.now.nodes }
     {
-        count_points_at(&self.nodes)
+        count_points_of_nodes(&self.nodes)
     }
 
     /// Returns the node at an index, or `None` if the index is past the last.
@@ -103,8 +103,8 @@ impl Cert {
         ensures { result ≡ find_node key.now self.now.nodes }
     {
         let nodes = self.nodes.as_slice();
-        let number = number_of(key);
-        let at = cert_node_place(nodes, number);
+        let number = key_number(key);
+        let at = count_nodes_below(nodes, number);
         if at < nodes.len() && nodes[at].number == number {
             return Some(Node::at(self.bytes.as_slice(), self.version, &nodes[at]));
         }
@@ -113,7 +113,7 @@ impl Cert {
 
     /// Returns true only if the nodes of two keys have the same state at the keys' entries, and the
     /// same exit. Their places are compared: what is at equal places is equal.
-    pub fn are_entered_alike(&self, a: &Key, b: &Key) -> bool
+    pub fn have_same_entry_and_exit(&self, a: &Key, b: &Key) -> bool
         ensures { IsTrue result → AreEnteredAlike self.now.nodes a.now b.now }
     {
         let bytes = self.bytes.as_slice();
@@ -140,14 +140,14 @@ fn entry_places(
     requires rising { IsStrictlyIncreasing (map (λ n. n.number) nodes.now) }
     ensures { IfSome result (λ r. IsEnteredAt version bytes.now nodes.now key.now r.0 r.1) }
 {
-    let number = number_of(key);
-    let at = cert_node_place(nodes, number);
+    let number = key_number(key);
+    let at = count_nodes_below(nodes, number);
     if at >= nodes.len() || nodes[at].number != number {
         return None;
     }
     let node = &nodes[at];
     let points = node.points.as_slice();
-    let first = node_point_place(points, key.entry, 0);
+    let first = count_points_below(points, key.entry, 0);
     if first >= points.len() || points[first].addr != key.entry {
         return None;
     }
@@ -160,7 +160,7 @@ pub(crate) fn cert_bytes_below_256(bytes: &[u8])
 {}
 
 /// Returns the number of points that the nodes of a `Cert` have together.
-fn count_points_at(nodes: &[NodePlaces]) -> usize
+fn count_points_of_nodes(nodes: &[NodePlaces]) -> usize
     requires { sum_by (λ n. length n.points.items) nodes.now ≤ 2 ^ 16 }
     ensures { result ≡ sum_by (λ n. length n.points.items) nodes.now }
 {
@@ -172,7 +172,7 @@ fn count_points_at(nodes: &[NodePlaces]) -> usize
 }
 
 /// Returns the number of nodes whose keys are below `number`.
-fn cert_node_place(nodes: &[NodePlaces], number: u64) -> usize
+fn count_nodes_below(nodes: &[NodePlaces], number: u64) -> usize
     requires { IsStrictlyIncreasing (map (λ n. n.number) nodes.now) }
     ensures { IsPartitionPoint (λ n. nat_lt n.number number ≡ true)
         (λ n. nat_lt n.number number ≡ false) nodes.now result }

@@ -12,7 +12,7 @@ use crate::certs::cert_bytes_below_256;
 use crate::restored_values::ValuesAt;
 use crate::value_reader::value_length_by_tag;
 use crate::values_at_places::{is_below_value_at, read_value_word, value_at_place};
-use depth_cert::{SPAN, lower_value};
+use depth_cert::{SPAN, lower_register_value};
 use value_domain::{State, Val, extent_of, leq};
 use vd_transfer::{Change, changed_value};
 
@@ -128,7 +128,7 @@ fn value_to_cover<'a>(values: &'a ToCover, any: &'a Val, i: usize) -> &'a Val
     match values {
         ToCover::Whole(s) => {
             let _regs = &s.regs[..];
-            own_value(s, i)
+            state_value_at(s, i)
         }
         ToCover::Changed(s, c) => {
             let _regs = &s.regs[..];
@@ -136,14 +136,14 @@ fn value_to_cover<'a>(values: &'a ToCover, any: &'a Val, i: usize) -> &'a Val
         }
         ToCover::Lower(s) => {
             let _regs = &s.regs[..];
-            lower_value(&s.regs, i)
+            lower_register_value(&s.regs, i)
         }
     }
 }
 
 /// Returns the state's own value number `i`, which is to be covered.
 #[inline(always)]
-fn own_value<'a>(s: &'a State, i: usize) -> &'a Val
+fn state_value_at<'a>(s: &'a State, i: usize) -> &'a Val
     requires place { i < 27 }
     ensures { result.now ≡ slice_index_or s.now.regs i any_val }
 {

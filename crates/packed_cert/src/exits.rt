@@ -8,7 +8,7 @@ use crate::certs::cert_bytes_below_256;
 use crate::covered_values::{ToCover, are_covered_at};
 use crate::places::{ExitPlaces, LOWER_VALUES};
 use crate::point_reader::ExitRoom;
-use crate::repeated_bytes::has_passed_repeated_bytes;
+use crate::repeated_bytes::skip_if_repeated;
 use crate::restored_values::ValuesAt;
 use crate::values_at_places::are_values_at;
 use depth_cert::{Exit, no_exit, read_exit, read_has_exit};
@@ -82,7 +82,7 @@ impl<'a> ExitAt<'a> {
     }
 
     /// Returns true if its values are those of the plan and the format.
-    pub fn are_values(&self, b: &Bounds) -> bool
+    pub fn has_lattice_values(&self, b: &Bounds) -> bool
         ensures { IsTrue result ↔ AreValues b.now self.now.lower }
     {
         let lower = self.lower();
@@ -146,12 +146,12 @@ pub(crate) fn read_exit_place(
     if !read_has_exit(c, kind)? {
         return Ok(None);
     }
-    Ok(Some(read_exit_like(c, bytes, version, room)?))
+    Ok(Some(read_or_skip_exit(c, bytes, version, room)?))
 }
 
 /// Reads an exit into its room, and returns its place. If the bytes of the last one come again,
 /// they are passed over, and its place is that of the last one.
-pub(crate) fn read_exit_like(
+pub(crate) fn read_or_skip_exit(
     c: &mut FileCursor<'_>,
     bytes: &[u8],
     version: u8,
@@ -168,7 +168,7 @@ pub(crate) fn read_exit_like(
 {
     let start = c.place();
     if let Some(at) = room.last {
-        if has_passed_repeated_bytes(c, bytes, at.start, at.end - at.start) {
+        if skip_if_repeated(c, bytes, at.start, at.end - at.start) {
             return Ok(at.start as u32);
         }
     }

@@ -10,7 +10,7 @@ ghost use Rattle.packed_cert.specs.PointsInBytes.{StateStandsAtPlaces};
 use crate::exits::read_exit_place;
 use crate::places::NodePlaces;
 use crate::point_reader::{ReadingRoom, read_points};
-use depth_cert::{CertErr, number_of, read_key, read_need};
+use depth_cert::{CertErr, key_number, read_key, read_need};
 use std::alloc::Global;
 use tcd_base::FileCursor;
 
@@ -45,7 +45,7 @@ pub(crate) fn read_node(
 {
     let _place = c.place(); // so that the prover knows that the bytes are few
     let key = read_key(c, last_read_node_number(before))?;
-    let number = number_of(&key);
+    let number = key_number(&key);
     let need = read_need(c)?;
     let exit = read_exit_place(c, bytes, version, key.kind, &mut room.exit)?;
     let points = read_points(alloc, c, bytes, version, room)?;

@@ -92,7 +92,7 @@ impl<'a> Node<'a> {
         ensures points { walk.new.points ≡ self.now.points }
         ensures rising { ArePoints self.now.points }
     {
-        walk.go_before(self.bytes, self.version, self.points);
+        walk.restart(self.bytes, self.version, self.points);
     }
 
     /// Returns the state at the address of a point, or `None` if there is none.
@@ -100,7 +100,7 @@ impl<'a> Node<'a> {
         ensures { result ≡ option_map (λ p. p.state) (find_point addr self.now.points) }
     {
         let points = self.points;
-        let at = node_point_place(points, addr, self.near);
+        let at = count_points_below(points, addr, self.near);
         if at < points.len() && points[at].addr == addr {
             let place = points[at].place as usize;
             return Some(StateAt::at(self.bytes, self.version, place));
@@ -112,7 +112,7 @@ impl<'a> Node<'a> {
 /// Returns the number of points whose addresses are below `addr`. The points number `near` and
 /// `near + 1` are tried first, since most instructions go on to the next one, and then a guess for
 /// jumps over instructions of four bytes.
-pub(crate) fn node_point_place(points: &[PointPlace], addr: u32, near: usize) -> usize
+pub(crate) fn count_points_below(points: &[PointPlace], addr: u32, near: usize) -> usize
     requires { IsStrictlyIncreasing (map (λ p. p.addr) points.now) }
     ensures { IsPartitionPoint (λ p. nat_lt p.addr addr ≡ true) (λ p. nat_lt p.addr addr ≡ false)
         points.now result }
@@ -124,7 +124,7 @@ pub(crate) fn node_point_place(points: &[PointPlace], addr: u32, near: usize) ->
     if after < points.len() && points[after].addr == addr {
         return after;
     }
-    let far = node_point_guess(points, addr, near);
+    let far = guessed_point_number(points, addr, near);
     if far < points.len() && points[far].addr == addr {
         return far;
     }
@@ -133,7 +133,7 @@ pub(crate) fn node_point_place(points: &[PointPlace], addr: u32, near: usize) ->
 
 /// Returns the number that the point at `addr` has if all instructions between it and point number
 /// `near` have four bytes. A guess that saves the search.
-fn node_point_guess(points: &[PointPlace], addr: u32, near: usize) -> usize {
+fn guessed_point_number(points: &[PointPlace], addr: u32, near: usize) -> usize {
     if near >= points.len() {
         return near;
     }

@@ -76,7 +76,7 @@ pub(crate) struct ExitPlaces {
 }
 
 /// Returns the row that has no values of a state.
-pub(crate) fn no_row() -> ValueRow
+pub(crate) fn empty_row() -> ValueRow
     ensures { result ≡ record { first = 0; behind = 0; from = 0 } }
 {
     ValueRow {

@@ -15,10 +15,10 @@ ghost use Rattle.packed_cert.specs.RepeatedBytes.{StateComesAgain};
 ghost use Rattle.packed_cert.specs.Moves.{AreMoves};
 
 use crate::places::{
-    ExitPlaces, PointPlace, ReadState, RepeatedState, StatePlaces, VALUES, ValueRow, no_row,
+    ExitPlaces, PointPlace, ReadState, RepeatedState, StatePlaces, VALUES, ValueRow, empty_row,
 };
 use crate::repeated_bytes::count_repeated_before;
-use crate::value_reader::{pass_unread_values_to, read_values_like};
+use crate::value_reader::{skip_values_to, read_or_skip_values};
 use arrayvec::ArrayVec;
 use depth_cert::{CertErr, Exit, read_address, read_flag, read_locals, read_point_count};
 use std::alloc::Global;
@@ -88,9 +88,9 @@ pub(crate) fn read_points(
     for i in 0..count {
         let addr = read_address(c, last)?;
         last = Some(addr);
-        let read = read_state_like(c, bytes, version, room.last, &mut room.state)?;
+        let read = read_or_skip_state(c, bytes, version, room.last, &mut room.state)?;
         room.last = Some(read.at);
-        let kept = for_point(read, i == 0);
+        let kept = with_whole_row_if_first(read, i == 0);
         points.push(PointPlace {
             addr,
             place: read.at.start as u32,
@@ -105,7 +105,7 @@ pub(crate) fn read_points(
 /// Reads the next point's state over that of the point before, with the places `before`. If its
 /// bytes come again, they are passed over, and those places stay.
 #[inline(always)]
-pub(crate) fn read_state_like(
+pub(crate) fn read_or_skip_state(
     c: &mut FileCursor<'_>,
     bytes: &[u8],
     version: u8,
@@ -128,10 +128,10 @@ pub(crate) fn read_state_like(
     let place = c.place();
     let same = count_repeated_before(bytes, at.start, place, at.end);
     if same == at.end - at.start {
-        pass_unread_values_to(c, place + same);
+        skip_values_to(c, place + same);
         return Ok(ReadState {
             at,
-            row: no_row(),
+            row: empty_row(),
             same: true,
         });
     }
@@ -165,7 +165,7 @@ pub(crate) fn read_state_fields(
     out.lower = read_flag(c)?;
     out.locals = read_locals(c, version)?;
     let at = c.place();
-    let row = read_values_like(c, bytes, version, before, start, &mut out.regs)?;
+    let row = read_or_skip_values(c, bytes, version, before, start, &mut out.regs)?;
     Ok((at, row))
 }
 
@@ -206,7 +206,7 @@ pub(crate) fn read_state_after(
 
 /// Returns what a point keeps of the state that was read. For a node's first point it is the row of
 /// all values, as any state may be at hand before it.
-fn for_point(read: ReadState, first: bool) -> ReadState
+fn with_whole_row_if_first(read: ReadState, first: bool) -> ReadState
     requires { read.at.values < 2 ^ 32 }
     ensures first { IsTrue first → IsWholeRow 27 result.row × (result.same ≡ false) }
     ensures later { IsFalse first → result ≡ read }

@@ -139,7 +139,7 @@ fn count_repeated_from(bytes: &[u8], x: usize, y: usize, from: usize, n: usize) 
 
 /// Returns true if the bytes from `x` on come again at the cursor, which then moves past them.
 #[inline(always)]
-pub(crate) fn has_passed_repeated_bytes(
+pub(crate) fn skip_if_repeated(
     c: &mut FileCursor<'_>,
     bytes: &[u8],
     x: usize,
@@ -165,7 +165,7 @@ pub(crate) fn has_passed_repeated_bytes(
 /// Returns the place up to which the bytes of a state's values come again at `at`, where its own
 /// bytes come again at `start`. They are compared again only if the bytes before the values differ,
 /// or are more or fewer.
-pub(crate) fn end_of_same(bytes: &[u8], state: RepeatedState, start: usize, at: usize) -> usize
+pub(crate) fn end_of_repeated(bytes: &[u8], state: RepeatedState, start: usize, at: usize) -> usize
     requires inside { at ≤ length bytes.now }
     requires values { state.at.values ≤ length bytes.now }
     requires again { IsRepeated bytes.now start state }

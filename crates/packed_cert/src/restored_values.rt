@@ -52,7 +52,7 @@ pub(crate) fn are_restored_below(regs: &[Val; 27], lower: ValuesAt<'_>, high: Va
         if !is_restored_below(regs, i, low, here) {
             return false;
         }
-        from = next_lower(i, low);
+        from = next_lower_place(i, low);
         at += value_length_by_tag(high.bytes[at]);
     }
     true
@@ -87,7 +87,7 @@ fn is_restored_below(regs: &[Val; 27], i: usize, low: ValuesAt<'_>, high: Values
 
 /// Returns the place of the next lower register's value: after the one at `low` if value number `i`
 /// is a lower register's, and else `low`.
-fn next_lower(i: usize, low: ValuesAt<'_>) -> usize
+fn next_lower_place(i: usize, low: ValuesAt<'_>) -> usize
     requires { IsTrue (states.is_lower_slot i)
         → HasValueInBytes low.version low.bytes.now low.place }
     ensures { result

@@ -133,11 +133,11 @@ impl<'a> StateAt<'a> {
 
     /// Returns true if this state covers the one after a `CALL` or a `SYS` that returned by the
     /// exit. Neither is read.
-    pub fn covers_after(&self, s: &State, exit: &ExitAt<'_>, kind: u8) -> bool
+    pub fn covers_after_return(&self, s: &State, exit: &ExitAt<'_>, kind: u8) -> bool
         requires { AreWell s.now.regs }
         ensures { IsTrue result ↔ Covers self.now (state_after_exit s.now exit.now kind) }
     {
-        let (ie, ccpn) = status_after(s, exit, kind);
+        let (ie, ccpn) = ie_and_ccpn_after_return(s, exit, kind);
         if !self.covers_context(ie, ccpn, false) {
             return false;
         }
@@ -155,7 +155,7 @@ impl<'a> StateAt<'a> {
 
 /// Returns IE and CCPN of the state after a return, which a `StateAt` is to cover: the packed
 /// exit's after a call, the caller's after a system call.
-fn status_after(s: &State, exit: &ExitAt<'_>, kind: u8) -> (bool, u8)
+fn ie_and_ccpn_after_return(s: &State, exit: &ExitAt<'_>, kind: u8) -> (bool, u8)
     ensures ie { result.0 ≡ (if kind == 1 then exit.now.ie else s.now.ie) }
     ensures ccpn { result.1 ≡ (if kind == 1 then exit.now.ccpn else s.now.ccpn) }
 {

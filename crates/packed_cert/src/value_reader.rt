@@ -7,8 +7,8 @@ ghost use Rattle.packed_cert.specs.ChangedRows.{ChangesRow, RowBeginsAtPlace, Is
 ghost use Rattle.packed_cert.specs.ValuesInBytes as standing;
 ghost use Rattle.depth_cert.specs.Grammar.{values_at};
 
-use crate::places::{RepeatedState, StatePlaces, ValueRow, no_row};
-use crate::repeated_bytes::{count_repeated_before, end_of_same};
+use crate::places::{RepeatedState, StatePlaces, ValueRow, empty_row};
+use crate::repeated_bytes::{count_repeated_before, end_of_repeated};
 use depth_cert::{read_value, read_values};
 use tcd_base::{FileCursor, FormErr};
 use value_domain::Val;
@@ -44,13 +44,13 @@ pub(crate) fn read_values_after(
     ensures from { IfOk result (RowBeginsAtPlace bytes.now c.old.place) }
     ensures bytes { c.new.bytes ≡ c.old.bytes }
 {
-    let mut row = no_row();
+    let mut row = empty_row();
     let mut from = before.values;
     let mut place = c.place();
     let mut stop = stop;
     for i in 0..out.len() {
         if stop == before.end {
-            pass_unread_values_to(c, place + (stop - from));
+            skip_values_to(c, place + (stop - from));
             return Ok(row);
         }
         let n = value_length_by_tag(bytes[from]);
@@ -58,15 +58,15 @@ pub(crate) fn read_values_after(
         if next <= stop {
             place += n;
         } else {
-            pass_unread_values_to(c, place);
+            skip_values_to(c, place);
             read_value(c, version, &mut out[i])?;
-            row = with_read(row, i as u8, place as u32);
+            row = row_with_read_value(row, i as u8, place as u32);
             place = c.place();
             stop = next + count_repeated_before(bytes, next, place, before.end);
         }
         from = next;
     }
-    pass_unread_values_to(c, place);
+    skip_values_to(c, place);
     Ok(row)
 }
 
@@ -84,7 +84,7 @@ pub(crate) fn value_length_by_tag(tag: u8) -> usize
 
 /// Moves the reader of values on to a place, past bytes that it doesn't read.
 #[inline(always)]
-pub(crate) fn pass_unread_values_to(c: &mut FileCursor<'_>, place: usize)
+pub(crate) fn skip_values_to(c: &mut FileCursor<'_>, place: usize)
     requires order { c.old.place ≤ place }
     requires within { place ≤ length c.old.bytes }
     ensures { c.new ≡ record c.old { place = place } }
@@ -95,7 +95,7 @@ pub(crate) fn pass_unread_values_to(c: &mut FileCursor<'_>, place: usize)
 
 /// Reads values of a state that begins at `start`, and returns the row of those that were read. If
 /// there is a state before, `out` holds its values already.
-pub(crate) fn read_values_like(
+pub(crate) fn read_or_skip_values(
     c: &mut FileCursor<'_>,
     bytes: &[u8],
     version: u8,
@@ -113,7 +113,7 @@ pub(crate) fn read_values_like(
     ensures bytes { c.new.bytes ≡ c.old.bytes }
 {
     if let Some(state) = before {
-        let stop = end_of_same(bytes, state, start, c.place());
+        let stop = end_of_repeated(bytes, state, start, c.place());
         return read_values_after(c, bytes, version, state.at, stop, out);
     }
     let count = out.len() as u8;
@@ -129,7 +129,7 @@ pub(crate) fn read_values_like(
 }
 
 /// Returns the row with value number `i`, which is after its others and was read at `place`.
-fn with_read(row: ValueRow, i: u8, place: u32) -> ValueRow
+fn row_with_read_value(row: ValueRow, i: u8, place: u32) -> ValueRow
     requires order { row.first ≤ row.behind }
     requires behind { row.behind ≤ i }
     requires number { i < 27 }

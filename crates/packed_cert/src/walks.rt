@@ -7,8 +7,8 @@ ghost use Rattle.packed_cert.specs.ValuesInBytes.{values_in, HaveValuesInBytes};
 ghost use Rattle.packed_cert.specs.Moves.{IsMoved};
 
 use crate::next_covers::does_next_point_cover;
-use crate::nodes::node_point_place;
-use crate::places::{PointPlace, ValueRow, no_row};
+use crate::nodes::count_points_below;
+use crate::places::{PointPlace, ValueRow, empty_row};
 use crate::point_reader::blank_state_for_reading;
 use crate::states::StateAt;
 use crate::value_reader::value_length_by_tag;
@@ -64,13 +64,13 @@ impl<'a> PointWalk<'a> {
             version: 1,
             points: &[],
             next: 0,
-            row: no_row(),
+            row: empty_row(),
             state: blank_state_for_reading(),
         }
     }
 
     /// Goes before the first of these points. The state at hand is room for theirs.
-    pub(crate) fn go_before(&mut self, bytes: &'a [u8], version: u8, points: &'a [PointPlace])
+    pub(crate) fn restart(&mut self, bytes: &'a [u8], version: u8, points: &'a [PointPlace])
         requires states { All (λ p. HasState version bytes.now p.place) points.now }
         requires rising { IsStrictlyIncreasing (map (λ p. p.addr) points.now) }
         requires moves { AreMoves version bytes.now points.now }
@@ -81,7 +81,7 @@ impl<'a> PointWalk<'a> {
         self.version = version;
         self.points = points;
         self.next = 0;
-        self.row = no_row();
+        self.row = empty_row();
     }
 
     /// Goes on to the next point and returns its address, or `None` after the last.
@@ -99,7 +99,7 @@ impl<'a> PointWalk<'a> {
     }
 
     /// Returns the address of the next point if its state is the one at hand.
-    pub fn repeats_at(&self) -> Option<u32>
+    pub fn next_address_if_same_state(&self) -> Option<u32>
         ensures { IfSome result (RepeatsAt self.now) }
     {
         if self.next >= self.points.len() {
@@ -136,7 +136,7 @@ impl<'a> PointWalk<'a> {
         ensures { IsTrue result ↔ CoversAt self.now addr }
     {
         let points = self.points;
-        let at = node_point_place(points, addr, self.next);
+        let at = count_points_below(points, addr, self.next);
         if at < points.len() && points[at].addr == addr {
             let place = points[at].place;
             if self.next > 0 && points[self.next - 1].place == place {
@@ -174,7 +174,7 @@ fn walk_to_point(bytes: &[u8], version: u8, point: PointPlace, room: &mut State)
     ensures few { result.behind ≤ 27 }
 {
     if point.same {
-        return no_row();
+        return empty_row();
     }
     let at = StateAt::at(bytes, version, point.place as usize);
     room.ie = at.ie();

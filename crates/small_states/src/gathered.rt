@@ -136,7 +136,7 @@ impl Gathered {
     /// Adds values that hold all words and then a single word. Returns false, and adds nothing, if
     /// the value isn't a single word or there is no room.
     #[inline(always)]
-    pub(crate) fn put_one(&mut self, here: &SpacedValue) -> bool
+    pub(crate) fn put_spaced_word(&mut self, here: &SpacedValue) -> bool
         ensures put { IsTrue result
             → self.new ≡ (self.old ++ replicate here.now.anys 0) ++ bytes_of_value here.now.value }
         ensures kept { result ≡ false → self.new ≡ self.old }

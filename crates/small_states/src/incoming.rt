@@ -7,7 +7,7 @@ ghost use Rattle.value_domain.specs.State.{AreValues, AreWell, Covers, joined_st
 ghost use Rattle.small_states.specs.CompactForms.{all_values, state_in, known_of, exit_in};
 ghost use Rattle.depth_cert.specs.Exits.{ExitCovers, joined_exit};
 
-use crate::incoming_values::{are_incoming_covered, join_values};
+use crate::incoming_values::{are_incoming_covered, join_incoming_values};
 use crate::known::{KnownForm, SmallKnown};
 use crate::small_value::SmallForm;
 use crate::{Small, SmallExit, SmallState, Values};
@@ -65,7 +65,7 @@ pub fn incoming_priority(incoming: &Incoming) -> u8
 
 /// Returns whether an exit flows in.
 #[inline(always)]
-pub(crate) fn is_leaving(incoming: &Incoming) -> bool
+pub(crate) fn is_exit_flow(incoming: &Incoming) -> bool
     ensures { result ≡ is_incoming_exit incoming.now }
 {
     match incoming {
@@ -109,7 +109,7 @@ pub(crate) fn incoming_form(values: Rc<Values>, incoming: &Incoming) -> KnownFor
     ensures { known_of result ≡ incoming_known incoming.now }
 {
     let k = incoming_context(incoming);
-    if is_leaving(incoming) {
+    if is_exit_flow(incoming) {
         return KnownForm::Leaves(SmallExit {
             ie: k.ie,
             ccpn: k.ccpn,
@@ -167,7 +167,7 @@ pub(crate) fn join_incoming_state(
     if left.locals.len() != k.locals.len() {
         return Ok(None);
     }
-    let regs = Rc::new(alloc, join_values(alloc, b, left.regs.as_ref(), incoming)?)?;
+    let regs = Rc::new(alloc, join_incoming_values(alloc, b, left.regs.as_ref(), incoming)?)?;
     let form = KnownForm::Point(SmallState {
         regs,
         ie: left.ie || k.ie,
@@ -210,7 +210,7 @@ pub(crate) fn join_incoming_exit(
         (leaving (joined_exit b.now (exit_in exit.now)
         (incoming_exit_with (incoming_values incoming.now) k.now)))) }
 {
-    let lower = Rc::new(alloc, join_values(alloc, b, exit.lower.as_ref(), incoming)?)?;
+    let lower = Rc::new(alloc, join_incoming_values(alloc, b, exit.lower.as_ref(), incoming)?)?;
     let form = KnownForm::Leaves(SmallExit {
         ie: exit.ie || k.ie,
         ccpn: exit.ccpn.min(k.ccpn),

@@ -13,7 +13,7 @@ use crate::SmallExit;
 use crate::incoming::{Given, Incoming};
 use crate::small_value::{Small, SmallForm};
 use crate::values::Values;
-use depth_cert::lower_value;
+use depth_cert::lower_register_value;
 use std::alloc::{AllocError, Global};
 use std::marker::Model;
 use std::rc::Rc;
@@ -35,14 +35,14 @@ pub(crate) fn compact_values(alloc: Global, incoming: &Incoming) -> Result<Value
         rest: 0,
     };
     for i in 0..count {
-        let value = Small::of_given(alloc, &incoming_value(&*incoming, &any, i))?;
+        let value = Small::of_incoming(alloc, &incoming_value(&*incoming, &any, i))?;
         values.add_small(value)?;
     }
     Ok(values)
 }
 
 /// Returns the incoming values, from a point whose compact values are at hand.
-pub(crate) fn compact_for(
+pub(crate) fn compact_shared_values(
     alloc: Global,
     own: &Rc<Values>,
     incoming: &Incoming,
@@ -51,9 +51,9 @@ pub(crate) fn compact_for(
     ensures { IfOk result (λ values. all_values values.value ≡ incoming_values incoming.now) }
 {
     match incoming {
-        Incoming::Changed(s, c) => compact_change(alloc, own, s, c),
+        Incoming::Changed(s, c) => compact_changed_values(alloc, own, s, c),
         _ => {
-            let values = compact_own(alloc, own.as_ref(), incoming)?;
+            let values = compact_from_own(alloc, own.as_ref(), incoming)?;
             Ok(Rc::new(alloc, values)?)
         }
     }
@@ -78,7 +78,7 @@ pub(crate) fn are_incoming_covered(upper: &Values, incoming: &Incoming) -> bool
         let place = at + here.anys as usize;
         if !here
             .value
-            .covers_given(&incoming_value(&*incoming, &any, place))
+            .covers_incoming(&incoming_value(&*incoming, &any, place))
         {
             return false;
         }
@@ -88,7 +88,7 @@ pub(crate) fn are_incoming_covered(upper: &Values, incoming: &Incoming) -> bool
 }
 
 /// Returns the least values with the members of the known and the incoming ones at each place.
-pub(crate) fn join_values(
+pub(crate) fn join_incoming_values(
     alloc: Global,
     b: &Bounds,
     left: &Values,
@@ -117,7 +117,7 @@ pub(crate) fn join_values(
         let place = at + anys as usize;
         let value = here
             .value
-            .join_given(alloc, b, &incoming_value(&*incoming, &any, place))?;
+            .join_incoming(alloc, b, &incoming_value(&*incoming, &any, place))?;
         values.add_spaced(anys, value)?;
         at = place + 1;
     }
@@ -135,22 +135,22 @@ pub(crate) fn incoming_value<'a>(incoming: &'a Incoming, any: &'a Small, i: usiz
     match incoming {
         Incoming::Changed(s, c) => {
             let _regs = &s.regs[..];
-            changed_given(s, c, any, i)
+            changed_state_value(s, c, any, i)
         }
         Incoming::After(s, exit, _) => {
             let _regs = &s.regs[..];
-            incoming_value_after(s, exit, any, i)
+            value_after_return(s, exit, any, i)
         }
         Incoming::Leaving(s) => {
             let _regs = &s.regs[..];
-            Given::Whole(lower_value(&s.regs, i))
+            Given::Whole(lower_register_value(&s.regs, i))
         }
     }
 }
 
 /// Returns the incoming values of a changed state in compact form, from the state's compact values.
 #[inline(always)]
-fn compact_change(
+fn compact_changed_values(
     alloc: Global,
     own: &Rc<Values>,
     s: &State,
@@ -160,12 +160,12 @@ fn compact_change(
     ensures { IfOk result (λ values. all_values values.value ≡ (state_after s.now c.now).regs) }
 {
     let _regs = &s.regs[..];
-    put_all_over(alloc, own, c)
+    put_change_over(alloc, own, c)
 }
 
 /// Returns the incoming values, from a point whose compact values are at hand.
 #[inline(never)]
-fn compact_own(alloc: Global, own: &Values, incoming: &Incoming) -> Result<Values, AllocError>
+fn compact_from_own(alloc: Global, own: &Values, incoming: &Incoming) -> Result<Values, AllocError>
     requires { all_values own.now ≡ (sender_state incoming.now).regs }
     ensures { IfOk result (λ values. all_values values ≡ incoming_values incoming.now) }
 {
@@ -196,7 +196,7 @@ fn compact_own(alloc: Global, own: &Values, incoming: &Incoming) -> Result<Value
 /// Returns the compact incoming values of a changed state: its values with the change put over
 /// them. If no part of them changes, the list is shared.
 #[inline(always)]
-fn put_all_over(alloc: Global, own: &Rc<Values>, c: &Change) -> Result<Rc<Values>, AllocError>
+fn put_change_over(alloc: Global, own: &Rc<Values>, c: &Change) -> Result<Rc<Values>, AllocError>
     requires { length (all_values own.now.value) ≡ 27 }
     ensures { IfOk result
         (λ values. all_values values.value
@@ -209,9 +209,9 @@ fn put_all_over(alloc: Global, own: &Rc<Values>, c: &Change) -> Result<Rc<Values
         }
     }
     let mut values = base_values(alloc, own.as_ref(), c.base)?;
-    put_over(alloc, &mut values, &c.first)?;
-    put_over(alloc, &mut values, &c.second)?;
-    put_over(alloc, &mut values, &c.third)?;
+    put_value_over(alloc, &mut values, &c.first)?;
+    put_value_over(alloc, &mut values, &c.second)?;
+    put_value_over(alloc, &mut values, &c.third)?;
     Ok(Rc::new(alloc, values)?)
 }
 
@@ -223,7 +223,7 @@ fn base_values(alloc: Global, own: &Values, base: Base) -> Result<Values, AllocE
 {
     match base {
         Base::Same => own.copy(alloc),
-        Base::Forgotten => upper_values(alloc, own),
+        Base::Forgotten => without_lower_values(alloc, own),
         Base::Any => Ok(Values {
             known: Vec::with_capacity(alloc, 3)?,
             rest: 27,
@@ -233,7 +233,7 @@ fn base_values(alloc: Global, own: &Values, base: Base) -> Result<Values, AllocE
 
 /// Puts one value of a change over a list of compact incoming values, if the change has it.
 #[inline(always)]
-fn put_over(alloc: Global, values: &mut Values, put: &Put) -> Result<(), AllocError>
+fn put_value_over(alloc: Global, values: &mut Values, put: &Put) -> Result<(), AllocError>
     ensures { OnOk result (all_values values.new ≡ put_in (all_values values.old) put.now) }
 {
     let Some(at) = put.at else {
@@ -245,7 +245,7 @@ fn put_over(alloc: Global, values: &mut Values, put: &Put) -> Result<(), AllocEr
 
 /// Returns a state's values with the lower registers unknown.
 #[inline(never)]
-fn upper_values(alloc: Global, own: &Values) -> Result<Values, AllocError>
+fn without_lower_values(alloc: Global, own: &Values) -> Result<Values, AllocError>
     requires { length (all_values own.now) ≡ 27 }
     ensures { IfOk result (λ values. all_values values ≡ forgotten_from 0 (all_values own.now)) }
 {
@@ -261,7 +261,7 @@ fn upper_values(alloc: Global, own: &Values) -> Result<Values, AllocError>
 
 /// Returns the value at a place of a changed state.
 #[inline(always)]
-fn changed_given<'a>(s: &'a State, c: &'a Change, any: &'a Small, i: usize) -> Given<'a>
+fn changed_state_value<'a>(s: &'a State, c: &'a Change, any: &'a Small, i: usize) -> Given<'a>
     requires place { i < 27 }
     requires any { any.now ≡ any_val }
     ensures { given_of result ≡ slice_index_or (state_after s.now c.now).regs i any_val }
@@ -276,12 +276,12 @@ fn changed_given<'a>(s: &'a State, c: &'a Change, any: &'a Small, i: usize) -> G
     if c.first.at == Some(i) {
         return Given::Whole(&c.first.value);
     }
-    base_given(s, c.base, any, i)
+    base_value(s, c.base, any, i)
 }
 
 /// Returns the value at a place after a frame returned with an exit.
 #[inline(always)]
-fn incoming_value_after<'a>(
+fn value_after_return<'a>(
     s: &'a State,
     exit: &'a SmallExit,
     any: &'a Small,
@@ -294,12 +294,12 @@ fn incoming_value_after<'a>(
         any_val }
 {
     let _regs = &s.regs[..];
-    restored_incoming_value(i, exit, any, &s.regs[i])
+    lower_or_caller_value(i, exit, any, &s.regs[i])
 }
 
 /// Returns the value at a place before a change puts others over it.
 #[inline(always)]
-fn base_given<'a>(s: &'a State, base: Base, any: &'a Small, i: usize) -> Given<'a>
+fn base_value<'a>(s: &'a State, base: Base, any: &'a Small, i: usize) -> Given<'a>
     requires place { i < 27 }
     requires any { any.now ≡ any_val }
     ensures { given_of result ≡ slice_index_or (base_of base s.now.regs) i any_val }
@@ -321,7 +321,7 @@ fn base_given<'a>(s: &'a State, base: Base, any: &'a Small, i: usize) -> Given<'
 /// Returns the value at a place after a frame returned: the exit's for a lower register, else the
 /// caller's, `v`.
 #[inline(always)]
-fn restored_incoming_value<'a>(
+fn lower_or_caller_value<'a>(
     i: usize,
     exit: &'a SmallExit,
     any: &'a Small,
@@ -335,9 +335,9 @@ fn restored_incoming_value<'a>(
         else v.now) }
 {
     if i < 8 {
-        exit.lower.as_ref().given_at(any, i)
+        exit.lower.as_ref().value_or_any(any, i)
     } else if 16 <= i && i < 22 {
-        exit.lower.as_ref().given_at(any, i - 8)
+        exit.lower.as_ref().value_or_any(any, i - 8)
     } else {
         Given::Whole(v)
     }

@@ -7,9 +7,9 @@ ghost use Rattle.depth_cert.specs.WellFormed.{IsWellFormedKnown};
 
 use crate::incoming::{
     Given, Incoming, incoming_context, incoming_form, is_incoming_exit_covered,
-    is_incoming_state_covered, is_leaving, join_incoming_exit, join_incoming_state,
+    is_incoming_state_covered, is_exit_flow, join_incoming_exit, join_incoming_state,
 };
-use crate::incoming_values::{compact_for, compact_values};
+use crate::incoming_values::{compact_shared_values, compact_values};
 use crate::small_value::{Small, SmallForm};
 use crate::values::are_all_below;
 use crate::{ScratchState, SmallExit, SmallState};
@@ -78,9 +78,9 @@ fn has_known_grown(known: &SmallState, put: &Put) -> bool {
     let any = Small {
         form: SmallForm::Any,
     };
-    match known.regs.as_ref().given_at(&any, at) {
+    match known.regs.as_ref().value_or_any(&any, at) {
         Given::Whole(_) => false,
-        Given::Compact(low) => low.is_same(&put.value) || low.has_fewer(&put.value),
+        Given::Compact(low) => low.is_same(&put.value) || low.has_fewer_words(&put.value),
     }
 }
 
@@ -102,7 +102,7 @@ impl SmallKnown {
         ensures { IfOk result (λ c. c ≡ incoming_known incoming.now) }
     {
         let values = match &self.form {
-            KnownForm::Point(own) => compact_for(alloc, &own.regs, incoming)?,
+            KnownForm::Point(own) => compact_shared_values(alloc, &own.regs, incoming)?,
             KnownForm::Leaves(_) => Rc::new(alloc, compact_values(alloc, incoming)?)?,
         };
         let form = incoming_form(values, incoming);
@@ -135,13 +135,13 @@ impl SmallKnown {
         let k = incoming_context(incoming);
         match &self.form {
             KnownForm::Point(upper) => {
-                if is_leaving(incoming) {
+                if is_exit_flow(incoming) {
                     return false;
                 }
                 is_incoming_state_covered(upper, incoming, &k)
             }
             KnownForm::Leaves(upper) => {
-                if !is_leaving(incoming) {
+                if !is_exit_flow(incoming) {
                     return false;
                 }
                 is_incoming_exit_covered(upper, incoming, &k)
@@ -163,13 +163,13 @@ impl SmallKnown {
         let k = incoming_context(incoming);
         match &self.form {
             KnownForm::Point(left) => {
-                if is_leaving(incoming) {
+                if is_exit_flow(incoming) {
                     return Ok(None);
                 }
                 join_incoming_state(alloc, b, left, incoming, &k)
             }
             KnownForm::Leaves(left) => {
-                if !is_leaving(incoming) {
+                if !is_exit_flow(incoming) {
                     return Ok(None);
                 }
                 join_incoming_exit(alloc, b, left, incoming, &k)

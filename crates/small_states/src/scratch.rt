@@ -38,7 +38,7 @@ fn write_scratch_values(values: &Rc<Values>, last: &mut Option<Rc<Values>>, regs
 {
     match &*last {
         Some(own) => {
-            if overwrite_scratch(values.as_ref(), own.as_ref(), regs) {
+            if overwrite_last_values(values.as_ref(), own.as_ref(), regs) {
                 return;
             }
         }
@@ -53,7 +53,7 @@ fn write_scratch_values(values: &Rc<Values>, last: &mut Option<Rc<Values>>, regs
 /// Writes values over the last ones. If both have the same gaps, only the values that differ are
 /// written. Returns true only if none was written.
 #[inline(always)]
-fn overwrite_scratch(values: &Values, last: &Values, regs: &mut [Val; 27]) -> bool
+fn overwrite_last_values(values: &Values, last: &Values, regs: &mut [Val; 27]) -> bool
     requires long { length (all_values values.now) ≡ 27 }
     requires last { regs.old ≡ all_values last.now }
     ensures regs { regs.new ≡ all_values values.now }

@@ -14,10 +14,10 @@ use std::marker::Model;
 use std::rc::Rc;
 use tcd_base::NoMemory;
 use value_domain::{
-    Bounds, Val, Words, add_value, add_words, alignment_log2, extent_of, is_extent_inside, is_set,
-    is_the_span, leq, set_span, set_words, write_any,
+    Bounds, Val, Words, join_into, join_word_list, alignment_log2, extent_of, is_extent_in_span, is_set,
+    is_equal_span, leq, set_span, set_words, write_any,
 };
-use vd_transfer::only_register_word;
+use vd_transfer::singleton_word;
 
 /// All words, a single word, a whole value that copies share (a set of several words), or another
 /// range.
@@ -68,7 +68,7 @@ fn have_same_words(v: &Val, w: &Val) -> bool
     let Some(words) = w.words() else {
         return false;
     };
-    own.len() == words.len() && is_value_prefix(own, words)
+    own.len() == words.len() && begins_with_words(own, words)
 }
 
 /// Returns the number of words that are among those of a small value, up to the first that isn't.
@@ -112,7 +112,7 @@ fn is_below_small_value(v: &Val, own: &Val) -> bool
         return false;
     }
     if end < held.len() && held[end] == words[end] {
-        if is_value_prefix(held, words) {
+        if begins_with_words(held, words) {
             return true;
         }
     }
@@ -127,7 +127,7 @@ fn is_below_range(v: &Val, lo: u32, last: u32, step: u8) -> bool
     ensures { IsTrue result ↔ IsBelow v.now (Span lo last step) }
 {
     let e = extent_of(v);
-    is_extent_inside(&e, lo, last, step)
+    is_extent_in_span(&e, lo, last, step)
 }
 
 /// Returns whether a word is a member of a range: that of a small value, or one that a small value
@@ -151,7 +151,7 @@ fn small_range_form(lo: u32, last: u32, step: u8) -> SmallForm
 /// Returns true only if a small value's words begin with the words of another. It compares all of
 /// them, since that takes several at once.
 #[inline(always)]
-fn is_value_prefix(own: &[u32], words: &[u32]) -> bool
+fn begins_with_words(own: &[u32], words: &[u32]) -> bool
     ensures { IsTrue result → (rest : List ℕ) × (own.now ≡ words.now ++ rest) }
 {
     if own.len() < words.len() {
@@ -181,7 +181,7 @@ impl Small {
                     let form = SmallForm::One(first);
                     return Ok(Small { form });
                 }
-                Small::of_many(alloc, v)
+                Small::of_shared(alloc, v)
             }
             Val::Span { lo, last, step } => {
                 // All words have a form of their own, which is recognised at once.
@@ -235,13 +235,13 @@ impl Small {
         ensures { IsTrue result → v.now ≡ self.now }
     {
         match &self.form {
-            SmallForm::Any => is_the_span(v, 0, u32::MAX, 0),
+            SmallForm::Any => is_equal_span(v, 0, u32::MAX, 0),
             SmallForm::One(x) => match v {
                 Val::Set(words) => is_single_word(words, *x),
                 Val::Span { .. } => false,
             },
             SmallForm::Many(own) => have_same_words(v, own.as_ref()),
-            SmallForm::Range { lo, last, step } => is_the_span(v, *lo, *last, *step),
+            SmallForm::Range { lo, last, step } => is_equal_span(v, *lo, *last, *step),
         }
     }
 
@@ -288,7 +288,7 @@ impl Small {
 
     /// Returns a compact copy of an incoming value.
     #[inline(always)]
-    pub(crate) fn of_given(alloc: Global, v: &Given) -> Result<Small, AllocError>
+    pub(crate) fn of_incoming(alloc: Global, v: &Given) -> Result<Small, AllocError>
         ensures { IfOk result (λ s. s ≡ given_of v.now) }
     {
         match v {
@@ -329,7 +329,7 @@ impl Small {
         requires value { IsWell v.now }
         ensures { IsTrue result ↔ IsBelow v.now self.now }
     {
-        if let Some(x) = only_register_word(v) {
+        if let Some(x) = singleton_word(v) {
             return self.has(x);
         }
         match &self.form {
@@ -339,7 +339,7 @@ impl Small {
                 None => is_below_range(v, *x, *x, 0),
             },
             SmallForm::Range { lo, last, step } => {
-                if is_the_span(v, *lo, *last, *step) {
+                if is_equal_span(v, *lo, *last, *step) {
                     return true;
                 }
                 is_below_range(v, *lo, *last, *step)
@@ -349,7 +349,7 @@ impl Small {
     }
 
     /// Returns whether it is a word or a set and the other has more words.
-    pub(crate) fn has_fewer(&self, v: &Val) -> bool {
+    pub(crate) fn has_fewer_words(&self, v: &Val) -> bool {
         let most = match v.words() {
             Some(words) => words.len(),
             None => usize::MAX,
@@ -379,7 +379,7 @@ impl Small {
 
     /// Returns whether the small value has all members of an incoming one.
     #[inline(always)]
-    pub(crate) fn covers_given(&self, v: &Given) -> bool
+    pub(crate) fn covers_incoming(&self, v: &Given) -> bool
         requires own { IsWell self.now }
         requires value { IsWell (given_of v.now) }
         ensures { IsTrue result ↔ IsBelow (given_of v.now) self.now }
@@ -400,7 +400,7 @@ impl Small {
         if self.is_same(v) {
             return self.copy();
         }
-        if let Some(x) = only_register_word(v) {
+        if let Some(x) = singleton_word(v) {
             if self.has(x) {
                 return self.copy();
             }
@@ -413,7 +413,7 @@ impl Small {
 
     /// Returns the least value with the members of both.
     #[inline(always)]
-    pub(crate) fn join_given(
+    pub(crate) fn join_incoming(
         &self,
         alloc: Global,
         b: &Bounds,
@@ -436,7 +436,7 @@ impl Small {
 
     /// Returns a copy of a whole value.
     #[inline(never)]
-    fn of_many(alloc: Global, v: &Val) -> Result<Small, AllocError>
+    fn of_shared(alloc: Global, v: &Val) -> Result<Small, AllocError>
         ensures { IfOk result (λ s. s ≡ v.now) }
     {
         let form = SmallForm::Many(Rc::new(alloc, v.copy())?);
@@ -455,13 +455,13 @@ impl Small {
                 SmallForm::Many(own) => have_same_words(words.as_ref(), own.as_ref()),
                 _ => false,
             },
-            SmallForm::Range { lo, last, step } => self.has_ends(*lo, *last, *step),
+            SmallForm::Range { lo, last, step } => self.is_range(*lo, *last, *step),
         }
     }
 
     /// Returns true only if it has the form of this range.
     #[inline(always)]
-    fn has_ends(&self, lo: u32, last: u32, step: u8) -> bool
+    fn is_range(&self, lo: u32, last: u32, step: u8) -> bool
         ensures { IsTrue result → self.now ≡ Span lo last step }
     {
         match &self.form {
@@ -502,7 +502,7 @@ impl Small {
             SmallForm::One(x) => self.has(*x),
             SmallForm::Many(words) => self.covers(words.as_ref()),
             SmallForm::Range { lo, last, step } => {
-                if self.has_range(*lo, *last, *step) {
+                if self.has_all_of_range(*lo, *last, *step) {
                     return true;
                 }
                 self.covers_as_whole(v)
@@ -513,7 +513,7 @@ impl Small {
 
     /// Returns true only if its form shows that it has all words of a range.
     #[inline(always)]
-    fn has_range(&self, lo: u32, last: u32, step: u8) -> bool
+    fn has_all_of_range(&self, lo: u32, last: u32, step: u8) -> bool
         ensures { IsTrue result → IsBelow (Span lo last step) self.now }
     {
         match &self.form {
@@ -562,7 +562,7 @@ impl Small {
         };
         let n = count_held_words(held, words);
         if n == words.len() {
-            return self.copy_any();
+            return self.copy_out_of_line();
         }
         let missing = words.len() - n;
         if held.len() < missing {
@@ -583,10 +583,10 @@ impl Small {
         ensures { IfOk result (λ s. s ≡ join_of b.now self.now v.now) }
     {
         if let Val::Span { lo, last, step } = v {
-            if self.has_range(*lo, *last, *step) {
-                return self.copy_any();
+            if self.has_all_of_range(*lo, *last, *step) {
+                return self.copy_out_of_line();
             }
-            if self.is_within(*lo, *last, *step) {
+            if self.is_inside_range(*lo, *last, *step) {
                 return Small::of(alloc, v);
             }
         }
@@ -606,7 +606,7 @@ impl Small {
     {
         let mut out = Val::one(0);
         set_words(&mut out, words);
-        add_words(b, &mut out, others);
+        join_word_list(b, &mut out, others);
         if is_set(&out) {
             let form = SmallForm::Many(Rc::new(alloc, out)?);
             return Ok(Small { form });
@@ -622,7 +622,7 @@ impl Small {
     {
         let mut out = Val::one(0);
         self.replace(&mut out);
-        add_words(b, &mut out, words);
+        join_word_list(b, &mut out, words);
         if is_set(&out) {
             let form = SmallForm::Many(Rc::new(alloc, out)?);
             return Ok(Small { form });
@@ -632,7 +632,7 @@ impl Small {
 
     /// Returns a copy. It is a call of its own, for rare cases.
     #[inline(never)]
-    fn copy_any(&self) -> Result<Small, AllocError>
+    fn copy_out_of_line(&self) -> Result<Small, AllocError>
         ensures { IfOk result (λ s. s ≡ self.now) }
     {
         self.copy()
@@ -647,16 +647,16 @@ impl Small {
     {
         let mut out = Val::one(0);
         self.replace(&mut out);
-        add_value(b, &mut out, v);
-        Small::of_own(alloc, out)
+        join_into(b, &mut out, v);
+        Small::of_moved(alloc, out)
     }
 
     /// Returns a compact value. If it is a set of several words, it isn't copied.
     #[inline(never)]
-    fn of_own(alloc: Global, v: Val) -> Result<Small, AllocError>
+    fn of_moved(alloc: Global, v: Val) -> Result<Small, AllocError>
         ensures { IfOk result (λ s. s ≡ v) }
     {
-        if only_register_word(&v).is_none() && is_set(&v) {
+        if singleton_word(&v).is_none() && is_set(&v) {
             let form = SmallForm::Many(Rc::new(alloc, v)?);
             return Ok(Small { form });
         }
@@ -665,7 +665,7 @@ impl Small {
 
     /// Returns true only if its form shows that its members are words of a range.
     #[inline(always)]
-    fn is_within(&self, lo: u32, last: u32, step: u8) -> bool
+    fn is_inside_range(&self, lo: u32, last: u32, step: u8) -> bool
         ensures { IsTrue result → IsBelow self.now (Span lo last step) }
     {
         match &self.form {

@@ -30,7 +30,7 @@ fn spell_values(out: &mut Vec<u8>, gathered: &mut Gathered, values: &Values) -> 
     let known = values.known.as_slice();
     for n in 0..known.len() {
         let here = &known[n];
-        if !gathered.put_one(here) {
+        if !gathered.put_spaced_word(here) {
             spell_spaced_value(out, gathered, here.anys, &here.value)?;
         }
     }

@@ -78,7 +78,7 @@ impl Values {
     }
 
     /// Returns the value at a place. `any` is returned for an unknown value.
-    pub(crate) fn given_at<'a>(&'a self, any: &'a Small, i: usize) -> Given<'a>
+    pub(crate) fn value_or_any<'a>(&'a self, any: &'a Small, i: usize) -> Given<'a>
         requires { any.now ≡ any_val }
         ensures { given_of result ≡ slice_index_or (all_values self.now) i any_val }
     {

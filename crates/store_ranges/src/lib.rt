@@ -9,6 +9,6 @@ mod stores;
 
 pub use laws::load_laws;
 pub use loads::{LoadKind, load_of, write_load};
-pub use ranges::is_in_range;
+pub use ranges::is_store_in_range;
 pub use rom::loaded_rom;
 pub use stores::{aligned, store_ok};

@@ -15,7 +15,7 @@ use elf_image::Image;
 use tcd_base::sext;
 use tcd_plan::{Device, Plan};
 use value_domain::{
-    Bounds, Val, add_value, add_words, extent_of, set_span, set_words, write_any, write_cover,
+    Bounds, Val, join_into, join_word_list, extent_of, set_span, set_words, write_any, write_cover,
 };
 
 /// How many bytes a load takes, and whether it extends their sign.
@@ -53,13 +53,13 @@ pub fn write_load(b: &Bounds, image: &Image, plan: &Plan, at: &Val, load: LoadKi
     // Reading the plan gives the facts that hold of every plan.
     let _areas = plan.areas;
     match at {
-        Val::Set(words) => write_each(b, image, plan, words.as_slice(), load, out),
-        Val::Span { .. } => write_loads_of_span(b, plan, at, load, out),
+        Val::Set(words) => write_loads(b, image, plan, words.as_slice(), load, out),
+        Val::Span { .. } => write_loads_from_span(b, plan, at, load, out),
     }
 }
 
 /// Overwrites a value with what all addresses give.
-fn write_each(b: &Bounds, image: &Image, plan: &Plan, words: &[u32], load: LoadKind, out: &mut Val)
+fn write_loads(b: &Bounds, image: &Image, plan: &Plan, words: &[u32], load: LoadKind, out: &mut Val)
     requires some { 1 ≤ length words.now }
     requires size { IsAccessSize load.size }
     ensures loaded { out.new
@@ -67,14 +67,14 @@ fn write_each(b: &Bounds, image: &Image, plan: &Plan, words: &[u32], load: LoadK
         (loaded_words_at image.now plan.now load.size load.signed) words.now) }
     ensures value { IsValue b.now out.new }
 {
-    write_at(b, image, plan, words[0], load, out);
+    write_load_at(b, image, plan, words[0], load, out);
     for i in 1..words.len() {
-        add_at(b, image, plan, words[i], load, out);
+        join_load_at(b, image, plan, words[i], load, out);
     }
 }
 
 /// Overwrites a value with what a Span of addresses gives.
-fn write_loads_of_span(b: &Bounds, plan: &Plan, at: &Val, load: LoadKind, out: &mut Val)
+fn write_loads_from_span(b: &Bounds, plan: &Plan, at: &Val, load: LoadKind, out: &mut Val)
     requires at { IsValue b.now at.now }
     requires size { IsAccessSize load.size }
     ensures loaded { out.new ≡ cover b.now (loads.loaded_answers load.size load.signed
@@ -83,11 +83,11 @@ fn write_loads_of_span(b: &Bounds, plan: &Plan, at: &Val, load: LoadKind, out: &
 {
     let e = extent_of(at);
     let device = device_of_load(plan, e.least, e.greatest, load.size);
-    write_answers(b, device, load, out);
+    write_peripheral_answers(b, device, load, out);
 }
 
 /// Overwrites a value with what an address gives.
-fn write_at(b: &Bounds, image: &Image, plan: &Plan, x: u32, load: LoadKind, out: &mut Val)
+fn write_load_at(b: &Bounds, image: &Image, plan: &Plan, x: u32, load: LoadKind, out: &mut Val)
     requires { IsAccessSize load.size }
     ensures loaded { out.new
         ≡ cover b.now (loaded_words_at image.now plan.now load.size load.signed x) }
@@ -98,12 +98,12 @@ fn write_at(b: &Bounds, image: &Image, plan: &Plan, x: u32, load: LoadKind, out:
     let device = device_of_load(plan, x, x, load.size);
     match rom_number(image, plan, x, load.size) {
         Some(number) => set_words(out, &[extend_loaded_number(number, load)]),
-        None => write_answers(b, device, load, out),
+        None => write_peripheral_answers(b, device, load, out),
     }
 }
 
 /// Widens a value to the least one that holds what an address gives, too.
-fn add_at(b: &Bounds, image: &Image, plan: &Plan, x: u32, load: LoadKind, out: &mut Val)
+fn join_load_at(b: &Bounds, image: &Image, plan: &Plan, x: u32, load: LoadKind, out: &mut Val)
     requires size { IsAccessSize load.size }
     requires value { IsValue b.now out.old }
     ensures loaded { out.new ≡ cover b.now
@@ -112,8 +112,8 @@ fn add_at(b: &Bounds, image: &Image, plan: &Plan, x: u32, load: LoadKind, out: &
 {
     let device = device_of_load(plan, x, x, load.size);
     match rom_number(image, plan, x, load.size) {
-        Some(number) => add_words(b, out, &[extend_loaded_number(number, load)]),
-        None => add_answers(b, device, load, out),
+        Some(number) => join_word_list(b, out, &[extend_loaded_number(number, load)]),
+        None => join_peripheral_answers(b, device, load, out),
     }
 }
 
@@ -149,7 +149,7 @@ fn extend_loaded_number(number: u32, load: LoadKind) -> u32
 
 /// Overwrites a value with the cover of the words that a peripheral can answer. Without a
 /// peripheral, it is that of anything.
-fn write_answers(b: &Bounds, device: Option<Device>, load: LoadKind, out: &mut Val)
+fn write_peripheral_answers(b: &Bounds, device: Option<Device>, load: LoadKind, out: &mut Val)
     requires size { IsAccessSize load.size }
     requires bounds { IfSome device (λ d. d.lo ≤ d.hi) }
     ensures cover { out.new ≡ cover b.now (loads.loaded_answers load.size load.signed device) }
@@ -158,12 +158,12 @@ fn write_answers(b: &Bounds, device: Option<Device>, load: LoadKind, out: &mut V
 {
     match device {
         Some(device) => write_cover(b, device.lo, device.hi, 0, out),
-        None => write_anything(b, load, out),
+        None => write_any_loaded_word(b, load, out),
     }
 }
 
 /// Overwrites a value with the cover of all words that a load of this kind can give.
-fn write_anything(b: &Bounds, load: LoadKind, out: &mut Val)
+fn write_any_loaded_word(b: &Bounds, load: LoadKind, out: &mut Val)
     requires { IsAccessSize load.size }
     ensures cover { out.new ≡ cover b.now (all_extended load.size load.signed) }
     ensures value { IsValue b.now out.new }
@@ -172,12 +172,12 @@ fn write_anything(b: &Bounds, load: LoadKind, out: &mut Val)
     if load.signed {
         write_any(out);
     } else {
-        write_load_numbers(b, load.size, out);
+        write_unsigned_load_range(b, load.size, out);
     }
 }
 
 /// Overwrites a value with the cover of all numbers of `size` bytes.
-fn write_load_numbers(b: &Bounds, size: u8, out: &mut Val)
+fn write_unsigned_load_range(b: &Bounds, size: u8, out: &mut Val)
     requires { IsAccessSize size }
     ensures cover { out.new ≡ cover b.now (all_extended size false) }
     ensures value { IsValue b.now out.new }
@@ -206,7 +206,7 @@ fn greatest_loaded_number(size: u8) -> u32
 /// Widens a value to the least one that holds the words that a peripheral can answer, too. This is
 /// a function of its own, so that its callers need no stack for a value.
 #[inline(never)]
-fn add_answers(b: &Bounds, device: Option<Device>, load: LoadKind, out: &mut Val)
+fn join_peripheral_answers(b: &Bounds, device: Option<Device>, load: LoadKind, out: &mut Val)
     requires size { IsAccessSize load.size }
     requires bounds { IfSome device (λ d. d.lo ≤ d.hi) }
     requires value { IsValue b.now out.old }
@@ -215,6 +215,6 @@ fn add_answers(b: &Bounds, device: Option<Device>, load: LoadKind, out: &mut Val
     ensures value { IsValue b.now out.new }
 {
     let mut answers = Val::any();
-    write_answers(b, device, load, &mut answers);
-    add_value(b, out, &answers);
+    write_peripheral_answers(b, device, load, &mut answers);
+    join_into(b, out, &answers);
 }

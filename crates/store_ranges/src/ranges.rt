@@ -31,11 +31,11 @@ pub(crate) fn device_range_at(devices: &[Device], low: u32, high: u32, n: u8) ->
 
 /// Returns true if for each of these addresses one ram range or one peripheral range has all the
 /// bytes of a store there.
-pub(crate) fn are_in_range(plan: &Plan, words: &[u32], size: u8) -> bool
+pub(crate) fn are_stores_in_range(plan: &Plan, words: &[u32], size: u8) -> bool
     ensures { IsTrue result ↔ All (λ x. IsStoreInRange plan.now (x, size)) words.now }
 {
     for x in words {
-        if !is_in_range(plan, *x, size) {
+        if !is_store_in_range(plan, *x, size) {
             return false;
         }
     }
@@ -44,22 +44,22 @@ pub(crate) fn are_in_range(plan: &Plan, words: &[u32], size: u8) -> bool
 
 /// Returns true if a store of so many bytes at an address is wholly in one ram range or one
 /// peripheral range.
-pub fn is_in_range(plan: &Plan, x: u32, size: u8) -> bool
+pub fn is_store_in_range(plan: &Plan, x: u32, size: u8) -> bool
     ensures { IsTrue result ↔ IsStoreInRange plan.now (x, size) }
 {
-    range_end(plan, x, size).is_some()
+    store_range_end(plan, x, size).is_some()
 }
 
 /// Walks from range to range: the first member whose access isn't in the last range is looked for
 /// in the others.
-pub(crate) fn is_span_in_range(plan: &Plan, least: u32, last: u32, step: u8, size: u8) -> bool
+pub(crate) fn is_span_store_in_range(plan: &Plan, least: u32, last: u32, step: u8, size: u8) -> bool
     requires step { step ≤ 2 }
     requires least { step ≤ sets.alignment_log2 least }
     ensures { IsTrue result ↔ AreStoresInRange plan.now (Span least last step) size }
 {
     let mut x = u64::from(least);
     while x <= u64::from(last) {
-        let Some(end) = range_end(plan, x as u32, size) else {
+        let Some(end) = store_range_end(plan, x as u32, size) else {
             return false;
         };
         x = next_store_address(end - u64::from(size), step);
@@ -78,7 +78,7 @@ pub(crate) fn next_store_address(x: u64, step: u8) -> u64
 }
 
 /// Returns the end of a ram range or peripheral range that holds the access.
-fn range_end(plan: &Plan, x: u32, size: u8) -> Option<u64>
+fn store_range_end(plan: &Plan, x: u32, size: u8) -> Option<u64>
     ensures { MatchOption result (¬ IsStoreInRange plan.now (x, size))
         (λ end. StaysInRange plan.now size x end) }
 {

@@ -19,7 +19,7 @@ pub fn loaded_rom(image: &Image, plan: &Plan, addr: u32, len: u8) -> bool
     if !is_in_rom(plan, addr, len) {
         return false;
     }
-    are_held_in_rom(image, addr, len)
+    are_bytes_in_image(image, addr, len)
 }
 
 /// Returns the number in the `n` bytes from `x` on, little-endian, if they are in one rom range and
@@ -32,7 +32,7 @@ pub(crate) fn rom_number(image: &Image, plan: &Plan, x: u32, n: u8) -> Option<u3
     if !is_in_rom(plan, x, n) {
         return None;
     }
-    held_number(image, x, n)
+    number_in_image(image, x, n)
 }
 
 /// Returns true if the `n` bytes from `x` on are in one rom range.
@@ -44,7 +44,7 @@ fn is_in_rom(plan: &Plan, x: u32, n: u8) -> bool
 }
 
 /// Returns true if segments of the image hold the `n` bytes from `x` on.
-fn are_held_in_rom(image: &Image, x: u32, n: u8) -> bool
+fn are_bytes_in_image(image: &Image, x: u32, n: u8) -> bool
     requires { x + n ≤ 2 ^ 32 }
     ensures { IsTrue result ↔ ((i : ℕ) → i < n → IsSome (image_byte image.now (x + i))) }
 {
@@ -57,7 +57,7 @@ fn are_held_in_rom(image: &Image, x: u32, n: u8) -> bool
 }
 
 /// Returns the number in the `n` bytes from `x` on, little-endian, if segments hold them.
-fn held_number(image: &Image, x: u32, n: u8) -> Option<u32>
+fn number_in_image(image: &Image, x: u32, n: u8) -> Option<u32>
     requires few { n ≤ 4 }
     requires fits { x + n ≤ 2 ^ 32 }
     ensures value { result ≡ loads.held_number image.now x n }

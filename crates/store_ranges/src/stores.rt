@@ -4,7 +4,7 @@ ghost use Rattle.value_domain.specs.Values.{IsWell};
 ghost use Rattle.value_domain.specs.declared.values.Val.TheVariants.{Set, Span};
 ghost use Rattle.store_ranges.specs.Accesses.{IsAccessSize, AreStoresInRange, AreAligned};
 
-use crate::ranges::{are_in_range, is_span_in_range};
+use crate::ranges::{are_stores_in_range, is_span_store_in_range};
 use tcd_plan::Plan;
 use value_domain::{Val, alignment_log2, extent_of};
 
@@ -16,8 +16,8 @@ pub fn store_ok(plan: &Plan, at: &Val, size: u8) -> bool
     ensures { IsTrue result ↔ AreStoresInRange plan.now at.now size }
 {
     match at {
-        Val::Set(words) => are_in_range(plan, words.as_slice(), size),
-        Val::Span { last, step, .. } => is_span_in_range(
+        Val::Set(words) => are_stores_in_range(plan, words.as_slice(), size),
+        Val::Span { last, step, .. } => is_span_store_in_range(
             plan,
             extent_of(at).least,
             *last,

@@ -7,7 +7,7 @@ use tcd_plan::{Device, Plan, cut_plan_ranges};
 
 /// Returns the plan's peripherals, and after them what is left of each ram range without the `n`
 /// bytes from `x` on, as peripherals that answer with any word.
-pub(crate) fn devices_beside_block(plan: &Plan, x: u32, n: u32) -> ArrayVec<Device, 16>
+pub(crate) fn view_devices_beside_block(plan: &Plan, x: u32, n: u32) -> ArrayVec<Device, 16>
     requires { length (devices_beside_block plan.now x n) ≤ 16 }
     ensures { result.items ≡ devices_beside_block plan.now x n }
 {
@@ -28,7 +28,7 @@ pub(crate) fn devices_beside_block(plan: &Plan, x: u32, n: u32) -> ArrayVec<Devi
 }
 
 /// Returns the number of the plan's peripherals and of the parts that are left of ram.
-pub(crate) fn count_devices_beside_block(plan: &Plan, x: u32, n: u32) -> usize
+pub(crate) fn count_view_devices(plan: &Plan, x: u32, n: u32) -> usize
     ensures { result ≡ length (devices_beside_block plan.now x n) }
 {
     let _areas = plan.areas;

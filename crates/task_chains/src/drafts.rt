@@ -24,7 +24,7 @@ pub struct TasksDraft {
 }
 
 /// Returns what all lines of a text say, or the error of the first line that has another form.
-pub(crate) fn draft_of(bytes: &[u8]) -> Result<TasksDraft, TasksErr>
+pub(crate) fn read_tasks_draft(bytes: &[u8]) -> Result<TasksDraft, TasksErr>
     requires { length bytes.now ≤ 2 ^ 30 }
     ensures ok { IfOk result (IsTasksDraft (text_lines bytes.now)) }
     ensures err { let lines = text_lines bytes.now in
@@ -40,7 +40,7 @@ pub(crate) fn draft_of(bytes: &[u8]) -> Result<TasksDraft, TasksErr>
     'lines: while !rest.is_empty() {
         let (line, behind) = cut_line(rest);
         number += 1;
-        add_line(&mut draft, number, line)?;
+        add_tasks_text_line(&mut draft, number, line)?;
         rest = behind;
     }
     Ok(draft)
@@ -49,7 +49,7 @@ pub(crate) fn draft_of(bytes: &[u8]) -> Result<TasksDraft, TasksErr>
 /// Adds what line `number` says, or returns the error of its form. The first line that isn't empty
 /// names the addresses, and each later one a task. After seven tasks, only the number of the next
 /// one's line is kept.
-fn add_line(draft: &mut TasksDraft, number: u32, line: &[u8]) -> Result<(), TasksErr>
+fn add_tasks_text_line(draft: &mut TasksDraft, number: u32, line: &[u8]) -> Result<(), TasksErr>
     ensures ok { OnOk result (TakesTaskLine draft.old number line.now draft.new) }
     ensures err { IfErr result (IsLineBad draft.old number line.now) }
 {

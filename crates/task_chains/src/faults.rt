@@ -5,7 +5,7 @@ ghost use Rattle.cfg_recover.specs.RulesHoldOrFail.{Accepts};
 ghost use Rattle.task_chains.specs.Rule17.{KeepsApart, IsTaskFault, HoldsApartIn, IsNodeFault};
 
 use crate::Tasks;
-use crate::rule_17::{TasksRule, holds_apart};
+use crate::rule_17::{TasksRule, keeps_rule_17};
 use cfg_recover::KnownCodes;
 use depth_cert::Key;
 use elf_image::Image;
@@ -59,7 +59,7 @@ fn node_task_fault<'a>(
 {
     node.walk(walk);
     while let Some(addr) = walk.step() {
-        if !holds_apart(rule, codes, &node.key, addr, walk.state()) {
+        if !keeps_rule_17(rule, codes, &node.key, addr, walk.state()) {
             return Some(addr);
         }
     }

@@ -8,7 +8,7 @@ ghost use Rattle.task_chains.specs.ViewLaws.{ViewStoresMiss, ViewsArePlans, View
 
 /// The plan of a view is a plan. Its stores are in range of the tasks' plan, and miss the block.
 /// Outside of the switch routine its image is the tasks' image.
-pub fn laws_of_views()
+pub fn task_view_laws()
     ensures plans { ViewsArePlans }
     ensures stores { ViewStoresMiss }
     ensures bytes { ViewsKeepBytes }
@@ -18,7 +18,7 @@ pub fn laws_of_views()
 /// the reserve, all runs are safe: no area is on two chains, each task has at most its need, FCX is
 /// at the limit exactly if all areas except the reserve are in use, and stores are in range and
 /// miss the switch routine's block.
-pub fn law_of_tasks()
+pub fn safe_tasks_law()
     ensures safe { TasksAreSafe }
 {}
 
@@ -40,7 +40,7 @@ pub fn safe_tasks_in_words()
 
 /// Each fault of K17 in a lesser certificate is one in a greater one. One fault is enough to break
 /// the rule.
-pub fn faults_of_tasks()
+pub fn task_fault_laws()
     ensures grow { TaskFaultsGrow }
     ensures refute { TaskFaultsRefute }
 {}

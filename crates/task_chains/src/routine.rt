@@ -16,7 +16,7 @@ use tcd_plan::Plan;
 pub(crate) const ROUTINE_BYTES: u32 = 72;
 
 /// Returns the bits of a 16-bit offset in the word of an instruction `lea.l`, `ld.w.l` or `st.w.l`.
-pub(crate) fn routine_offset_bits(k: u32) -> u32
+pub(crate) fn bol_offset_bits(k: u32) -> u32
     requires { k < 2 ^ 16 }
     ensures { result ≡ k / 64 % 16 * 2 ^ 28 + k / 1024 * 2 ^ 22 + k % 64 * 2 ^ 16 }
 {
@@ -53,7 +53,7 @@ pub fn routine_fault(image: &Image, plan: &Plan, tasks: &Tasks) -> Option<u32>
     let bytes = switch_routine_bytes(tasks);
     let mut i = 0u32;
     while i < ROUTINE_BYTES {
-        if !has_byte(image, plan, tasks, i, bytes[i as usize]) {
+        if !has_routine_byte(image, plan, tasks, i, bytes[i as usize]) {
             return Some(tasks.switch.wrapping_add(i));
         }
         i += 1;
@@ -62,7 +62,7 @@ pub fn routine_fault(image: &Image, plan: &Plan, tasks: &Tasks) -> Option<u32>
 }
 
 /// Returns whether an address is that of one of the routine's instructions.
-pub(crate) fn is_routine_step(tasks: &Tasks, addr: u32) -> bool
+pub(crate) fn is_routine_instruction(tasks: &Tasks, addr: u32) -> bool
     ensures { IsTrue result ↔ ((i : ℕ) × (i < 18) × (addr ≡ tasks.now.switch + 4 * i)) }
 {
     if addr < tasks.switch {
@@ -73,7 +73,7 @@ pub(crate) fn is_routine_step(tasks: &Tasks, addr: u32) -> bool
 }
 
 /// Returns the bytes that the image of a task's view has instead of those of the switch routine.
-pub(crate) fn view_routine(tasks: &Tasks) -> [u8; 72]
+pub(crate) fn view_routine_bytes(tasks: &Tasks) -> [u8; 72]
     ensures { result ≡ view_routine_bytes tasks.now }
 {
     routine_bytes_of_words(&view_routine_words(tasks.list.len() as u32, tasks.block))
@@ -85,8 +85,8 @@ fn routine_words(n: u32, b: u32) -> [u32; 18]
     ensures { flat_map four_bytes result ≡ bytes_of_routine (routine_of n b) }
 {
     let upper = upper_half(b);
-    let lower = routine_offset_bits(lower_half(b));
-    let count = routine_offset_bits(4 * n);
+    let lower = bol_offset_bits(lower_half(b));
+    let count = bol_offset_bits(4 * n);
     [
         0x0340_000D, // disable
         0x0200_000D, // svlcx
@@ -111,7 +111,7 @@ fn routine_words(n: u32, b: u32) -> [u32; 18]
 
 /// Returns whether the image has byte `i` of the routine, `byte`, at its address. The bytes up to
 /// it are to be inside one rom range.
-fn has_byte(image: &Image, plan: &Plan, tasks: &Tasks, i: u32, byte: u8) -> bool
+fn has_routine_byte(image: &Image, plan: &Plan, tasks: &Tasks, i: u32, byte: u8) -> bool
     requires within { i < 72 }
     requires byte { slice_index (routine_bytes tasks.now) i ≡ byte }
     ensures { IsTrue result ↔ HasRoutineByte image.now plan.now tasks.now i }
@@ -138,7 +138,7 @@ fn view_routine_words(n: u32, b: u32) -> [u32; 18]
     ensures { flat_map four_bytes result ≡ bytes_of_routine (view_routine_of n b) }
 {
     let upper = upper_half(b);
-    let lower = routine_offset_bits(lower_half(b));
+    let lower = bol_offset_bits(lower_half(b));
     [
         0x0340_000D, // disable
         0x0200_000D, // svlcx

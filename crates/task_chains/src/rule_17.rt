@@ -8,14 +8,14 @@ ghost use Rattle.value_domain.specs.Values.{IsWell};
 ghost use Rattle.store_ranges.specs.Accesses.{IsAccessSize};
 
 use crate::Tasks;
-use crate::routine::{ROUTINE_BYTES, is_routine_step};
+use crate::routine::{ROUTINE_BYTES, is_routine_instruction};
 use cfg_recover::KnownCodes;
 use depth_cert::{CALL, Key};
 use elf_image::Image;
 use tc_isa::{FCX, LCX, PCXI, Shape};
 use tcd_plan::Plan;
 use value_domain::{Bounds, State, Val};
-use vd_transfer::address_by;
+use vd_transfer::address_by_shape;
 
 /// The number of the rule on tasks: the code of a task keeps apart from what its view hides.
 pub const TASKS_RULE: u8 = 17;
@@ -30,7 +30,7 @@ pub(crate) struct TasksRule<'a> {
 }
 
 /// Returns whether K17 holds at an address of a frame, with this state before the instruction.
-pub(crate) fn holds_apart(
+pub(crate) fn keeps_rule_17(
     rule: &TasksRule,
     codes: &mut KnownCodes,
     key: &Key,
@@ -77,9 +77,9 @@ pub(crate) fn stays_apart(rule: &TasksRule, key: &Key, addr: u32, s: &State, sha
         IsTrue result
         ↔ StaysApart r.bounds.now r.plan.now r.tasks.now key.now addr s.now shape }
 {
-    is_place_apart(rule.tasks, key, addr)
-        && loads_elsewhere(rule.bounds, rule.plan, rule.tasks, s, shape)
-        && reads_no_link(shape)
+    may_have_point_at(rule.tasks, key, addr)
+        && misses_areas_and_routine(rule.bounds, rule.plan, rule.tasks, s, shape)
+        && reads_no_context_register(shape)
         && (key.prio != 0 || key.is || is_no_bisr(shape))
 }
 
@@ -92,7 +92,7 @@ fn has_access_between(v: &Val, low: u32, high: u32) -> bool
     match v {
         Val::Set(words) => has_word_between(words.as_slice(), low, high),
         Val::Span { lo, last, step } => {
-            multiple_from(u64::from(low.max(*lo)), *step) <= u64::from(high.min(*last))
+            next_multiple_of_step(u64::from(low.max(*lo)), *step) <= u64::from(high.min(*last))
         }
     }
 }
@@ -110,7 +110,7 @@ fn has_word_between(words: &[u32], low: u32, high: u32) -> bool
 }
 
 /// Returns the least multiple of `2 ^ step` from `x` on, for the test of K17 on accesses.
-fn multiple_from(x: u64, step: u8) -> u64
+fn next_multiple_of_step(x: u64, step: u8) -> u64
     requires step { step ≤ 2 }
     requires small { x ≤ 2 ^ 32 }
     ensures { result ≡ (x + (2 ^ step - 1)) / 2 ^ step * 2 ^ step }
@@ -128,7 +128,7 @@ fn is_between(x: u32, low: u32, high: u32) -> bool
 
 /// Returns whether a frame can have a point at an address: the routine's frame only at the
 /// routine's instructions, each other frame only outside of the routine.
-fn is_place_apart(tasks: &Tasks, key: &Key, addr: u32) -> bool
+fn may_have_point_at(tasks: &Tasks, key: &Key, addr: u32) -> bool
     ensures { IsTrue result ↔ IsPlaceApart tasks.now key.now addr }
 {
     let switch = Key {
@@ -138,7 +138,7 @@ fn is_place_apart(tasks: &Tasks, key: &Key, addr: u32) -> bool
         is: false,
     };
     if *key == switch {
-        is_routine_step(tasks, addr)
+        is_routine_instruction(tasks, addr)
     } else {
         addr < tasks.switch || ROUTINE_BYTES <= addr - tasks.switch
     }
@@ -146,14 +146,14 @@ fn is_place_apart(tasks: &Tasks, key: &Key, addr: u32) -> bool
 
 /// Returns whether the instruction is no load, or each of its possible accesses misses the save
 /// areas and the routine.
-fn loads_elsewhere(b: &Bounds, plan: &Plan, tasks: &Tasks, s: &State, shape: Shape) -> bool
+fn misses_areas_and_routine(b: &Bounds, plan: &Plan, tasks: &Tasks, s: &State, shape: Shape) -> bool
     requires shape { IsShape shape }
     requires values { AreValues b.now s.now.regs }
     ensures { IsTrue result ↔ LoadsElsewhere b.now plan.now tasks.now s.now shape }
 {
     match shape {
         Shape::Load { size, .. } => {
-            let at = address_by(b, plan, shape, s);
+            let at = address_by_shape(b, plan, shape, s);
             are_accesses_apart(&at, size, plan.csa_at, 64 * plan.areas)
                 && are_accesses_apart(&at, size, tasks.switch, ROUTINE_BYTES)
         }
@@ -162,7 +162,7 @@ fn loads_elsewhere(b: &Bounds, plan: &Plan, tasks: &Tasks, s: &State, shape: Sha
 }
 
 /// Returns whether the instruction reads none of PCXI, FCX and LCX, as K17 asks.
-fn reads_no_link(shape: Shape) -> bool
+fn reads_no_context_register(shape: Shape) -> bool
     ensures { IsTrue result ↔ ReadsNoLink shape }
 {
     match shape {

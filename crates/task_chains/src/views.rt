@@ -5,10 +5,10 @@ ghost use Rattle.task_chains.specs.Tasks.{count};
 ghost use Rattle.task_chains.specs.Views.{FitPlan, with_routine_from, view_segment, view_image_of, view_plan_of};
 
 use crate::Tasks;
-use crate::devices::devices_beside_block;
-use crate::routine::view_routine;
+use crate::devices::view_devices_beside_block;
+use crate::routine::view_routine_bytes;
 use arrayvec::ArrayVec;
-use elf_image::{Image, Segment, read_segments};
+use elf_image::{Image, Segment, establish_segment_bytes};
 use std::alloc::Global;
 use tcd_base::NoMemory;
 use tcd_plan::Plan;
@@ -23,7 +23,7 @@ pub fn view_image(alloc: Global, image: &Image, tasks: &Tasks, u: usize) -> Resu
     for segment in &image.segments {
         segments.push(segment_of_view(alloc, segment, tasks)?)?;
     }
-    read_segments(&segments);
+    establish_segment_bytes(&segments);
     Ok(Image {
         entry: tasks.list.as_slice()[u].entry,
         segments,
@@ -41,7 +41,7 @@ pub fn view_plan(plan: &Plan, tasks: &Tasks, u: usize) -> Plan
     Plan {
         rom: ArrayVec::try_from(plan.rom.as_slice()).unwrap(),
         ram: ArrayVec::new(),
-        devices: devices_beside_block(plan, tasks.block, tasks.block_size()),
+        devices: view_devices_beside_block(plan, tasks.block, tasks.block_size()),
         csa_at: plan.csa_at,
         areas: plan.areas,
         reserve: plan.reserve,
@@ -52,7 +52,7 @@ pub fn view_plan(plan: &Plan, tasks: &Tasks, u: usize) -> Plan
         irqs: ArrayVec::try_from(plan.irqs.as_slice()).unwrap(),
         sys: plan.sys,
         aln: plan.aln,
-        start_ie: is_task_start_enabled(plan, u),
+        start_ie: are_interrupts_on_at_start(plan, u),
         start_ccpn: plan.start_ccpn,
         start_is: plan.start_is,
         globals: plan.globals,
@@ -77,7 +77,7 @@ fn segment_of_view(alloc: Global, segment: &Segment, tasks: &Tasks) -> Result<Se
 fn write_view_routine(bytes: &mut [u8], at: u32, tasks: &Tasks)
     ensures { bytes.new ≡ with_routine_from tasks.now at bytes.old }
 {
-    let routine = view_routine(tasks);
+    let routine = view_routine_bytes(tasks);
     for (i, byte) in routine.iter().enumerate() {
         put_view_byte(bytes, at, u64::from(tasks.switch) + i as u64, *byte);
     }
@@ -96,7 +96,7 @@ fn put_view_byte(bytes: &mut [u8], at: u32, x: u64, byte: u8)
 
 /// Returns whether interrupts are on at the start of a task: as the plan says for the first, off
 /// for each other.
-fn is_task_start_enabled(plan: &Plan, u: usize) -> bool
+fn are_interrupts_on_at_start(plan: &Plan, u: usize) -> bool
     ensures { result ≡ (if u == 0 then plan.now.start_ie else false) }
 {
     if u == 0 { plan.start_ie } else { false }

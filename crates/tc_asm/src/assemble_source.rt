@@ -15,7 +15,7 @@ ghost use Rattle.tc_stmt.specs.SourceViews.{lines_of};
 use crate::AsmErr;
 use crate::draft::Draft;
 use crate::finished_object::emit_object;
-use crate::put_checked_items::add_items;
+use crate::put_checked_items::put_items;
 use crate::symbols::Symbols;
 use std::alloc::{AllocError, Global};
 use tc_object::Object;
@@ -34,7 +34,7 @@ pub fn assemble(alloc: Global, source: &[u8]) -> Result<Object, AsmErr>
     let read = read_source(alloc, source)?;
     // The symbols of all items don't depend on the targets of jumps.
     let mut first = Draft::new(alloc);
-    let known = count_items(alloc, &mut first, &read.items)?;
+    let known = scan_items(alloc, &mut first, &read.items)?;
     let labels = first.symbols;
     let draft = draft_of_lines(alloc, &labels, known, &read)?;
     Ok(emit_object(alloc, draft_with_known_symbols(draft, known, labels))?)
@@ -68,7 +68,7 @@ fn draft_of_lines<'a>(
             continue;
         }
         let first = first_items(rest, line.count);
-        let found = add_items(alloc, &mut draft, labels, known, first)?;
+        let found = put_items(alloc, &mut draft, labels, known, first)?;
         let rule = line.rule.min(found);
         if rule != NO_RULE {
             return Err(AsmErr::Bad {
@@ -100,7 +100,7 @@ fn draft_with_known_symbols<'a>(draft: Draft<'a>, known: bool, symbols: Symbols<
 
 /// Adds items in the first of the two passes over a source, as far as symbols depend on them.
 /// Returns whether there was room for one more symbol before each, and no label is there twice.
-fn count_items<'a>(
+fn scan_items<'a>(
     alloc: Global,
     draft: &mut Draft<'a>,
     items: &[Item<'a>],
@@ -115,7 +115,7 @@ fn count_items<'a>(
     let mut all_new = true;
     for item in items {
         let room = draft.has_symbol_room();
-        let new = draft.count(alloc, &none, item)?;
+        let new = draft.scan_item(alloc, &none, item)?;
         all_new = are_items_new(all_new, room, new);
     }
     Ok(all_new)

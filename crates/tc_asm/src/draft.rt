@@ -1,7 +1,7 @@
 // The draft of an object: the sections and symbols of the lines so far.
 use crate::encode::{assembled_code_size, first_assembled_bytes};
 use crate::rules::is_reloc;
-use crate::sections::{Part, extend_part, extend_zeros, number_of_part, part_len, use_part};
+use crate::sections::{Part, extend_part, extend_by_zeros, number_of_part, part_len, add_part_use};
 use crate::symbols::{Place, Symbols};
 use std::alloc::{AllocError, Global};
 use std::marker::Model;
@@ -70,7 +70,7 @@ impl<'a> Draft<'a> {
 
     /// The offset of the next byte in the current section, and 0 if there is no current section.
     #[tactic(auto, unfolding(crate::specs::Drafts::draft_place))]
-    pub fn place(&self) -> usize
+    pub fn next_byte_offset(&self) -> usize
         ensures { result ≡ draft_place self.now }
     {
         if self.section < self.parts.len() {
@@ -120,8 +120,8 @@ impl<'a> Draft<'a> {
             && is_reloc(r.kind)
             && self.count < MOST_RELOCS
         {
-            let offset = self.place();
-            use_part(&mut self.parts, self.section, offset, r)?;
+            let offset = self.next_byte_offset();
+            add_part_use(&mut self.parts, self.section, offset, r)?;
             self.count += 1;
         }
         Ok(())
@@ -142,7 +142,7 @@ impl<'a> Draft<'a> {
 
     /// Adds an item. `labels` are the symbols of the whole source.
     #[tactic(auto, unfolding(crate::specs::Drafts::draft_after_item))]
-    pub fn step(
+    pub fn add_item(
         &mut self,
         alloc: Global,
         labels: &Symbols<'a>,
@@ -155,7 +155,7 @@ impl<'a> Draft<'a> {
                 self.add_label(*name)?;
                 Ok(())
             }
-            Item::Section(name) => self.enter(alloc, *name),
+            Item::Section(name) => self.enter_section(alloc, *name),
             Item::Global(name) => self.make_global(*name),
             Item::Code(row, fields) => self.add_code(labels, *row, fields, &None),
             Item::Linked(row, kind, minus, fields, size, name) => {
@@ -173,7 +173,7 @@ impl<'a> Draft<'a> {
 
     /// Adds an item to the first pass's draft as far as symbols depend on it, and returns whether
     /// it defines no label twice. `none` is an empty table of labels.
-    pub fn count(
+    pub fn scan_item(
         &mut self,
         alloc: Global,
         none: &Symbols<'a>,
@@ -186,20 +186,20 @@ impl<'a> Draft<'a> {
         ensures new { IfOk result (λ new. new ≡ is_new self.old.symbols (item_of item.now)) }
     {
         match item {
-            Item::Label(name) => return self.count_label(*name),
-            Item::Code(row, fields) => self.count_code(*row, fields, &None)?,
+            Item::Label(name) => return self.scan_label(*name),
+            Item::Code(row, fields) => self.scan_code(*row, fields, &None)?,
             Item::Linked(row, kind, minus, fields, size, name) => {
                 let r = Some(reference_to(*kind, *name, *minus, *size));
-                self.count_code(*row, fields, &r)?
+                self.scan_code(*row, fields, &r)?
             }
-            Item::Data(len, bytes) => self.count_data(first_assembled_bytes(bytes, *len), &None)?,
+            Item::Data(len, bytes) => self.scan_data(first_assembled_bytes(bytes, *len), &None)?,
             Item::Word(len, minus, size, name) => {
                 let r = Some(reference_to(WORD32, *name, *minus, *size));
-                self.count_data(first_assembled_bytes(&[0; 4], *len), &r)?
+                self.scan_data(first_assembled_bytes(&[0; 4], *len), &r)?
             }
-            Item::Section(_) => self.count_other(alloc, none, item)?,
-            Item::Global(_) => self.count_other(alloc, none, item)?,
-            Item::Zeros(_) => self.count_other(alloc, none, item)?,
+            Item::Section(_) => self.scan_other(alloc, none, item)?,
+            Item::Global(_) => self.scan_other(alloc, none, item)?,
+            Item::Zeros(_) => self.scan_other(alloc, none, item)?,
         }
         Ok(true)
     }
@@ -214,7 +214,7 @@ impl<'a> Draft<'a> {
     {
         match r {
             None => Ok(()),
-            Some(r) => self.add_named(size, r),
+            Some(r) => self.add_named_reference(size, r),
         }
     }
 
@@ -222,12 +222,12 @@ impl<'a> Draft<'a> {
     /// a relocation if they need one.
     #[inline(never)]
     #[tactic(auto, unfolding(crate::specs::Drafts::with_reference))]
-    fn add_named(&mut self, size: usize, r: &Reference<'a>) -> Result<(), AllocError>
+    fn add_named_reference(&mut self, size: usize, r: &Reference<'a>) -> Result<(), AllocError>
         ensures { OnOk result
             (self.new ≡ with_reference self.old size (Some (reference_of r.now))) }
     {
         if is_source_name(r.name) {
-            self.symbols.see(r.name)?;
+            self.symbols.add_name(r.name)?;
             self.add_use(size, *r)?;
         }
         Ok(())
@@ -245,7 +245,7 @@ impl<'a> Draft<'a> {
         }
         let place = Place {
             section: self.section,
-            offset: self.place(),
+            offset: self.next_byte_offset(),
         };
         let before = self.symbols.define(name, place)?;
         Ok(before.is_none())
@@ -255,7 +255,7 @@ impl<'a> Draft<'a> {
     /// there are fewer than 64. A bad name changes nothing.
     #[inline(never)]
     #[tactic(auto, unfolding(crate::specs::Drafts::with_current_section))]
-    fn enter(&mut self, alloc: Global, name: &'a [u8]) -> Result<(), AllocError>
+    fn enter_section(&mut self, alloc: Global, name: &'a [u8]) -> Result<(), AllocError>
         ensures { OnOk result (self.new ≡ with_current_section self.old name.entry.now) }
     {
         if !is_source_name(name) {
@@ -307,7 +307,7 @@ impl<'a> Draft<'a> {
             (self.new ≡ draft_after_item labels.now self.old
             (code row fields.now (option_map reference_of r.now))) }
     {
-        let code = self.code(labels, row, fields, r);
+        let code = self.code_bytes(labels, row, fields, r);
         self.add_content(first_assembled_bytes(&code.bytes, code.len), r)
     }
 
@@ -319,14 +319,14 @@ impl<'a> Draft<'a> {
         ensures { OnOk result (self.new ≡ with_bytes self.old (replicate n 0)) }
     {
         if self.has_section() && self.has_room(n) {
-            extend_zeros(&mut self.parts, self.section, n)?;
+            extend_by_zeros(&mut self.parts, self.section, n)?;
             self.total += n;
         }
         Ok(())
     }
 
     /// Adds a label to the first pass's draft, and returns whether its name has no label before it.
-    fn count_label(&mut self, name: &'a [u8]) -> Result<bool, AllocError>
+    fn scan_label(&mut self, name: &'a [u8]) -> Result<bool, AllocError>
         ensures alike { OnOk result ((d : DraftData) → Alike self.old d
             → Alike self.new (draft_after_item [] d (label name.entry.now))) }
         ensures new { IfOk result (λ new. new ≡ is_new self.old.symbols (label name.entry.now)) }
@@ -336,7 +336,7 @@ impl<'a> Draft<'a> {
     }
 
     /// Adds an instruction to the first pass's draft as far as symbols depend on it.
-    fn count_code(
+    fn scan_code(
         &mut self,
         row: u8,
         fields: &Fields,
@@ -348,24 +348,24 @@ impl<'a> Draft<'a> {
             (code row fields.now (option_map reference_of r.now)))) }
     {
         let size = usize::from(assembled_code_size(row));
-        self.count_bytes(size, r)?;
+        self.add_zeros_for_bytes(size, r)?;
         Ok(())
     }
 
     /// Adds data to the first pass's draft as far as symbols depend on them.
-    fn count_data(&mut self, bytes: &[u8], r: &Option<Reference<'a>>) -> Result<(), AllocError>
+    fn scan_data(&mut self, bytes: &[u8], r: &Option<Reference<'a>>) -> Result<(), AllocError>
         requires { IsAddedData bytes.now (option_map reference_of r.now) }
         ensures { OnOk result ((d : DraftData) → Alike self.old d
             → Alike self.new (draft_after_item [] d
             (data_item bytes.now (option_map reference_of r.now)))) }
     {
-        self.count_bytes(bytes.len(), r)?;
+        self.add_zeros_for_bytes(bytes.len(), r)?;
         Ok(())
     }
 
     /// Extends the draft of the first pass by a section, a global name or zeros, with an empty
     /// table of labels.
-    fn count_other(
+    fn scan_other(
         &mut self,
         alloc: Global,
         none: &Symbols<'a>,
@@ -376,27 +376,27 @@ impl<'a> Draft<'a> {
         ensures { OnOk result ((d : DraftData) → Alike self.old d
             → Alike self.new (draft_after_item [] d (item_of item.now))) }
     {
-        self.step(alloc, none, item)?;
+        self.add_item(alloc, none, item)?;
         Ok(())
     }
 
     /// Adds `n` zeros to the first pass's draft instead of bytes, and notes their symbol. The first
     /// pass needs no more.
     #[inline(always)]
-    fn count_bytes(&mut self, n: usize, r: &Option<Reference<'a>>) -> Result<(), AllocError>
+    fn add_zeros_for_bytes(&mut self, n: usize, r: &Option<Reference<'a>>) -> Result<(), AllocError>
         requires { AddedSymbolIsNamed (option_map reference_of r.now) }
         ensures { OnOk result
             (self.new ≡ with_bytes (with_reference self.old 0 (option_map reference_of r.now))
             (replicate n 0)) }
     {
-        self.see_reference(r)?;
+        self.add_symbol_of_reference(r)?;
         self.add_zeros(n)
     }
 
     // Notes the symbol of an item of the first pass, which needs no use of it.
     #[inline(always)]
     #[tactic(auto, unfolding(crate::specs::Drafts::with_reference))]
-    fn see_reference(&mut self, r: &Option<Reference<'a>>) -> Result<(), AllocError>
+    fn add_symbol_of_reference(&mut self, r: &Option<Reference<'a>>) -> Result<(), AllocError>
         requires { AddedSymbolIsNamed (option_map reference_of r.now) }
         ensures { OnOk result
             (self.new ≡ with_reference self.old 0 (option_map reference_of r.now)) }
@@ -404,7 +404,7 @@ impl<'a> Draft<'a> {
         match r {
             None => Ok(()),
             Some(r) => {
-                self.see_name(r.name)?;
+                self.add_symbol_name(r.name)?;
                 Ok(())
             }
         }
@@ -412,11 +412,11 @@ impl<'a> Draft<'a> {
 
     /// Notes a name among the symbols of the draft.
     #[inline(never)]
-    fn see_name(&mut self, name: &'a [u8]) -> Result<(), AllocError>
+    fn add_symbol_name(&mut self, name: &'a [u8]) -> Result<(), AllocError>
         ensures { OnOk result
             (self.new ≡ record self.old { symbols = seen self.old.symbols name.entry.now }) }
     {
-        self.symbols.see(name)?;
+        self.symbols.add_name(name)?;
         Ok(())
     }
 }

@@ -96,7 +96,7 @@ impl<'a> Draft<'a> {
 
     /// The bytes of an instruction here.
     #[tactic(auto, unfolding(crate::specs::Drafts::code_bytes))]
-    pub(crate) fn code(
+    pub(crate) fn code_bytes(
         &self,
         labels: &Symbols<'a>,
         row: u8,
@@ -172,7 +172,7 @@ impl<'a> Draft<'a> {
             Some(label) => {
                 if self.has_section() && label.section == self.section {
                     let size = u128::from(r.size);
-                    let here = self.place() as u128 + if r.minus { size } else { 0 };
+                    let here = self.next_byte_offset() as u128 + if r.minus { size } else { 0 };
                     let there = label.offset as u128 + if r.minus { 0 } else { size };
                     if here <= there {
                         Some((false, there - here))

@@ -34,15 +34,15 @@ impl<'a> Draft<'a> {
             (λ rule. rule ≡ item_rule labels.now (kept known self.old) (item_of item.now)) }
     {
         if known {
-            self.put_nameless(alloc, labels, item)
+            self.put_item_without_symbol(alloc, labels, item)
         } else {
-            self.put_other(alloc, labels, item)
+            self.put_item_with_symbol(alloc, labels, item)
         }
     }
 
     // Adds an item but no symbol, and returns the least rule that it breaks after a draft without
     // symbols.
-    fn put_nameless(
+    fn put_item_without_symbol(
         &mut self,
         alloc: Global,
         labels: &Symbols<'a>,
@@ -57,18 +57,18 @@ impl<'a> Draft<'a> {
         match item {
             Item::Label(name) => Ok(self.known_label_rule(labels, *name)),
             Item::Global(name) => Ok(self.known_global_rule(labels, *name)),
-            Item::Code(row, fields) => self.put_alone(labels, *row, fields),
+            Item::Code(row, fields) => self.put_plain_code(labels, *row, fields),
             Item::Linked(row, kind, minus, fields, size, name) => {
                 let r = reference_to(*kind, *name, *minus, *size);
-                self.put_linked(labels, *row, fields, r)
+                self.put_code_with_symbol(labels, *row, fields, r)
             }
-            Item::Data(len, bytes) => self.put_plain(first_assembled_bytes(bytes, *len)),
+            Item::Data(len, bytes) => self.put_plain_bytes(first_assembled_bytes(bytes, *len)),
             Item::Word(len, minus, size, name) => {
                 let r = reference_to(WORD32, *name, *minus, *size);
-                self.put_use(first_assembled_bytes(&[0; 4], *len), r)
+                self.put_bytes_with_symbol(first_assembled_bytes(&[0; 4], *len), r)
             }
-            Item::Section(_) => self.put_other(alloc, labels, item),
-            Item::Zeros(_) => self.put_other(alloc, labels, item),
+            Item::Section(_) => self.put_item_with_symbol(alloc, labels, item),
+            Item::Zeros(_) => self.put_item_with_symbol(alloc, labels, item),
         }
     }
 
@@ -86,13 +86,13 @@ impl<'a> Draft<'a> {
     fn known_global_rule(&self, labels: &Symbols<'a>, name: &[u8]) -> u8
         ensures { result ≡ item_rule labels.now (nameless self.now) (global name.now) }
     {
-        let room = NO_RULE.min(Self::defined_rule(labels, name));
+        let room = NO_RULE.min(Self::undefined_global_rule(labels, name));
         Self::name_rule(name).min(room)
     }
 
     // Adds an instruction without a symbol, and returns the least rule that it breaks.
     #[inline(always)]
-    fn put_alone(
+    fn put_plain_code(
         &mut self,
         labels: &Symbols<'a>,
         row: u8,
@@ -104,14 +104,14 @@ impl<'a> Draft<'a> {
             (λ rule. rule ≡ item_rule labels.now self.old (code row fields.now None)) }
     {
         let code = assembled_code(row, fields);
-        let rule = self.put_plain(first_assembled_bytes(&code.bytes, code.len))?;
+        let rule = self.put_plain_bytes(first_assembled_bytes(&code.bytes, code.len))?;
         // There is no target that breaks a rule.
         Ok(NO_RULE.min(rule))
     }
 
     // Adds an instruction with a symbol that is known, and returns the least rule that it breaks.
     #[tactic(auto, unfolding(crate::specs::Rules::item_rule, crate::specs::Drafts::draft_after_item, crate::specs::Drafts::code_bytes))]
-    fn put_linked(
+    fn put_code_with_symbol(
         &mut self,
         labels: &Symbols<'a>,
         row: u8,
@@ -126,29 +126,29 @@ impl<'a> Draft<'a> {
     {
         let found = self.resolve(labels, row, fields, &Some(r));
         let code = assembled_code(row, &found.fields);
-        let rule = self.put_use(first_assembled_bytes(&code.bytes, code.len), r)?;
+        let rule = self.put_bytes_with_symbol(first_assembled_bytes(&code.bytes, code.len), r)?;
         Ok(found.rule.min(rule))
     }
 
     // Adds bytes with a symbol that is known, and returns the least rule that they break.
     #[inline(never)]
-    fn put_use(&mut self, bytes: &[u8], r: Reference<'a>) -> Result<u8, AllocError>
+    fn put_bytes_with_symbol(&mut self, bytes: &[u8], r: Reference<'a>) -> Result<u8, AllocError>
         ensures draft { OnOk result (nameless self.new
             ≡ nameless (with_content self.old bytes.now (Some (reference_of r.entry)))) }
         ensures rule { IfOk result (λ rule. rule ≡ content_rule (nameless self.old)
             (length bytes.now) (Some (reference_of r.entry))) }
     {
         let room = self
-            .bytes_room(bytes.len())
-            .min(NO_RULE.min(self.reloc_room(r)));
+            .byte_limit_rule(bytes.len())
+            .min(NO_RULE.min(self.reloc_limit_rule(r)));
         let rule = self.section_rule().min(room);
-        self.use_known(bytes.len(), r)?;
+        self.add_use_of_known_symbol(bytes.len(), r)?;
         self.add_bytes(bytes)?;
         Ok(rule)
     }
 
     // Adds an item in the ordinary way, and returns the least rule that it breaks.
-    fn put_other(
+    fn put_item_with_symbol(
         &mut self,
         alloc: Global,
         labels: &Symbols<'a>,
@@ -160,14 +160,14 @@ impl<'a> Draft<'a> {
             (λ rule. rule ≡ item_rule labels.now self.old (item_of item.now)) }
     {
         let rule = self.item_rule(labels, item);
-        self.step(alloc, labels, item)?;
+        self.add_item(alloc, labels, item)?;
         Ok(rule)
     }
 
     // Adds bytes without a symbol, and returns the least rule that they break.
     #[inline(never)]
     #[tactic(auto, unfolding(crate::specs::Drafts::with_bytes))]
-    fn put_plain(&mut self, bytes: &[u8]) -> Result<u8, AllocError>
+    fn put_plain_bytes(&mut self, bytes: &[u8]) -> Result<u8, AllocError>
         ensures draft { OnOk result (self.new ≡ with_bytes self.old bytes.now) }
         ensures rule { IfOk result
             (λ rule. rule ≡ content_rule self.old (length bytes.now) None) }
@@ -182,7 +182,7 @@ impl<'a> Draft<'a> {
 
     /// Notes the use of a symbol that is known, as an item is put into the draft.
     #[inline(always)]
-    fn use_known(&mut self, size: usize, r: Reference<'a>) -> Result<(), AllocError>
+    fn add_use_of_known_symbol(&mut self, size: usize, r: Reference<'a>) -> Result<(), AllocError>
         ensures { OnOk result (nameless self.new
             ≡ nameless (with_reference self.old size (Some (reference_of r.entry)))) }
     {
@@ -195,7 +195,7 @@ impl<'a> Draft<'a> {
 
 /// Puts items into a draft one after another, each checked, and returns the least rule that they
 /// break.
-pub(crate) fn add_items<'a>(
+pub(crate) fn put_items<'a>(
     alloc: Global,
     draft: &mut Draft<'a>,
     labels: &Symbols<'a>,

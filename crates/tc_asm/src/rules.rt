@@ -47,7 +47,7 @@ impl<'a> Draft<'a> {
     }
 
     /// Rule 13: a 65,536th symbol.
-    pub(crate) fn symbol_room(&self, name: &[u8]) -> u8
+    pub(crate) fn symbol_limit_rule(&self, name: &[u8]) -> u8
         ensures { result ≡ symbol_room self.now name.now }
     {
         if self.has_symbol_room() || self.symbols.get(name).is_some() {
@@ -58,7 +58,7 @@ impl<'a> Draft<'a> {
     }
 
     /// Rule 13: a 65,536th relocation.
-    pub(crate) fn reloc_room(&self, r: Reference<'a>) -> u8
+    pub(crate) fn reloc_limit_rule(&self, r: Reference<'a>) -> u8
         ensures { result ≡ reloc_room self.now (reference_of r.entry) }
     {
         if is_reloc(r.kind) && self.count >= MOST_RELOCS {
@@ -69,7 +69,7 @@ impl<'a> Draft<'a> {
     }
 
     /// Rule 13: more than 16,777,216 bytes in all sections.
-    pub(crate) fn bytes_room(&self, n: usize) -> u8
+    pub(crate) fn byte_limit_rule(&self, n: usize) -> u8
         ensures { result ≡ bytes_room self.now n }
     {
         if self.has_room(n) {
@@ -83,7 +83,7 @@ impl<'a> Draft<'a> {
     pub(crate) fn content_rule(&self, size: usize, r: &Option<Reference<'a>>) -> u8
         ensures { result ≡ content_rule self.now size (option_map reference_of r.now) }
     {
-        let room = self.bytes_room(size).min(self.reference_rule(r));
+        let room = self.byte_limit_rule(size).min(self.reference_rule(r));
         self.section_rule().min(room)
     }
 
@@ -99,7 +99,7 @@ impl<'a> Draft<'a> {
     }
 
     /// Rule 14: a global name that no label of the source defines.
-    pub(crate) fn defined_rule(labels: &Symbols<'a>, name: &[u8]) -> u8
+    pub(crate) fn undefined_global_rule(labels: &Symbols<'a>, name: &[u8]) -> u8
         ensures { result ≡ defined_rule labels.now name.now }
     {
         if labels.place(name).is_some() {
@@ -118,13 +118,13 @@ impl<'a> Draft<'a> {
         match item {
             Item::Label(name) => {
                 let stands = self.label_rule(*name).min(self.section_rule());
-                stands.min(Self::name_rule(*name).min(self.symbol_room(*name)))
+                stands.min(Self::name_rule(*name).min(self.symbol_limit_rule(*name)))
             }
-            Item::Section(name) => Self::name_rule(*name).min(self.section_room(*name)),
+            Item::Section(name) => Self::name_rule(*name).min(self.section_limit_rule(*name)),
             Item::Global(name) => {
                 let room = self
-                    .symbol_room(*name)
-                    .min(Self::defined_rule(labels, *name));
+                    .symbol_limit_rule(*name)
+                    .min(Self::undefined_global_rule(labels, *name));
                 Self::name_rule(*name).min(room)
             }
             Item::Code(row, fields) => self.code_rule(labels, *row, fields, &None),
@@ -140,7 +140,7 @@ impl<'a> Draft<'a> {
                 let r = Some(reference_to(WORD32, *name, *minus, *size));
                 self.content_rule(first_assembled_bytes(&[0; 4], *len).len(), &r)
             }
-            Item::Zeros(n) => self.section_rule().min(self.bytes_room(*n as usize)),
+            Item::Zeros(n) => self.section_rule().min(self.byte_limit_rule(*n as usize)),
         }
     }
 
@@ -150,7 +150,7 @@ impl<'a> Draft<'a> {
     {
         match r {
             None => NO_RULE,
-            Some(r) => self.symbol_room(r.name).min(self.reloc_room(*r)),
+            Some(r) => self.symbol_limit_rule(r.name).min(self.reloc_limit_rule(*r)),
         }
     }
 
@@ -166,7 +166,7 @@ impl<'a> Draft<'a> {
     }
 
     // Rule 13: a 65th section.
-    fn section_room(&self, name: &[u8]) -> u8
+    fn section_limit_rule(&self, name: &[u8]) -> u8
         ensures { result ≡ section_room self.now name.now }
     {
         let known = number_of_part(&self.parts, name) < self.parts.len();
@@ -191,7 +191,7 @@ impl<'a> Draft<'a> {
             ≡ item_rule labels.now self.now (code row fields.now (option_map reference_of r.now)) }
     {
         let target = self.resolve(labels, row, fields, r).rule;
-        let code = self.code(labels, row, fields, r);
+        let code = self.code_bytes(labels, row, fields, r);
         let len = first_assembled_bytes(&code.bytes, code.len).len();
         target.min(self.content_rule(len, r))
     }

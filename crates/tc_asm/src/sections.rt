@@ -58,13 +58,13 @@ pub(crate) fn extend_part(parts: &mut Vec<Part>, i: usize, bytes: &[u8]) -> Resu
         (map part_of parts.new.items ≡ with_part_bytes (map part_of parts.old.items) i bytes.now) }
 {
     let part = &mut parts[i];
-    write_zeros(part)?;
+    write_zeros_if_any(part)?;
     part.bytes.extend_from_slice(bytes)?;
     Ok(())
 }
 
 /// Adds zeros at the end of a section, which are only counted.
-pub(crate) fn extend_zeros(parts: &mut Vec<Part>, i: usize, n: usize) -> Result<(), AllocError>
+pub(crate) fn extend_by_zeros(parts: &mut Vec<Part>, i: usize, n: usize) -> Result<(), AllocError>
     requires place { i < length parts.old.items }
     requires few { n ≤ 2 ^ 24 }
     ensures { OnOk result
@@ -72,13 +72,13 @@ pub(crate) fn extend_zeros(parts: &mut Vec<Part>, i: usize, n: usize) -> Result<
         ≡ with_part_bytes (map part_of parts.old.items) i (replicate n 0)) }
 {
     let part = &mut parts[i];
-    limit_zeros(part)?;
+    limit_counted_zeros(part)?;
     part.zeros += n as u32;
     Ok(())
 }
 
 /// Notes a use of a symbol.
-pub(crate) fn use_part<'a>(
+pub(crate) fn add_part_use<'a>(
     parts: &mut Vec<Part<'a>>,
     i: usize,
     offset: usize,
@@ -96,7 +96,7 @@ pub(crate) fn use_part<'a>(
 
 // Writes the zeros at the end of a section that are only counted.
 #[inline(never)]
-pub(crate) fn put_zeros(part: &mut Part) -> Result<(), AllocError>
+pub(crate) fn write_counted_zeros(part: &mut Part) -> Result<(), AllocError>
     ensures same { OnOk result (part_of part.new ≡ part_of part.old) }
     ensures none { OnOk result (part.new.zeros ≡ 0) }
 {
@@ -115,24 +115,24 @@ fn find_part(parts: &[Part], name: &[u8]) -> Option<usize>
 
 // Leaves no zeros that are only counted.
 #[inline(always)]
-fn write_zeros(part: &mut Part) -> Result<(), AllocError>
+fn write_zeros_if_any(part: &mut Part) -> Result<(), AllocError>
     ensures same { OnOk result (part_of part.new ≡ part_of part.old) }
     ensures none { OnOk result (part.new.zeros ≡ 0) }
 {
     if part.zeros == 0 {
         return Ok(());
     }
-    put_zeros(part)
+    write_counted_zeros(part)
 }
 
 // Leaves at most `MOST_BYTES` zeros that are only counted.
-fn limit_zeros(part: &mut Part) -> Result<(), AllocError>
+fn limit_counted_zeros(part: &mut Part) -> Result<(), AllocError>
     ensures same { OnOk result (part_of part.new ≡ part_of part.old) }
     ensures few { OnOk result (part.new.zeros ≤ 2 ^ 24) }
 {
     if part.zeros as usize <= MOST_BYTES {
         return Ok(());
     }
-    put_zeros(part)?;
+    write_counted_zeros(part)?;
     Ok(())
 }

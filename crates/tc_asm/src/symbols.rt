@@ -32,7 +32,7 @@ const UNSEEN: Entry = Entry {
 
 /// The entry of a known name in the assembler's table of symbols after a label at this place. An
 /// earlier label keeps its place.
-fn with_label(entry: Entry, place: Place) -> Entry
+fn entry_with_label(entry: Entry, place: Place) -> Entry
     ensures { result ≡ with_label_at entry place }
 {
     if entry.place.is_some() {
@@ -114,7 +114,7 @@ impl<'a> Symbols<'a> {
 
     /// Adds a name that is used to the assembler's table of symbols, if it isn't there.
     #[tactic(auto, using(crate::proofs::SymbolLaws::seen_known, crate::proofs::SymbolLaws::seen_new))]
-    pub fn see(&mut self, name: &'a [u8]) -> Result<(), AllocError>
+    pub fn add_name(&mut self, name: &'a [u8]) -> Result<(), AllocError>
         ensures { OnOk result (self.new ≡ seen self.old name.entry.now) }
     {
         if self.get(name).is_some() {
@@ -142,7 +142,7 @@ impl<'a> Symbols<'a> {
         match self.put(name, new)? {
             None => Ok(None),
             Some(old) => {
-                self.put(name, with_label(old, place))?;
+                self.put(name, entry_with_label(old, place))?;
                 Ok(old.place)
             }
         }

@@ -9,5 +9,5 @@ mod sources;
 
 pub use bytes::boot_bytes;
 pub use judging::{BootErr, boot_ok};
-pub use laws::{boot_reaches_the_start, states_of_boots};
+pub use laws::{boot_reaches_the_start, boots_in_words};
 pub use sources::boot_source;

@@ -4,7 +4,7 @@ ghost use Rattle.tc_disasm.specs.Listing.{listing_of};
 ghost use Rattle.tc_boot.specs.Sequence.{boot_image_of};
 
 use crate::bytes::boot_bytes;
-use elf_image::{Image, Segment, read_segments};
+use elf_image::{Image, Segment, establish_segment_bytes};
 use std::alloc::Global;
 use tc_disasm::listing;
 use tcd_base::NoMemory;
@@ -20,7 +20,7 @@ pub fn boot_source(alloc: Global, plan: &Plan, entry: u32, at: u32) -> Result<St
     let bytes = Vec::from_slice(alloc, &boot_bytes(plan, entry))?;
     let mut segments = Vec::new(alloc);
     segments.push(Segment { at, bytes })?;
-    read_segments(&segments);
+    establish_segment_bytes(&segments);
     let image = Image {
         entry: at,
         segments,

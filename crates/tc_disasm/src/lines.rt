@@ -54,14 +54,14 @@ fn append_line(text: &mut String, address: u32, bytes: &[u8]) -> Result<usize, N
     ensures some { IfOk result (λ n. 0 < n) }
     ensures within { IfOk result (λ n. n ≤ length bytes.now) }
 {
-    let size = append_text(text, bytes)?;
+    let size = append_listed_text(text, bytes)?;
     append_remark(text, address, &bytes[..size])?;
     Ok(size)
 }
 
 // Appends the first instruction, or data if there is none, and returns its size in bytes.
 #[tactic(auto, unfolding(crate::specs::Listing::listed_text_at, crate::specs::Listing::listed_size_at))]
-fn append_text(text: &mut String, bytes: &[u8]) -> Result<usize, NoMemory>
+fn append_listed_text(text: &mut String, bytes: &[u8]) -> Result<usize, NoMemory>
     requires { 0 < length bytes.now }
     ensures text { OnOk result
         (string_bytes text.new ≡ string_bytes text.old ++ listed_text_at bytes.now) }

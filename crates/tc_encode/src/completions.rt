@@ -59,11 +59,11 @@ fn completion_at(place: u8, first: u8, n: u8, part: u32) -> Option<Inst>
     if row.op1 != first {
         return None;
     }
-    completion_by(place, row, n, part)
+    completion_in_row(place, row, n, part)
 }
 
 /// Returns an instruction of this row with these `n` low bytes, if there is one.
-fn completion_by(place: u8, row: &Row, n: u8, part: u32) -> Option<Inst>
+fn completion_in_row(place: u8, row: &Row, n: u8, part: u32) -> Option<Inst>
     requires place { slice_get listed place ≡ Some (row_of row.now) }
     requires low { 1 ≤ n }
     requires high { n ≤ 3 }

@@ -26,7 +26,7 @@ pub fn decode(bytes: &[u8]) -> Result<(Inst, usize), DecodeErr>
     ensures not_listed { (result ≡ Err DecodeErr.NotListed)
         ↔ ((IsFront bytes.now → ⊥) × ((i : InstData) (n : ℕ) → Begins bytes.now i n → ⊥)) }
 {
-    decode_by_first(bytes)
+    decode_by_first_byte(bytes)
 }
 
 /// Returns the instruction of this row if the word is one.
@@ -54,7 +54,7 @@ pub(crate) fn decoded_length(first: u8) -> u8
 }
 
 /// Decodes by the first byte: bit 0 of it gives the length.
-fn decode_by_first(bytes: &[u8]) -> Result<(Inst, usize), DecodeErr>
+fn decode_by_first_byte(bytes: &[u8]) -> Result<(Inst, usize), DecodeErr>
     ensures { result ≡ decoded_of bytes.now }
 {
     match bytes {
@@ -81,7 +81,7 @@ fn decode_long(bytes: &[u8]) -> Result<(Inst, usize), DecodeErr>
             3,
             u32::from(*a) + u32::from(*b) * 256 + u32::from(*c) * 65536,
         )),
-        [a, b, c, d, ..] => long_word(*a, *b, *c, *d),
+        [a, b, c, d, ..] => decode_four_bytes(*a, *b, *c, *d),
     }
 }
 
@@ -93,7 +93,7 @@ fn decode_short(bytes: &[u8]) -> Result<(Inst, usize), DecodeErr>
     match bytes {
         [] => Err(DecodeErr::Short),
         [a] => Err(decode_refusal(*a, 1, u32::from(*a))),
-        [a, b, ..] => short_word(*a, *b),
+        [a, b, ..] => decode_two_bytes(*a, *b),
     }
 }
 
@@ -114,7 +114,7 @@ fn decode_refusal(first: u8, n: u8, part: u32) -> DecodeErr
 }
 
 /// Decodes four bytes, the first of which is odd.
-fn long_word(a: u8, b: u8, c: u8, d: u8) -> Result<(Inst, usize), DecodeErr>
+fn decode_four_bytes(a: u8, b: u8, c: u8, d: u8) -> Result<(Inst, usize), DecodeErr>
     requires { a % 2 ≡ 1 }
     ensures { (rest : List ℕ) → decoded_of (a ∷ b ∷ c ∷ d ∷ rest) ≡ result }
 {
@@ -125,7 +125,7 @@ fn long_word(a: u8, b: u8, c: u8, d: u8) -> Result<(Inst, usize), DecodeErr>
 }
 
 /// Decodes two bytes, the first of which is even.
-fn short_word(a: u8, b: u8) -> Result<(Inst, usize), DecodeErr>
+fn decode_two_bytes(a: u8, b: u8) -> Result<(Inst, usize), DecodeErr>
     requires { a % 2 ≡ 0 }
     ensures { (rest : List ℕ) → decoded_of (a ∷ b ∷ rest) ≡ result }
 {

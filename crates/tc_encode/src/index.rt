@@ -263,7 +263,7 @@ pub(crate) fn place_in_code_index(first: u8, second: u8) -> Option<u8>
 }
 
 /// Returns the form of the rows that begin with this byte. If there are none, any form will do.
-pub(crate) fn form_by(first: u8) -> Form
+pub(crate) fn form_of_first_byte(first: u8) -> Form
     ensures { (place : ℕ) (r : RowData) → slice_get listed place ≡ Some r → r.op1 ≡ first
         → form_index r.form ≡ form_index result }
 {

@@ -8,9 +8,9 @@ ghost use Rattle.tc_isa.specs.Insts.{InstData};
 ghost use Rattle.tc_encode.specs.WordSearch.{Makes, has_zero_word_gaps};
 
 use crate::forms::{fields_of_word, second_code};
-use crate::index::{form_by, index_by_codes, place_in_code_index, plain_rows};
+use crate::index::{form_of_first_byte, index_by_codes, place_in_code_index, plain_rows};
 use tc_isa::{
-    Fields, Form, Inst, ROW_COUNT, Row, are_registers_apart, is_zero_elsewhere, rows, uses_by_row,
+    Fields, Form, Inst, ROW_COUNT, Row, are_registers_apart, are_unused_fields_zero, rows, uses_by_row,
 };
 
 /// Returns the instruction of a word, which has 16 bits if its lowest byte is even.
@@ -20,7 +20,7 @@ pub fn find_by_word(w: u32) -> Option<Inst>
     ensures none { IfNone result ((i : InstData) → Makes w i → ⊥) }
 {
     let first = (w % 256) as u8;
-    let second = second_by(first, w);
+    let second = second_code_by_first(first, w);
     let Some(place) = place_in_code_index(first, second) else {
         return None;
     };
@@ -39,10 +39,10 @@ pub(crate) fn find_word_in_row(place: u8, row: &Row, w: u32) -> Option<Inst>
     ensures none { IfNone result ((i : InstData) → Makes w i → i.row ≡ place → ⊥) }
 {
     let f = fields_of_word(row.form, w);
-    if !has_zero_word_gaps(row.form, w) {
+    if !are_unused_bits_zero(row.form, w) {
         return None;
     }
-    if !has_zero_other_fields(place, row, &f) {
+    if !are_missing_fields_zero(place, row, &f) {
         return None;
     }
     if !are_registers_apart(row, &f) {
@@ -80,17 +80,17 @@ pub(crate) fn find_word_at(place: u8, first: u8, second: u8, w: u32) -> Option<I
 }
 
 /// Returns the second code of the word, in the form of the rows that begin with this byte.
-fn second_by(first: u8, w: u32) -> u8
+fn second_code_by_first(first: u8, w: u32) -> u8
     ensures { (place : ℕ) (r : RowData) → slice_get listed place ≡ Some r → r.op1 ≡ first
         → result ≡ second_code_by_form r.form w }
 {
-    second_code(form_by(first), w)
+    second_code(form_of_first_byte(first), w)
 }
 
 /// Returns true if the word of the search is 0 in all bits that its form has for no field and no
 /// code.
 #[tactic(auto, unfolding(crate::specs::WordSearch::has_zero_word_gaps))]
-fn has_zero_word_gaps(form: Form, w: u32) -> bool
+fn are_unused_bits_zero(form: Form, w: u32) -> bool
     ensures { result ≡ has_zero_word_gaps form w }
 {
     match form {
@@ -101,12 +101,12 @@ fn has_zero_word_gaps(form: Form, w: u32) -> bool
 }
 
 /// Returns true if the fields of a word that the row at this place doesn't have are 0.
-fn has_zero_other_fields(place: u8, row: &Row, f: &Fields) -> bool
+fn are_missing_fields_zero(place: u8, row: &Row, f: &Fields) -> bool
     requires place { slice_get listed place ≡ Some (row_of row.now) }
     requires within { place < ROW_COUNT }
     requires below { AreFieldsBelow f.now (bounds row.now.form) }
     ensures { result ≡ are_unused_fields_zero (uses_of (row_of row.now)) f.now }
 {
     let at = usize::from(place);
-    plain_rows()[at] || is_zero_elsewhere(&uses_by_row()[at], f)
+    plain_rows()[at] || are_unused_fields_zero(&uses_by_row()[at], f)
 }

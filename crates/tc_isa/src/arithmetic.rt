@@ -23,14 +23,14 @@ pub fn alu(op: Op, x: u32, y: u32) -> u32
         Op::Xnor => complement(x ^ y),
         Op::Andn => x & complement(y),
         Op::Orn => x | complement(y),
-        Op::Eq => word_of_truth(x == y),
-        Op::Ne => word_of_truth(x != y),
-        Op::Lt => word_of_truth(signed_order_place(x) < signed_order_place(y)),
-        Op::LtU => word_of_truth(x < y),
-        Op::Ge => word_of_truth(signed_order_place(x) >= signed_order_place(y)),
-        Op::GeU => word_of_truth(x >= y),
-        Op::Sh => shift(x, (y % 64) as u8),
-        Op::Sha => shift_signed(x, (y % 64) as u8),
+        Op::Eq => word_of_bool(x == y),
+        Op::Ne => word_of_bool(x != y),
+        Op::Lt => word_of_bool(signed_order_place(x) < signed_order_place(y)),
+        Op::LtU => word_of_bool(x < y),
+        Op::Ge => word_of_bool(signed_order_place(x) >= signed_order_place(y)),
+        Op::GeU => word_of_bool(x >= y),
+        Op::Sh => shift_logical(x, (y % 64) as u8),
+        Op::Sha => shift_arithmetic(x, (y % 64) as u8),
     }
 }
 
@@ -57,7 +57,7 @@ fn complement(x: u32) -> u32
 }
 
 /// Returns 1 for true and 0 for false.
-fn word_of_truth(b: bool) -> u32
+fn word_of_bool(b: bool) -> u32
     ensures { result ≡ one_if b }
 {
     if b { 1 } else { 0 }
@@ -72,7 +72,7 @@ fn signed_order_place(x: u32) -> u32
 }
 
 /// Shifts to the left by `n` if it is below 32, else to the right by 64 - `n`, filled with zeros.
-fn shift(x: u32, n: u8) -> u32
+fn shift_logical(x: u32, n: u8) -> u32
     requires { n < 64 }
     ensures { result ≡ shift_by x n }
 {
@@ -87,13 +87,13 @@ fn shift(x: u32, n: u8) -> u32
 
 /// Shifts to the left by `n` if it is below 32, else to the right by 64 - `n`, filled with the sign
 /// bit.
-fn shift_signed(x: u32, n: u8) -> u32
+fn shift_arithmetic(x: u32, n: u8) -> u32
     requires { n < 64 }
     ensures { result ≡ shifted_signed x n }
 {
     if n < 32 || x < 0x8000_0000 {
-        shift(x, n)
+        shift_logical(x, n)
     } else {
-        complement(shift(complement(x), n))
+        complement(shift_logical(complement(x), n))
     }
 }

@@ -5,7 +5,7 @@ ghost use Rattle.tc_isa.specs.ValidRowFields.{FieldsFitRow, uses_of, are_registe
 ghost use Rattle.tc_isa.specs.Insts.{IsInst};
 
 use crate::bounds::{are_below_bounds, bounds_of};
-use crate::row_uses::{is_zero_elsewhere, uses_by_row};
+use crate::row_uses::{are_unused_fields_zero, uses_by_row};
 use crate::{Fields, Inst, Row, Uses, rows};
 
 /// The first code of loads with a base and an offset of 10 bits, post-increment among them.
@@ -59,6 +59,6 @@ fn are_fitting_fields(row: &Row, uses: &Uses, fields: &Fields) -> bool
     ensures { IsTrue result ↔ FieldsFitRow (row_of row.now) fields.now }
 {
     are_below_bounds(fields, &bounds_of(row.form))
-        && is_zero_elsewhere(uses, fields)
+        && are_unused_fields_zero(uses, fields)
         && are_registers_apart(row, fields)
 }

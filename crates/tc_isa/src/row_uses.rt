@@ -256,7 +256,7 @@ pub fn uses_by_row() -> &'static [Uses]
 /// Returns true if each field that a row doesn't have is 0; the fields that it has are given as its
 /// uses.
 #[inline(always)]
-pub fn is_zero_elsewhere(uses: &Uses, f: &Fields) -> bool
+pub fn are_unused_fields_zero(uses: &Uses, f: &Fields) -> bool
     ensures { result ≡ are_unused_fields_zero uses.now f.now }
 {
     (uses.c || f.c == 0)

@@ -19,7 +19,7 @@ pub use cutting::{cut_into, tokens};
 pub use kinds::{Front, Token, TokenKind};
 pub use line_pieces::cut_pieces;
 pub use operand::{Operand, Shape, Value};
-pub use pieces::{Piece, is_kind, text_at};
+pub use pieces::{Piece, is_token_kind, token_text};
 pub use same_bytes::{are_same_bytes, is_same_text};
 pub use scratch::Scratch;
 pub use split_operands::operands;

@@ -49,7 +49,7 @@ fn add_digit(base: u8, so_far: Option<u128>, c: u8) -> Option<u128>
             if n < 0x1_0000_0000_0000_0000 {
                 Some(n * u128::from(base) + u128::from(token_digit_value(c)))
             } else {
-                add_far_digit(base, n, c)
+                add_digit_to_large_number(base, n, c)
             }
         }
     }
@@ -72,7 +72,7 @@ fn token_digit_value(c: u8) -> u8
 // Adds a digit to a number of 2^64 or more, for which the product may not fit 128 bits.
 #[inline(never)]
 #[tactic(auto, unfolding(crate::specs::Numbers::add_digit))]
-fn add_far_digit(base: u8, n: u128, c: u8) -> Option<u128>
+fn add_digit_to_large_number(base: u8, n: u128, c: u8) -> Option<u128>
     ensures { result ≡ add_digit base (Some n) c }
 {
     match n.checked_mul(u128::from(base)) {

@@ -16,7 +16,7 @@ pub struct Piece<'a> {
 
 /// Whether token `i` exists and has this kind.
 #[tactic(auto, unfolding(crate::specs::Pieces::is_kind))]
-pub fn is_kind(ps: &[Piece], i: usize, kind: TokenKind) -> bool
+pub fn is_token_kind(ps: &[Piece], i: usize, kind: TokenKind) -> bool
     ensures value { result ≡ is_kind (map piece_of ps.now) i kind }
     ensures there { result ≡ true → i < length ps.now }
 {
@@ -29,7 +29,7 @@ pub fn is_kind(ps: &[Piece], i: usize, kind: TokenKind) -> bool
 
 /// The text of token `i`, and an empty text if there is no such token.
 #[tactic(auto, unfolding(crate::specs::Pieces::text_at))]
-pub fn text_at<'a>(ps: &[Piece<'a>], i: usize) -> &'a [u8]
+pub fn token_text<'a>(ps: &[Piece<'a>], i: usize) -> &'a [u8]
     ensures { result.now ≡ text_at (map piece_of ps.now) i }
 {
     if i < ps.len() { ps[i].text } else { &[] }

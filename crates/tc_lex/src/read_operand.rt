@@ -7,7 +7,7 @@ ghost use Rattle.tc_lex.specs.Operands.{value_of, operand_of, operand_number_at,
 use crate::TokenKind;
 use crate::numbers::token_number;
 use crate::operand::{Operand, Shape, Value};
-use crate::pieces::{Piece, is_kind, text_at};
+use crate::pieces::{Piece, is_token_kind, token_text};
 use crate::same_bytes::is_same_text;
 use crate::scratch::Scratch;
 use crate::split_operands::operands;
@@ -21,13 +21,13 @@ pub(crate) fn put_operand<'a>(ps: &[Piece<'a>], out: &mut Scratch<Operand<'a>, 6
     ensures one_more { length out.new.items ≡ length out.old.items + 1 }
 {
     if ps.len() != 1 {
-        put_longer(ps, out);
-    } else if is_kind(ps, 0, TokenKind::Word) {
-        push_operand(lone_word(ps), out);
-    } else if is_kind(ps, 0, TokenKind::Number) {
-        push_operand(lone_number(ps), out);
+        put_longer_operand(ps, out);
+    } else if is_token_kind(ps, 0, TokenKind::Word) {
+        push_operand(lone_word_operand(ps), out);
+    } else if is_token_kind(ps, 0, TokenKind::Number) {
+        push_operand(lone_number_operand(ps), out);
     } else {
-        put_longer(ps, out);
+        put_longer_operand(ps, out);
     }
 }
 
@@ -45,13 +45,13 @@ pub(crate) fn push_operand<'a>(operand: Operand<'a>, out: &mut Scratch<Operand<'
 /// locals are large, so they have a function of their own.
 #[inline(never)]
 #[tactic(auto, unfolding(crate::specs::Operands::operand))]
-fn put_longer<'a>(ps: &[Piece<'a>], out: &mut Scratch<Operand<'a>, 65>)
+fn put_longer_operand<'a>(ps: &[Piece<'a>], out: &mut Scratch<Operand<'a>, 65>)
     requires { length out.old.items < 65 }
     ensures operands { map operand_of out.new.items
         ≡ map operand_of out.old.items ++ operand (map piece_of ps.now) ∷ [] }
     ensures one_more { length out.new.items ≡ length out.old.items + 1 }
 {
-    if is_kind(ps, 0, TokenKind::Open) {
+    if is_token_kind(ps, 0, TokenKind::Open) {
         push_operand(memory_operand(ps), out);
     } else {
         push_operand(plain_operand(operand_value_at(ps, 0)), out);
@@ -59,21 +59,21 @@ fn put_longer<'a>(ps: &[Piece<'a>], out: &mut Scratch<Operand<'a>, 65>)
 }
 
 // The operand that is one word.
-fn lone_word<'a>(ps: &[Piece<'a>]) -> Operand<'a>
+fn lone_word_operand<'a>(ps: &[Piece<'a>]) -> Operand<'a>
     requires one { length ps.now ≡ 1 }
     requires word { is_kind_at (map piece_of ps.now) 0 Word ≡ true }
     ensures { operand_of result ≡ operand (map piece_of ps.now) }
 {
-    plain_operand(make_operand_value(Shape::Word, text_at(ps, 0), false, 0))
+    plain_operand(make_operand_value(Shape::Word, token_text(ps, 0), false, 0))
 }
 
 // The operand that is one number.
-fn lone_number<'a>(ps: &[Piece<'a>]) -> Operand<'a>
+fn lone_number_operand<'a>(ps: &[Piece<'a>]) -> Operand<'a>
     requires one { length ps.now ≡ 1 }
     requires number { is_kind_at (map piece_of ps.now) 0 Number ≡ true }
     ensures { operand_of result ≡ operand (map piece_of ps.now) }
 {
-    plain_operand(plain_number(false, token_number(text_at(ps, 0))))
+    plain_operand(plain_number(false, token_number(token_text(ps, 0))))
 }
 
 // Reads an operand that begins with a `[`.
@@ -83,11 +83,11 @@ fn memory_operand<'a>(ps: &[Piece<'a>]) -> Operand<'a>
     requires { is_kind_at (map piece_of ps.now) 0 Open ≡ true }
     ensures { operand_of result ≡ operand (map piece_of ps.now) }
 {
-    if is_kind(ps, 1, TokenKind::Word) {
-        if is_kind(ps, 2, TokenKind::Close) {
-            bracketed_operand(false, text_at(ps, 1), operand_value_at(ps, 3))
-        } else if is_kind(ps, 2, TokenKind::Plus) && is_kind(ps, 3, TokenKind::Close) {
-            bracketed_operand(true, text_at(ps, 1), operand_value_at(ps, 4))
+    if is_token_kind(ps, 1, TokenKind::Word) {
+        if is_token_kind(ps, 2, TokenKind::Close) {
+            bracketed_operand(false, token_text(ps, 1), operand_value_at(ps, 3))
+        } else if is_token_kind(ps, 2, TokenKind::Plus) && is_token_kind(ps, 3, TokenKind::Close) {
+            bracketed_operand(true, token_text(ps, 1), operand_value_at(ps, 4))
         } else {
             plain_operand(make_operand_value(Shape::Bad, &[], false, 0))
         }
@@ -116,12 +116,12 @@ fn operand_value_at<'a>(ps: &[Piece<'a>], at: usize) -> Value<'a>
 {
     if ps.len() == at {
         make_operand_value(Shape::Absent, &[], false, 0)
-    } else if is_kind(ps, at, TokenKind::Word) {
-        named_at(ps, at)
+    } else if is_token_kind(ps, at, TokenKind::Word) {
+        symbol_value_at(ps, at)
     } else {
         match operand_number_at(ps, at) {
             Some((minus, n)) => plain_number(minus, n),
-            None => named_at(ps, at),
+            None => symbol_value_at(ps, at),
         }
     }
 }
@@ -153,14 +153,14 @@ fn make_operand_value(shape: Shape, name: &[u8], minus: bool, size: u128) -> Val
 
 /// Reads a symbol, or its upper or lower half, at this token as a value.
 #[tactic(auto, unfolding(crate::specs::Operands::named_at))]
-fn named_at<'a>(ps: &[Piece<'a>], at: usize) -> Value<'a>
+fn symbol_value_at<'a>(ps: &[Piece<'a>], at: usize) -> Value<'a>
     requires { at ≤ length ps.now }
     ensures { value_of result ≡ named_at (map piece_of ps.now) at }
 {
-    if is_kind(ps, at + 1, TokenKind::Colon) {
-        half_at(ps, at)
+    if is_token_kind(ps, at + 1, TokenKind::Colon) {
+        symbol_half_at(ps, at)
     } else {
-        sum_at(ps, at, Shape::Word, Shape::Sum)
+        name_or_sum_at(ps, at, Shape::Word, Shape::Sum)
     }
 }
 
@@ -170,13 +170,13 @@ fn operand_number_at(ps: &[Piece], at: usize) -> Option<(bool, Option<u128>)>
     requires { at ≤ length ps.now }
     ensures { result ≡ operand_number_at (map piece_of ps.now) at }
 {
-    if is_kind(ps, at, TokenKind::Number) && ps.len() - at == 1 {
-        Some((false, token_number(text_at(ps, at))))
-    } else if is_kind(ps, at, TokenKind::Minus)
+    if is_token_kind(ps, at, TokenKind::Number) && ps.len() - at == 1 {
+        Some((false, token_number(token_text(ps, at))))
+    } else if is_token_kind(ps, at, TokenKind::Minus)
         && ps.len() - at == 2
-        && is_kind(ps, at + 1, TokenKind::Number)
+        && is_token_kind(ps, at + 1, TokenKind::Number)
     {
-        Some((true, token_number(text_at(ps, at + 1))))
+        Some((true, token_number(token_text(ps, at + 1))))
     } else {
         None
     }
@@ -195,16 +195,16 @@ fn plain_number<'a>(minus: bool, n: Option<u128>) -> Value<'a>
 // Reads the upper or lower half of a symbol, as in `hi:NAME`.
 #[inline(never)]
 #[tactic(auto, unfolding(crate::specs::Operands::named_at))]
-fn half_at<'a>(ps: &[Piece<'a>], at: usize) -> Value<'a>
+fn symbol_half_at<'a>(ps: &[Piece<'a>], at: usize) -> Value<'a>
     requires place { at + 1 < length ps.now }
     requires colon { is_kind_at (map piece_of ps.now) (at + 1) Colon ≡ true }
     ensures { value_of result ≡ named_at (map piece_of ps.now) at }
 {
-    let name = text_at(ps, at);
+    let name = token_text(ps, at);
     if is_same_text(name, "hi") {
-        sum_at(ps, at + 2, Shape::High, Shape::High)
+        name_or_sum_at(ps, at + 2, Shape::High, Shape::High)
     } else if is_same_text(name, "lo") {
-        sum_at(ps, at + 2, Shape::Low, Shape::Low)
+        name_or_sum_at(ps, at + 2, Shape::Low, Shape::Low)
     } else {
         make_operand_value(Shape::Bad, &[], false, 0)
     }
@@ -212,13 +212,13 @@ fn half_at<'a>(ps: &[Piece<'a>], at: usize) -> Value<'a>
 
 /// Reads the name at this token, with or without a number added, as a value.
 #[tactic(auto, unfolding(crate::specs::Operands::sum_at))]
-fn sum_at<'a>(ps: &[Piece<'a>], at: usize, plain: Shape, summed: Shape) -> Value<'a>
+fn name_or_sum_at<'a>(ps: &[Piece<'a>], at: usize, plain: Shape, summed: Shape) -> Value<'a>
     requires { at ≤ length ps.now }
     ensures { value_of result ≡ sum_at (map piece_of ps.now) at plain summed }
 {
-    if is_kind(ps, at, TokenKind::Word) {
+    if is_token_kind(ps, at, TokenKind::Word) {
         if ps.len() - at == 1 {
-            make_operand_value(plain, text_at(ps, at), false, 0)
+            make_operand_value(plain, token_text(ps, at), false, 0)
         } else {
             name_plus_number_at(ps, at, plain, summed)
         }
@@ -236,14 +236,14 @@ fn name_plus_number_at<'a>(ps: &[Piece<'a>], at: usize, plain: Shape, summed: Sh
     requires more { length ps.now ≢ at + 1 }
     ensures { value_of result ≡ sum_at (map piece_of ps.now) at plain summed }
 {
-    if is_kind(ps, at + 1, TokenKind::Plus) {
+    if is_token_kind(ps, at + 1, TokenKind::Plus) {
         match operand_number_at(ps, at + 2) {
-            Some((minus, n)) => add_number(summed, text_at(ps, at), minus, n),
+            Some((minus, n)) => sum_operand_value(summed, token_text(ps, at), minus, n),
             None => make_operand_value(Shape::Bad, &[], false, 0),
         }
-    } else if is_kind(ps, at + 1, TokenKind::Minus) {
+    } else if is_token_kind(ps, at + 1, TokenKind::Minus) {
         match operand_number_at(ps, at + 2) {
-            Some((minus, n)) => add_number(summed, text_at(ps, at), !minus, n),
+            Some((minus, n)) => sum_operand_value(summed, token_text(ps, at), !minus, n),
             None => make_operand_value(Shape::Bad, &[], false, 0),
         }
     } else {
@@ -252,7 +252,7 @@ fn name_plus_number_at<'a>(ps: &[Piece<'a>], at: usize, plain: Shape, summed: Sh
 }
 
 // The value that is a name plus a number; `None` is a number of 2^128 or more.
-fn add_number(shape: Shape, name: &[u8], minus: bool, n: Option<u128>) -> Value<'_>
+fn sum_operand_value(shape: Shape, name: &[u8], minus: bool, n: Option<u128>) -> Value<'_>
     ensures { value_of result ≡ sum_value shape name.now minus n }
 {
     match n {

@@ -20,7 +20,7 @@ pub fn operands<'a>(ps: &[Piece<'a>], out: &mut Scratch<Operand<'a>, 65>)
     }
     let mut rest = ps;
     'parts: while let Some(i) = find_comma(rest) {
-        put_before(rest, i, out);
+        put_operand_before(rest, i, out);
         rest = tokens_after(rest, i);
     }
     put_operand(rest, out);
@@ -35,7 +35,7 @@ fn find_comma(ps: &[Piece]) -> Option<usize>
 }
 
 // Adds the operand that ends before token `i` to the list.
-fn put_before<'a>(ps: &[Piece<'a>], i: usize, out: &mut Scratch<Operand<'a>, 65>)
+fn put_operand_before<'a>(ps: &[Piece<'a>], i: usize, out: &mut Scratch<Operand<'a>, 65>)
     requires place { i ≤ length ps.now }
     requires room { length out.old.items < 65 }
     ensures operands { map operand_of out.new.items

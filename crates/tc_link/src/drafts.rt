@@ -78,7 +78,7 @@ impl Draft {
                 Ok(())
             }
             Line::Region { section, at, most } => {
-                if let Some(fault) = self.fault_at(number, section, at, most) {
+                if let Some(fault) = self.place_fault(number, section, at, most) {
                     return Err(fault);
                 }
                 let section = String::from_str(alloc, section)?;
@@ -102,7 +102,7 @@ impl Draft {
     }
 
     // The fault of a place in line `number`, if it has one.
-    fn fault_at(&self, number: u32, section: &str, at: u32, most: u32) -> Option<LayoutErr>
+    fn place_fault(&self, number: u32, section: &str, at: u32, most: u32) -> Option<LayoutErr>
         requires { IsPlace (record { section = section.now; at = at; most = most }) }
         ensures fault { result ≡ fault_of number self.now.entries self.now.places
             (Some (place (record { section = section.now; at = at; most = most }))) }

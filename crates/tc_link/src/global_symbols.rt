@@ -21,7 +21,7 @@ pub(crate) fn globals_by_name<'a>(
 {
     let mut names = HashMap::with_capacity(alloc, count_globals(objects))?;
     for (number, object) in objects.iter().enumerate() {
-        add_symbols(&mut names, number, &object.symbols)?;
+        add_global_symbols(&mut names, number, &object.symbols)?;
     }
     Ok(names)
 }
@@ -57,7 +57,7 @@ fn count_globals(objects: &[ObjectRef<'_>]) -> usize {
 }
 
 /// Adds the global symbols of object number `object` to the map of global symbols by name.
-fn add_symbols<'a>(
+fn add_global_symbols<'a>(
     names: &mut HashMap<&'a str, Definition>,
     object: usize,
     symbols: &[SymbolRef<'a>],
@@ -71,14 +71,14 @@ fn add_symbols<'a>(
     ensures err { IfErr result (λ e. e ≡ NoMemory) }
 {
     for symbol in symbols {
-        add_symbol(names, object, symbol)?;
+        add_symbol_if_global(names, object, symbol)?;
     }
     Ok(())
 }
 
 // Adds a symbol of object number `object`, if it is global. The first definition of a name keeps
 // its place.
-fn add_symbol<'a>(
+fn add_symbol_if_global<'a>(
     names: &mut HashMap<&'a str, Definition>,
     object: usize,
     symbol: &SymbolRef<'a>,

@@ -48,13 +48,13 @@ pub(crate) fn layout_line_contents(line: &[u8]) -> Option<Line<'_>>
             }
         }
         Words::Three(_, _, _) => None,
-        Words::Four(word, section, at, most) => region_line(word, section, at, most),
+        Words::Four(word, section, at, most) => place_line(word, section, at, most),
         Words::More => None,
     }
 }
 
 /// The line `place SECTION AT MOST` of a layout, if these words are one.
-fn region_line<'a>(word: &[u8], section: &'a [u8], at: &[u8], most: &[u8]) -> Option<Line<'a>>
+fn place_line<'a>(word: &[u8], section: &'a [u8], at: &[u8], most: &[u8]) -> Option<Line<'a>>
     ensures line { option_map layout_line_data result
         ≡ (if bytes_eq word.now (codes "place")
         then place_of_words (object_name_of section.now) (hex_number_of at.now)

@@ -8,13 +8,13 @@ ghost use Rattle.tc_link.specs.Errors.{refusal_of};
 
 use crate::addresses::address_named;
 use crate::global_symbols::globals_by_name;
-use crate::placed::placed_of;
-use crate::relocated_sections::contents_of;
+use crate::placed::place_objects;
+use crate::relocated_sections::relocated_contents;
 use crate::section_checks::check_places;
 use crate::segments::segments_of;
-use crate::symbol_checks::{check_missing, check_repeated};
+use crate::symbol_checks::{check_missing_symbols, check_repeated_symbols};
 use crate::{Layout, LinkErr};
-use elf_image::{Image, read_segments};
+use elf_image::{Image, establish_segment_bytes};
 use std::alloc::Global;
 use tc_object::{Object, ObjectRef};
 
@@ -30,16 +30,16 @@ pub fn link_borrowed(
         (λ r. image_of_objects objects.now layout.now ≡ Err r)) }
 {
     let names = globals_by_name(alloc, objects)?;
-    check_repeated(alloc, &names, objects)?;
-    check_missing(alloc, &names, objects)?;
+    check_repeated_symbols(alloc, &names, objects)?;
+    check_missing_symbols(alloc, &names, objects)?;
     check_places(alloc, &layout.places, objects)?;
-    let placed = placed_of(alloc, &layout.places, objects)?;
-    let contents = contents_of(alloc, &names, &placed)?;
+    let placed = place_objects(alloc, &layout.places, objects)?;
+    let contents = relocated_contents(alloc, &names, &placed)?;
     let Some(entry) = address_named(&names, &placed, layout.entry.as_str()) else {
         return Err(LinkErr::NoEntry);
     };
     let segments = segments_of(alloc, &layout.places, &contents)?;
-    read_segments(&segments);
+    establish_segment_bytes(&segments);
     Ok(Image { entry, segments })
 }
 

@@ -20,7 +20,7 @@ pub(crate) fn round_up_place_size(size: u64) -> u64
 }
 
 // Adds a section to the number of used bytes of its place.
-pub(crate) fn add_size(places: &[Place], sizes: &mut [u64], section: &SectionRef<'_>)
+pub(crate) fn add_section_size(places: &[Place], sizes: &mut [u64], section: &SectionRef<'_>)
     requires count { length sizes.old ≡ length places.now }
     requires small { AreSmallPlaceSizes sizes.old }
     ensures taken { (before : List SectionData) → AreTaken places.now before sizes.old

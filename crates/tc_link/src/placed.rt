@@ -7,7 +7,7 @@ ghost use Rattle.tc_link.specs.PlaceSizes.{AreTaken, AreSmallPlaceSizes, round_u
 ghost use Rattle.tc_link.specs.Errors.{IsRefusal};
 
 use crate::layouts::find_place;
-use crate::place_sizes::{add_size, are_places_overfull, round_up_place_size};
+use crate::place_sizes::{add_section_size, are_places_overfull, round_up_place_size};
 use crate::{LinkErr, Place};
 use std::alloc::Global;
 use std::marker::Model;
@@ -29,7 +29,7 @@ impl<'a, 'b> Model for Placed<'a, 'b> {
 }
 
 /// The objects with the addresses of their sections, or the first section without room.
-pub(crate) fn placed_of<'a, 'b>(
+pub(crate) fn place_objects<'a, 'b>(
     alloc: Global,
     places: &[Place],
     objects: &'a [ObjectRef<'b>],
@@ -47,7 +47,7 @@ pub(crate) fn placed_of<'a, 'b>(
     let sizes: &mut [u64] = &mut zeros;
     let mut placed = Vec::new(alloc);
     for object in objects {
-        let bases = bases_of(alloc, places, sizes, &object.sections)?;
+        let bases = place_sections(alloc, places, sizes, &object.sections)?;
         placed.push(Placed { object, bases })?;
     }
     Ok(placed)
@@ -72,7 +72,7 @@ pub(crate) fn base_of(places: &[Place], sizes: &[u64], section: &SectionRef<'_>)
 
 /// Places the sections of an object one after another and returns their addresses, or the first
 /// section without room.
-pub(crate) fn bases_of(
+pub(crate) fn place_sections(
     alloc: Global,
     places: &[Place],
     sizes: &mut [u64],
@@ -96,7 +96,7 @@ pub(crate) fn bases_of(
     let mut bases = Vec::new(alloc);
     for section in sections {
         bases.push(base_of(places, sizes, section))?;
-        add_size(places, sizes, section);
+        add_section_size(places, sizes, section);
         if are_places_overfull(places, sizes) {
             return Err(LinkErr::NoRoom(String::from_str(alloc, section.name)?));
         }

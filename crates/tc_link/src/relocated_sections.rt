@@ -13,7 +13,7 @@ use crate::LinkErr;
 use crate::addresses::{address_in_section, symbol_address_at, symbol_addresses};
 use crate::definitions::Definition;
 use crate::placed::Placed;
-use crate::written_sections::{WrittenSection, append_written_sections, copies_of};
+use crate::written_sections::{WrittenSection, append_written_sections, copies_of_sections};
 use std::alloc::Global;
 use std::collections::HashMap;
 use tc_object::Reloc;
@@ -22,7 +22,7 @@ use tc_reloc::{RelocErr, apply};
 /// Returns the sections of all objects, with their relocations written, or the first relocation
 /// that is refused.
 #[tactic(auto, unfolding(crate::specs::Relocated::contents_of, crate::specs::Refusals::reloc_in))]
-pub(crate) fn contents_of<'a>(
+pub(crate) fn relocated_contents<'a>(
     alloc: Global,
     names: &HashMap<&str, Definition>,
     placed: &[Placed<'_, 'a>],
@@ -35,7 +35,7 @@ pub(crate) fn contents_of<'a>(
 {
     let mut contents = Vec::new(alloc);
     for (number, each) in placed.iter().enumerate() {
-        let sections = relocate(alloc, names, placed, number as u32, each)?;
+        let sections = relocate_object(alloc, names, placed, number as u32, each)?;
         append_written_sections(&mut contents, sections)?;
     }
     Ok(contents)
@@ -51,7 +51,7 @@ pub(crate) fn reloc_value(addresses: &[u32], reloc: &Reloc) -> u32
 }
 
 // The sections of an object with its relocations written, or the first relocation that is refused.
-fn relocate<'a>(
+fn relocate_object<'a>(
     alloc: Global,
     names: &HashMap<&str, Definition>,
     placed: &[Placed<'_, '_>],
@@ -68,7 +68,7 @@ fn relocate<'a>(
 {
     let object = each.object;
     let addresses = symbol_addresses(alloc, names, placed, each)?;
-    let mut sections = copies_of(alloc, &object.sections)?;
+    let mut sections = copies_of_sections(alloc, &object.sections)?;
     write_all_relocs(&addresses, number, each, &mut sections)?;
     Ok(sections)
 }
@@ -95,7 +95,7 @@ fn write_all_relocs(
 {
     let object = placed.object;
     for reloc in &object.relocs {
-        if let Err(err) = write_in(addresses, placed, reloc, sections) {
+        if let Err(err) = write_reloc_in_object(addresses, placed, reloc, sections) {
             return Err(LinkErr::Reloc {
                 object: number,
                 section: u32::from(reloc.section),
@@ -108,7 +108,7 @@ fn write_all_relocs(
 }
 
 // Writes a relocation into the sections of its object.
-fn write_in(
+fn write_reloc_in_object(
     addresses: &[u32],
     placed: &Placed<'_, '_>,
     reloc: &Reloc,
@@ -128,11 +128,11 @@ fn write_in(
 {
     let place = address_in_section(&placed.bases, reloc.section, reloc.offset);
     let value = reloc_value(addresses, reloc);
-    write_reloc(&mut sections[reloc.section as usize], reloc, place, value)
+    write_reloc_in_section(&mut sections[reloc.section as usize], reloc, place, value)
 }
 
 // Writes a relocation into its section.
-fn write_reloc(
+fn write_reloc_in_section(
     section: &mut WrittenSection<'_>,
     reloc: &Reloc,
     place: u32,

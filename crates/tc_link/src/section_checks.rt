@@ -24,7 +24,7 @@ pub(crate) fn check_places(
 {
     for object in objects {
         let held = sections_with_symbols(alloc, object)?;
-        if let Some(name) = first_unplaced(places, &held, &object.sections) {
+        if let Some(name) = first_unplaced_section(places, &held, &object.sections) {
             return Err(LinkErr::NoPlace(String::from_str(alloc, name)?));
         }
     }
@@ -48,7 +48,7 @@ fn sections_with_symbols(alloc: Global, object: &ObjectRef<'_>) -> Result<Vec<bo
 }
 
 // The name of the first of these sections that needs a place and has none.
-fn first_unplaced<'a>(
+fn first_unplaced_section<'a>(
     places: &[Place],
     held: &[bool],
     sections: &[SectionRef<'a>],

@@ -16,7 +16,7 @@ use std::collections::HashMap;
 use tc_object::{GLOBAL_SYMBOL, ObjectRef, SymbolRef, UNDEFINED_SYMBOL};
 
 /// Checks that no two objects define the same global symbol.
-pub(crate) fn check_repeated(
+pub(crate) fn check_repeated_symbols(
     alloc: Global,
     names: &HashMap<&str, Definition>,
     objects: &[ObjectRef<'_>],
@@ -29,7 +29,7 @@ pub(crate) fn check_repeated(
         return Ok(());
     }
     for object in objects {
-        if let Some(name) = first_repeated(names, &object.symbols) {
+        if let Some(name) = first_repeated_symbol(names, &object.symbols) {
             return Err(LinkErr::Twice(String::from_str(alloc, name)?));
         }
     }
@@ -47,7 +47,7 @@ pub(crate) fn set_check_mark(marks: &mut Vec<bool>, number: usize)
 }
 
 /// Checks that each symbol that a relocation uses is defined.
-pub(crate) fn check_missing(
+pub(crate) fn check_missing_symbols(
     alloc: Global,
     names: &HashMap<&str, Definition>,
     objects: &[ObjectRef<'_>],
@@ -58,7 +58,7 @@ pub(crate) fn check_missing(
 {
     for object in objects {
         let used = used_symbols(alloc, object)?;
-        if let Some(name) = first_missing(names, &used, &object.symbols) {
+        if let Some(name) = first_missing_symbol(names, &used, &object.symbols) {
             return Err(LinkErr::Missing(String::from_str(alloc, name)?));
         }
     }
@@ -66,7 +66,7 @@ pub(crate) fn check_missing(
 }
 
 // The name of the first of these symbols that several objects define.
-fn first_repeated<'a>(
+fn first_repeated_symbol<'a>(
     names: &HashMap<&str, Definition>,
     symbols: &[SymbolRef<'a>],
 ) -> Option<&'a str>
@@ -75,7 +75,7 @@ fn first_repeated<'a>(
         ≡ option_map (λ name. twice name.now) result }
 {
     for symbol in symbols {
-        if is_repeated(names, symbol) {
+        if is_repeated_symbol(names, symbol) {
             return Some(symbol.name);
         }
     }
@@ -83,7 +83,7 @@ fn first_repeated<'a>(
 }
 
 // Whether a symbol is global and several objects define its name.
-fn is_repeated(names: &HashMap<&str, Definition>, symbol: &SymbolRef<'_>) -> bool
+fn is_repeated_symbol(names: &HashMap<&str, Definition>, symbol: &SymbolRef<'_>) -> bool
     ensures { (objects : List ObjectData) → CountsGlobals names.now objects
         → result ≡ (is_global symbol.now && nat_lt 1 (globals_named objects symbol.now.name)) }
 {
@@ -105,7 +105,7 @@ fn used_symbols(alloc: Global, object: &ObjectRef<'_>) -> Result<Vec<bool>, Link
 }
 
 // The name of the first of these symbols that is used, and undefined in all objects.
-fn first_missing<'a>(
+fn first_missing_symbol<'a>(
     names: &HashMap<&str, Definition>,
     used: &[bool],
     symbols: &[SymbolRef<'a>],
@@ -119,7 +119,7 @@ fn first_missing<'a>(
         ≡ option_map (λ name. missing name.now) result }
 {
     for (number, symbol) in symbols.iter().enumerate() {
-        if is_lost(names, used[number], symbol) {
+        if is_missing_symbol(names, used[number], symbol) {
             return Some(symbol.name);
         }
     }
@@ -128,7 +128,7 @@ fn first_missing<'a>(
 
 // Whether a symbol is used, and undefined in its object and all others. `used` says whether a
 // relocation uses it.
-fn is_lost(names: &HashMap<&str, Definition>, used: bool, symbol: &SymbolRef<'_>) -> bool
+fn is_missing_symbol(names: &HashMap<&str, Definition>, used: bool, symbol: &SymbolRef<'_>) -> bool
     ensures { (objects : List ObjectData) → CountsGlobals names.now objects
         → result ≡ (symbol.now.kind == 0 && used && globals_named objects symbol.now.name == 0) }
 {

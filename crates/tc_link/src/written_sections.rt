@@ -37,7 +37,7 @@ pub(crate) fn append_written_sections<'a>(
 }
 
 // Sections with copies of their bytes.
-pub(crate) fn copies_of<'a>(
+pub(crate) fn copies_of_sections<'a>(
     alloc: Global,
     sections: &[SectionRef<'a>],
 ) -> Result<Vec<WrittenSection<'a>>, LinkErr>

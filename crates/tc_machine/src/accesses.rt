@@ -35,7 +35,7 @@ pub(crate) fn load(mem: &Mem, input: u32, addr: u32, size: u8, signed: bool) -> 
 pub(crate) fn store(mem: &mut Mem, addr: u32, word: u32, n: u8)
     ensures { mem.new ≡ with_bytes mem.old addr word n }
 {
-    if store_whole(mem, addr, word, n) {
+    if store_in_block(mem, addr, word, n) {
         return;
     }
     store_bytes(mem, addr, word, n);
@@ -112,7 +112,7 @@ fn load_half_by_bytes(mem: &Mem, input: u32, addr: u32) -> u16
 
 /// Stores a word, or its low half, in one step if its bytes are in one block of the memory. Returns
 /// whether it did.
-fn store_whole(mem: &mut Mem, addr: u32, word: u32, n: u8) -> bool
+fn store_in_block(mem: &mut Mem, addr: u32, word: u32, n: u8) -> bool
     ensures { MatchBool result (mem.new ≡ with_bytes mem.old addr word n) (mem.new ≡ mem.old) }
 {
     match n {

@@ -22,11 +22,11 @@ impl Machine {
     {
         match shape {
             Shape::Call { to } => self.call(to, n),
-            Shape::Ret => self.go_back(n),
-            Shape::Rfe => self.leave_handler(n),
-            Shape::Svlcx => self.save_lower(n),
-            Shape::Rslcx => self.take_lower(n),
-            Shape::Bisr { c } => self.begin_interruptible(c, n),
+            Shape::Ret => self.return_from_call(n),
+            Shape::Rfe => self.return_from_exception(n),
+            Shape::Svlcx => self.save_lower_context(n),
+            Shape::Rslcx => self.restore_lower_context(n),
+            Shape::Bisr { c } => self.begin_interrupt_routine(c, n),
             Shape::Syscall { tin } => self.trap(
                 SYSTEM_CALLS,
                 tin,
@@ -57,7 +57,7 @@ impl Machine {
 
     /// Executes the instruction `ret`: restores the upper context, and returns from a call.
     #[tactic(auto, unfolding(crate::specs::Instructions::does))]
-    fn go_back(&mut self, n: u32)
+    fn return_from_call(&mut self, n: u32)
         ensures { (event : Event) → self.new ≡ does self.old event Shape.Ret n }
     {
         let back = self.a[11] / 2 * 2;
@@ -71,7 +71,7 @@ impl Machine {
     /// Executes the instruction `rfe`: restores the upper context, and IE and CCPN from PCXI, and
     /// returns from a handler.
     #[tactic(auto, unfolding(crate::specs::Instructions::does))]
-    fn leave_handler(&mut self, n: u32)
+    fn return_from_exception(&mut self, n: u32)
         ensures { (event : Event) → self.new ≡ does self.old event Shape.Rfe n }
     {
         let back = self.a[11] / 2 * 2;
@@ -89,7 +89,7 @@ impl Machine {
 
     /// Executes the instruction `svlcx`: saves the lower context, and goes on after it.
     #[tactic(auto, unfolding(crate::specs::Instructions::does))]
-    fn save_lower(&mut self, n: u32)
+    fn save_lower_context(&mut self, n: u32)
         ensures { (event : Event) → self.new ≡ does self.old event Shape.Svlcx n }
     {
         self.save(false);
@@ -101,7 +101,7 @@ impl Machine {
 
     /// Executes the instruction `rslcx`: restores the lower context, and goes on after it.
     #[tactic(auto, unfolding(crate::specs::Instructions::does))]
-    fn take_lower(&mut self, n: u32)
+    fn restore_lower_context(&mut self, n: u32)
         ensures { (event : Event) → self.new ≡ does self.old event Shape.Rslcx n }
     {
         self.restore(false);
@@ -113,7 +113,7 @@ impl Machine {
 
     /// Executes `bisr`: saves the lower context, sets CCPN and enables interrupts.
     #[tactic(auto, unfolding(crate::specs::Instructions::does))]
-    fn begin_interruptible(&mut self, c: u8, n: u32)
+    fn begin_interrupt_routine(&mut self, c: u8, n: u32)
         ensures { (event : Event) → self.new ≡ does self.old event (Shape.Bisr c) n }
     {
         self.save(false);

@@ -56,7 +56,7 @@ impl Machine {
     }
 
     /// Returns PCXI after a context was saved to the area of the link `free`.
-    fn pcxi_after(&self, upper: bool, free: u32) -> u32
+    fn pcxi_after_save(&self, upper: bool, free: u32) -> u32
         ensures { result ≡ pcxi_word_of self.now.core self.now.ccpn self.now.ie upper
             (link_in free) }
     {
@@ -73,7 +73,7 @@ impl Machine {
 impl Machine {
     /// Returns the words of the area that a link names, if it is mapped.
     #[tactic(auto, using(crate::proofs::ContextWords::area_of_words))]
-    pub(crate) fn words_of(&self, named: u32) -> Option<[u32; 16]>
+    pub(crate) fn words_of_area(&self, named: u32) -> Option<[u32; 16]>
         requires { named < 2 ^ 20 }
         ensures { result ≡
             (if is_area self.now.mem named then Some
@@ -94,7 +94,7 @@ impl Machine {
             self.die(Cause::Fcu);
             return;
         }
-        let Some(words) = self.words_of(free) else {
+        let Some(words) = self.words_of_area(free) else {
             self.die(Cause::NoArea);
             return;
         };
@@ -121,14 +121,14 @@ impl Machine {
             self.die(Cause::Ctyp);
             return;
         }
-        let Some(words) = self.words_of(parts.link) else {
+        let Some(words) = self.words_of_area(parts.link) else {
             self.die(Cause::NoArea);
             return;
         };
         if upper {
-            self.restore_upper(parts.link, &words);
+            self.restore_upper_registers(parts.link, &words);
         } else {
-            self.restore_lower(parts.link, &words);
+            self.restore_lower_registers(parts.link, &words);
         }
     }
 
@@ -141,12 +141,12 @@ impl Machine {
     {
         let words = self.context(upper);
         self.mem.set_area(address_of(free), &words);
-        self.pcxi = self.pcxi_after(upper, free);
+        self.pcxi = self.pcxi_after_save(upper, free);
         self.fcx = self.fcx / 0x10_0000 * 0x10_0000 + context_link(next);
     }
 
     /// Restores the upper registers from the words of the area that PCXI names, and frees the area.
-    fn restore_upper(&mut self, used: u32, words: &[u32; 16])
+    fn restore_upper_registers(&mut self, used: u32, words: &[u32; 16])
         requires used { used ≡ link_in self.old.pcxi }
         requires words { words.now ≡ last_context self.old }
         ensures { self.new ≡ restored_upper self.old }
@@ -157,7 +157,7 @@ impl Machine {
     }
 
     /// Restores the lower registers from the words of the area that PCXI names, and frees the area.
-    fn restore_lower(&mut self, used: u32, words: &[u32; 16])
+    fn restore_lower_registers(&mut self, used: u32, words: &[u32; 16])
         requires used { used ≡ link_in self.old.pcxi }
         requires words { words.now ≡ last_context self.old }
         ensures { self.new ≡ restored_lower self.old }

@@ -23,7 +23,7 @@ impl Machine {
         self.save(true);
         match self.end {
             End::Running => {
-                self.enter(back, entry, stack, psw);
+                self.enter_handler(back, entry, stack, psw);
                 self.ccpn = irq;
             }
             End::Dead(_) => {}
@@ -40,7 +40,7 @@ impl Machine {
         self.save(true);
         match self.end {
             End::Running => {
-                self.enter(back, entry, stack, psw);
+                self.enter_handler(back, entry, stack, psw);
                 self.d[15] = u32::from(tin);
             }
             End::Dead(_) => {}
@@ -60,7 +60,7 @@ impl Machine {
     }
 
     /// Enters a handler that returns to the address `back`.
-    fn enter(&mut self, back: u32, entry: u32, stack: u32, psw: u32)
+    fn enter_handler(&mut self, back: u32, entry: u32, stack: u32, psw: u32)
         ensures { self.new ≡ record self.old {
           a = slice_set (slice_set self.old.a 11 back) 10 stack;
           psw = handler_psw psw;

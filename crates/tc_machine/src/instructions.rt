@@ -49,7 +49,7 @@ impl Machine {
                 index,
                 n: k,
             } => self.compute_scaled(dst, base, index, k, n),
-            Shape::Load { .. } | Shape::Store { .. } => self.execute_access(event, shape, n),
+            Shape::Load { .. } | Shape::Store { .. } => self.execute_load_or_store(event, shape, n),
             Shape::Branch {
                 cond,
                 x,
@@ -71,7 +71,7 @@ impl Machine {
 
     /// Executes a load or a store.
     #[tactic(auto, unfolding(crate::specs::Instructions::does))]
-    fn execute_access(&mut self, event: &Event, shape: Shape, n: u32)
+    fn execute_load_or_store(&mut self, event: &Event, shape: Shape, n: u32)
         requires { IsShape shape }
         ensures { OnAccessInstruction shape (self.new ≡ does self.old event.now shape n) }
     {
@@ -145,7 +145,7 @@ impl Machine {
         requires { IsShape (Shape.Compute op dst x y) }
         ensures { (event : Event) → self.new ≡ does self.old event (Shape.Compute op dst x y) n }
     {
-        let word = alu(op, self.arg(x), self.arg(y));
+        let word = alu(op, self.operand_value(x), self.operand_value(y));
         self.set_reg(dst, word);
         self.advance(n);
     }
@@ -170,13 +170,13 @@ impl Machine {
         ensures { self.new
             ≡ does self.old event.now (Shape.Load dst at.base at.offset at.size signed at.after) n }
     {
-        let addr = self.access(at.base, at.offset, at.after);
+        let addr = self.access_address(at.base, at.offset, at.after);
         if is_trapping_access(event, addr, at.size) {
             self.trap(INSTRUCTION_ERRORS, ALN, self.pc);
             return;
         }
         let word = load(&self.mem, event.input, addr, at.size, signed);
-        self.move_base(at.base, at.offset, at.after);
+        self.post_increment_base(at.base, at.offset, at.after);
         self.set_reg(dst, word);
         self.advance(n);
     }
@@ -189,13 +189,13 @@ impl Machine {
         ensures { self.new
             ≡ does self.old event.now (Shape.Store src at.base at.offset at.size at.after) n }
     {
-        let addr = self.access(at.base, at.offset, at.after);
+        let addr = self.access_address(at.base, at.offset, at.after);
         if is_trapping_access(event, addr, at.size) {
             self.trap(INSTRUCTION_ERRORS, ALN, self.pc);
             return;
         }
         let word = self.reg(src);
-        self.move_base(at.base, at.offset, at.after);
+        self.post_increment_base(at.base, at.offset, at.after);
         store(&mut self.mem, addr, word, at.size);
         self.advance(n);
     }
@@ -207,9 +207,9 @@ impl Machine {
         ensures { (event : Event)
             → self.new ≡ does self.old event (Shape.Branch test.cond test.x test.y by lowers) n }
     {
-        let goes = taken(test.cond, self.reg(test.x), self.arg(test.y));
+        let goes = taken(test.cond, self.reg(test.x), self.operand_value(test.y));
         let distance = if goes { by } else { n };
-        self.lower(test.x, lowers);
+        self.decrement_compared_register(test.x, lowers);
         self.advance(distance);
     }
 }

@@ -30,7 +30,7 @@ fn is_area_keeping_shape(event: &Event, shape: Shape) -> bool
 impl Machine {
     /// Returns the machine's next load as `next_load` does, for a caller that has decoded the bytes
     /// at pc already: `found` is what they do.
-    pub fn load_by(&self, found: &Result<(Shape, u32), Cause>) -> Option<(u32, u8)>
+    pub fn next_load_predecoded(&self, found: &Result<(Shape, u32), Cause>) -> Option<(u32, u8)>
         requires found { found.now
             ≡ fetched_shape (decoded_of (mapped_bytes 4 self.now.mem self.now.pc)) }
         requires bounded { IfOk found.now (λ it. IsShape it.0) }
@@ -50,7 +50,7 @@ impl Machine {
     pub fn next_load(&self) -> Option<(u32, u8)>
         ensures { result ≡ next_load_of self.now }
     {
-        self.load_by(&self.shape_at_pc())
+        self.next_load_predecoded(&self.shape_at_pc())
     }
 
     /// Returns true if an event never changes the memory or PCXI, so that the areas in use stay. No
@@ -84,7 +84,7 @@ impl Machine {
             if count == 4096 {
                 return None;
             }
-            word = self.word_after(word, &mut near)?;
+            word = self.next_chain_word(word, &mut near)?;
             count += 1;
         }
         Some(count)
@@ -103,7 +103,7 @@ impl Machine {
                 size,
                 after,
                 ..
-            } => Some((self.access(base, offset, after), size)),
+            } => Some((self.access_address(base, offset, after), size)),
             _ => None,
         }
     }
@@ -111,7 +111,7 @@ impl Machine {
     /// Returns word 0 of the area that a word of a chain names. The search in memory begins near
     /// the last area's place.
     #[tactic(auto, using(crate::proofs::WholeAccesses::first_of_area))]
-    fn word_after(&self, word: u32, near: &mut usize) -> Option<u32>
+    fn next_chain_word(&self, word: u32, near: &mut usize) -> Option<u32>
         ensures { result ≡
             (if is_area self.now.mem (link_in word)
             then Some (area_word self.now.mem (link_in word) 0) else None) }

@@ -10,20 +10,20 @@ use tc_isa::{Arg, Target};
 impl Machine {
     /// Returns the address that an access has by its operands: the base plus the offset, or the
     /// base alone with post-increment.
-    pub fn access(&self, base: Arg, offset: u32, after: bool) -> u32
+    pub fn access_address(&self, base: Arg, offset: u32, after: bool) -> u32
         requires { IsArg base }
         ensures { result ≡ access_address self.now base offset after }
     {
         if after {
-            self.arg(base)
+            self.operand_value(base)
         } else {
-            machine_address_ahead(self.arg(base), offset)
+            machine_address_ahead(self.operand_value(base), offset)
         }
     }
 
     /// Increases the address in the register of a base operand by the offset, if the access is one
     /// with post-increment.
-    pub(crate) fn move_base(&mut self, base: Arg, offset: u32, after: bool)
+    pub(crate) fn post_increment_base(&mut self, base: Arg, offset: u32, after: bool)
         requires { IsArg base }
         ensures { self.new ≡ with_base self.old base offset after }
     {
@@ -51,7 +51,7 @@ impl Machine {
     }
 
     /// Decrements by 1 the register that a branch compares, if the branch does that.
-    pub(crate) fn lower(&mut self, x: u8, lowers: bool)
+    pub(crate) fn decrement_compared_register(&mut self, x: u8, lowers: bool)
         requires { x < 32 }
         ensures { self.new ≡ lowered self.old x lowers }
     {

@@ -34,7 +34,7 @@ impl Machine {
     }
 
     /// Returns what an operand stands for: the word read from its register, or its own word.
-    pub(crate) fn arg(&self, x: Arg) -> u32
+    pub(crate) fn operand_value(&self, x: Arg) -> u32
         requires { IsArg x }
         ensures { result ≡ arg self.now x }
     {

@@ -66,7 +66,7 @@ fn copy_image(mem: &mut Mem, image: &Image, ranges: &[Range])
     ensures bytes { HasBytes mem.old → HasBytes mem.new }
 {
     for range in ranges {
-        copy_range(mem, image, range);
+        copy_image_to_range(mem, image, range);
     }
 }
 
@@ -83,7 +83,7 @@ fn link_start_areas(mem: &mut Mem, at: u32, first: u32, n: u32)
 }
 
 /// Copies the image's bytes into a range.
-fn copy_range(mem: &mut Mem, image: &Image, range: &Range)
+fn copy_image_to_range(mem: &mut Mem, image: &Image, range: &Range)
     requires { range.now.at + range.now.len ≤ 2 ^ 32 }
     ensures copied { mem.new ≡ with_image image.now mem.old range.now.at range.now.len }
     ensures bytes { HasBytes mem.old → HasBytes mem.new }

@@ -11,14 +11,14 @@ use tc_isa::Shape;
 impl Machine {
     /// Performs one event as `step` does; `found` is what the bytes at pc do.
     #[tactic(auto, unfolding(crate::specs::Stepping::step))]
-    pub fn step_by(&mut self, event: &Event, found: Result<(Shape, u32), Cause>)
+    pub fn step_predecoded(&mut self, event: &Event, found: Result<(Shape, u32), Cause>)
         requires found { found ≡ fetched_shape
             (decoded_of (mapped_bytes 4 self.old.mem self.old.pc)) }
         requires bounded { IfOk found (λ it. IsShape it.0) }
         ensures { self.new ≡ step self.old event.now }
     {
         match self.end {
-            End::Running => self.perform(event, found),
+            End::Running => self.perform_event(event, found),
             End::Dead(_) => return,
         }
         match self.end {
@@ -35,7 +35,7 @@ impl Machine {
     pub fn step(&mut self, event: &Event)
         ensures { self.new ≡ step self.old event.now }
     {
-        self.step_by(event, self.shape_at_pc());
+        self.step_predecoded(event, self.shape_at_pc());
     }
 
     /// Performs the events, one after another.
@@ -49,7 +49,7 @@ impl Machine {
 
     /// Performs an event of a machine that runs. Its interrupt is taken if interrupts are enabled
     /// and its priority is above the current one; otherwise the instruction at pc is executed.
-    fn perform(&mut self, event: &Event, found: Result<(Shape, u32), Cause>)
+    fn perform_event(&mut self, event: &Event, found: Result<(Shape, u32), Cause>)
         requires found { found ≡ fetched_shape
             (decoded_of (mapped_bytes 4 self.old.mem self.old.pc)) }
         requires bounded { IfOk found (λ it. IsShape it.0) }

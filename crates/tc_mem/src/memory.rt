@@ -9,7 +9,7 @@ ghost use Rattle.tc_mem.specs.Pages.{memory_of, IsMem};
 ghost use Rattle.tc_mem.specs.PlanMemory.{IsMemoryOfZeros};
 ghost use Rattle.tc_mem.specs.Written.{IsMemoryWritten};
 
-use crate::page::{Page, byte};
+use crate::page::{Page, page_byte_at};
 use crate::page_list::{
     pages_of, read_area, read_area_first_word, read_half, read_memory_byte, read_word, write_area,
     write_bytes, write_half, write_memory_byte, write_word,

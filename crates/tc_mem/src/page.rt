@@ -17,7 +17,7 @@ pub(crate) struct Page {
 }
 
 // Returns the byte at an address of the page, or `None` if it isn't mapped.
-pub(crate) fn byte(page: &Page, addr: u32) -> Option<u8>
+pub(crate) fn page_byte_at(page: &Page, addr: u32) -> Option<u8>
     requires { page.now.number ≡ addr / 4096 }
     ensures { result ≡ byte_of addr page.now }
 {
@@ -83,7 +83,7 @@ pub(crate) fn put_page_word(bytes: &mut [u8; 4096], offset: usize, word: u32)
 }
 
 // Returns the 16 words from an offset on if all are mapped. Their 64 bits are one word.
-pub(crate) fn area_in(page: &Page, offset: usize) -> Option<[u32; 16]>
+pub(crate) fn page_area(page: &Page, offset: usize) -> Option<[u32; 16]>
     requires aligned { offset % 64 ≡ 0 }
     requires within { offset < 4096 }
     ensures fits { slice_index page.now.mapped (offset / 64) < 2 ^ 64 }
@@ -121,7 +121,7 @@ pub(crate) fn put_area(page: &mut Page, offset: usize, words: &[u32; 16]) -> boo
 
 // Returns the first word of the 64 bytes from an offset on if all are mapped. Their 64 bits are one
 // word.
-pub(crate) fn first_in(page: &Page, offset: usize) -> Option<u32>
+pub(crate) fn page_area_first_word(page: &Page, offset: usize) -> Option<u32>
     requires aligned { offset % 64 ≡ 0 }
     requires within { offset < 4096 }
     ensures fits { slice_index page.now.mapped (offset / 64) < 2 ^ 64 }
@@ -223,7 +223,7 @@ pub(crate) fn page_zeros() -> [u8; 4096]
 }
 
 // Returns the bits of a page in which nothing is mapped.
-pub(crate) fn no_bits() -> [u64; 64]
+pub(crate) fn unmapped_page_bits() -> [u64; 64]
     ensures size { length result ≡ 64 }
     ensures clear { (k : ℕ) → k < 4096 → is_page_bit_set result k ≡ false }
 {
@@ -238,7 +238,7 @@ pub(crate) fn page_of(number: u32, ranges: &[Range]) -> Page
     ensures zeros { (q : ℕ) → q / 4096 ≡ number
         → byte_of q result ≡ (if is_address_in_ranges ranges.now q then Some 0 else None) }
 {
-    let mut mapped = no_bits();
+    let mut mapped = unmapped_page_bits();
     for range in ranges {
         mark_range(&mut mapped, number, range);
     }
@@ -329,7 +329,7 @@ fn mark_page_between(mapped: &mut [u64; 64], from: usize, to: usize)
         ≡ (is_page_bit_set mapped.old k || (nat_le from k && nat_lt k to)) }
 {
     if to - from == 4096 {
-        *mapped = all_bits();
+        *mapped = mapped_page_bits();
         return;
     }
     let mut offset = from;
@@ -345,7 +345,7 @@ fn mark_page_between(mapped: &mut [u64; 64], from: usize, to: usize)
 }
 
 // Returns the bits of a page that is wholly mapped.
-fn all_bits() -> [u64; 64]
+fn mapped_page_bits() -> [u64; 64]
     ensures size { length result ≡ 64 }
     ensures set { (k : ℕ) → k < 4096 → is_page_bit_set result k ≡ true }
 {

@@ -10,10 +10,10 @@ ghost use Rattle.tc_mem.specs.PlanMemory.{IsMemoryOfZeros};
 ghost use Rattle.tc_mem.specs.Written.{IsMemoryWritten};
 
 use crate::page::{
-    Page, area_in, byte, first_in, mapped_half, mapped_word, page_of, put_area, put_byte,
+    Page, page_area, page_byte_at, page_area_first_word, mapped_half, mapped_word, page_of, put_area, put_byte,
     put_bytes, put_mapped_half, put_mapped_word,
 };
-use crate::page_numbers::{find_near, find_page, page_numbers};
+use crate::page_numbers::{find_page_near, find_page, page_numbers};
 use std::alloc::Global;
 use std::marker::Model;
 use tcd_base::{NoMemory, Range};
@@ -27,7 +27,7 @@ pub(crate) fn read_memory_byte(pages: &[Page], addr: u32, near: usize) -> Option
     let Some(i) = find_page(pages, addr / 4096, near) else {
         return None;
     };
-    byte(&pages[i], addr)
+    page_byte_at(&pages[i], addr)
 }
 
 /// Writes bytes to a whole memory from an address on, as a part of `Mem::set_bytes` that is all in
@@ -153,11 +153,11 @@ pub(crate) fn read_area_first_word(pages: &[Page], addr: u32, near: &mut usize) 
     ensures word { result ≡ area_first_word (memory_of pages.now) addr }
     ensures bytes { HasBytes (memory_of pages.now) }
 {
-    let Some(i) = find_near(pages, addr / 4096, *near) else {
+    let Some(i) = find_page_near(pages, addr / 4096, *near) else {
         return None;
     };
     *near = i;
-    first_in(&pages[i], (addr % 4096) as usize)
+    page_area_first_word(&pages[i], (addr % 4096) as usize)
 }
 
 /// Does the work of `Mem::area` on the memory's list of pages: returns the words of an area that is
@@ -171,7 +171,7 @@ pub(crate) fn read_area(pages: &[Page], addr: u32, near: usize) -> Option<[u32; 
     let Some(i) = find_page(pages, addr / 4096, near) else {
         return None;
     };
-    area_in(&pages[i], (addr % 4096) as usize)
+    page_area(&pages[i], (addr % 4096) as usize)
 }
 
 /// Does the work of `Mem::set_area`: writes an area if it is wholly mapped, and returns whether it

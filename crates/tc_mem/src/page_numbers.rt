@@ -9,7 +9,7 @@ use std::alloc::Global;
 use tcd_base::{NoMemory, Range};
 
 // Returns the place of the page with this number, which is looked for at `near` first.
-pub(crate) fn find_near(pages: &[Page], number: u32, near: usize) -> Option<usize>
+pub(crate) fn find_page_near(pages: &[Page], number: u32, near: usize) -> Option<usize>
     requires { IsStrictlyIncreasing (map number_of pages.now) }
     ensures within { IfSome result (λ i. i < length pages.now) }
     ensures found { IfSome result (λ i. slice_index (map number_of pages.now) i ≡ number) }
@@ -18,7 +18,7 @@ pub(crate) fn find_near(pages: &[Page], number: u32, near: usize) -> Option<usiz
     if near < pages.len() && pages[near].number == number {
         return Some(near);
     }
-    search_page(pages, number)
+    binary_search_page(pages, number)
 }
 
 /// Returns the place of the page with this number. `near` is a hint for pages that are neither in
@@ -29,7 +29,7 @@ pub(crate) fn find_page(pages: &[Page], number: u32, near: usize) -> Option<usiz
     ensures found { IfSome result (λ i. slice_index (map number_of pages.now) i ≡ number) }
     ensures none { IfNone result (All (λ p. number_of p ≢ number) pages.now) }
 {
-    find_near(pages, number, likely_place(pages, number, near))
+    find_page_near(pages, number, likely_page_place(pages, number, near))
 }
 
 // Returns the numbers of the pages in which the ranges have bytes, ascending.
@@ -48,7 +48,7 @@ pub(crate) fn page_numbers(alloc: Global, ranges: &[Range]) -> Result<Vec<u32>, 
 }
 
 // Returns the place of the page with this number, by binary search.
-fn search_page(pages: &[Page], number: u32) -> Option<usize>
+fn binary_search_page(pages: &[Page], number: u32) -> Option<usize>
     requires { IsStrictlyIncreasing (map number_of pages.now) }
     ensures within { IfSome result (λ i. i < length pages.now) }
     ensures found { IfSome result (λ i. slice_index (map number_of pages.now) i ≡ number) }
@@ -73,7 +73,7 @@ fn search_page(pages: &[Page], number: u32) -> Option<usize>
 
 // Returns a place at which the page with this number may be: its distance from the first page, or
 // from the last one if it is there, else `near`. A guess that saves the search.
-fn likely_place(pages: &[Page], number: u32, near: usize) -> usize {
+fn likely_page_place(pages: &[Page], number: u32, near: usize) -> usize {
     let count = pages.len();
     if count == 0 {
         return 0;

@@ -25,7 +25,7 @@ pub(crate) fn read_magic(c: &mut FileCursor<'_>) -> Result<u32, FormErr>
 }
 
 /// Whether the kind of a symbol or of a relocation is in `low..=high`.
-pub(crate) fn is_kind(low: u8, high: u8, kind: u8) -> bool
+pub(crate) fn is_kind_between(low: u8, high: u8, kind: u8) -> bool
     ensures { result ≡ (nat_le low kind && nat_le kind high) }
 {
     low <= kind && kind <= high
@@ -38,7 +38,7 @@ pub(crate) fn read_kind(c: &mut FileCursor<'_>, low: u8, high: u8) -> Result<u8,
 {
     let start = c.place();
     let kind = read_u8(c)?;
-    if is_kind(low, high, kind) {
+    if is_kind_between(low, high, kind) {
         Ok(kind)
     } else {
         Err(form_err_at(BAD_VALUE, start))

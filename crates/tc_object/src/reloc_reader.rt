@@ -6,7 +6,7 @@ ghost use Rattle.tc_object.specs.Faults.{IsFaultOf, reloc_fault};
 ghost use Rattle.tc_object.specs.Objects.{section_size_at, last_reloc, is_behind};
 ghost use Rattle.tc_object.specs.Grammar.{is_reloc_section_ordered, reloc_section_at, reloc_offset_at, reloc_symbol_at, reloc_after};
 
-use crate::fields::{is_kind, read_kind};
+use crate::fields::{is_kind_between, read_kind};
 use crate::section_reader::section_size_at;
 use crate::{ObjErr, Reloc, SectionRef};
 use std::alloc::Global;
@@ -57,7 +57,7 @@ fn read_reloc(
     let Some(bytes) = c.take(RELOC_BYTES) else {
         return read_reloc_fields(c, sections, symbols, before);
     };
-    let reloc = reloc_of(bytes);
+    let reloc = reloc_in_bytes(bytes);
     check_reloc(sections, symbols, before, &reloc, start)?;
     Ok(reloc)
 }
@@ -90,7 +90,7 @@ fn read_reloc_fields(
 }
 
 // The relocation in these 13 bytes.
-fn reloc_of(bytes: &[u8]) -> Reloc
+fn reloc_in_bytes(bytes: &[u8]) -> Reloc
     requires { length bytes.now ≡ 13 }
     ensures { result ≡ record {
       section = half_in_bytes bytes.now 0;
@@ -129,13 +129,13 @@ fn check_reloc(
     if reloc.section as usize >= sections.len() {
         return Err(form_err_at(BAD_VALUE, start));
     }
-    if !is_behind(before, reloc.section, reloc.offset) {
+    if !is_after_last_reloc(before, reloc.section, reloc.offset) {
         return Err(form_err_at(BAD_ORDER, start));
     }
     if reloc.offset as usize + 4 > section_size_at(sections, reloc.section) {
         return Err(form_err_at(BAD_VALUE, start + 2));
     }
-    if !is_kind(FIRST_KIND, LAST_KIND, reloc.kind) {
+    if !is_kind_between(FIRST_KIND, LAST_KIND, reloc.kind) {
         return Err(form_err_at(BAD_VALUE, start + 6));
     }
     if reloc.symbol >= symbols {
@@ -181,7 +181,7 @@ fn read_reloc_offset(
 {
     let start = c.place();
     let offset = read_u32(c)?;
-    if !is_behind(before, section, offset) {
+    if !is_after_last_reloc(before, section, offset) {
         return Err(form_err_at(BAD_ORDER, section_at));
     }
     if offset as usize + 4 > section_size_at(sections, section) {
@@ -214,7 +214,7 @@ fn is_reloc_section_ordered(before: &[Reloc], section: u16) -> bool
 }
 
 // Whether an offset of a section comes after the place of the last relocation.
-fn is_behind(before: &[Reloc], section: u16, offset: u32) -> bool
+fn is_after_last_reloc(before: &[Reloc], section: u16, offset: u32) -> bool
     ensures { result ≡ is_behind (last_reloc before.now) section offset }
 {
     match before.last() {

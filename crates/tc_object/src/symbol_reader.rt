@@ -8,7 +8,7 @@ ghost use Rattle.tc_object.specs.Objects.{is_symbol_section, is_symbol_offset};
 ghost use Rattle.tc_object.specs.Grammar.{symbol_section_at, symbol_offset_at, symbol_named, symbol_with, symbol_after};
 ghost use Rattle.tc_object.specs.Used.{is_used_name};
 
-use crate::fields::{is_kind, read_kind};
+use crate::fields::{is_kind_between, read_kind};
 use crate::section_reader::section_size_at;
 use crate::used_names::{no_used_names, read_new_name};
 use crate::{GLOBAL_SYMBOL, ObjErr, SectionRef, SymbolRef, UNDEFINED_SYMBOL};
@@ -56,13 +56,13 @@ fn read_symbol<'a>(
         ≡ (bytes_eq s.name q || is_used_name names.old q)) }
 {
     let name = read_new_name(c, names)?;
-    let symbol = read_named(c, sections, name)?;
+    let symbol = read_symbol_named(c, sections, name)?;
     Ok(symbol)
 }
 
 /// Reads the kind, section and offset of the symbol of this name from 7 bytes at once, if the file
 /// holds all of them.
-fn read_named<'a>(
+fn read_symbol_named<'a>(
     c: &mut FileCursor<'_>,
     sections: &[SectionRef<'_>],
     name: &'a str,
@@ -72,18 +72,18 @@ fn read_named<'a>(
 {
     let start = c.place();
     let Some(bytes) = c.take(SYMBOL_BYTES) else {
-        return read_named_fields(c, sections, name);
+        return read_symbol_fields(c, sections, name);
     };
-    let symbol = symbol_of(bytes, name);
+    let symbol = symbol_in_bytes(bytes, name);
     check_symbol(sections, &symbol, start)?;
     Ok(symbol)
 }
 
-/// Reads the symbol of this name field by field. `read_named` calls it if the file ends within the
+/// Reads the symbol of this name field by field. `read_symbol_named` calls it if the file ends within the
 /// symbol, so that the fault is at the first field that is cut off.
 #[inline(never)]
 #[tactic(auto, unfolding(crate::specs::Grammar::symbol_named))]
-fn read_named_fields<'a>(
+fn read_symbol_fields<'a>(
     c: &mut FileCursor<'_>,
     sections: &[SectionRef<'_>],
     name: &'a str,
@@ -103,7 +103,7 @@ fn read_named_fields<'a>(
 }
 
 // The symbol of this name whose kind, section and offset are in these 7 bytes.
-fn symbol_of<'a>(bytes: &[u8], name: &'a str) -> SymbolRef<'a>
+fn symbol_in_bytes<'a>(bytes: &[u8], name: &'a str) -> SymbolRef<'a>
     requires { length bytes.now ≡ 7 }
     ensures { result ≡ record {
       name = name.now;
@@ -131,7 +131,7 @@ fn check_symbol(
     ensures { MatchResult result (λ _. symbol_fault sections.now symbol.now start ≡ None)
         (λ e. symbol_fault sections.now symbol.now start ≡ Some e) }
 {
-    if !is_kind(UNDEFINED_SYMBOL, GLOBAL_SYMBOL, symbol.kind) {
+    if !is_kind_between(UNDEFINED_SYMBOL, GLOBAL_SYMBOL, symbol.kind) {
         return Err(form_err_at(BAD_VALUE, start));
     }
     if !is_symbol_section(sections, symbol.kind, symbol.section) {

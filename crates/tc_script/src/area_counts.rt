@@ -33,7 +33,7 @@ pub(crate) enum Effect {
 
 /// Counts the areas in use anew along their chain. If there are none, consecutive areas begin at
 /// the first free one.
-pub(crate) fn count_areas(m: &Machine) -> AreasUsed
+pub(crate) fn count_areas_in_use(m: &Machine) -> AreasUsed
     ensures { IsCounted result m.now }
 {
     let count = m.used().unwrap_or(0);
@@ -46,7 +46,7 @@ pub(crate) fn count_areas(m: &Machine) -> AreasUsed
 
 /// Returns the effect of an event on the areas in use, which is known of more events if they are
 /// consecutive. The machine runs before it and after it.
-pub(crate) fn effect_of_event(
+pub(crate) fn area_effect_of_event(
     m: &Machine,
     event: &Event,
     found: &Result<(Shape, u32), Cause>,
@@ -66,7 +66,7 @@ pub(crate) fn effect_of_event(
         }
         return Effect::Unknown;
     }
-    if is_event_irq_taken(m, event) {
+    if is_event_interrupt_taken(m, event) {
         return area_effect_of_save(m, used);
     }
     match found {
@@ -77,24 +77,24 @@ pub(crate) fn effect_of_event(
 
 /// Updates the script's count of areas in use after an event that has this effect if the machine
 /// still runs. If it is dead, or the effect isn't known, they are counted again.
-pub(crate) fn used_after(m: &Machine, used: &mut AreasUsed, effect: Effect)
+pub(crate) fn update_areas_in_use(m: &Machine, used: &mut AreasUsed, effect: Effect)
     requires { m.now.end ≡ End.Running → AreaEffectHolds effect used.old m.now }
     ensures { IsCounted used.new m.now }
 {
     let End::Running = m.end else {
-        *used = count_areas(m);
+        *used = count_areas_in_use(m);
         return;
     };
     match effect {
         Effect::Stays => {}
         Effect::Saves => used.count += 1,
         Effect::Restores => used.count -= 1,
-        Effect::Unknown => *used = count_areas(m),
+        Effect::Unknown => *used = count_areas_in_use(m),
     }
 }
 
 /// Returns true if the event's interrupt is taken, which saves a context to one more area.
-fn is_event_irq_taken(m: &Machine, event: &Event) -> bool
+fn is_event_interrupt_taken(m: &Machine, event: &Event) -> bool
     ensures { result ≡ is_taken m.now event.now }
 {
     m.ie && m.ccpn < event.irq
@@ -136,7 +136,7 @@ fn area_effect_of_shape(m: &Machine, event: &Event, shape: Shape, used: AreasUse
             after,
             ..
         } => {
-            let addr = m.access(base, offset, after);
+            let addr = m.access_address(base, offset, after);
             area_effect_of_load(m, event, used, addr, size)
         }
         Shape::Store {
@@ -146,8 +146,8 @@ fn area_effect_of_shape(m: &Machine, event: &Event, shape: Shape, used: AreasUse
             after,
             ..
         } => {
-            let addr = m.access(base, offset, after);
-            area_effect_of_trapping_store(m, event, used, addr, size)
+            let addr = m.access_address(base, offset, after);
+            area_effect_of_store_or_trap(m, event, used, addr, size)
         }
         Shape::Compute { .. } => Effect::Stays,
         Shape::Scaled { .. } => Effect::Stays,
@@ -180,7 +180,7 @@ fn area_effect_of_load(m: &Machine, event: &Event, used: AreasUsed, addr: u32, s
 }
 
 /// Returns the effect of a store that may trap.
-fn area_effect_of_trapping_store(
+fn area_effect_of_store_or_trap(
     m: &Machine,
     event: &Event,
     used: AreasUsed,

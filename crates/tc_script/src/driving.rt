@@ -9,7 +9,7 @@ ghost use Rattle.tc_script.specs.Ports.{ArePortsAskable, ArePortsBounded};
 ghost use Rattle.tc_script.specs.DrivenRuns.{IsEventOfTurn, IsDriven};
 ghost use Rattle.tc_machine.specs.Machine.{IsDead};
 
-use crate::area_counts::{count_areas, effect_of_event, used_after};
+use crate::area_counts::{count_areas_in_use, area_effect_of_event, update_areas_in_use};
 use crate::known_words::KnownWords;
 use crate::ports::{Ports, port_input};
 use crate::{Script, Turn};
@@ -39,22 +39,22 @@ pub fn drive<F: Fn(u32, u32) -> u32>(
     requires bounded { ArePortsBounded (F.post ports.now.answer) plan.now.devices }
     ensures { IsDriven plan.now (F.post ports.now.answer) script.now.turns m.old m.new result }
 {
-    let mut areas = count_areas(m);
+    let mut areas = count_areas_in_use(m);
     let mut words = KnownWords::new();
     let mut done = Peak {
         events: 0,
         peak: areas.count,
     };
     for t in 0..script.len() {
-        if !is_machine_drivable(m) {
+        if !is_machine_running(m) {
             return done;
         }
-        let place = words.place_at_pc(m);
+        let place = words.find_or_decode_at_pc(m);
         let found = &words.words[place].found;
         let event = event_of_turn(ports, m, found, script.turn(t), t);
-        let effect = effect_of_event(m, &event, found, areas);
-        m.step_by(&event, *found);
-        used_after(m, &mut areas, effect);
+        let effect = area_effect_of_event(m, &event, found, areas);
+        m.step_predecoded(&event, *found);
+        update_areas_in_use(m, &mut areas, effect);
         done = Peak {
             events: t + 1,
             peak: done.peak.max(areas.count),
@@ -64,7 +64,7 @@ pub fn drive<F: Fn(u32, u32) -> u32>(
 }
 
 /// Returns true if the machine runs, so that the script can drive it on.
-fn is_machine_drivable(m: &Machine) -> bool
+fn is_machine_running(m: &Machine) -> bool
     ensures { MatchBool result (m.now.end ≡ End.Running) (IsDead m.now.end) }
 {
     match m.end {
@@ -87,7 +87,7 @@ fn event_of_turn<F: Fn(u32, u32) -> u32>(
     ensures event { IsEventOfTurn ports.now.devices (F.post ports.now.answer) t turn m.now result }
     ensures word { result.input < 2 ^ 32 }
 {
-    let input = port_input(ports, m.load_by(found), t);
+    let input = port_input(ports, m.next_load_predecoded(found), t);
     Event {
         irq: turn.irq,
         input,

@@ -52,7 +52,7 @@ impl KnownWords {
 
     /// Returns the place of the table that holds what the bytes at pc do. If none does yet, the
     /// bytes are decoded into it.
-    pub(crate) fn place_at_pc(&mut self, m: &Machine) -> usize
+    pub(crate) fn find_or_decode_at_pc(&mut self, m: &Machine) -> usize
         requires { All IsKnownWord self.old.words }
         ensures place { result < 1024 }
         ensures known { All IsKnownWord self.new.words }
@@ -60,20 +60,20 @@ impl KnownWords {
             (mapped_bytes 4 m.now.mem m.now.pc) }
     {
         let Some(word) = m.mem.word(m.pc) else {
-            self.learn(m, 0, None);
+            self.decode_into(m, 0, None);
             return 0;
         };
         let place = known_word_place(word);
         if self.words[place].word == Some(word) {
             return place;
         }
-        self.learn(m, place, Some(word));
+        self.decode_into(m, place, Some(word));
         place
     }
 
     /// Decodes the bytes at pc into a place of the table, for the word that they are, or for none.
     #[inline(never)]
-    fn learn(&mut self, m: &Machine, place: usize, word: Option<u32>)
+    fn decode_into(&mut self, m: &Machine, place: usize, word: Option<u32>)
         requires place { place < 1024 }
         requires known { All IsKnownWord self.old.words }
         requires word { IfSome word (λ w. bytes_of_word w ≡ mapped_bytes 4 m.now.mem m.now.pc) }

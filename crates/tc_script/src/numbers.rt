@@ -25,7 +25,7 @@ fn is_decimal(word: &[u8]) -> bool
     if word.is_empty() {
         return false;
     }
-    if !all_digits(word) {
+    if !are_all_digits(word) {
         return false;
     }
     word.len() == 1 || word[0] != b'0'
@@ -44,7 +44,7 @@ fn script_digits_value(word: &[u8]) -> u64
 }
 
 /// Returns true if all bytes of a script's word are decimal digits.
-fn all_digits(word: &[u8]) -> bool
+fn are_all_digits(word: &[u8]) -> bool
     ensures { result ≡ list_all is_ascii_digit word.now }
 {
     word.iter().all(|c| c.is_ascii_digit())

@@ -21,7 +21,7 @@ pub(crate) struct Draft {
 }
 
 /// Returns each peripheral's bounds before a line of the script states others: its `lo` alone.
-fn script_bounds_of(devices: &[Device]) -> ArrayVec<AnswerRange, 16>
+fn initial_script_bounds(devices: &[Device]) -> ArrayVec<AnswerRange, 16>
     requires { length devices.now ≤ 16 }
     ensures { result.items ≡ map own_bounds devices.now }
 {
@@ -44,7 +44,7 @@ fn is_source(plan: &Plan, irq: u8) -> bool
 
 /// Returns true if a line `in` of a script can be read: the plan has its peripheral, and its bounds
 /// are inside the peripheral's own.
-fn holds_bounds(devices: &[Device], device: usize, lo: u32, hi: u32) -> bool
+fn may_set_bounds(devices: &[Device], device: usize, lo: u32, hi: u32) -> bool
     ensures value { result ≡ holds_bounds (slice_get devices.now device) lo hi }
     ensures there { IsTrue result → device < length devices.now }
 {
@@ -63,7 +63,7 @@ impl Draft {
         Draft {
             script: Script {
                 turns: Vec::new(alloc),
-                bounds: script_bounds_of(plan.devices.as_slice()),
+                bounds: initial_script_bounds(plan.devices.as_slice()),
             },
             aln: false,
         }
@@ -77,14 +77,14 @@ impl Draft {
         ensures devices { length self.new.script.bounds ≡ length self.old.script.bounds }
     {
         match script_statement_in(line) {
-            Some(said) => self.state(plan, number, said),
+            Some(said) => self.apply_statement(plan, number, said),
             None => Err(ScriptErr::BadLine(number)),
         }
     }
 
     /// Applies a statement.
     #[tactic(auto, unfolding(crate::specs::ScriptText::script_after_statement))]
-    fn state(&mut self, plan: &Plan, line: u32, said: Statement) -> Result<(), ScriptErr>
+    fn apply_statement(&mut self, plan: &Plan, line: u32, said: Statement) -> Result<(), ScriptErr>
         requires ordered { HasOrderedBounds said }
         requires devices { length self.old.script.bounds ≡ length plan.now.devices }
         ensures stated { TakesScriptDraft result self.new
@@ -106,7 +106,7 @@ impl Draft {
             }
             Statement::In { device, lo, hi } => {
                 let place = device as usize;
-                if !holds_bounds(plan.devices.as_slice(), place, lo, hi) {
+                if !may_set_bounds(plan.devices.as_slice(), place, lo, hi) {
                     return Err(ScriptErr::OutOfRange(line));
                 }
                 self.set_bounds(place, lo, hi);

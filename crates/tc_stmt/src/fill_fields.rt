@@ -11,7 +11,7 @@ ghost use Rattle.tc_stmt.specs.OperandForms.{register_by_name, operand_number_mo
 
 use crate::form_index::{ABS, B, BOL, SBR, form_index};
 use crate::row_fields::{
-    NO_RELOC, RowFields, break_rule, field_of, note_misplaced_symbol, put_field_value, with_symbol,
+    NO_RELOC, RowFields, break_rule, field_of, note_misplaced_symbol, put_field_value, note_symbol,
 };
 use crate::row_wants::wants;
 use crate::shape_numbers::{ABSENT, HIGH, HUGE, LOW, NUMBER, SUM, WORD, shape_index};
@@ -55,7 +55,7 @@ pub(crate) fn fill<'a>(row: &Row, want: Want, o: &Operand<'a>, acc: &mut RowFiel
     match want {
         Want::Reg(bank, field) => fill_register(bank, field, &o.value, acc),
         Want::A10 => fill_a10(&o.value, acc),
-        Want::Number(signed, field) => fill_value(row, signed, field, &o.value, acc),
+        Want::Number(signed, field) => fill_constant(row, signed, field, &o.value, acc),
         Want::Target => fill_target(row, &o.value, acc),
         Want::Absolute => fill_absolute(row, &o.value, acc),
         Want::Memory(_, _) => false,
@@ -63,7 +63,7 @@ pub(crate) fn fill<'a>(row: &Row, want: Want, o: &Operand<'a>, acc: &mut RowFiel
 }
 
 // Fills the fields of all operands. Returns false if their forms aren't those that the row wants.
-pub(crate) fn fill_all<'a>(
+pub(crate) fn fill_operands<'a>(
     row: &Row,
     wants: &[Want],
     os: &[Operand<'a>],
@@ -187,7 +187,7 @@ fn fill_memory<'a>(
             true
         } else if offset {
             put_register(true, Field::S2, o.base, acc);
-            fill_value(row, true, Field::K, &o.value, acc)
+            fill_constant(row, true, Field::K, &o.value, acc)
         } else {
             false
         }
@@ -230,7 +230,7 @@ fn fill_a10(v: &Value<'_>, acc: &mut RowFields<'_>) -> bool
 /// Fills a field with an operand's value as a constant, or breaks a rule. Returns false if the
 /// operand has another form.
 #[tactic(auto, unfolding(crate::specs::Filling::fill_value))]
-fn fill_value<'a>(
+fn fill_constant<'a>(
     row: &Row,
     signed: bool,
     field: Field,
@@ -255,7 +255,7 @@ fn fill_value<'a>(
         if kind == NO_RELOC {
             note_misplaced_symbol(v, acc);
         } else {
-            with_symbol(kind, v, acc);
+            note_symbol(kind, v, acc);
         }
         true
     } else {
@@ -279,7 +279,7 @@ fn fill_target<'a>(row: &Row, v: &Value<'a>, acc: &mut RowFields<'a>) -> bool
         }
         true
     } else if shape == WORD || shape == SUM {
-        with_symbol(target_operand_relocation(row), v, acc);
+        note_symbol(target_operand_relocation(row), v, acc);
         true
     } else if shape == HIGH || shape == LOW {
         note_misplaced_symbol(v, acc);
@@ -307,7 +307,7 @@ fn fill_absolute<'a>(row: &Row, v: &Value<'a>, acc: &mut RowFields<'a>) -> bool
         if form_index(row.form) == ABS {
             note_misplaced_symbol(v, acc);
         } else {
-            with_symbol(ABS24, v, acc);
+            note_symbol(ABS24, v, acc);
         }
         true
     } else if shape == HIGH || shape == LOW {

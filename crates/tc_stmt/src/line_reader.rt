@@ -19,7 +19,7 @@ use crate::source_rules::{BAD_TOKEN, NO_RULE, WRONG_OPERANDS};
 use crate::{RowFields, shape_index, statement};
 use std::alloc::AllocError;
 use tc_lex::{
-    Operand, Piece, Scratch, TokenKind, cut_pieces, is_kind, is_same_text, operands, text_at,
+    Operand, Piece, Scratch, TokenKind, cut_pieces, is_token_kind, is_same_text, operands, token_text,
 };
 
 /// Reads a line: adds its items, and returns the least rule that it breaks by itself. The two lists
@@ -43,7 +43,7 @@ pub(crate) fn read_line<'a>(
         });
     }
     let before = items.len();
-    let rule = line_rule(line, pieces, operands, items)?;
+    let rule = read_line_items(line, pieces, operands, items)?;
     let count = (items.len() - before) as u8;
     Ok(Line { rule, count })
 }
@@ -51,7 +51,7 @@ pub(crate) fn read_line<'a>(
 // Adds the items of a line, and returns the least rule that the line breaks by itself.
 #[inline(never)]
 #[tactic(auto, using(crate::proofs::PieceLines::line_pieces, crate::proofs::PieceLines::line_unread))]
-fn line_rule<'a>(
+fn read_line_items<'a>(
     line: &'a [u8],
     pieces: &mut Scratch<Piece<'a>, 64>,
     operands: &mut Scratch<Operand<'a>, 65>,
@@ -60,14 +60,14 @@ fn line_rule<'a>(
     ensures { Adds (line_in line.now) result items.old.items items.new.items }
 {
     match cut_pieces(line, pieces) {
-        Ok(()) => pieces_line(pieces.as_slice(), operands, items),
+        Ok(()) => tokens_line(pieces.as_slice(), operands, items),
         Err(at) => uncut_line(&line[..at], pieces, items),
     }
 }
 
 /// Reads a line from its tokens: a label, if there is one, and what follows.
 #[tactic(auto, unfolding(crate::specs::Lines::pieces_line))]
-fn pieces_line<'a>(
+fn tokens_line<'a>(
     ps: &[Piece<'a>],
     operands: &mut Scratch<Operand<'a>, 65>,
     items: &mut Vec<Item<'a>>,
@@ -94,7 +94,7 @@ fn uncut_line<'a>(
 {
     match cut_pieces(front, pieces) {
         Ok(()) => label_line(pieces.as_slice(), items),
-        Err(_) => add_nothing(BAD_TOKEN, items),
+        Err(_) => add_no_item(BAD_TOKEN, items),
     }
 }
 
@@ -103,7 +103,7 @@ fn has_label(ps: &[Piece]) -> bool
     ensures value { result ≡ has_label (map piece_of ps.now) }
     ensures long { result ≡ true → 2 ≤ length ps.now }
 {
-    is_kind(ps, 0, TokenKind::Word) && is_kind(ps, 1, TokenKind::Colon)
+    is_token_kind(ps, 0, TokenKind::Word) && is_token_kind(ps, 1, TokenKind::Colon)
 }
 
 // Reads a line that begins with a label.
@@ -118,7 +118,7 @@ fn labelled_line<'a>(
         (line_from (map piece_of ps.now) 2))
         result items.old.items items.new.items }
 {
-    add_label(text_at(ps, 0), items)?;
+    add_label(token_text(ps, 0), items)?;
     line_from(ps, 2, operands, items)
 }
 
@@ -135,11 +135,11 @@ fn line_from<'a>(
     ensures { Adds (line_from (map piece_of ps.now) at) result items.old.items items.new.items }
 {
     if ps.len() == at {
-        add_nothing(NO_RULE, items)
-    } else if is_kind(ps, at, TokenKind::Word) {
+        add_no_item(NO_RULE, items)
+    } else if is_token_kind(ps, at, TokenKind::Word) {
         statement_at(ps, at, operands, items)
     } else {
-        add_nothing(BAD_TOKEN, items)
+        add_no_item(BAD_TOKEN, items)
     }
 }
 
@@ -153,7 +153,7 @@ fn add_label<'a>(name: &'a [u8], items: &mut Vec<Item<'a>>) -> Result<(), AllocE
 }
 
 // Adds no item, and returns the rule.
-fn add_nothing(rule: u8, items: &mut Vec<Item<'_>>) -> Result<u8, AllocError>
+fn add_no_item(rule: u8, items: &mut Vec<Item<'_>>) -> Result<u8, AllocError>
     ensures { Adds (line_data rule []) result items.old.items items.new.items }
 {
     Ok(rule)
@@ -172,22 +172,22 @@ fn statement_at<'a>(
         (operands_in (drop (at + 1) (map piece_of ps.now))))
         result items.old.items items.new.items }
 {
-    operands_behind(ps, at, operands);
-    stated_line(text_at(ps, at), operands.as_slice(), items)
+    operands_after_name(ps, at, operands);
+    statement_line(token_text(ps, at), operands.as_slice(), items)
 }
 
 /// Reads the operands of a line, which are after the statement's name at token `at`.
-fn operands_behind<'a>(ps: &[Piece<'a>], at: usize, out: &mut Scratch<Operand<'a>, 65>)
+fn operands_after_name<'a>(ps: &[Piece<'a>], at: usize, out: &mut Scratch<Operand<'a>, 65>)
     requires few { length ps.now ≤ 64 }
     requires place { at < length ps.now }
     ensures { map operand_of out.new.items ≡ operands_in (drop (at + 1) (map piece_of ps.now)) }
 {
-    operands(pieces_behind(ps, at), out)
+    operands(tokens_after_name(ps, at), out)
 }
 
 /// Reads the line of a statement: a directive or an instruction.
 #[tactic(auto, unfolding(crate::specs::Lines::stated_line))]
-fn stated_line<'a>(
+fn statement_line<'a>(
     name: &[u8],
     os: &[Operand<'a>],
     items: &mut Vec<Item<'a>>,
@@ -213,7 +213,7 @@ fn stated_line<'a>(
 }
 
 /// The tokens of a line after token `at`, which is the statement's name.
-fn pieces_behind<'p, 'a>(ps: &'p [Piece<'a>], at: usize) -> &'p [Piece<'a>]
+fn tokens_after_name<'p, 'a>(ps: &'p [Piece<'a>], at: usize) -> &'p [Piece<'a>]
     requires { at < length ps.now }
     ensures { result.now ≡ drop (at + 1) ps.now }
 {
@@ -227,7 +227,7 @@ fn section_line<'a>(os: &[Operand<'a>], items: &mut Vec<Item<'a>>) -> Result<u8,
         (map operand_of os.now)) result items.old.items items.new.items }
 {
     match only_operand_name(os) {
-        None => add_nothing(WRONG_OPERANDS, items),
+        None => add_no_item(WRONG_OPERANDS, items),
         Some(name) => add_item(NO_RULE, Item::Section(name), items),
     }
 }
@@ -239,7 +239,7 @@ fn global_line<'a>(os: &[Operand<'a>], items: &mut Vec<Item<'a>>) -> Result<u8, 
         (map operand_of os.now)) result items.old.items items.new.items }
 {
     match only_operand_name(os) {
-        None => add_nothing(WRONG_OPERANDS, items),
+        None => add_no_item(WRONG_OPERANDS, items),
         Some(name) => add_item(NO_RULE, Item::Global(name), items),
     }
 }
@@ -358,16 +358,16 @@ fn label_line<'a>(ps: &[Piece<'a>], items: &mut Vec<Item<'a>>) -> Result<u8, All
     ensures { Adds (line_data 1
         (label_of (map piece_of ps.now))) result items.old.items items.new.items }
 {
-    let name = text_at(ps, 0);
+    let name = token_text(ps, 0);
     if has_label(ps) {
-        broken_label(name, items)
+        add_label_of_bad_line(name, items)
     } else {
-        add_nothing(BAD_TOKEN, items)
+        add_no_item(BAD_TOKEN, items)
     }
 }
 
 // Adds the label of a line that breaks rule 1.
-fn broken_label<'a>(name: &'a [u8], items: &mut Vec<Item<'a>>) -> Result<u8, AllocError>
+fn add_label_of_bad_line<'a>(name: &'a [u8], items: &mut Vec<Item<'a>>) -> Result<u8, AllocError>
     ensures { Adds (line_data 1
         (label name.entry.now ∷ [])) result items.old.items items.new.items }
 {

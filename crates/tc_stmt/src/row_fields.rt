@@ -117,7 +117,7 @@ pub(crate) fn put_field_value(field: Field, v: u32, acc: &mut RowFields<'_>)
 /// Notes among a row's fields the symbol of an operand, in a place that takes one, or the rule that
 /// the symbol breaks.
 #[tactic(auto, unfolding(crate::specs::Filling::with_symbol))]
-pub(crate) fn with_symbol<'a>(kind: u8, v: &Value<'a>, acc: &mut RowFields<'a>)
+pub(crate) fn note_symbol<'a>(kind: u8, v: &Value<'a>, acc: &mut RowFields<'a>)
     ensures { row_fields_of acc.new
         ≡ with_symbol kind (value_of v.now) (row_fields_of acc.old) }
 {

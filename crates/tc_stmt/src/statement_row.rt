@@ -9,7 +9,7 @@ ghost use Rattle.tc_stmt.specs.Filling.{Fills, fill_all, check_registers_apart, 
 ghost use Rattle.tc_stmt.specs.StatementRow.{start_tally, after_row, statement_outcome, JudgesRow, JudgesStatement, statement, tally_rule};
 ghost use Rattle.tc_stmt.specs.RowIndex.{are_first_rows, are_next_rows};
 
-use crate::fill_fields::fill_all;
+use crate::fill_fields::fill_operands;
 use crate::row_fields::{RowFields, check_registers_apart, no_fields};
 use crate::row_index::{first_row, first_rows, next_row, next_rows};
 use crate::row_wants::wants;
@@ -24,12 +24,12 @@ use tc_lex::{Operand, are_same_bytes};
 pub fn statement<'a>(name: &[u8], os: &[Operand<'a>]) -> Result<(u8, RowFields<'a>), u8>
     ensures { JudgesStatement result (statement name.now (map operand_of os.now)) }
 {
-    judge_statement(rows(), wants(), first_rows(), next_rows(), name, os)
+    search_statement_row(rows(), wants(), first_rows(), next_rows(), name, os)
 }
 
 /// The row of a statement with its fields, or the least rule that the statement breaks. The search
 /// visits only rows with the key of the name.
-fn judge_statement<'a>(
+fn search_statement_row<'a>(
     rows: &[Row],
     wants: &[&[Want]],
     first: &[u8],
@@ -128,7 +128,7 @@ fn fill_statement_row<'a>(
         (fields_of_row (row_of row.now) wants.now (map operand_of os.now)) }
 {
     *found = no_fields();
-    if !fill_all(row, wants, os, found) {
+    if !fill_operands(row, wants, os, found) {
         return false;
     }
     check_registers_apart(row, found);

@@ -3,9 +3,9 @@ use crate::lines::{bad_cells_line, bad_tasks_line};
 use std::alloc::Global;
 use task_chains::Tasks;
 use tcd_base::NoMemory;
-use tcd_forms::{LIMIT, copy_printed_line, long_cells_line, long_tasks_line};
+use tcd_forms::{LIMIT, copy_printed_line, too_long_cells_line, too_long_tasks_line};
 use tcd_plan::Plan;
-use tcd_reading::{Form, Stop, bad_input};
+use tcd_reading::{Form, Stop, bad_input_stop};
 use value_cells::Cells;
 
 /// A file of cells for a plan.
@@ -30,13 +30,13 @@ impl<'a> Form for CellsFile<'a> {
     }
 
     fn too_long_line(&self, alloc: Global) -> Result<Vec<u8>, NoMemory> {
-        copy_printed_line(alloc, long_cells_line())
+        copy_printed_line(alloc, too_long_cells_line())
     }
 
     fn value(&self, alloc: Global, bytes: Vec<u8>) -> Result<Cells, Stop> {
         match Cells::read(&bytes, self.plan) {
             Ok(cells) => Ok(cells),
-            Err(e) => Err(bad_input(bad_cells_line(alloc, e))),
+            Err(e) => Err(bad_input_stop(bad_cells_line(alloc, e))),
         }
     }
 }
@@ -63,13 +63,13 @@ impl<'a> Form for TasksFile<'a> {
     }
 
     fn too_long_line(&self, alloc: Global) -> Result<Vec<u8>, NoMemory> {
-        copy_printed_line(alloc, long_tasks_line())
+        copy_printed_line(alloc, too_long_tasks_line())
     }
 
     fn value(&self, alloc: Global, bytes: Vec<u8>) -> Result<Tasks, Stop> {
         match Tasks::read(&bytes, self.plan) {
             Ok(tasks) => Ok(tasks),
-            Err(e) => Err(bad_input(bad_tasks_line(alloc, e))),
+            Err(e) => Err(bad_input_stop(bad_tasks_line(alloc, e))),
         }
     }
 }

@@ -49,7 +49,7 @@ pub(crate) fn make_best_cert(
 }
 
 /// The report that no certificate is made: the rule, with its place.
-pub(crate) fn report_unmade(alloc: Global, e: MakeErr) -> Outcome
+pub(crate) fn report_no_cert(alloc: Global, e: MakeErr) -> Outcome
     ensures { IsToldOutcome (IsUnmadeReport e) ⊥ result }
 {
     match e {

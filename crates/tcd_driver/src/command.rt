@@ -7,18 +7,18 @@ ghost use Rattle.tcd_driver.specs.Gen.{gen_function_count};
 ghost use Rattle.tcd_reading.specs.Outcomes.{IsCommandOutcome};
 
 use crate::commands::asm::assemble_file;
-use crate::commands::boot::boot_files;
-use crate::commands::bootgen::generate_boot;
+use crate::commands::boot::check_boot_files;
+use crate::commands::bootgen::generate_boot_source;
 use crate::commands::cellcert::certify_cells;
 use crate::commands::cells::check_cells;
-use crate::commands::cert::certify_files;
+use crate::commands::cert::certify_executable;
 use crate::commands::cfg::draw_files;
 use crate::commands::check::check_files;
-use crate::commands::dis::list_file;
+use crate::commands::dis::disassemble_file;
 use crate::commands::generating::certify_generated_image;
 use crate::commands::link::link_files;
-use crate::commands::report::report_files;
-use crate::commands::run::run_files;
+use crate::commands::report::report_on_cert;
+use crate::commands::run::run_script_file;
 use crate::commands::ship::{Shipment, ship_files};
 use crate::commands::taskcert::certify_tasks;
 use crate::commands::tasks::check_tasks;
@@ -125,7 +125,7 @@ pub(crate) enum Command<'a> {
 }
 
 /// The command that arguments ask for. No memory is allocated.
-pub(crate) fn asked_command(words: &[String]) -> Option<Command<'_>>
+pub(crate) fn parse_command(words: &[String]) -> Option<Command<'_>>
     ensures is { option_map command_of_value result ≡ command (map string_bytes words.now) }
     ensures limits { IfSome result CommandKeepsLimits }
 {
@@ -135,7 +135,7 @@ pub(crate) fn asked_command(words: &[String]) -> Option<Command<'_>>
             Some(command) => Some(command),
             None => match tasks_command(words) {
                 Some(command) => Some(command),
-                None => fixed_command(words),
+                None => fixed_arity_command(words),
             },
         },
     }
@@ -206,23 +206,23 @@ fn tasks_command(words: &[String]) -> Option<Command<'_>>
 }
 
 // A command with a fixed number of arguments.
-fn fixed_command(words: &[String]) -> Option<Command<'_>>
+fn fixed_arity_command(words: &[String]) -> Option<Command<'_>>
     ensures is { option_map command_of_value result
         ≡ fixed_command_of (map string_bytes words.now) }
     ensures limits { IfSome result CommandKeepsLimits }
 {
     match words {
-        [verb, first] => one_word_command(verb.as_str(), first.as_str()),
-        [verb, first, second] => two_word_command(verb.as_str(), first.as_str(), second.as_str()),
+        [verb, first] => command_of_one(verb.as_str(), first.as_str()),
+        [verb, first, second] => command_of_two(verb.as_str(), first.as_str(), second.as_str()),
         [verb, first, second, third] => {
-            three_word_command(
+            command_of_three(
                 verb.as_str(),
                 first.as_str(),
                 second.as_str(),
                 third.as_str(),
             )
         }
-        [verb, first, second, third, fourth] => four_word_command(
+        [verb, first, second, third, fourth] => command_of_four(
             verb.as_str(),
             first.as_str(),
             second.as_str(),
@@ -267,7 +267,7 @@ fn is_taskcert(verb: &str, certs: &[String]) -> bool
 }
 
 // A command with one argument after its verb.
-fn one_word_command<'a>(verb: &str, word: &'a str) -> Option<Command<'a>>
+fn command_of_one<'a>(verb: &str, word: &'a str) -> Option<Command<'a>>
     ensures is { option_map command_of_value result ≡ one_word_command verb.now word.now }
     ensures limits { IfSome result CommandKeepsLimits }
 {
@@ -281,7 +281,7 @@ fn one_word_command<'a>(verb: &str, word: &'a str) -> Option<Command<'a>>
 }
 
 // A command with two arguments after its verb.
-fn two_word_command<'a>(verb: &str, first: &'a str, second: &'a str) -> Option<Command<'a>>
+fn command_of_two<'a>(verb: &str, first: &'a str, second: &'a str) -> Option<Command<'a>>
     ensures is { option_map command_of_value result
         ≡ two_word_command verb.now first.now second.now }
     ensures limits { IfSome result CommandKeepsLimits }
@@ -302,7 +302,7 @@ fn two_word_command<'a>(verb: &str, first: &'a str, second: &'a str) -> Option<C
 }
 
 // A command with three arguments after its verb.
-fn three_word_command<'a>(
+fn command_of_three<'a>(
     verb: &str,
     elf: &'a str,
     plan: &'a str,
@@ -342,7 +342,7 @@ fn three_word_command<'a>(
 }
 
 // A command with four arguments after its verb.
-fn four_word_command<'a>(
+fn command_of_four<'a>(
     verb: &str,
     first: &'a str,
     second: &'a str,
@@ -444,11 +444,11 @@ impl<'a> Command<'a> {
     {
         match self {
             Command::Check { elf, plan, cert } => check_files(alloc, elf, plan, cert, files),
-            Command::Cert { elf, plan, cert } => certify_files(alloc, elf, plan, cert, files),
+            Command::Cert { elf, plan, cert } => certify_executable(alloc, elf, plan, cert, files),
             Command::Cfg { elf, plan } => draw_files(alloc, elf, plan, files),
-            Command::Report { elf, plan, cert } => report_files(alloc, elf, plan, cert, files),
-            Command::Run { elf, plan, script } => run_files(alloc, elf, plan, script, files),
-            Command::Dis { elf } => list_file(alloc, elf, files),
+            Command::Report { elf, plan, cert } => report_on_cert(alloc, elf, plan, cert, files),
+            Command::Run { elf, plan, script } => run_script_file(alloc, elf, plan, script, files),
+            Command::Dis { elf } => disassemble_file(alloc, elf, files),
             Command::Asm { source, object } => assemble_file(alloc, source, object, files),
             Command::Link {
                 layout,
@@ -461,13 +461,13 @@ impl<'a> Command<'a> {
                 plan,
                 cert,
                 at,
-            } => boot_files(alloc, elf, plan, cert, at, files),
+            } => check_boot_files(alloc, elf, plan, cert, at, files),
             Command::Bootgen {
                 plan,
                 entry,
                 at,
                 source,
-            } => generate_boot(alloc, plan, entry, at, source, files),
+            } => generate_boot_source(alloc, plan, entry, at, source, files),
             Command::Cells {
                 elf,
                 plan,

@@ -4,7 +4,7 @@ ghost use Rattle.tcd_driver.specs.Commands.{command, reading_of};
 ghost use Rattle.tcd_driver.specs.Tool.{EndsWithBadWords, ToolSays};
 ghost use Rattle.tcd_reading.specs.Endings.{Ends};
 
-use crate::command::asked_command;
+use crate::command::parse_command;
 use crate::lines::bad_words_line;
 use std::alloc::Global;
 use tcd_base::{Files, Sink};
@@ -55,7 +55,7 @@ pub fn tool<F: Files, S: Sink>(
       status = result;
     }) }
 {
-    match asked_command(words) {
+    match parse_command(words) {
         Some(command) => {
             let outcome = command.outcome(alloc, files);
             finish_outcome(alloc, outcome, files, out)

@@ -31,7 +31,7 @@ pub fn copy_printed_line(alloc: Global, text: &[u8]) -> Result<Vec<u8>, NoMemory
 
 /// The line for an executable above its limit.
 #[tactic(auto, unfolding(crate::specs::Lines::long_elf_line))]
-pub fn long_elf_line() -> &'static [u8]
+pub fn too_long_elf_line() -> &'static [u8]
     ensures { result.now ≡ long_elf_line }
 {
     b"bad elf 0\n"
@@ -39,7 +39,7 @@ pub fn long_elf_line() -> &'static [u8]
 
 /// The line for a plan above its limit.
 #[tactic(auto, unfolding(crate::specs::Lines::long_plan_line))]
-pub fn long_plan_line() -> &'static [u8]
+pub fn too_long_plan_line() -> &'static [u8]
     ensures { result.now ≡ long_plan_line }
 {
     b"bad plan 0\n"
@@ -47,7 +47,7 @@ pub fn long_plan_line() -> &'static [u8]
 
 /// The line for a certificate above its limit.
 #[tactic(auto, unfolding(crate::specs::Lines::long_cert_line))]
-pub fn long_cert_line() -> &'static [u8]
+pub fn too_long_cert_line() -> &'static [u8]
     ensures { result.now ≡ long_cert_line }
 {
     b"bad cert 0\n"
@@ -55,7 +55,7 @@ pub fn long_cert_line() -> &'static [u8]
 
 /// The line for a turn script above its limit.
 #[tactic(auto, unfolding(crate::specs::Lines::long_script_line))]
-pub fn long_script_line() -> &'static [u8]
+pub fn too_long_script_line() -> &'static [u8]
     ensures { result.now ≡ long_script_line }
 {
     b"bad script 0\n"
@@ -63,7 +63,7 @@ pub fn long_script_line() -> &'static [u8]
 
 /// The line for a layout above its limit.
 #[tactic(auto, unfolding(crate::specs::Lines::long_layout_line))]
-pub fn long_layout_line() -> &'static [u8]
+pub fn too_long_layout_line() -> &'static [u8]
     ensures { result.now ≡ long_layout_line }
 {
     b"bad layout 0\n"
@@ -71,7 +71,7 @@ pub fn long_layout_line() -> &'static [u8]
 
 /// The line for a file of cells above its limit.
 #[tactic(auto, unfolding(crate::specs::Lines::long_cells_line))]
-pub fn long_cells_line() -> &'static [u8]
+pub fn too_long_cells_line() -> &'static [u8]
     ensures { result.now ≡ long_cells_line }
 {
     b"bad cells 0\n"
@@ -79,7 +79,7 @@ pub fn long_cells_line() -> &'static [u8]
 
 /// The line for a file of tasks above its limit.
 #[tactic(auto, unfolding(crate::specs::Lines::long_tasks_line))]
-pub fn long_tasks_line() -> &'static [u8]
+pub fn too_long_tasks_line() -> &'static [u8]
     ensures { result.now ≡ long_tasks_line }
 {
     b"bad tasks 0\n"
@@ -112,10 +112,10 @@ pub fn bad_plan_line(alloc: Global, e: PlanErr) -> Result<Vec<u8>, NoMemory>
 {
     match e {
         PlanErr::NotJson => copy_printed_line(alloc, b"bad plan 1\n"),
-        PlanErr::Missing(key) => plan_key_line(alloc, "bad plan 2", key),
-        PlanErr::Unknown(key) => plan_key_line(alloc, "bad plan 3", key),
-        PlanErr::BadValue(key) => plan_key_line(alloc, "bad plan 4", key),
-        PlanErr::TooMany(key) => plan_key_line(alloc, "bad plan 5", key),
+        PlanErr::Missing(key) => bad_plan_key_line(alloc, "bad plan 2", key),
+        PlanErr::Unknown(key) => bad_plan_key_line(alloc, "bad plan 3", key),
+        PlanErr::BadValue(key) => bad_plan_key_line(alloc, "bad plan 4", key),
+        PlanErr::TooMany(key) => bad_plan_key_line(alloc, "bad plan 5", key),
         PlanErr::BadCsa => copy_printed_line(alloc, b"bad plan 6\n"),
         PlanErr::BadVector => copy_printed_line(alloc, b"bad plan 7\n"),
         PlanErr::Overlap(i, j) => Ok(format!(in alloc; "bad plan 8 at {i} {j}\n")?.into_bytes()),
@@ -174,7 +174,7 @@ pub fn bad_layout_line(alloc: Global, e: LayoutErr) -> Result<Vec<u8>, NoMemory>
 
 /// The line for the source at this place, if it is above its limit.
 #[tactic(auto, unfolding(crate::specs::Lines::long_source_line, crate::specs::Lines::line_end_at_one))]
-pub fn long_source_line(alloc: Global, place: u32) -> Result<Vec<u8>, NoMemory>
+pub fn too_long_source_line(alloc: Global, place: u32) -> Result<Vec<u8>, NoMemory>
     ensures { IfOk result (λ line. line.items ≡ long_source_line place) }
 {
     Ok(format!(in alloc; "bad source 0 at {place}\n")?.into_bytes())
@@ -182,7 +182,7 @@ pub fn long_source_line(alloc: Global, place: u32) -> Result<Vec<u8>, NoMemory>
 
 /// The line for the object at this place, if it is above its limit.
 #[tactic(auto, unfolding(crate::specs::Lines::long_object_line, crate::specs::Lines::line_end_at_one))]
-pub fn long_object_line(alloc: Global, place: u32) -> Result<Vec<u8>, NoMemory>
+pub fn too_long_object_line(alloc: Global, place: u32) -> Result<Vec<u8>, NoMemory>
     ensures { IfOk result (λ line. line.items ≡ long_object_line place) }
 {
     Ok(format!(in alloc; "bad object 0 at {place}\n")?.into_bytes())
@@ -215,7 +215,7 @@ pub fn bad_link_line(alloc: Global, e: LinkErr) -> Result<Vec<u8>, NoMemory>
             offset,
             err,
         } => {
-            let fault = printed_reloc_fault(err);
+            let fault = reloc_fault_number(err);
             Ok(format!(in alloc;
                 "bad link 5 at {object} {section} {offset} {fault}\n"
             )?.into_bytes())
@@ -227,7 +227,7 @@ pub fn bad_link_line(alloc: Global, e: LinkErr) -> Result<Vec<u8>, NoMemory>
 
 // The line of a rejection that names a key of the plan.
 #[tactic(auto, unfolding(crate::specs::Lines::line_end_at_key))]
-fn plan_key_line(alloc: Global, front: &str, key: PlanKey) -> Result<Vec<u8>, NoMemory>
+fn bad_plan_key_line(alloc: Global, front: &str, key: PlanKey) -> Result<Vec<u8>, NoMemory>
     requires { key.0 < length key_texts }
     ensures { IfOk result (λ line. line.items ≡ front.now ++ line_end_at_key key) }
 {
@@ -245,7 +245,7 @@ fn bad_link_name_line(alloc: Global, front: &str, name: &str) -> Result<Vec<u8>,
 
 /// The number that the line of a link prints for why a field can't be filled.
 #[tactic(auto, unfolding(crate::specs::Lines::printed_reloc_fault))]
-fn printed_reloc_fault(err: RelocErr) -> u8
+fn reloc_fault_number(err: RelocErr) -> u8
     ensures { result ≡ printed_reloc_fault err }
 {
     match err {

@@ -1,8 +1,8 @@
 // The forms of input files, from executables to objects.
 use crate::error_lines::{
     bad_cert_line, bad_elf_line, bad_layout_line, bad_object_line, bad_plan_line, bad_script_line,
-    bad_source_line, copy_printed_line, long_cert_line, long_elf_line, long_layout_line,
-    long_object_line, long_plan_line, long_script_line, long_source_line,
+    bad_source_line, copy_printed_line, too_long_cert_line, too_long_elf_line, too_long_layout_line,
+    too_long_object_line, too_long_plan_line, too_long_script_line, too_long_source_line,
 };
 use bumpalo::Bump;
 use depth_cert::CertErr;
@@ -16,7 +16,7 @@ use tc_object::{ObjErr, Object, ObjectRef};
 use tc_script::Script;
 use tcd_base::NoMemory;
 use tcd_plan::Plan;
-use tcd_reading::{Form, Stop, bad_input};
+use tcd_reading::{Form, Stop, bad_input_stop};
 
 /// The most bytes of a file other than a certificate.
 pub const LIMIT: u32 = 16_777_216;
@@ -42,13 +42,13 @@ impl Form for ElfFile {
     }
 
     fn too_long_line(&self, alloc: Global) -> Result<Vec<u8>, NoMemory> {
-        copy_printed_line(alloc, long_elf_line())
+        copy_printed_line(alloc, too_long_elf_line())
     }
 
     fn value(&self, alloc: Global, bytes: Vec<u8>) -> Result<Image, Stop> {
         match Image::read(alloc, &bytes) {
             Ok(image) => Ok(image),
-            Err(e) => Err(bad_input(bad_elf_line(alloc, e))),
+            Err(e) => Err(bad_input_stop(bad_elf_line(alloc, e))),
         }
     }
 }
@@ -71,13 +71,13 @@ impl Form for PlanFile {
     }
 
     fn too_long_line(&self, alloc: Global) -> Result<Vec<u8>, NoMemory> {
-        copy_printed_line(alloc, long_plan_line())
+        copy_printed_line(alloc, too_long_plan_line())
     }
 
     fn value(&self, alloc: Global, bytes: Vec<u8>) -> Result<Plan, Stop> {
         match Plan::read(alloc, &bytes) {
             Ok(plan) => Ok(plan),
-            Err(e) => Err(bad_input(bad_plan_line(alloc, e))),
+            Err(e) => Err(bad_input_stop(bad_plan_line(alloc, e))),
         }
     }
 }
@@ -100,13 +100,13 @@ impl Form for CertFile {
     }
 
     fn too_long_line(&self, alloc: Global) -> Result<Vec<u8>, NoMemory> {
-        copy_printed_line(alloc, long_cert_line())
+        copy_printed_line(alloc, too_long_cert_line())
     }
 
     fn value(&self, alloc: Global, bytes: Vec<u8>) -> Result<Cert, Stop> {
         match Cert::read(alloc, bytes) {
             Ok(cert) => Ok(cert),
-            Err(CertErr::Bad(e)) => Err(bad_input(bad_cert_line(alloc, e))),
+            Err(CertErr::Bad(e)) => Err(bad_input_stop(bad_cert_line(alloc, e))),
             Err(CertErr::NoMemory) => Err(Stop::NoMemory),
         }
     }
@@ -134,13 +134,13 @@ impl<'a> Form for ScriptFile<'a> {
     }
 
     fn too_long_line(&self, alloc: Global) -> Result<Vec<u8>, NoMemory> {
-        copy_printed_line(alloc, long_script_line())
+        copy_printed_line(alloc, too_long_script_line())
     }
 
     fn value(&self, alloc: Global, bytes: Vec<u8>) -> Result<Script, Stop> {
         match Script::read(alloc, &bytes, self.plan) {
             Ok(script) => Ok(script),
-            Err(e) => Err(bad_input(bad_script_line(alloc, e))),
+            Err(e) => Err(bad_input_stop(bad_script_line(alloc, e))),
         }
     }
 }
@@ -163,14 +163,14 @@ impl Form for SourceFile {
     }
 
     fn too_long_line(&self, alloc: Global) -> Result<Vec<u8>, NoMemory> {
-        long_source_line(alloc, 0)
+        too_long_source_line(alloc, 0)
     }
 
     fn value(&self, alloc: Global, bytes: Vec<u8>) -> Result<Object, Stop> {
         match assemble(alloc, &bytes) {
             Ok(object) => Ok(object),
             Err(AsmErr::Bad { line, rule }) => {
-                Err(bad_input(bad_source_line(alloc, 0, rule, line)))
+                Err(bad_input_stop(bad_source_line(alloc, 0, rule, line)))
             }
             Err(AsmErr::NoMemory) => Err(Stop::NoMemory),
         }
@@ -217,7 +217,7 @@ impl Form for PlacedSourceFile {
     }
 
     fn too_long_line(&self, alloc: Global) -> Result<Vec<u8>, NoMemory> {
-        long_source_line(alloc, self.place)
+        too_long_source_line(alloc, self.place)
     }
 
     fn value(&self, alloc: Global, bytes: Vec<u8>) -> Result<Source, Stop> {
@@ -227,7 +227,7 @@ impl Form for PlacedSourceFile {
                 object,
             }),
             Err(AsmErr::Bad { line, rule }) => {
-                Err(bad_input(bad_source_line(alloc, self.place, rule, line)))
+                Err(bad_input_stop(bad_source_line(alloc, self.place, rule, line)))
             }
             Err(AsmErr::NoMemory) => Err(Stop::NoMemory),
         }
@@ -252,13 +252,13 @@ impl Form for LayoutFile {
     }
 
     fn too_long_line(&self, alloc: Global) -> Result<Vec<u8>, NoMemory> {
-        copy_printed_line(alloc, long_layout_line())
+        copy_printed_line(alloc, too_long_layout_line())
     }
 
     fn value(&self, alloc: Global, bytes: Vec<u8>) -> Result<Layout, Stop> {
         match Layout::read(alloc, &bytes) {
             Ok(layout) => Ok(layout),
-            Err(e) => Err(bad_input(bad_layout_line(alloc, e))),
+            Err(e) => Err(bad_input_stop(bad_layout_line(alloc, e))),
         }
     }
 }
@@ -286,7 +286,7 @@ impl<'a> Form for ObjectFile<'a> {
     }
 
     fn too_long_line(&self, alloc: Global) -> Result<Vec<u8>, NoMemory> {
-        long_object_line(alloc, self.place)
+        too_long_object_line(alloc, self.place)
     }
 
     fn value(&self, alloc: Global, bytes: Vec<u8>) -> Result<ObjectRef<'a>, Stop> {
@@ -295,7 +295,7 @@ impl<'a> Form for ObjectFile<'a> {
         };
         match ObjectRef::read(alloc, kept) {
             Ok(object) => Ok(object),
-            Err(ObjErr::Bad(e)) => Err(bad_input(bad_object_line(alloc, self.place, e))),
+            Err(ObjErr::Bad(e)) => Err(bad_input_stop(bad_object_line(alloc, self.place, e))),
             Err(ObjErr::NoMemory) => Err(Stop::NoMemory),
         }
     }

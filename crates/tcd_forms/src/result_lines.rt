@@ -98,7 +98,7 @@ pub fn run_line(alloc: Global, events: u32, peak: u32, m: &Machine) -> Result<Ve
         End::Running => append_to_printed_line(&mut line, b"running\n")?,
         End::Dead(cause) => {
             append_to_printed_line(&mut line, b"dead ")?;
-            append_to_printed_line(&mut line, printed_death_cause(cause))?;
+            append_to_printed_line(&mut line, death_cause_text(cause))?;
             append_to_printed_line(&mut line, b" at ")?;
             append_to_printed_line(&mut line, &hex_word(m.pc))?;
             append_to_printed_line(&mut line, b"\n")?;
@@ -109,7 +109,7 @@ pub fn run_line(alloc: Global, events: u32, peak: u32, m: &Machine) -> Result<Ve
 
 /// The line on an object that was written, with its size in bytes.
 #[tactic(auto, unfolding(crate::specs::Lines::assembled_line))]
-pub fn assembled_line(alloc: Global, bytes: &[u8]) -> Result<Vec<u8>, NoMemory>
+pub fn assembled_object_line(alloc: Global, bytes: &[u8]) -> Result<Vec<u8>, NoMemory>
     ensures { IfOk result (λ text. text.items ≡ assembled_line (length bytes.now)) }
 {
     let size = bytes.len();
@@ -118,7 +118,7 @@ pub fn assembled_line(alloc: Global, bytes: &[u8]) -> Result<Vec<u8>, NoMemory>
 
 /// The line on an image that was written, with its size in bytes.
 #[tactic(auto, unfolding(crate::specs::Lines::linked_line))]
-pub fn linked_line(alloc: Global, bytes: &[u8]) -> Result<Vec<u8>, NoMemory>
+pub fn linked_image_line(alloc: Global, bytes: &[u8]) -> Result<Vec<u8>, NoMemory>
     ensures { IfOk result (λ text. text.items ≡ linked_line (length bytes.now)) }
 {
     let size = bytes.len();
@@ -182,7 +182,7 @@ pub fn refused_sum_line(alloc: Global, sum: u64, areas: u32) -> Result<Vec<u8>, 
 
 /// Returns the word for a cause of death in the printed line on the result of a run.
 #[tactic(auto, unfolding(crate::specs::Lines::printed_death_cause))]
-fn printed_death_cause(cause: Cause) -> &'static [u8]
+fn death_cause_text(cause: Cause) -> &'static [u8]
     ensures { result.now ≡ printed_death_cause cause }
 {
     match cause {

@@ -15,7 +15,7 @@ use tcd_base::Range;
 
 /// Returns the first array with too many elements, or with too many bytes in its ranges.
 #[tactic(auto, unfolding(crate::specs::PlanReader::plan_in, crate::specs::PlanData::too_many_of))]
-pub fn too_many(value: &Value) -> Option<PlanKey>
+pub fn first_oversized_array(value: &Value) -> Option<PlanKey>
     ensures { result ≡ too_many_of (plan_in (view value.now)) }
 {
     if !are_ranges_few(plan_objects_of(Holder::Rom, value)) {
@@ -35,10 +35,10 @@ pub fn too_many(value: &Value) -> Option<PlanKey>
 
 /// Returns true if the save areas are within their limits.
 #[tactic(auto, unfolding(crate::specs::PlanReader::plan_in, crate::specs::PlanData::has_areas))]
-pub fn has_areas(value: &Value) -> bool
+pub fn has_valid_areas(value: &Value) -> bool
     ensures { result ≡ has_areas (plan_in (view value.now)) }
 {
-    are_areas(
+    are_valid_areas(
         json_word_in(value, "csa", "at"),
         json_word_in(value, "csa", "areas"),
         json_word_in(value, "csa", "reserve"),
@@ -47,7 +47,7 @@ pub fn has_areas(value: &Value) -> bool
 
 /// Returns true if BIV and BTV are even.
 #[tactic(auto, unfolding(crate::specs::PlanReader::plan_in, crate::specs::PlanData::has_vectors))]
-pub fn has_vectors(value: &Value) -> bool
+pub fn has_even_vectors(value: &Value) -> bool
     ensures { result ≡ has_vectors (plan_in (view value.now)) }
 {
     json_word_at(value, "biv") % 2 == 0 && json_word_at(value, "btv") % 2 == 0
@@ -89,7 +89,7 @@ fn total_len(objects: &[Value]) -> u64
 
 /// Returns true if a plan's save areas are within their limits: 1 to 4096 from `at` on, whole, in a
 /// segment of 2^22 bytes, first link not 0, 1 or more of them in reserve.
-fn are_areas(at: u32, areas: u32, reserve: u32) -> bool
+fn are_valid_areas(at: u32, areas: u32, reserve: u32) -> bool
     ensures { result ≡ are_areas at areas reserve }
 {
     1 <= areas

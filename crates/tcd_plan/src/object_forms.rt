@@ -130,7 +130,7 @@ fn is_core_text(value: Option<&Value>) -> bool
 fn are_trap_texts(places: &[Value]) -> bool
     ensures { result ≡ list_all is_trap (map view places.now) }
 {
-    places.iter().all(is_trap)
+    places.iter().all(is_trap_text)
 }
 
 /// Returns how many elements of the value of `traps` are this text.
@@ -144,7 +144,7 @@ fn count_json_texts(places: &[Value], text: &str) -> usize
 }
 
 /// Returns true if an element of the value of `traps` has its form: `sys` or `aln`.
-fn is_trap(place: &Value) -> bool
+fn is_trap_text(place: &Value) -> bool
     ensures { result ≡ is_trap (view place.now) }
 {
     is_json_text(place, "sys") || is_json_text(place, "aln")

@@ -9,7 +9,7 @@ use crate::json_values::{
 };
 use crate::key_refusals::{first_bad_key, first_missing_key, first_unknown_key};
 use crate::key_table::Holder;
-use crate::limits::{has_areas, has_vectors, plan_range_overlap, too_many};
+use crate::limits::{has_valid_areas, has_even_vectors, plan_range_overlap, first_oversized_array};
 use crate::object_forms::plan_objects_of;
 use crate::plan_parts::{core_of, devices_of, irqs_of, plan_globals_of, ranges_of};
 use crate::{Plan, PlanErr};
@@ -70,13 +70,13 @@ fn plan_refusal(value: &Value) -> Option<PlanErr>
     if let Some(key) = first_bad_key(value) {
         return Some(PlanErr::BadValue(key));
     }
-    if let Some(key) = too_many(value) {
+    if let Some(key) = first_oversized_array(value) {
         return Some(PlanErr::TooMany(key));
     }
-    if !has_areas(value) {
+    if !has_valid_areas(value) {
         return Some(PlanErr::BadCsa);
     }
-    if !has_vectors(value) {
+    if !has_even_vectors(value) {
         return Some(PlanErr::BadVector);
     }
     plan_range_overlap(value)

@@ -4,7 +4,7 @@ ghost use Rattle.tcd_base.specs.Files.{LeavesFiles};
 ghost use Rattle.tcd_reading.specs.Inputs.{FormSeen, HoldsInput, IsInputRefusal};
 ghost use Rattle.tcd_reading.specs.Outcomes.{HasFailedToRead, IsBadInputStop};
 
-use crate::outcome::{Stop, bad_input};
+use crate::outcome::{Stop, bad_input_stop};
 use std::alloc::Global;
 use tcd_base::{FileErr, Files, NoMemory};
 
@@ -53,18 +53,18 @@ pub fn read_input<I: Form, F: Files>(
 {
     match files.read(alloc, name, form.limit()) {
         Ok(bytes) => form.value(alloc, bytes),
-        Err(e) => Err(unread_file(form, alloc, e)),
+        Err(e) => Err(stop_for_file_error(form, alloc, e)),
     }
 }
 
 // Why a command stops at a file that wasn't read: it is too large, or reading failed.
-fn unread_file<I: Form>(form: &I, alloc: Global, e: FileErr) -> Stop
+fn stop_for_file_error<I: Form>(form: &I, alloc: Global, e: FileErr) -> Stop
     ensures { IsBadInputStop (λ t. (e ≡ FileErr.TooLong) × (t ≡ (I.form form.now).too_long_line))
         (e ≡ FileErr.Failed) result }
 {
     match e {
         FileErr::Failed => Stop::Unread,
-        FileErr::TooLong => bad_input(form.too_long_line(alloc)),
+        FileErr::TooLong => bad_input_stop(form.too_long_line(alloc)),
         FileErr::NoMemory => Stop::NoMemory,
     }
 }

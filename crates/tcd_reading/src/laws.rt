@@ -19,14 +19,14 @@ impl AnyCommand for Brand {
 
 /// How a command ends, in plain equations: its status, the files after it, and the printed text.
 /// Each holds for files and sinks that reveal their contents; a part holds for all of them.
-pub fn endings_in_words<C: AnyCommand>()
+pub fn ending_laws<C: AnyCommand>()
     ensures told { EndsSay C.reading }
     ensures anyhow { EndsAnyhowSay C.reading }
 {}
 
 /// The reports of a command, whatever number of files it reads, and the files that it needs, in
 /// plain equations.
-pub fn readings_in_words<C: AnyCommand>()
+pub fn reading_laws<C: AnyCommand>()
     ensures says { ReportsSay C.reading }
     ensures asks { InputsSay C.reading }
 {}

@@ -98,7 +98,7 @@ impl From<NoMemory> for Stop {
 pub type Outcome = Result<Report, Stop>;
 
 /// A report with one file to write.
-pub fn report_file(
+pub fn report_with_file(
     alloc: Global,
     name: &str,
     bytes: Vec<u8>,
@@ -116,7 +116,7 @@ pub fn report_file(
 }
 
 /// A report with two files to write, in this order.
-pub fn report_two(
+pub fn report_with_two_files(
     alloc: Global,
     first: Write,
     second: Write,
@@ -157,7 +157,7 @@ pub fn finish_outcome<F: Files, S: Sink>(
 }
 
 /// The stop at an input that isn't in its form, with the line that is printed, if it could be made.
-pub fn bad_input(line: Result<Vec<u8>, NoMemory>) -> Stop
+pub fn bad_input_stop(line: Result<Vec<u8>, NoMemory>) -> Stop
     ensures stops { IsBadInputStop (λ t. IsOkAnd line (λ l. t ≡ l.items)) ⊥ result }
     ensures sure { IsOk line → result ≢ Stop.NoMemory }
 {

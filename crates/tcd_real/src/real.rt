@@ -40,7 +40,7 @@ impl<'a, R: rt::Files> Files for RealFiles<'a, R> {
         let size = file.metadata().map_or(0, |m| m.len());
         let mut bytes = Vec::new(alloc);
         bytes.resize(size.min(u64::from(limit)) as usize, 0u8)?;
-        let Some(count) = fill(&mut file, &mut bytes) else {
+        let Some(count) = read_until_full(&mut file, &mut bytes) else {
             self.failed = self.failed.saturating_add(1);
             return Err(FileErr::Failed);
         };
@@ -69,7 +69,7 @@ impl<'a, R: rt::Files> Files for RealFiles<'a, R> {
             self.failed = self.failed.saturating_add(1);
             return Err(FileErr::Failed);
         };
-        if write_whole(&mut file, bytes) {
+        if write_all_bytes(&mut file, bytes) {
             Ok(())
         } else {
             self.failed = self.failed.saturating_add(1);
@@ -85,7 +85,7 @@ impl<'a, R: Print> Sink for Stdout<'a, R> {
 
     fn write(&mut self, bytes: &[u8]) -> Result<(), SinkErr> {
         let mut out = io::writer(self.rt);
-        if write_whole(&mut out, bytes) {
+        if write_all_bytes(&mut out, bytes) {
             Ok(())
         } else {
             self.failed = self.failed.saturating_add(1);
@@ -96,7 +96,7 @@ impl<'a, R: Print> Sink for Stdout<'a, R> {
 
 // Reads bytes until the room is full or the file ends, and returns their number. An error gives
 // `None`.
-fn fill<R: Read>(file: &mut R, room: &mut [u8]) -> Option<usize> {
+fn read_until_full<R: Read>(file: &mut R, room: &mut [u8]) -> Option<usize> {
     let mut filled = 0;
     while filled < room.len() {
         match file.read(&mut room[filled..]) {
@@ -110,7 +110,7 @@ fn fill<R: Read>(file: &mut R, room: &mut [u8]) -> Option<usize> {
 
 // Writes all bytes, and returns whether that worked. It stops at an error, or at a write that takes
 // no byte.
-fn write_whole<W: Write>(out: &mut W, bytes: &[u8]) -> bool {
+fn write_all_bytes<W: Write>(out: &mut W, bytes: &[u8]) -> bool {
     let mut rest = bytes;
     while !rest.is_empty() {
         match out.write(rest) {

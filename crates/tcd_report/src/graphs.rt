@@ -3,7 +3,7 @@ ghost use Rattle.std.specs.Prelude.{IfOk, string_bytes};
 ghost use Rattle.cfg_recover.specs.RulesHoldOrFail.{Accepts};
 ghost use Rattle.tcd_report.specs.Graphs.{IsGraph};
 
-use crate::graphs::graph_text::{append_node, empty_graph_text};
+use crate::graphs::graph_text::{append_node_lines, empty_graph_text};
 use crate::judged::Judged;
 use cfg_recover::KnownCodes;
 use elf_image::Image;
@@ -43,7 +43,7 @@ pub fn graph(alloc: Global, image: &Image, plan: &Plan, cert: &Cert) -> Result<S
         let Some(node) = cert.get(i) else {
             unreachable!()
         };
-        append_node(&mut graph, &judged, &mut codes, &node, &mut walk)?;
+        append_node_lines(&mut graph, &judged, &mut codes, &node, &mut walk)?;
     }
     Ok(graph.text)
 }

@@ -5,8 +5,8 @@ ghost use Rattle.tcd_report.specs.Reports.{IsReport};
 
 use crate::judged::Judged;
 use crate::reports::heights::heights;
-use crate::reports::longest_by_priority::{longest_by_priority, rows_below};
-use crate::reports::report_text::{need_of_start, nodes_value, rows_value, whole_value};
+use crate::reports::longest_by_priority::{longest_by_priority, longest_calls_below};
+use crate::reports::report_text::{need_of_start, nodes_value, longest_calls_value, report_value};
 use elf_image::Image;
 use packed_cert::Cert;
 use std::alloc::Global;
@@ -35,11 +35,11 @@ pub fn report(alloc: Global, image: &Image, plan: &Plan, cert: &Cert) -> Result<
     };
     let heights = heights(alloc, &judged)?;
     let known = longest_by_priority(alloc, cert, &heights)?;
-    let rows = rows_below(alloc, &known, 256)?;
+    let rows = longest_calls_below(alloc, &known, 256)?;
     let need = need_of_start(image, plan, cert);
-    let calls = rows_value(alloc, &rows)?;
+    let calls = longest_calls_value(alloc, &rows)?;
     let nodes = nodes_value(alloc, cert)?;
-    let value = whole_value(alloc, plan, need, calls, nodes)?;
+    let value = report_value(alloc, plan, need, calls, nodes)?;
     let mut text = value.to_string(alloc)?;
     append_str(&mut text, "\n")?;
     Ok(text)

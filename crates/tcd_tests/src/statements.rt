@@ -1,7 +1,7 @@
 //! The tokens of worked lines, and the rows that worked statements are.
 use crate::asserts::{is_so, same};
 use tc_isa::rows;
-use tc_lex::{Piece, Scratch, Shape, Token, TokenKind, Value, is_kind, operands, text_at, tokens};
+use tc_lex::{Piece, Scratch, Shape, Token, TokenKind, Value, is_token_kind, operands, token_text, tokens};
 use tc_stmt::{is_source_name, shape_index, statement, symbol_rule, wants};
 
 static TOKENS: [Token; 13] = [
@@ -131,8 +131,8 @@ fn a_move_between_registers(rt: HostRuntime) {
 #[test]
 fn pieces_and_names(rt: HostRuntime) {
     let pieces = [word("d1"), comma()];
-    is_so(&rt, is_kind(&pieces, 1, TokenKind::Comma));
-    same(&rt, &text_at(&pieces, 0).len(), &2);
+    is_so(&rt, is_token_kind(&pieces, 1, TokenKind::Comma));
+    same(&rt, &token_text(&pieces, 0).len(), &2);
     is_so(&rt, is_source_name(b".text"));
     is_so(&rt, !is_source_name(b"."));
     same(&rt, &wants().len(), &rows().len());

@@ -92,7 +92,7 @@ impl Cells {
         if !is_cell_in_ram(plan, cell.at) {
             return Err(CellsErr::NotRam(number));
         }
-        if self.has_at(cell.at) {
+        if self.has_cell_at(cell.at) {
             return Err(CellsErr::Twice(number));
         }
         if !self.has_room(plan, &cell) {
@@ -103,7 +103,7 @@ impl Cells {
     }
 
     // Returns whether there is a cell at this address.
-    fn has_at(&self, at: u32) -> bool
+    fn has_cell_at(&self, at: u32) -> bool
         ensures { IsTrue result ↔ Any (λ d. d.at ≡ at) self.now }
     {
         self.list.iter().any(|cell| cell.at == at)

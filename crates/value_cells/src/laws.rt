@@ -24,7 +24,7 @@ pub fn cells_in_words()
 
 /// If a greater certificate keeps the cells, a lesser one does, since each fault of K16 in the
 /// lesser is one in the greater. One fault is enough to break the rule.
-pub fn faults_of_cells()
+pub fn cell_fault_laws()
     ensures grow { CellFaultsGrow }
     ensures lesser { LesserKeepsCells }
     ensures refute { CellFaultsRefute }

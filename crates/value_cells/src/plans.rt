@@ -38,7 +38,7 @@ pub fn with_cells(plan: &Plan, cells: &Cells) -> Plan
     Plan {
         rom: ArrayVec::try_from(plan.rom.as_slice()).unwrap(),
         ram: ram_without_cells(plan, cells.list()),
-        devices: devices_with(plan, cells.list()),
+        devices: devices_with_cells(plan, cells.list()),
         csa_at: plan.csa_at,
         areas: plan.areas,
         reserve: plan.reserve,
@@ -70,7 +70,7 @@ fn ranges_without_cell(ranges: &[Range], at: u32) -> ArrayVec<Range, 16>
 
 /// Returns the plan's peripherals, and after them one for each cell, which answers inside the
 /// cell's bounds.
-fn devices_with(plan: &Plan, cells: &[Cell]) -> ArrayVec<Device, 16>
+fn devices_with_cells(plan: &Plan, cells: &[Cell]) -> ArrayVec<Device, 16>
     requires { AreCells plan.now cells.now }
     ensures { result.items ≡ plan.now.devices ++ map cell_device cells.now }
 {

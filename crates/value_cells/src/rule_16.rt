@@ -10,7 +10,7 @@ use elf_image::Image;
 use tc_isa::Shape;
 use tcd_plan::Plan;
 use value_domain::{Bounds, State};
-use vd_transfer::{address_by, reg};
+use vd_transfer::{address_by_shape, reg};
 
 /// The number of the rule on cells: every store keeps their bounds.
 pub const CELLS_RULE: u8 = 16;
@@ -40,7 +40,7 @@ pub(crate) fn keeps_rule_16(rule: &CellsRule, codes: &mut KnownCodes, addr: u32,
     let shape = found.shape;
     match shape {
         Shape::Store { src, size, .. } => {
-            let at = address_by(rule.bounds, rule.plan, shape, s);
+            let at = address_by_shape(rule.bounds, rule.plan, shape, s);
             keeps_cells(&at, size, &reg(rule.plan, s, src), rule.cells)
         }
         _ => true,

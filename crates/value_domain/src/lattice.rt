@@ -10,7 +10,7 @@ ghost use Rattle.value_domain.specs.declared.values.Val.TheVariants.{Set, Span};
 
 use crate::merged_lists::merge;
 use crate::values::{
-    alignment_log2, count_of, has_set_word, is_all, is_set, member, set_span, set_word, set_words,
+    alignment_log2, span_len, has_set_word, is_all_words, is_set, member, set_span, set_word, set_words,
 };
 use crate::{Bounds, Val, Words};
 use arrayvec::ArrayVec;
@@ -62,17 +62,17 @@ pub fn write_span(b: &Bounds, least: u32, greatest: u32, step: u8, out: &mut Val
 }
 
 /// Widens a value to the least one that holds the word too.
-pub fn add_word(b: &Bounds, v: &mut Val, x: u32)
+pub fn join_word(b: &Bounds, v: &mut Val, x: u32)
     requires { IsValue b.now v.old }
     ensures cover { v.new ≡ cover b.now (x ∷ members v.old) }
     ensures value { IsValue b.now v.new }
 {
     let _most_words = b.most_words();
-    put_word(b, v, x);
+    insert_or_widen(b, v, x);
 }
 
 /// Widens a value to the least one that holds the words too.
-pub fn add_words(b: &Bounds, v: &mut Val, words: &[u32])
+pub fn join_word_list(b: &Bounds, v: &mut Val, words: &[u32])
     requires { IsValue b.now v.old }
     ensures cover { v.new ≡ cover b.now (members v.old ++ words.now) }
     ensures value { IsValue b.now v.new }
@@ -80,17 +80,17 @@ pub fn add_words(b: &Bounds, v: &mut Val, words: &[u32])
     let _most_words = b.most_words();
     let mut i = 0;
     while i < words.len() && is_set(v) {
-        add_word(b, v, words[i]);
+        join_word(b, v, words[i]);
         i += 1;
     }
     if i < words.len() {
-        widen(b, v, &words[i..]);
+        widen_span(b, v, &words[i..]);
     }
 }
 
 /// Returns the extent of these words and those of another extent together. The lattice's least
 /// value that holds both has this extent.
-pub fn extent_with(e: &Extent, words: &[u32]) -> Extent
+pub fn extent_with_words(e: &Extent, words: &[u32]) -> Extent
     ensures { (xs : List ℕ) → IsExtent xs e.now.least e.now.greatest e.now.step
         → IsExtent (xs ++ words.now) result.least result.greatest result.step }
 {
@@ -128,7 +128,7 @@ pub fn write_cover_words(b: &Bounds, words: &[u32], out: &mut Val)
 {
     let _most_words = b.most_words();
     set_word(out, words[0]);
-    add_words(b, out, words);
+    join_word_list(b, out, words);
 }
 
 /// Returns the least value that holds both.
@@ -139,12 +139,12 @@ pub fn join(b: &Bounds, v: &Val, w: &Val) -> Val
     ensures value { IsValue b.now result }
 {
     let mut out = v.copy();
-    add_value(b, &mut out, w);
+    join_into(b, &mut out, w);
     out
 }
 
 /// Widens a value to the least one that holds the other too.
-pub fn add_value(b: &Bounds, v: &mut Val, w: &Val)
+pub fn join_into(b: &Bounds, v: &mut Val, w: &Val)
     requires left { IsValue b.now v.old }
     requires right { IsValue b.now w.now }
     ensures cover { v.new ≡ cover b.now (members v.old ++ members w.now) }
@@ -152,8 +152,8 @@ pub fn add_value(b: &Bounds, v: &mut Val, w: &Val)
 {
     let _most_words = b.most_words();
     match w {
-        Val::Set(words) => add_set(b, v, words),
-        Val::Span { lo, last, step } => add_span(b, v, *lo, *last, *step),
+        Val::Set(words) => join_set(b, v, words),
+        Val::Span { lo, last, step } => join_span(b, v, *lo, *last, *step),
     }
 }
 
@@ -174,7 +174,7 @@ pub fn leq(v: &Val, w: &Val) -> bool
 
 /// Returns true if a value of this extent is below this Span: the Span holds its least and its
 /// greatest member, and its step is no smaller than the Span's.
-pub fn is_extent_inside(e: &Extent, lo: u32, last: u32, step: u8) -> bool
+pub fn is_extent_in_span(e: &Extent, lo: u32, last: u32, step: u8) -> bool
     ensures { IsTrue result ↔ ((lo ≤ e.now.least) × (e.now.greatest ≤ last) × (step ≤ e.now.step)) }
 {
     lo <= e.least && e.greatest <= last && step <= e.step
@@ -211,7 +211,7 @@ pub fn write_cover(b: &Bounds, first: u32, last: u32, step: u8, out: &mut Val)
     ensures value { IsValue b.now out.new }
 {
     let most_words = b.most_words();
-    if count_of(first, last, step) > most_words as u64 {
+    if span_len(first, last, step) > most_words as u64 {
         write_cover_as_span(b, first, last, step, out)
     } else {
         write_cover_as_set(b, first, last, step, out)
@@ -231,7 +231,7 @@ pub fn extent_of(v: &Val) -> Extent
 
 /// Returns the first place from `k` on in a Set's ascending words whose word is at least `x`, or
 /// their number if there is none. The lattice's order of two Sets is tested by it.
-pub(crate) fn word_place_from(words: &[u32], k: usize, x: u32) -> usize
+pub(crate) fn lower_bound_from(words: &[u32], k: usize, x: u32) -> usize
     requires start { k ≤ length words.now }
     ensures start { k ≤ result }
     ensures end { result ≤ length words.now }
@@ -250,12 +250,12 @@ pub(crate) fn word_place_from(words: &[u32], k: usize, x: u32) -> usize
 fn extent_step(words: &[u32]) -> u8
     ensures { result ≡ step_of_set words.now }
 {
-    alignment_log2(extent_bits(words))
+    alignment_log2(bitwise_or_of_words(words))
 }
 
 /// Returns the bits that are set in at least one of these words, from which the step of the words'
 /// extent in the lattice follows.
-fn extent_bits(words: &[u32]) -> u32
+fn bitwise_or_of_words(words: &[u32]) -> u32
     ensures { sets.alignment_log2 result ≡ step_of_set words.now }
 {
     let mut bits = 0;
@@ -266,7 +266,7 @@ fn extent_bits(words: &[u32]) -> u32
 }
 
 /// Widens a value to the lattice's least one that holds the word too.
-fn put_word(b: &Bounds, v: &mut Val, x: u32)
+fn insert_or_widen(b: &Bounds, v: &mut Val, x: u32)
     requires { IsValue b.now v.old }
     ensures { v.new ≡ cover b.now (x ∷ members v.old) }
 {
@@ -281,11 +281,11 @@ fn put_word(b: &Bounds, v: &mut Val, x: u32)
         }
     }
     let e = extent_of(v);
-    write_wider(b, &e, x, v);
+    write_span_with_word(b, &e, x, v);
 }
 
 /// Overwrites a value with the Span that holds a value of this extent and one more word.
-fn write_wider(b: &Bounds, e: &Extent, x: u32, out: &mut Val)
+fn write_span_with_word(b: &Bounds, e: &Extent, x: u32, out: &mut Val)
     ensures { out.new
         ≡ Span (floor b.now.thresholds (min x e.now.least))
         (above b.now.thresholds (max x e.now.greatest) - 1)
@@ -301,17 +301,17 @@ fn write_wider(b: &Bounds, e: &Extent, x: u32, out: &mut Val)
 }
 
 /// Widens a Span to the lattice's least value that holds these words too.
-fn widen(b: &Bounds, v: &mut Val, words: &[u32])
+fn widen_span(b: &Bounds, v: &mut Val, words: &[u32])
     requires span { IsNone (words_of v.old) }
     requires value { IsValue b.now v.old }
     ensures { v.new ≡ cover b.now (members v.old ++ words.now) }
 {
-    let e = extent_with(&extent_of(v), words);
+    let e = extent_with_words(&extent_of(v), words);
     write_span(b, e.least, e.greatest, e.step, v);
 }
 
 /// Widens a value to the lattice's least one that holds the words of a Set too.
-fn add_set(b: &Bounds, v: &mut Val, words: &Words)
+fn join_set(b: &Bounds, v: &mut Val, words: &Words)
     requires left { IsValue b.now v.old }
     requires right { IsValue b.now (Set words.now) }
     ensures { v.new ≡ cover b.now (members v.old ++ words.now) }
@@ -319,12 +319,12 @@ fn add_set(b: &Bounds, v: &mut Val, words: &Words)
     if is_set(v) {
         join_set_with_set(b, v, words)
     } else {
-        widen(b, v, words.as_slice())
+        widen_span(b, v, words.as_slice())
     }
 }
 
 /// Widens a value to the lattice's least one that holds the members of a Span too.
-fn add_span(b: &Bounds, v: &mut Val, lo: u32, last: u32, step: u8)
+fn join_span(b: &Bounds, v: &mut Val, lo: u32, last: u32, step: u8)
     requires left { IsValue b.now v.old }
     requires right { IsValue b.now (Span lo last step) }
     ensures { v.new ≡ cover b.now (members v.old ++ range lo last step) }
@@ -348,13 +348,13 @@ fn join_set_with_set(b: &Bounds, v: &mut Val, words: &Words)
     ensures { v.new ≡ cover b.now (members v.old ++ words.now) }
 {
     match v {
-        Val::Set(own) => write_value_of(b, merge(own.as_slice(), words.as_slice()).as_slice(), v),
+        Val::Set(own) => write_ascending(b, merge(own.as_slice(), words.as_slice()).as_slice(), v),
         Val::Span { .. } => unreachable!(),
     }
 }
 
 /// Overwrites a value with the least one that holds an ascending list of words.
-fn write_value_of(b: &Bounds, words: &[u32], out: &mut Val)
+fn write_ascending(b: &Bounds, words: &[u32], out: &mut Val)
     requires some { 1 ≤ length words.now }
     requires rising { Rising words.now }
     ensures { out.new ≡ values.value_of_words b.now words.now }
@@ -372,11 +372,11 @@ fn is_below_span(v: &Val, lo: u32, last: u32, step: u8) -> bool
     requires step { step ≤ 2 }
     ensures { IsTrue result ↔ IsBelow v.now (Span lo last step) }
 {
-    if is_all(lo, last, step) {
+    if is_all_words(lo, last, step) {
         return true;
     }
     let e = extent_of(v);
-    is_extent_inside(&e, lo, last, step)
+    is_extent_in_span(&e, lo, last, step)
 }
 
 /// Returns true if each of the words is one of the others. Both lists ascend and are walked once.
@@ -387,7 +387,7 @@ fn is_set_below_set(own: &[u32], words: &[u32]) -> bool
 {
     let mut k = 0;
     for x in own {
-        k = word_place_from(words, k, *x);
+        k = lower_bound_from(words, k, *x);
         if k == words.len() || words[k] != *x {
             return false;
         }
@@ -417,13 +417,13 @@ fn is_span_value(b: &Bounds, lo: u32, last: u32, step: u8) -> bool
     ensures { IsTrue result ↔ IsValue b.now (Span lo last step) }
 {
     let most_words = b.most_words();
-    if is_all(lo, last, step) {
+    if is_all_words(lo, last, step) {
         return true;
     }
     if step > 2 {
         return false;
     }
-    if count_of(lo, last, step) <= most_words as u64 {
+    if span_len(lo, last, step) <= most_words as u64 {
         return false;
     }
     let e = span_extent(lo, last, step);
@@ -458,5 +458,5 @@ fn write_cover_as_set(b: &Bounds, first: u32, last: u32, step: u8, out: &mut Val
     for k in start..end {
         words.push((k * unit) as u32);
     }
-    write_value_of(b, words.as_slice(), out);
+    write_ascending(b, words.as_slice(), out);
 }

@@ -10,8 +10,8 @@ mod states;
 mod values;
 
 pub use lattice::{
-    Extent, add_value, add_word, add_words, cover, cover_words, extent_of, extent_with,
-    is_extent_inside, is_value, join, leq, write_cover, write_cover_words, write_span,
+    Extent, join_into, join_word, join_word_list, cover, cover_words, extent_of, extent_with_words,
+    is_extent_in_span, is_value, join, leq, write_cover, write_cover_words, write_span,
 };
 pub use laws::{state_laws, value_laws};
 pub use limits::Bounds;
@@ -21,6 +21,6 @@ pub use states::{
     join_states,
 };
 pub use values::{
-    Val, Words, alignment_log2, copy_to, count_of, is_set, is_the_span, member, set_span, set_word,
+    Val, Words, alignment_log2, copy_to, span_len, is_set, is_equal_span, member, set_span, set_word,
     set_words, write_any,
 };

@@ -3,8 +3,8 @@ ghost use Rattle.std.specs.Prelude.{◌≡◌, ◌==◌, ◌≤◌, List, ℕ, [
 ghost use Rattle.value_domain.specs.Values.{IsValue, IsWell, members, range, in_span, is_member};
 ghost use Rattle.value_domain.specs.Meets.{cover_of_meet, meet_if};
 
-use crate::lattice::{add_word, write_cover};
-use crate::values::{count_of, is_member, is_word_in_span, set_word};
+use crate::lattice::{join_word, write_cover};
+use crate::values::{span_len, is_member, is_word_in_span, set_word};
 use crate::{Bounds, Val};
 
 /// Overwrites `out` with the cover of the members that are multiples of `2 ^ step` in `lo..=last`.
@@ -37,7 +37,7 @@ pub fn write_meet_with_words(b: &Bounds, words: &[u32], v: &Val, out: &mut Val) 
     let mut found = false;
     for x in words {
         if is_member(*x, v) {
-            add_to_meet(b, found, out, *x);
+            add_word_to_meet(b, found, out, *x);
             found = true;
         }
     }
@@ -54,7 +54,7 @@ fn write_meet_of_set(b: &Bounds, words: &[u32], lo: u32, last: u32, step: u8, ou
     let mut found = false;
     for x in words {
         if is_word_in_span(lo, last, step, *x) {
-            add_to_meet(b, found, out, *x);
+            add_word_to_meet(b, found, out, *x);
             found = true;
         }
     }
@@ -68,7 +68,7 @@ fn write_meet_of_span(b: &Bounds, lo: u32, last: u32, step: u8, out: &mut Val) -
     ensures meet { meet_if result out.new ≡ cover_of_meet b.now (range lo last step) }
     ensures value { IfSome (meet_if result out.new) (IsValue b.now) }
 {
-    if count_of(lo, last, step) == 0 {
+    if span_len(lo, last, step) == 0 {
         return false;
     }
     write_cover(b, lo, last, step, out);
@@ -76,7 +76,7 @@ fn write_meet_of_span(b: &Bounds, lo: u32, last: u32, step: u8, out: &mut Val) -
 }
 
 /// Widens a value by a word. If nothing was found before, the value becomes that of the word alone.
-fn add_to_meet(b: &Bounds, found: bool, out: &mut Val, x: u32)
+fn add_word_to_meet(b: &Bounds, found: bool, out: &mut Val, x: u32)
     requires { IfSome (meet_if found out.old) (IsValue b.now) }
     ensures more { (xs : List ℕ) → meet_if found out.old ≡ cover_of_meet b.now xs
         → Some out.new ≡ cover_of_meet b.now (xs ++ x ∷ []) }
@@ -84,7 +84,7 @@ fn add_to_meet(b: &Bounds, found: bool, out: &mut Val, x: u32)
 {
     let _most_words = b.most_words();
     if found {
-        add_word(b, out, x)
+        join_word(b, out, x)
     } else {
         set_word(out, x)
     }

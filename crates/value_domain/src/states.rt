@@ -2,7 +2,7 @@
 ghost use Rattle.std.specs.Prelude.{◌≡◌, ◌≤◌, ◌<◌, ◌↔◌, IsTrue, length, ◌&&◌};
 ghost use Rattle.value_domain.specs.State.{Covers, AreWell, AreValues, joined_states, joined_regs, joined_locals, AreBelow, FlagsImpliedBy};
 
-use crate::values::{are_same, copied_elements, copy_to};
+use crate::values::{are_values_equal, copied_elements, copy_to};
 use crate::{Bounds, Val, join, leq};
 use arrayvec::ArrayVec;
 
@@ -165,7 +165,7 @@ fn join_regs(b: &Bounds, s: &[Val; 27], t: &[Val; 27]) -> [Val; 27]
 {
     let mut out = copy_regs(s);
     for i in 0..27 {
-        if !are_same(&s[i], &t[i]) {
+        if !are_values_equal(&s[i], &t[i]) {
             out[i] = join(b, &s[i], &t[i]);
         }
     }

@@ -108,7 +108,7 @@ impl Words {
         requires absent { ¬ Among x self.old }
         ensures { self.new ≡ sorted_insert x self.old }
     {
-        let at = word_place(self.words.as_slice(), x);
+        let at = count_words_below(self.words.as_slice(), x);
         self.words.insert(at, x);
     }
 }
@@ -127,7 +127,7 @@ fn are_ascending(words: &[u32]) -> bool
 
 /// Returns the number of a value's ascending words that are below `x`: the place of `x` if it is a
 /// member.
-fn word_place(words: &[u32], x: u32) -> usize
+fn count_words_below(words: &[u32], x: u32) -> usize
     requires { Rising words.now }
     ensures within { result ≤ length words.now }
     ensures before { (k : ℕ) → k < result → slice_index words.now k < x }
@@ -144,7 +144,7 @@ pub(crate) fn has_set_word(words: &[u32], x: u32) -> bool
     requires { Rising words.now }
     ensures { IsTrue result ↔ Among x words.now }
 {
-    let at = word_place(words, x);
+    let at = count_words_below(words, x);
     at < words.len() && words[at] == x
 }
 
@@ -242,7 +242,7 @@ pub fn set_words(out: &mut Val, words: &[u32])
 {
     match out {
         Val::Set(own) => own.set(words),
-        Val::Span { .. } => set_words_from_span(out, words),
+        Val::Span { .. } => replace_span_by_words(out, words),
     }
 }
 
@@ -253,16 +253,16 @@ pub fn set_word(out: &mut Val, x: u32)
 {
     match out {
         Val::Set(own) => own.set_one(x),
-        Val::Span { .. } => set_word_from_span(out, x),
+        Val::Span { .. } => replace_span_by_word(out, x),
     }
 }
 
-// `set_word_from_span`, `set_words_from_span` and `set_span_from_set` write all bytes of a value.
+// `replace_span_by_word`, `replace_span_by_words` and `replace_set_by_span` write all bytes of a value.
 // Each is a function of its own, so that its callers need no stack for a value.
 
 /// Overwrites a Span with the Set of one word.
 #[inline(never)]
-fn set_word_from_span(out: &mut Val, x: u32)
+fn replace_span_by_word(out: &mut Val, x: u32)
     ensures { out.new ≡ Set (x ∷ []) }
 {
     *out = Val::one(x);
@@ -270,11 +270,11 @@ fn set_word_from_span(out: &mut Val, x: u32)
 
 /// Overwrites a Span with the Set of these words.
 #[inline(never)]
-fn set_words_from_span(out: &mut Val, words: &[u32])
+fn replace_span_by_words(out: &mut Val, words: &[u32])
     requires { AreWords words.now }
     ensures { out.new ≡ Set words.now }
 {
-    set_word_from_span(out, words[0]);
+    replace_span_by_word(out, words[0]);
     match out {
         Val::Set(own) => own.set(words),
         Val::Span { .. } => unreachable!(),
@@ -286,7 +286,7 @@ pub fn set_span(out: &mut Val, lo: u32, last: u32, step: u8)
     ensures { out.new ≡ Span lo last step }
 {
     match out {
-        Val::Set(_) => set_span_from_set(out, lo, last, step),
+        Val::Set(_) => replace_set_by_span(out, lo, last, step),
         Val::Span {
             lo: own_lo,
             last: own_last,
@@ -341,7 +341,7 @@ pub fn write_any(out: &mut Val)
 }
 
 /// Returns true if two values are equal.
-pub(crate) fn are_same(v: &Val, w: &Val) -> bool
+pub(crate) fn are_values_equal(v: &Val, w: &Val) -> bool
     ensures { IsTrue result ↔ (v.now ≡ w.now) }
 {
     match v {
@@ -349,19 +349,19 @@ pub(crate) fn are_same(v: &Val, w: &Val) -> bool
             Val::Set(words) => own.as_slice() == words.as_slice(),
             Val::Span { .. } => false,
         },
-        Val::Span { lo, last, step } => is_the_span(w, *lo, *last, *step),
+        Val::Span { lo, last, step } => is_equal_span(w, *lo, *last, *step),
     }
 }
 
 /// Returns true if a Span has all words.
-pub(crate) fn is_all(lo: u32, last: u32, step: u8) -> bool
+pub(crate) fn is_all_words(lo: u32, last: u32, step: u8) -> bool
     ensures { IsTrue result ↔ ((lo ≡ 0) × (last ≡ 4294967295) × (step ≡ 0)) }
 {
     lo == 0 && last == u32::MAX && step == 0
 }
 
 /// Returns the number of multiples of `2 ^ step` in a range.
-pub fn count_of(lo: u32, last: u32, step: u8) -> u64
+pub fn span_len(lo: u32, last: u32, step: u8) -> u64
     requires { step ≤ 2 }
     ensures { result ≡ count_in lo last step }
 {
@@ -388,7 +388,7 @@ pub(crate) fn is_member(x: u32, v: &Val) -> bool
 
 /// Returns true if a value is this Span.
 #[inline(always)]
-pub fn is_the_span(v: &Val, lo: u32, last: u32, step: u8) -> bool
+pub fn is_equal_span(v: &Val, lo: u32, last: u32, step: u8) -> bool
     ensures { IsTrue result ↔ (v.now ≡ Span lo last step) }
 {
     match v {
@@ -403,7 +403,7 @@ pub fn is_the_span(v: &Val, lo: u32, last: u32, step: u8) -> bool
 
 /// Overwrites a Set with a Span.
 #[inline(never)]
-fn set_span_from_set(out: &mut Val, lo: u32, last: u32, step: u8)
+fn replace_set_by_span(out: &mut Val, lo: u32, last: u32, step: u8)
     ensures { out.new ≡ Span lo last step }
 {
     *out = Val::Span { lo, last, step };

@@ -23,7 +23,7 @@ pub(crate) struct Addressing {
 impl Addressing {
     /// Returns how the address of a load or a store is computed: from this base and offset, or from
     /// the base alone if `after`.
-    pub(crate) fn by(base: Arg, offset: u32, after: bool) -> Addressing
+    pub(crate) fn new(base: Arg, offset: u32, after: bool) -> Addressing
         ensures { result ≡ record { base = base; offset = offset; after = after } }
     {
         Addressing {
@@ -49,20 +49,20 @@ pub fn write_address(b: &Bounds, plan: &Plan, shape: Shape, s: &State, out: &mut
             offset,
             after,
             ..
-        } => write_access_addresses(b, plan, s, Addressing::by(base, offset, after), out),
+        } => write_access_addresses(b, plan, s, Addressing::new(base, offset, after), out),
         Shape::Store {
             base,
             offset,
             after,
             ..
-        } => write_access_addresses(b, plan, s, Addressing::by(base, offset, after), out),
+        } => write_access_addresses(b, plan, s, Addressing::new(base, offset, after), out),
         _ => write_any(out),
     }
 }
 
 /// Returns the addresses of an access of this shape.
 #[inline(always)]
-pub fn address_by(b: &Bounds, plan: &Plan, shape: Shape, s: &State) -> Val
+pub fn address_by_shape(b: &Bounds, plan: &Plan, shape: Shape, s: &State) -> Val
     requires shape { IsShape shape }
     requires values { AreValues b.now s.now.regs }
     ensures address { result ≡ address_of b.now plan.now shape s.now }

@@ -13,12 +13,12 @@ ghost use Rattle.vd_transfer.specs.Registers.{reg_of, arg_of, write_reg};
 ghost use Rattle.vd_transfer.specs.Operations.{value_of};
 ghost use Rattle.vd_transfer.specs.Changes.{state_after};
 
-use crate::change::{Change, write_last};
+use crate::change::{Change, set_last_put_destination};
 use crate::changed_states::changed_reg;
-use crate::operands::{arg, arg_word, constant_operand, is_same_operand, write_constant};
-use crate::operations::operation;
+use crate::operands::{build_arg, arg_word, constant_operand, is_register_operand, write_constant};
+use crate::operations::write_operation;
 use crate::refinement::{Relation, refine_both_operands, refine_left_operand};
-use crate::registers::{reg_in, reg_value, slot_of};
+use crate::registers::{reg_in_state, reg_value, slot_of};
 use tc_isa::{Arg, Cond, Op, Shape, taken};
 use tcd_plan::Plan;
 use value_domain::{Bounds, State, Val};
@@ -71,7 +71,7 @@ pub(crate) fn relation_on_side(cond: Cond, side: bool) -> Relation
 
 /// Returns true if the condition of a branch goes to the side for a word and itself.
 #[tactic(auto, unfolding(crate::specs::Branches::self_holds))]
-fn is_side_taken_by_same(cond: Cond, side: bool) -> bool
+fn is_side_taken_by_equal_words(cond: Cond, side: bool) -> bool
     ensures { result ≡ self_holds cond side }
 {
     match cond {
@@ -144,7 +144,7 @@ pub fn change_on(
             y,
             lowers,
             ..
-        } => change_by(b, plan, Comparison { cond, side, x, y }, lowers, s, c),
+        } => change_by_comparison(b, plan, Comparison { cond, side, x, y }, lowers, s, c),
         _ => {
             c.keep(s);
             false
@@ -153,7 +153,7 @@ pub fn change_on(
 }
 
 /// Writes the change on a side of a branch, and returns whether the side is possible.
-fn change_by(
+fn change_by_comparison(
     b: &Bounds,
     plan: &Plan,
     test: Comparison,
@@ -171,7 +171,7 @@ fn change_by(
     if !narrow_on_side(b, plan, test, s, c) {
         return false;
     }
-    lower_branch_counter(b, plan, test.x, lowers, s, c);
+    decrement_loop_counter(b, plan, test.x, lowers, s, c);
     true
 }
 
@@ -187,9 +187,9 @@ fn narrow_on_side(b: &Bounds, plan: &Plan, test: Comparison, s: &State, c: &mut 
 {
     let _most_words = b.most_words();
     let _globals = &plan.globals;
-    if is_same_operand(test.x, test.y) {
+    if is_register_operand(test.x, test.y) {
         c.keep(s);
-        return is_side_taken_by_same(test.cond, test.side);
+        return is_side_taken_by_equal_words(test.cond, test.side);
     }
     match arg_word(b, plan, s, Arg::Reg(test.x)) {
         Some(x) => match arg_word(b, plan, s, test.y) {
@@ -204,7 +204,7 @@ fn narrow_on_side(b: &Bounds, plan: &Plan, test: Comparison, s: &State, c: &mut 
 }
 
 /// Decrements the register of a loop by 1.
-fn lower_branch_counter(b: &Bounds, plan: &Plan, x: u8, lowers: bool, s: &State, c: &mut Change)
+fn decrement_loop_counter(b: &Bounds, plan: &Plan, x: u8, lowers: bool, s: &State, c: &mut Change)
     requires register { x < 32 }
     requires values { AreValues b.now (state_after s.now c.old).regs }
     requires free { c.old.third.at ≡ None }
@@ -213,7 +213,7 @@ fn lower_branch_counter(b: &Bounds, plan: &Plan, x: u8, lowers: bool, s: &State,
     ensures values { AreValues b.now (state_after s.now c.new).regs }
 {
     if lowers {
-        lower_branch_register(b, plan, x, s, c);
+        decrement_register(b, plan, x, s, c);
     }
 }
 
@@ -238,10 +238,10 @@ fn narrow_side_by_values(
     ensures values { AreValues b.now (state_after s.now c.new).regs }
     ensures free { c.new.third.at ≡ None }
 {
-    match reg_in(b, plan, s, test.x) {
+    match reg_in_state(b, plan, s, test.x) {
         Some(v) => match test.y {
             Arg::Word(z) => narrow_side_by_constant(b, test, s, v, z, c),
-            Arg::Reg(r) => match reg_in(b, plan, s, r) {
+            Arg::Reg(r) => match reg_in_state(b, plan, s, r) {
                 Some(w) => refine_both_operands(b, test, s, v, w, c),
                 None => narrow_side_of_built(b, plan, test, s, c),
             },
@@ -300,12 +300,12 @@ fn narrow_side_of_built(
     ensures free { c.new.third.at ≡ None }
 {
     let v = reg_value(b, plan, s, test.x);
-    refine_both_operands(b, test, s, &v, &arg(b, plan, s, test.y), c)
+    refine_both_operands(b, test, s, &v, &build_arg(b, plan, s, test.y), c)
 }
 
 /// Decrements a register by 1.
 #[inline(never)]
-fn lower_branch_register(b: &Bounds, plan: &Plan, x: u8, s: &State, c: &mut Change)
+fn decrement_register(b: &Bounds, plan: &Plan, x: u8, s: &State, c: &mut Change)
     requires register { x < 32 }
     requires values { AreValues b.now (state_after s.now c.old).regs }
     requires free { c.old.third.at ≡ None }
@@ -315,6 +315,6 @@ fn lower_branch_register(b: &Bounds, plan: &Plan, x: u8, s: &State, c: &mut Chan
     ensures values { AreValues b.now (state_after s.now c.new).regs }
 {
     let v = changed_reg(b, plan, s, c, x);
-    operation(b, Op::Sub, &v, &constant_operand(b, 1), &mut c.third.value);
-    write_last(b, s, c, x);
+    write_operation(b, Op::Sub, &v, &constant_operand(b, 1), &mut c.third.value);
+    set_last_put_destination(b, s, c, x);
 }

@@ -7,7 +7,7 @@ ghost use Rattle.vd_transfer.specs.EffectsOnStates.{EffectHasRoom, address_of, t
 ghost use Rattle.vd_transfer.specs.Branches.{refine_of};
 ghost use Rattle.vd_transfer.specs.Changes.{state_after};
 
-use crate::access::address_by;
+use crate::access::address_by_shape;
 use crate::branch_sides::change_on;
 use crate::change::{Change, identity_change};
 use crate::changed_states::changed_value;
@@ -23,7 +23,7 @@ pub fn address(b: &Bounds, plan: &Plan, inst: &Inst, s: &State) -> Val
     ensures address { result ≡ address_of b.now plan.now (shape_of inst.now) s.now }
     ensures value { IsValue b.now result }
 {
-    address_by(b, plan, shape(inst), s)
+    address_by_shape(b, plan, shape(inst), s)
 }
 
 /// Builds the whole state after a branch, on one of the branch's sides, or returns `None` if that

@@ -105,7 +105,7 @@ impl Change {
 /// Puts a register's value at its place, if a state has one. Clears the mark that the lower
 /// registers are those of the entry, if the register is one of them.
 #[inline(always)]
-pub(crate) fn put_for(put: &mut Put, mark: &mut bool, r: u8)
+pub(crate) fn set_put_destination(put: &mut Put, mark: &mut bool, r: u8)
     ensures put { put.new ≡ record put.old { at = slot r } }
     ensures mark { mark.new ≡ (mark.old && not (is_lower_register r)) }
 {
@@ -116,7 +116,7 @@ pub(crate) fn put_for(put: &mut Put, mark: &mut bool, r: u8)
 
 /// Completes a change with its last put: the third value goes to a register.
 #[inline(always)]
-pub(crate) fn write_last(b: &Bounds, s: &State, c: &mut Change, r: u8)
+pub(crate) fn set_last_put_destination(b: &Bounds, s: &State, c: &mut Change, r: u8)
     requires values { AreValues b.now (state_after s.now c.old).regs }
     requires free { c.old.third.at ≡ None }
     requires value { IsValue b.now c.old.third.value }
@@ -124,5 +124,5 @@ pub(crate) fn write_last(b: &Bounds, s: &State, c: &mut Change, r: u8)
         ≡ write_reg (state_after s.now c.old) r c.old.third.value }
     ensures values { AreValues b.now (state_after s.now c.new).regs }
 {
-    put_for(&mut c.third, &mut c.lower, r);
+    set_put_destination(&mut c.third, &mut c.lower, r);
 }

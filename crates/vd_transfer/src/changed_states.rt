@@ -19,13 +19,13 @@ pub fn changed_value<'a>(s: &'a State, c: &'a Change, any: &'a Val, i: usize) ->
     ensures { result.now ≡ slice_index_or (state_after s.now c.now).regs i any_val }
 {
     let _regs = &s.regs[..];
-    if is_changed_at(&c.third, i) {
+    if is_put_at(&c.third, i) {
         return &c.third.value;
     }
-    if is_changed_at(&c.second, i) {
+    if is_put_at(&c.second, i) {
         return &c.second.value;
     }
-    if is_changed_at(&c.first, i) {
+    if is_put_at(&c.first, i) {
         return &c.first.value;
     }
     base_value_at(s, c.base, any, i)
@@ -48,7 +48,7 @@ pub(crate) fn changed_reg(b: &Bounds, plan: &Plan, s: &State, c: &Change, r: u8)
 
 /// Returns true if this put of a change is at this place of the changed state.
 #[inline(always)]
-fn is_changed_at(put: &Put, i: usize) -> bool
+fn is_put_at(put: &Put, i: usize) -> bool
     ensures { IsTrue result ↔ (put.now.at ≡ Some i) }
 {
     match put.at {

@@ -10,9 +10,9 @@ ghost use Rattle.vd_transfer.specs.EffectsOnStates.{state_with_base, state_saved
 ghost use Rattle.vd_transfer.specs.Changes.{state_after};
 
 use crate::access::Addressing;
-use crate::change::{Base, Change, put_for, write_last};
+use crate::change::{Base, Change, set_put_destination, set_last_put_destination};
 use crate::operands::Operation;
-use crate::operations::{operate, operation};
+use crate::operations::{operate, write_operation};
 use crate::registers::reg_value;
 use tc_isa::{Arg, Op, Shape};
 use tcd_plan::Plan;
@@ -47,7 +47,7 @@ pub(crate) fn effect_of_operation(
     ensures third { c.new.third ≡ record c.old.third { at = None } }
 {
     c.keep(s);
-    put_for(&mut c.second, &mut c.lower, dst);
+    set_put_destination(&mut c.second, &mut c.lower, dst);
     operate(b, plan, s, of, &mut c.second.value);
 }
 
@@ -76,9 +76,9 @@ pub(crate) fn effect_of_scaled_address(
         y: Arg::Word(u32::from(at.n)),
     };
     c.keep(s);
-    put_for(&mut c.second, &mut c.lower, dst);
+    set_put_destination(&mut c.second, &mut c.lower, dst);
     operate(b, plan, s, by, &mut c.third.value);
-    operation(
+    write_operation(
         b,
         Op::Add,
         &reg_value(b, plan, s, at.base),
@@ -131,7 +131,7 @@ pub(crate) fn effect_of_load(
     ensures values { AreValues b.now (state_after s.now c.new).regs }
 {
     effect_on_base(b, plan, s, at, c);
-    write_last(b, s, c, dst);
+    set_last_put_destination(b, s, c, dst);
 }
 
 /// Writes the value that holds all words to a register.
@@ -142,7 +142,7 @@ pub(crate) fn effect_of_any_value(b: &Bounds, s: &State, dst: u8, c: &mut Change
 {
     let _most_words = b.most_words();
     c.keep(s);
-    put_for(&mut c.second, &mut c.lower, dst);
+    set_put_destination(&mut c.second, &mut c.lower, dst);
     write_any(&mut c.second.value);
 }
 
@@ -182,7 +182,7 @@ pub(crate) fn effect_of_lower_restore(b: &Bounds, s: &State, c: &mut Change)
 }
 
 /// Writes the change by ENABLE or DISABLE: it only sets IE.
-pub(crate) fn effect_of_enable(s: &State, ie: bool, c: &mut Change)
+pub(crate) fn effect_on_ie(s: &State, ie: bool, c: &mut Change)
     ensures { state_after s.now c.new ≡ record s.now { ie = ie } }
 {
     c.keep(s);
@@ -226,18 +226,18 @@ pub fn change_of(b: &Bounds, plan: &Plan, shape: Shape, s: &State, c: &mut Chang
             offset,
             after,
             ..
-        } => effect_of_load(b, plan, s, Addressing::by(base, offset, after), dst, c),
+        } => effect_of_load(b, plan, s, Addressing::new(base, offset, after), dst, c),
         Shape::Store {
             base,
             offset,
             after,
             ..
-        } => effect_on_base(b, plan, s, Addressing::by(base, offset, after), c),
+        } => effect_on_base(b, plan, s, Addressing::new(base, offset, after), c),
         Shape::Svlcx => effect_of_lower_save(s, c),
         Shape::Rslcx => effect_of_lower_restore(b, s, c),
         Shape::Bisr { c: number } => effect_of_bisr(s, number, c),
-        Shape::Enable => effect_of_enable(s, true, c),
-        Shape::Disable => effect_of_enable(s, false, c),
+        Shape::Enable => effect_on_ie(s, true, c),
+        Shape::Disable => effect_on_ie(s, false, c),
         Shape::Mfcr { dst, .. } => effect_of_any_value(b, s, dst, c),
         Shape::Branch { .. } => c.keep(s),
         Shape::Jump { .. } => c.keep(s),

@@ -15,7 +15,7 @@ mod registers;
 mod signed_refinement;
 mod strided_interval;
 
-pub use access::{address_by, write_address};
+pub use access::{address_by_shape, write_address};
 pub use branch_sides::change_on;
 pub use built_states::{address, refine, state_after_change, transfer};
 pub use change::{Base, Change, Put, identity_change, put_register};
@@ -23,4 +23,4 @@ pub use changed_states::changed_value;
 pub use effect::change_of;
 pub use laws::{effect_laws, operation_laws, refinement_laws};
 pub use operands::arg_word;
-pub use registers::{A10, is_lower_slot, only_register_word, reg};
+pub use registers::{A10, is_lower_slot, singleton_word, reg};

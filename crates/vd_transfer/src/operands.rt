@@ -6,8 +6,8 @@ ghost use Rattle.tc_isa.specs.InBounds.{IsArg};
 ghost use Rattle.vd_transfer.specs.Registers.{arg_of, arg_slot, is_operand_register};
 ghost use Rattle.tc_isa.specs.declared.shapes.Arg.TheVariants.{Word};
 
-use crate::operations::operation;
-use crate::registers::{only_register_word, reg_in, reg_value, slot_of};
+use crate::operations::write_operation;
+use crate::registers::{singleton_word, reg_in_state, reg_value, slot_of};
 use tc_isa::{Arg, Op};
 use tcd_plan::Plan;
 use value_domain::{Bounds, State, Val, copy_to, set_word};
@@ -32,14 +32,14 @@ pub(crate) fn operand_slot(a: Arg) -> Option<usize>
 
 /// Returns the value of an operand in place, if a state has one for it.
 #[inline(always)]
-pub(crate) fn arg_in<'a>(b: &Bounds, plan: &Plan, s: &'a State, a: Arg) -> Option<&'a Val>
+pub(crate) fn arg_in_state<'a>(b: &Bounds, plan: &Plan, s: &'a State, a: Arg) -> Option<&'a Val>
     requires operand { IsArg a }
     requires values { AreValues b.now s.now.regs }
     ensures arg { IfSome result (λ v. v.now ≡ arg_of plan.now s.now a) }
     ensures value { IfSome result (λ v. IsValue b.now v.now) }
 {
     match a {
-        Arg::Reg(r) => reg_in(b, plan, s, r),
+        Arg::Reg(r) => reg_in_state(b, plan, s, r),
         Arg::Word(_) => None,
     }
 }
@@ -54,8 +54,8 @@ pub fn arg_word(b: &Bounds, plan: &Plan, s: &State, a: Arg) -> Option<u32>
 {
     let _most_words = b.most_words();
     match a {
-        Arg::Reg(r) => match reg_in(b, plan, s, r) {
-            Some(v) => only_register_word(v),
+        Arg::Reg(r) => match reg_in_state(b, plan, s, r) {
+            Some(v) => singleton_word(v),
             None => None,
         },
         Arg::Word(w) => Some(w),
@@ -75,7 +75,7 @@ pub(crate) fn constant_operand(b: &Bounds, w: u32) -> Val
 /// Returns the value of an operand. It is a function of its own, so that a caller that needs none
 /// built needs no stack for it.
 #[inline(never)]
-pub(crate) fn arg(b: &Bounds, plan: &Plan, s: &State, a: Arg) -> Val
+pub(crate) fn build_arg(b: &Bounds, plan: &Plan, s: &State, a: Arg) -> Val
     requires operand { IsArg a }
     requires values { AreValues b.now s.now.regs }
     ensures arg { result ≡ arg_of plan.now s.now a }
@@ -94,14 +94,14 @@ pub(crate) fn write_arg(b: &Bounds, plan: &Plan, s: &State, a: Arg, out: &mut Va
     ensures arg { out.new ≡ arg_of plan.now s.now a }
     ensures value { IsValue b.now out.new }
 {
-    match arg_in(b, plan, s, a) {
+    match arg_in_state(b, plan, s, a) {
         Some(v) => copy_to(v, out),
-        None => write_made(b, plan, s, a, out),
+        None => write_built_arg(b, plan, s, a, out),
     }
 }
 
 /// Returns true if the operand is this register.
-pub(crate) fn is_same_operand(x: u8, y: Arg) -> bool
+pub(crate) fn is_register_operand(x: u8, y: Arg) -> bool
     ensures { result ≡ is_operand_register x y }
 {
     match y {
@@ -123,11 +123,11 @@ pub(crate) fn write_constant(b: &Bounds, x: u32, out: &mut Val)
 /// Overwrites a value with that of an operand that has to be built. It is a function of its own, so
 /// that its callers need no stack for a value.
 #[inline(never)]
-fn write_made(b: &Bounds, plan: &Plan, s: &State, a: Arg, out: &mut Val)
+fn write_built_arg(b: &Bounds, plan: &Plan, s: &State, a: Arg, out: &mut Val)
     requires operand { IsArg a }
     requires values { AreValues b.now s.now.regs }
     ensures arg { out.new ≡ arg_of plan.now s.now a }
     ensures value { IsValue b.now out.new }
 {
-    *out = arg(b, plan, s, a);
+    *out = build_arg(b, plan, s, a);
 }

@@ -15,8 +15,8 @@ ghost use Rattle.vd_transfer.specs.Changes.{state_after};
 use crate::branch_sides::{Comparison, narrow_side_register, relation_on_side};
 use crate::change::Change;
 use crate::operands::operand_slot;
-use crate::signed_refinement::{is_signed, narrow_signed};
-use value_domain::{Bounds, State, Val, add_value, extent_of, write_meet, write_meet_with_words};
+use crate::signed_refinement::{is_signed_condition, refine_by_signed_relation};
+use value_domain::{Bounds, State, Val, join_into, extent_of, write_meet, write_meet_with_words};
 
 /// A relation between two words.
 #[derive(Clone, Copy, PartialEq, Eq)]
@@ -40,7 +40,7 @@ pub(crate) const NONE: Interval = Interval { lo: 1, last: 0 };
 
 /// Returns the words that are in a relation to some word from `low` to `high`, as two intervals.
 #[tactic(auto, unfolding(crate::specs::Relations::Reaches))]
-pub(crate) fn words_reached(rel: Relation, low: u32, high: u32) -> (Interval, Interval)
+pub(crate) fn related_intervals(rel: Relation, low: u32, high: u32) -> (Interval, Interval)
     ensures { (x : ℕ) → x < 2 ^ 32 → (IsInInterval result.0 x ⊎ IsInInterval result.1 x)
         ↔ Reaches rel low high x }
 {
@@ -71,7 +71,7 @@ pub fn refine_by_relation(b: &Bounds, rel: Relation, v: &Val, w: &Val, out: &mut
 
 /// Widens a value by the members of `v` in an interval. If nothing was found before, the value
 /// becomes the cover of these members. Returns false if nothing is found, before or now.
-pub(crate) fn add_refined_members(
+pub(crate) fn join_members_in_interval(
     b: &Bounds,
     v: &Val,
     i: Interval,
@@ -112,8 +112,8 @@ pub(crate) fn refine_left_operand(
     ensures value { IfSome (meet_if result out.new) (IsValue b.now) }
 {
     let rel = relation_on_side(test.cond, test.side);
-    if is_signed(test.cond) {
-        narrow_signed(b, rel, v, w, out)
+    if is_signed_condition(test.cond) {
+        refine_by_signed_relation(b, rel, v, w, out)
     } else {
         refine_by_relation(b, rel, v, w, out)
     }
@@ -211,9 +211,9 @@ fn refine_by_intervals(b: &Bounds, rel: Relation, v: &Val, w: &Val, out: &mut Va
     ensures value { IfSome (meet_if result out.new) (IsValue b.now) }
 {
     let e = extent_of(w);
-    let (first, second) = words_reached(rel, e.least, e.greatest);
+    let (first, second) = related_intervals(rel, e.least, e.greatest);
     let found = write_meet(b, v, first.lo, first.last, 0, out);
-    add_refined_members(b, v, second, found, out)
+    join_members_in_interval(b, v, second, found, out)
 }
 
 /// Widens a value by the members of `v` in an interval. It is a function of its own, so that its
@@ -231,7 +231,7 @@ fn join_refined_members(b: &Bounds, v: &Val, i: Interval, out: &mut Val)
     if !write_meet(b, v, i.lo, i.last, 0, &mut others) {
         return;
     }
-    add_value(b, out, &others);
+    join_into(b, out, &others);
 }
 
 /// Overwrites `out` with the cover of the members of `w` for which some member of `v` makes the
@@ -244,8 +244,8 @@ fn refine_right_operand(b: &Bounds, test: Comparison, v: &Val, w: &Val, out: &mu
     ensures value { IfSome (meet_if result out.new) (IsValue b.now) }
 {
     let rel = converse(relation_on_side(test.cond, test.side));
-    if is_signed(test.cond) {
-        narrow_signed(b, rel, w, v, out)
+    if is_signed_condition(test.cond) {
+        refine_by_signed_relation(b, rel, w, v, out)
     } else {
         refine_by_relation(b, rel, w, v, out)
     }

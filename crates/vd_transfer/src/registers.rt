@@ -32,7 +32,7 @@ pub(crate) fn slot_of(r: u8) -> Option<usize>
 
 /// Returns the word of a register's value that is a Set of one word, or `None` for any other value.
 #[inline(always)]
-pub fn only_register_word(v: &Val) -> Option<u32>
+pub fn singleton_word(v: &Val) -> Option<u32>
     ensures { IfSome result (λ w. v.now ≡ word_val w) }
 {
     match v {
@@ -96,7 +96,7 @@ pub(crate) fn reg_value(b: &Bounds, plan: &Plan, s: &State, r: u8) -> Val
 
 /// Returns the value of a register in place, if a state has one for it.
 #[inline(always)]
-pub(crate) fn reg_in<'a>(b: &Bounds, plan: &Plan, s: &'a State, r: u8) -> Option<&'a Val>
+pub(crate) fn reg_in_state<'a>(b: &Bounds, plan: &Plan, s: &'a State, r: u8) -> Option<&'a Val>
     requires register { r < 32 }
     requires values { AreValues b.now s.now.regs }
     ensures reg { IfSome result (λ v. v.now ≡ reg_of plan.now s.now r) }

@@ -8,7 +8,7 @@ ghost use Rattle.vd_transfer.specs.Intervals.{IsInInterval};
 ghost use Rattle.vd_transfer.specs.Signs.{IsSignedRange, signed_related_words, is_signed};
 ghost use Rattle.vd_transfer.specs.declared.refinement.Relation.TheVariants.{Same};
 
-use crate::refinement::{Interval, NONE, Relation, add_refined_members, words_reached};
+use crate::refinement::{Interval, NONE, Relation, join_members_in_interval, related_intervals};
 use tc_isa::Cond;
 use value_domain::{Bounds, Val, extent_of, write_meet};
 
@@ -16,7 +16,7 @@ const HALF: u32 = 1 << 31;
 
 /// Overwrites `out` with the cover of the members of `v` that are in a relation to some member of
 /// `w` in the signed order. Returns false if there are none; then `out` may be any value.
-pub fn narrow_signed(b: &Bounds, rel: Relation, v: &Val, w: &Val, out: &mut Val) -> bool
+pub fn refine_by_signed_relation(b: &Bounds, rel: Relation, v: &Val, w: &Val, out: &mut Val) -> bool
     requires left { IsValue b.now v.now }
     requires right { IsValue b.now w.now }
     requires order { rel ≢ Same }
@@ -25,17 +25,17 @@ pub fn narrow_signed(b: &Bounds, rel: Relation, v: &Val, w: &Val, out: &mut Val)
     ensures value { IfSome (meet_if result out.new) (IsValue b.now) }
 {
     let (low, high) = signed_range(w);
-    let (i, j) = words_reached(rel, signed_place(low), signed_place(high));
+    let (i, j) = related_intervals(rel, place_in_signed_order(low), place_in_signed_order(high));
     let (first, second) = signed_interval_parts(i);
     let (third, fourth) = signed_interval_parts(j);
     let one = write_meet(b, v, first.lo, first.last, 0, out);
-    let two = add_refined_members(b, v, second, one, out);
-    let three = add_refined_members(b, v, third, two, out);
-    add_refined_members(b, v, fourth, three, out)
+    let two = join_members_in_interval(b, v, second, one, out);
+    let three = join_members_in_interval(b, v, third, two, out);
+    join_members_in_interval(b, v, fourth, three, out)
 }
 
 /// Returns a word's position in the signed order.
-pub(crate) fn signed_place(x: u32) -> u32
+pub(crate) fn place_in_signed_order(x: u32) -> u32
     ensures { result ≡ signed_order_place x }
 {
     x.wrapping_add(1 << 31)
@@ -43,7 +43,7 @@ pub(crate) fn signed_place(x: u32) -> u32
 
 /// Returns true if a condition is of the signed order.
 #[tactic(auto, unfolding(crate::specs::Signs::is_signed))]
-pub(crate) fn is_signed(cond: Cond) -> bool
+pub(crate) fn is_signed_condition(cond: Cond) -> bool
     ensures { result ≡ is_signed cond }
 {
     match cond {
@@ -58,8 +58,8 @@ fn signed_range(v: &Val) -> (u32, u32)
     ensures { IsSignedRange (members v.now) result.0 result.1 }
 {
     match v {
-        Val::Set(words) => signed_words(words.as_slice()),
-        Val::Span { lo, last, step } => signed_span(*lo, *last, *step),
+        Val::Set(words) => signed_range_of_words(words.as_slice()),
+        Val::Span { lo, last, step } => signed_range_of_span(*lo, *last, *step),
     }
 }
 
@@ -88,7 +88,7 @@ fn signed_interval_parts(i: Interval) -> (Interval, Interval)
 }
 
 /// Returns the least and the greatest of these words in the signed order.
-fn signed_words(words: &[u32]) -> (u32, u32)
+fn signed_range_of_words(words: &[u32]) -> (u32, u32)
     requires { 1 ≤ length words.now }
     ensures { IsSignedRange words.now result.0 result.1 }
 {
@@ -102,7 +102,7 @@ fn signed_words(words: &[u32]) -> (u32, u32)
 }
 
 /// Returns the least and the greatest member of a Span in the signed order.
-fn signed_span(lo: u32, last: u32, step: u8) -> (u32, u32)
+fn signed_range_of_span(lo: u32, last: u32, step: u8) -> (u32, u32)
     requires { IsWell (Span lo last step) }
     ensures { IsSignedRange (range lo last step) result.0 result.1 }
 {
@@ -121,7 +121,7 @@ fn signed_min(x: u32, low: u32) -> u32
     ensures below_x { signed_order_place result ≤ signed_order_place x }
     ensures below_low { signed_order_place result ≤ signed_order_place low }
 {
-    if signed_place(x) < signed_place(low) {
+    if place_in_signed_order(x) < place_in_signed_order(low) {
         x
     } else {
         low
@@ -134,7 +134,7 @@ fn signed_max(x: u32, high: u32) -> u32
     ensures above_x { signed_order_place x ≤ signed_order_place result }
     ensures above_high { signed_order_place high ≤ signed_order_place result }
 {
-    if signed_place(high) < signed_place(x) {
+    if place_in_signed_order(high) < place_in_signed_order(x) {
         x
     } else {
         high

@@ -24,25 +24,25 @@ const ANY: StridedInterval = StridedInterval {
 
 /// Returns the multiples that a row covers.
 #[tactic(auto, unfolding(crate::specs::Intervals::interval_of_row))]
-pub(crate) fn interval_of_row(op: Op, e: &Extent, f: &Extent, w: &Val) -> StridedInterval
+pub(crate) fn result_interval(op: Op, e: &Extent, f: &Extent, w: &Val) -> StridedInterval
     requires left { e.now.least ≤ e.now.greatest }
     requires right { f.now.least ≤ f.now.greatest }
     ensures { result ≡ interval_of_row op e.now f.now w.now }
 {
     match op {
-        Op::Add => sum(e, f),
-        Op::Sub => difference(e, f),
+        Op::Add => sum_interval(e, f),
+        Op::Sub => difference_interval(e, f),
         Op::And => StridedInterval {
             first: 0,
             last: e.greatest.min(f.greatest),
             step: e.step.max(f.step),
         },
         Op::Sh => match w.words() {
-            Some([count]) => shift(e, (*count % 64) as u8),
+            Some([count]) => shift_interval(e, (*count % 64) as u8),
             _ => ANY,
         },
         Op::Sha => match w.words() {
-            Some([count]) => signed_shift(e, (*count % 64) as u8),
+            Some([count]) => signed_shift_interval(e, (*count % 64) as u8),
             _ => ANY,
         },
         _ => ANY,
@@ -51,7 +51,7 @@ pub(crate) fn interval_of_row(op: Op, e: &Extent, f: &Extent, w: &Val) -> Stride
 
 /// Returns the interval of the sums of two extents, modulo 2^32.
 #[tactic(auto, unfolding(crate::specs::Intervals::sums))]
-fn sum(e: &Extent, f: &Extent) -> StridedInterval
+fn sum_interval(e: &Extent, f: &Extent) -> StridedInterval
     requires left { e.now.least ≤ e.now.greatest }
     requires right { f.now.least ≤ f.now.greatest }
     ensures { result
@@ -83,7 +83,7 @@ fn sum(e: &Extent, f: &Extent) -> StridedInterval
 
 /// Returns the interval of the differences of two extents, modulo 2^32.
 #[tactic(auto, unfolding(crate::specs::Intervals::differences))]
-fn difference(e: &Extent, f: &Extent) -> StridedInterval
+fn difference_interval(e: &Extent, f: &Extent) -> StridedInterval
     requires left { e.now.least ≤ e.now.greatest }
     requires right { f.now.least ≤ f.now.greatest }
     ensures { result
@@ -116,7 +116,7 @@ fn difference(e: &Extent, f: &Extent) -> StridedInterval
 
 /// Returns the interval of an extent shifted by the six bits `n`, filled with zeros.
 #[tactic(auto, unfolding(crate::specs::Intervals::shifts))]
-fn shift(e: &Extent, n: u8) -> StridedInterval
+fn shift_interval(e: &Extent, n: u8) -> StridedInterval
     requires count { n < 64 }
     requires order { e.now.least ≤ e.now.greatest }
     ensures { result ≡ shifts e.now.least e.now.greatest e.now.step n }
@@ -150,13 +150,13 @@ fn shift(e: &Extent, n: u8) -> StridedInterval
 
 /// Returns the interval of an extent shifted by the six bits `n`, filled with the sign bit.
 #[tactic(auto, unfolding(crate::specs::Intervals::signed_shifts))]
-fn signed_shift(e: &Extent, n: u8) -> StridedInterval
+fn signed_shift_interval(e: &Extent, n: u8) -> StridedInterval
     requires count { n < 64 }
     requires order { e.now.least ≤ e.now.greatest }
     ensures { result ≡ signed_shifts e.now.least e.now.greatest e.now.step n }
 {
     if n < 32 || e.greatest < 0x8000_0000 {
-        shift(e, n)
+        shift_interval(e, n)
     } else {
         ANY
     }

@@ -3,7 +3,7 @@ ghost use Rattle.std.specs.Prelude.{Ok, IfOk, IfSome, IsTrue, Some, ℕ, ◌+◌
 ghost use Rattle.frame_places.specs.RowNeeds.{AreRowsWithin, AreNeedsLow, MeetsCapped, PassesRow, PassesRows, LeastNeeds};
 ghost use Rattle.frame_places.specs.declared.needs.row.NeedRow.{NeedRow};
 
-use crate::needs::row::{NeedRow, need_of};
+use crate::needs::row::{NeedRow, need_by_row};
 use std::alloc::{AllocError, Global};
 
 /// Makes one pass over the rows: raises needs that are too low, and returns whether there were any.
@@ -18,7 +18,7 @@ fn raise_low_needs(needs: &mut [u32], rows: &[NeedRow], cap: u32) -> bool
 {
     let mut changed = false;
     for i in (0..rows.len()).rev() {
-        if raise_row(needs, &rows[i], cap) {
+        if raise_need_by_row(needs, &rows[i], cap) {
             changed = true;
         }
     }
@@ -26,7 +26,7 @@ fn raise_low_needs(needs: &mut [u32], rows: &[NeedRow], cap: u32) -> bool
 }
 
 /// Makes passes until nothing changes.
-fn run_passes(needs: &mut [u32], rows: &[NeedRow], cap: u32)
+fn raise_needs_until_met(needs: &mut [u32], rows: &[NeedRow], cap: u32)
     requires cap { cap < 2 ^ 16 }
     requires nodes { length needs.old < 2 ^ 16 }
     requires within { AreRowsWithin rows.now (length needs.old) }
@@ -39,7 +39,7 @@ fn run_passes(needs: &mut [u32], rows: &[NeedRow], cap: u32)
 }
 
 /// Raises the need of one row's node if it is too low, and returns whether it was.
-fn raise_row(needs: &mut [u32], row: &NeedRow, cap: u32) -> bool
+fn raise_need_by_row(needs: &mut [u32], row: &NeedRow, cap: u32) -> bool
     requires cap { cap < 2 ^ 16 }
     requires nodes { length needs.old < 2 ^ 16 }
     requires node { row.now.node < length needs.old }
@@ -48,7 +48,7 @@ fn raise_row(needs: &mut [u32], row: &NeedRow, cap: u32) -> bool
     requires capped { (k : ℕ) → slice_index needs.old k ≤ cap + 1 }
     ensures pass { PassesRow cap needs.old needs.new row.now result }
 {
-    let need = need_of(needs, row, cap);
+    let need = need_by_row(needs, row, cap);
     if needs[row.node] < need {
         needs[row.node] = need;
         return true;
@@ -73,8 +73,8 @@ pub fn least_needs(
     ensures { LeastNeeds nodes rows.now cap result }
 {
     let mut needs = vec![in alloc; 0u32; nodes]?;
-    run_passes(&mut needs, rows, cap);
-    match first_above(&needs, cap) {
+    raise_needs_until_met(&mut needs, rows, cap);
+    match first_need_above(&needs, cap) {
         None => Ok(Some(needs)),
         Some(_) => Ok(None),
     }
@@ -82,7 +82,7 @@ pub fn least_needs(
 
 /// Returns the least needs if a few passes find them. If a frame is recursive, needs rise to the
 /// cap in many passes.
-pub fn soon_needs(
+pub fn needs_by_few_passes(
     alloc: Global,
     nodes: usize,
     rows: &[NeedRow],
@@ -95,10 +95,10 @@ pub fn soon_needs(
         (λ needs. LeastNeeds nodes rows.now cap (Ok (Some needs)))) }
 {
     let mut needs = vec![in alloc; 0u32; nodes]?;
-    if !run_few_passes(&mut needs, rows, cap) {
+    if !raise_needs_in_few_passes(&mut needs, rows, cap) {
         return Ok(None);
     }
-    match first_above(&needs, cap) {
+    match first_need_above(&needs, cap) {
         None => Ok(Some(needs)),
         Some(_) => Ok(None),
     }
@@ -106,7 +106,7 @@ pub fn soon_needs(
 
 /// Returns the first node whose need is above the cap, if there is one: then the least needs aren't
 /// all within the cap.
-fn first_above(needs: &[u32], cap: u32) -> Option<usize>
+fn first_need_above(needs: &[u32], cap: u32) -> Option<usize>
     ensures { MatchOption result
         (EachIndex needs.now (λ k. slice_index needs.now k ≤ cap))
         (λ k. (k < length needs.now) × (cap < slice_index needs.now k)) }
@@ -115,7 +115,7 @@ fn first_above(needs: &[u32], cap: u32) -> Option<usize>
 }
 
 /// Makes a few passes, and returns whether the last one changed nothing.
-fn run_few_passes(needs: &mut [u32], rows: &[NeedRow], cap: u32) -> bool
+fn raise_needs_in_few_passes(needs: &mut [u32], rows: &[NeedRow], cap: u32) -> bool
     requires cap { cap < 2 ^ 16 }
     requires nodes { length needs.old < 2 ^ 16 }
     requires within { AreRowsWithin rows.now (length needs.old) }

@@ -2,18 +2,18 @@
 ghost use Rattle.std.specs.Prelude.{◌≡◌, ℕ, IsTrue, slice_index};
 ghost use Rattle.frame_places.specs.NodeGraph.{IsRecurring};
 
-use crate::needs::reach::{FrameEdge, edge_sources};
+use crate::needs::reach::{FrameEdge, predecessors};
 use indexmap::IndexMap;
 use std::alloc::{AllocError, Global};
 
 /// Returns a rank for each node: below the ranks of all nodes that it enters, or 0 if it leads to a
-/// node that is reached from itself. Nobody relies on that: `do_ranks_rise` tells.
+/// node that is reached from itself. Nobody relies on that: `are_ranks_rising` tells.
 pub fn node_ranks(
     alloc: Global,
     nodes: usize,
     edges: &[FrameEdge],
 ) -> Result<Vec<usize>, AllocError> {
-    let sources = edge_sources(alloc, edges)?;
+    let sources = predecessors(alloc, edges)?;
     let mut left = vec![in alloc; 0usize; nodes]?;
     for edge in edges {
         if let Some(count) = left.get_mut(edge.node) {
@@ -22,7 +22,7 @@ pub fn node_ranks(
     }
     let mut work = Vec::new(alloc);
     for node in 0..nodes {
-        if number_at(left.as_slice(), node) == 0 {
+        if number_or_zero(left.as_slice(), node) == 0 {
             work.push(node)?;
         }
     }
@@ -34,13 +34,13 @@ pub fn node_ranks(
         if let Some(place) = ranks.get_mut(node) {
             *place = rank;
         }
-        queue_sources(&sources, node, &mut left, &mut work)?;
+        queue_predecessors(&sources, node, &mut left, &mut work)?;
     }
     Ok(ranks)
 }
 
 /// Returns the number that a list has for a node. A node without a number has 0.
-pub fn number_at(numbers: &[usize], node: usize) -> usize
+pub fn number_or_zero(numbers: &[usize], node: usize) -> usize
     ensures { result ≡ slice_index numbers.now node }
 {
     match numbers.get(node) {
@@ -51,11 +51,11 @@ pub fn number_at(numbers: &[usize], node: usize) -> usize
 
 /// Returns true only if each edge goes to a node of a higher rank. Then no node is reached from one
 /// that it enters.
-pub(crate) fn do_ranks_rise(ranks: &[usize], edges: &[FrameEdge]) -> bool
+pub(crate) fn are_ranks_rising(ranks: &[usize], edges: &[FrameEdge]) -> bool
     ensures { IsTrue result → (k : ℕ) → IsRecurring edges.now k → ⊥ }
 {
     for edge in edges {
-        if number_at(ranks, edge.node) >= number_at(ranks, edge.into) {
+        if number_or_zero(ranks, edge.node) >= number_or_zero(ranks, edge.into) {
             return false;
         }
     }
@@ -64,7 +64,7 @@ pub(crate) fn do_ranks_rise(ranks: &[usize], edges: &[FrameEdge]) -> bool
 
 /// Takes a node, which has its rank now, off those that its sources enter, and queues the sources
 /// for which none is left.
-fn queue_sources(
+fn queue_predecessors(
     sources: &IndexMap<usize, Vec<usize>>,
     node: usize,
     left: &mut [usize],

@@ -2,7 +2,7 @@
 ghost use Rattle.std.specs.Prelude.{◌≡◌, ◌<◌, ◌↔◌, ℕ, IsTrue, IfOk, OnOk, length, slice_index_or, false, Contains, [], ◌∷◌, ◌+◌};
 ghost use Rattle.frame_places.specs.NodeGraph.{AddsEdges, AddsEdgeSource, AreEdgeSourcesBelow, AreEdgesBetween, AreEdges, AreReaching, AreReachingBy, AreEdgeSources, HasMarkedNext, IsFirstRecurringBefore, IsFirstRecurring, IsRecurring, MarksNodes, SettlesMarks, IsNodeMarked};
 
-use crate::needs::ranks::do_ranks_rise;
+use crate::needs::ranks::are_ranks_rising;
 use crate::needs::row::NeedRow;
 use indexmap::{IndexMap, IndexSet};
 use std::alloc::{AllocError, AllocFailed, Global};
@@ -39,17 +39,17 @@ pub fn nodes_reaching(
     requires edges { AreEdgesBetween edges.now nodes }
     ensures { IfOk result (λ marks. AreReaching edges.now nodes node marks.items) }
 {
-    let sources = edge_sources(alloc, edges)?;
-    nodes_reaching_by(alloc, nodes, &sources, node)
+    let sources = predecessors(alloc, edges)?;
+    nodes_reaching_by_predecessors(alloc, nodes, &sources, node)
 }
 
 /// Returns whether one of these nodes of the graph of entries is marked, as one from which the
 /// given node is reached.
-pub fn has_reaching_node(marks: &[bool], nodes: &[usize]) -> bool
+pub fn has_marked_node(marks: &[bool], nodes: &[usize]) -> bool
     ensures { IsTrue result ↔ ((t : ℕ) × Contains nodes.now t × IsNodeMarked marks.now t) }
 {
     for node in nodes {
-        if is_reaching_node(marks, *node) {
+        if is_marked_node(marks, *node) {
             return true;
         }
     }
@@ -58,7 +58,7 @@ pub fn has_reaching_node(marks: &[bool], nodes: &[usize]) -> bool
 
 /// Returns the recursive node of the graph that is first in this order. A node is recursive if it
 /// is reached from one that it enters. If the ranks rise along each edge, none is.
-pub fn first_recurring(
+pub fn first_recursive_node(
     alloc: Global,
     orders: &[u64],
     edges: &[FrameEdge],
@@ -67,13 +67,13 @@ pub fn first_recurring(
     requires { AreEdgesBetween edges.now (length orders.now) }
     ensures { IfOk result (IsFirstRecurring orders.now edges.now) }
 {
-    if do_ranks_rise(ranks, edges) {
+    if are_ranks_rising(ranks, edges) {
         return Ok(None);
     }
-    let sources = edge_sources(alloc, edges)?;
+    let sources = predecessors(alloc, edges)?;
     let mut first = None;
     for node in 0..orders.len() {
-        first = first_recurring_up_to(alloc, orders, edges, &sources, node, first)?;
+        first = first_recursive_node_up_to(alloc, orders, edges, &sources, node, first)?;
     }
     Ok(first)
 }
@@ -95,7 +95,7 @@ fn add_edges(
 
 /// Returns the sources of each node of the graph: the nodes that enter it, so that it is reached
 /// from them.
-pub(crate) fn edge_sources(
+pub(crate) fn predecessors(
     alloc: Global,
     edges: &[FrameEdge],
 ) -> Result<IndexMap<usize, Vec<usize>>, AllocError>
@@ -103,13 +103,13 @@ pub(crate) fn edge_sources(
 {
     let mut sources = IndexMap::new(alloc);
     for edge in edges {
-        add_edge_source(alloc, &mut sources, *edge)?;
+        add_predecessor(alloc, &mut sources, *edge)?;
     }
     Ok(sources)
 }
 
 /// Marks the nodes from which this one is reached, by the sources of each.
-fn nodes_reaching_by(
+fn nodes_reaching_by_predecessors(
     alloc: Global,
     nodes: usize,
     sources: &IndexMap<usize, Vec<usize>>,
@@ -123,12 +123,12 @@ fn nodes_reaching_by(
     marks[node] = true;
     let mut work = Vec::new(alloc);
     work.push(node)?;
-    settle_reaching_marks(&mut marks, &mut work, sources)?;
+    mark_all_reaching_nodes(&mut marks, &mut work, sources)?;
     Ok(marks)
 }
 
 /// Adds the source of an edge to those of the node that it enters.
-fn add_edge_source(
+fn add_predecessor(
     alloc: Global,
     sources: &mut IndexMap<usize, Vec<usize>>,
     edge: FrameEdge,
@@ -146,7 +146,7 @@ fn add_edge_source(
 }
 
 /// Marks all nodes of the graph from which a queued node is reached along edges.
-fn settle_reaching_marks(
+fn mark_all_reaching_nodes(
     marks: &mut [bool],
     work: &mut Vec<usize>,
     sources: &IndexMap<usize, Vec<usize>>,
@@ -196,7 +196,7 @@ fn mark_reaching_node(
 }
 
 /// Returns whether the node is marked. A number without a node isn't.
-fn is_reaching_node(marks: &[bool], node: usize) -> bool
+fn is_marked_node(marks: &[bool], node: usize) -> bool
     ensures { result ≡ slice_index_or marks.now node false }
 {
     match marks.get(node) {
@@ -207,7 +207,7 @@ fn is_reaching_node(marks: &[bool], node: usize) -> bool
 
 /// Returns the first in order of the nodes that are reached from themselves along edges of the
 /// graph, up to this node by number. `first` is that of the nodes before it.
-fn first_recurring_up_to(
+fn first_recursive_node_up_to(
     alloc: Global,
     orders: &[u64],
     edges: &[FrameEdge],
@@ -226,7 +226,7 @@ fn first_recurring_up_to(
             return Ok(Some(other));
         }
     }
-    if is_recurring(alloc, orders.len(), edges, sources, node)? {
+    if is_recursive_node(alloc, orders.len(), edges, sources, node)? {
         Ok(Some(node))
     } else {
         Ok(first)
@@ -234,7 +234,7 @@ fn first_recurring_up_to(
 }
 
 /// Returns whether the node is reached from one that it enters.
-fn is_recurring(
+fn is_recursive_node(
     alloc: Global,
     nodes: usize,
     edges: &[FrameEdge],
@@ -246,13 +246,13 @@ fn is_recurring(
     requires sources { AreEdgeSources edges.now sources.now }
     ensures { IfOk result (λ recurs. IsTrue recurs ↔ IsRecurring edges.now node) }
 {
-    let marks = nodes_reaching_by(alloc, nodes, sources, node)?;
-    Ok(has_marked_next(marks.as_slice(), edges, node))
+    let marks = nodes_reaching_by_predecessors(alloc, nodes, sources, node)?;
+    Ok(has_marked_successor(marks.as_slice(), edges, node))
 }
 
 /// Returns whether the node of the graph enters a marked one, from which the node that is looked
 /// for is reached.
-fn has_marked_next(marks: &[bool], edges: &[FrameEdge], node: usize) -> bool
+fn has_marked_successor(marks: &[bool], edges: &[FrameEdge], node: usize) -> bool
     requires { AreEdgesBetween edges.now (length marks.now) }
     ensures { IsTrue result ↔ HasMarkedNext marks.now edges.now node }
 {

@@ -15,7 +15,7 @@ pub struct NeedRow {
 }
 
 /// Returns the need that one row asks for, at most one more than the cap.
-pub(crate) fn need_of(needs: &[u32], row: &NeedRow, cap: u32) -> u32
+pub(crate) fn need_by_row(needs: &[u32], row: &NeedRow, cap: u32) -> u32
     requires cap { cap < 2 ^ 16 }
     requires held { row.now.held < 2 ^ 8 }
     requires low { (k : ℕ) → slice_index needs.now k ≤ cap + 1 }

@@ -5,8 +5,8 @@ ghost use Rattle.tcd_reading.specs.Outcomes.{IsCommandOutcome, IsToldOutcome};
 use std::alloc::Global;
 use tc_object::Object;
 use tcd_base::Files;
-use tcd_forms::{SourceFile, assembled_line};
-use tcd_reading::{Outcome, Stop, read_input, report_file};
+use tcd_forms::{SourceFile, assembled_object_line};
+use tcd_reading::{Outcome, Stop, read_input, report_with_file};
 
 /// Reads a source and assembles it.
 #[inline(never)]
@@ -29,8 +29,8 @@ fn object_report(alloc: Global, name: &str, object: &Object) -> Outcome
 {
     match object.write(alloc) {
         Ok(bytes) => {
-            let line = assembled_line(alloc, &bytes)?;
-            Ok(report_file(alloc, name, bytes, line)?)
+            let line = assembled_object_line(alloc, &bytes)?;
+            Ok(report_with_file(alloc, name, bytes, line)?)
         }
         Err(_) => Err(Stop::NoMemory),
     }

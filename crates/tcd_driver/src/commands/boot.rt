@@ -16,7 +16,7 @@ use tcd_reading::{Outcome, Report, Status, read_input};
 /// Reads the three files, and reports whether the certificate is accepted and the boot sequence is
 /// at this address.
 #[inline(never)]
-pub(crate) fn boot_files<F: Files>(
+pub(crate) fn check_boot_files<F: Files>(
     alloc: Global,
     elf: &str,
     plan: &str,

@@ -8,11 +8,11 @@ use tc_boot::boot_source;
 use tcd_base::Files;
 use tcd_forms::{PlanFile, copy_printed_line, generated_boot_line};
 use tcd_plan::Plan;
-use tcd_reading::{Outcome, read_input, report_file};
+use tcd_reading::{Outcome, read_input, report_with_file};
 
 /// Reads a plan, and makes the source of the boot sequence at this address for this entry.
 #[inline(never)]
-pub(crate) fn generate_boot<F: Files>(
+pub(crate) fn generate_boot_source<F: Files>(
     alloc: Global,
     plan: &str,
     entry: u32,
@@ -31,15 +31,15 @@ pub(crate) fn generate_boot<F: Files>(
         (F.seen files.old) (F.seen files.new) result }
 {
     let board = read_input(&PlanFile, alloc, plan, files)?;
-    boot_report(alloc, &board, entry, at, source)
+    bootgen_report(alloc, &board, entry, at, source)
 }
 
 // The report with the source of a boot sequence to write under this name.
-fn boot_report(alloc: Global, plan: &Plan, entry: u32, at: u32, source: &str) -> Outcome
+fn bootgen_report(alloc: Global, plan: &Plan, entry: u32, at: u32, source: &str) -> Outcome
     requires { at + 224 ≤ 2 ^ 32 }
     ensures { IsToldOutcome (WritesBoot entry at source.now plan.now) ⊥ result }
 {
     let text = boot_source(alloc, plan, entry, at)?;
     let line = copy_printed_line(alloc, generated_boot_line())?;
-    Ok(report_file(alloc, source, text.into_bytes(), line)?)
+    Ok(report_with_file(alloc, source, text.into_bytes(), line)?)
 }

@@ -4,13 +4,13 @@ ghost use Rattle.tcd_driver.specs.Cellcert.{IsCertifyingCells, cellcert_reading}
 ghost use Rattle.tcd_reading.specs.Outcomes.{IsCommandOutcome, IsToldOutcome};
 
 use crate::cell_and_task_files::CellsFile;
-use crate::cert_making::{make_least_cert, report_unmade};
+use crate::cert_making::{make_least_cert, report_no_cert};
 use elf_image::Image;
 use std::alloc::Global;
 use tcd_base::Files;
 use tcd_forms::{ElfFile, PlanFile, certified_cells_line, refused_line};
 use tcd_plan::Plan;
-use tcd_reading::{Outcome, Report, Status, read_input, report_file};
+use tcd_reading::{Outcome, Report, Status, read_input, report_with_file};
 use value_cells::{CELLS_RULE, Cells, cells_fault, with_cells};
 
 /// Reads an executable, a plan and its cells, and makes their certificate.
@@ -54,9 +54,9 @@ fn make_cells_cert(alloc: Global, name: &str, image: &Image, plan: &Plan, cells:
             None => {
                 let count = cells.list().len();
                 let line = certified_cells_line(alloc, need, areas, count)?;
-                Ok(report_file(alloc, name, cert.into_bytes(), line)?)
+                Ok(report_with_file(alloc, name, cert.into_bytes(), line)?)
             }
         },
-        Err(e) => report_unmade(alloc, e),
+        Err(e) => report_no_cert(alloc, e),
     }
 }

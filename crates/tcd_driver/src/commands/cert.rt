@@ -2,17 +2,17 @@
 ghost use Rattle.tcd_driver.specs.Cert.{IsCertifying, cert_reading};
 ghost use Rattle.tcd_reading.specs.Outcomes.{IsCommandOutcome, IsToldOutcome};
 
-use crate::cert_making::{make_best_cert, report_unmade};
+use crate::cert_making::{make_best_cert, report_no_cert};
 use elf_image::Image;
 use std::alloc::Global;
 use tcd_base::Files;
 use tcd_forms::{ElfFile, PlanFile, certified_line};
 use tcd_plan::Plan;
-use tcd_reading::{Outcome, read_input, report_file};
+use tcd_reading::{Outcome, read_input, report_with_file};
 
 /// Reads an executable and a plan, and makes their certificate.
 #[inline(never)]
-pub(crate) fn certify_files<F: Files>(
+pub(crate) fn certify_executable<F: Files>(
     alloc: Global,
     elf: &str,
     plan: &str,
@@ -35,8 +35,8 @@ fn certify_image(alloc: Global, name: &str, image: &Image, plan: &Plan) -> Outco
     match make_best_cert(alloc, image, plan) {
         Ok((cert, need)) => {
             let line = certified_line(alloc, need, plan.areas - plan.reserve)?;
-            Ok(report_file(alloc, name, cert.into_bytes(), line)?)
+            Ok(report_with_file(alloc, name, cert.into_bytes(), line)?)
         }
-        Err(e) => report_unmade(alloc, e),
+        Err(e) => report_no_cert(alloc, e),
     }
 }

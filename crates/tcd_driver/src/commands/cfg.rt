@@ -4,7 +4,7 @@ ghost use Rattle.tcd_driver.specs.Cfg.{IsCfgReport, IsCfgText, cfg_reading};
 ghost use Rattle.tcd_driver.specs.BestCert.{IsAcceptedBestCert};
 ghost use Rattle.tcd_reading.specs.Outcomes.{IsCommandOutcome, IsToldOutcome};
 
-use crate::cert_making::{make_best_cert, report_unmade};
+use crate::cert_making::{make_best_cert, report_no_cert};
 use elf_image::Image;
 use packed_cert::Cert;
 use std::alloc::Global;
@@ -34,7 +34,7 @@ fn draw_graph(alloc: Global, image: &Image, plan: &Plan) -> Outcome
             let text = cfg_command_text(alloc, image, plan, &cert)?;
             Ok(Report::of(alloc, Status::Done, text))
         }
-        Err(e) => report_unmade(alloc, e),
+        Err(e) => report_no_cert(alloc, e),
     }
 }
 

@@ -11,7 +11,7 @@ use tcd_reading::{Outcome, Report, Status, read_input};
 
 /// Reads an executable, and reports its listing.
 #[inline(never)]
-pub(crate) fn list_file<F: Files>(alloc: Global, elf: &str, files: &mut F) -> Outcome
+pub(crate) fn disassemble_file<F: Files>(alloc: Global, elf: &str, files: &mut F) -> Outcome
     ensures { IsCommandOutcome (dis_reading elf.now) (F.seen files.old) (F.seen files.new) result }
 {
     let image = read_input(&ElfFile, alloc, elf, files)?;

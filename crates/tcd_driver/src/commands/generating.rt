@@ -6,7 +6,7 @@ ghost use Rattle.tcd_report.specs.Generated.Planned.{generated_plan};
 ghost use Rattle.tcd_driver.specs.Gen.{IsGenReport};
 ghost use Rattle.tcd_reading.specs.Outcomes.{IsToldOutcome};
 
-use crate::cert_making::{make_least_cert, report_unmade};
+use crate::cert_making::{make_least_cert, report_no_cert};
 use elf_image::Image;
 use std::alloc::Global;
 use tcd_forms::generated_line;
@@ -25,7 +25,7 @@ pub(crate) fn certify_generated_image(alloc: Global, functions: u32) -> Outcome
     match Plan::read(alloc, generated_plan_text().as_bytes()) {
         Ok(plan) => report_generated_image(alloc, functions, &image, &plan),
         Err(e) => {
-            own_plan_memory_error(e);
+            assert_plan_out_of_memory(e);
             Err(Stop::NoMemory)
         }
     }
@@ -42,12 +42,12 @@ fn report_generated_image(alloc: Global, functions: u32, image: &Image, plan: &P
             let line = generated_line(alloc, functions, &cert, need, areas)?;
             Ok(Report::of(alloc, Status::Done, line))
         }
-        Err(e) => report_unmade(alloc, e),
+        Err(e) => report_no_cert(alloc, e),
     }
 }
 
 /// The cause of an error in reading a plan that the program generated: memory ran out.
-fn own_plan_memory_error(e: PlanErr)
+fn assert_plan_out_of_memory(e: PlanErr)
     requires { e ≡ plan_error.NoMemory }
 {
     match e {

@@ -12,8 +12,8 @@ use std::alloc::Global;
 use tc_link::{Layout, link_borrowed};
 use tc_object::ObjectRef;
 use tcd_base::Files;
-use tcd_forms::{LayoutFile, ObjectFile, bad_link_line, linked_line};
-use tcd_reading::{Outcome, Report, Status, Stop, read_input, report_file};
+use tcd_forms::{LayoutFile, ObjectFile, bad_link_line, linked_image_line};
+use tcd_reading::{Outcome, Report, Status, Stop, read_input, report_with_file};
 
 /// Reads a layout and objects, and links the objects by the layout.
 #[inline(never)]
@@ -84,8 +84,8 @@ fn linked_image_report(alloc: Global, name: &str, image: &Image) -> Outcome
 {
     match image.write(alloc) {
         Ok(bytes) => {
-            let line = linked_line(alloc, &bytes)?;
-            Ok(report_file(alloc, name, bytes, line)?)
+            let line = linked_image_line(alloc, &bytes)?;
+            Ok(report_with_file(alloc, name, bytes, line)?)
         }
         Err(_) => Err(Stop::NoMemory),
     }

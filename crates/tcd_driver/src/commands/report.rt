@@ -17,7 +17,7 @@ use tcd_report::report as chain_report;
 
 /// Reads the three files, and prints the report of the certificate if it is accepted.
 #[inline(never)]
-pub(crate) fn report_files<F: Files>(
+pub(crate) fn report_on_cert<F: Files>(
     alloc: Global,
     elf: &str,
     plan: &str,

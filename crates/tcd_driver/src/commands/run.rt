@@ -14,7 +14,7 @@ use tcd_reading::{Outcome, Report, Status, read_input};
 
 /// Reads the three files, runs the machine by the script, and reports how the run ended.
 #[inline(never)]
-pub(crate) fn run_files<F: Files>(
+pub(crate) fn run_script_file<F: Files>(
     alloc: Global,
     elf: &str,
     plan: &str,

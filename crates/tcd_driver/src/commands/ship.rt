@@ -5,7 +5,7 @@ ghost use Rattle.tcd_reading.specs.Inputs.{each, answer};
 ghost use Rattle.tcd_reading.specs.Outcomes.{IsCommandOutcome, IsToldOutcome};
 ghost use Rattle.tcd_driver.specs.Ship.{AreSourcesOfObjects, IsShipping, shipped_by, ship_names, ship_reading};
 
-use crate::cert_making::{make_best_cert, report_unmade};
+use crate::cert_making::{make_best_cert, report_no_cert};
 use elf_image::Image;
 use std::alloc::Global;
 use tc_link::{Layout, link};
@@ -13,7 +13,7 @@ use tc_object::Object;
 use tcd_base::{Files, NoMemory};
 use tcd_forms::{LayoutFile, PlacedSourceFile, PlanFile, bad_link_line, certified_line};
 use tcd_plan::Plan;
-use tcd_reading::{Outcome, Report, Status, Stop, Write, read_input, report_two};
+use tcd_reading::{Outcome, Report, Status, Stop, Write, read_input, report_with_two_files};
 
 /// The names of the files that `ship` reads, and of the two files that it writes.
 #[derive(Clone, Copy)]
@@ -97,9 +97,9 @@ fn ship_image(alloc: Global, names: &Shipment<'_>, plan: &Plan, image: &Image) -
         Ok((cert, need)) => {
             let line = certified_line(alloc, need, plan.areas - plan.reserve)?;
             let (first, second) = shipped_files(alloc, names, bytes, cert.into_bytes())?;
-            Ok(report_two(alloc, first, second, line)?)
+            Ok(report_with_two_files(alloc, first, second, line)?)
         }
-        Err(e) => report_unmade(alloc, e),
+        Err(e) => report_no_cert(alloc, e),
     }
 }
 

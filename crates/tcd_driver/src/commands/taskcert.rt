@@ -7,7 +7,7 @@ ghost use Rattle.tcd_driver.specs.Taskcert.{IsTaskcerting, MakesTaskViewCert, Ma
 
 use crate::cell_and_task_files::TasksFile;
 use crate::cert_making::make_least_cert;
-use crate::commands::tasks::{report_task_count, task_need_to_count};
+use crate::commands::tasks::{report_wrong_cert_count, task_need_to_count};
 use depth_maker::MakeErr;
 use elf_image::Image;
 use packed_cert::Cert;
@@ -46,7 +46,7 @@ pub(crate) fn certify_tasks<F: Files>(
     if certs.len() == list.list.len() {
         certify_all_tasks(alloc, &image, &board, &list, certs)
     } else {
-        report_task_count(alloc)
+        report_wrong_cert_count(alloc)
     }
 }
 

@@ -76,7 +76,7 @@ pub(crate) fn task_need_to_count(u: usize, need: u32) -> u32
 }
 
 /// The report that there aren't as many names of certificates as tasks.
-pub(crate) fn report_task_count(alloc: Global) -> Outcome
+pub(crate) fn report_wrong_cert_count(alloc: Global) -> Outcome
     ensures { IsToldOutcome (λ r. r ≡ says BadInput (bad_tasks_line Count)) ⊥ result }
 {
     let line = bad_tasks_line(alloc, TasksErr::Count)?;
@@ -100,7 +100,7 @@ fn read_task_certs<F: Files>(
     if names.len() == tasks.list.len() {
         read_each_task_cert(alloc, image, plan, tasks, names, files)
     } else {
-        report_task_count(alloc)
+        report_wrong_cert_count(alloc)
     }
 }
 

@@ -24,7 +24,7 @@ pub(crate) fn generated_functions(alloc: Global, n: u32) -> Result<Vec<u8>, NoMe
 }
 
 /// The address of function i.
-pub(crate) fn generated_function_at(i: u32) -> u32
+pub(crate) fn generated_function_address(i: u32) -> u32
     requires { i < 1024 }
     ensures { result ≡ generated_function_at i }
 {
@@ -33,7 +33,7 @@ pub(crate) fn generated_function_at(i: u32) -> u32
 
 /// The main program.
 #[tactic(auto, using(crate::proofs::ImageLemmas::Instructions::main_bytes))]
-pub(crate) fn main_code() -> [u8; 32]
+pub(crate) fn generated_main_code() -> [u8; 32]
     ensures { result ≡ main_code }
 {
     [
@@ -59,7 +59,7 @@ pub(crate) fn append_handler(out: &mut Vec<u8>, n: u32, p: u8) -> Result<(), NoM
     append_call(
         out,
         0x8000_2002 + 32 * u32::from(p),
-        generated_function_at(n - 1),
+        generated_function_address(n - 1),
     )?;
     append_segment_bytes(out, &[0x0d, 0x00, 0x40, 0x02, 0x00, 0x80])
 }
@@ -72,7 +72,7 @@ fn append_function(out: &mut Vec<u8>, n: u32, i: u32) -> Result<(), NoMemory>
     requires within { i < n }
     ensures { OnOk result (out.new.items ≡ out.old.items ++ function_code n i) }
 {
-    let at = generated_function_at(i);
+    let at = generated_function_address(i);
     // sub16.a a10, 8; st16.w [a10], d15
     append_segment_bytes(out, &[0x20, 0x08, 0x74, 0xaf])?;
     append_call_if_below(out, n, at + 4, 2 * i + 1)?;
@@ -89,7 +89,7 @@ fn append_call_if_below(out: &mut Vec<u8>, n: u32, at: u32, i: u32) -> Result<()
     ensures { OnOk result (out.new.items ≡ out.old.items ++ call_if_below n at i) }
 {
     if i < n {
-        append_call(out, at, generated_function_at(i))?;
+        append_call(out, at, generated_function_address(i))?;
     }
     Ok(())
 }

@@ -6,9 +6,9 @@ ghost use Rattle.tcd_plan.specs.PlanReader.{GivesPlan};
 ghost use Rattle.tcd_report.specs.Generated.{generated_image};
 ghost use Rattle.tcd_report.specs.Generated.Planned.{generated_plan, generated_text};
 
-use crate::generating::functions::{generated_functions, main_code};
-use crate::generating::program_segments::{generated_table, generated_vectors};
-use elf_image::{Image, Segment, read_segments};
+use crate::generating::functions::{generated_functions, generated_main_code};
+use crate::generating::program_segments::{generated_function_table, generated_vectors};
+use elf_image::{Image, Segment, establish_segment_bytes};
 use std::alloc::Global;
 use tcd_base::NoMemory;
 
@@ -54,9 +54,9 @@ pub fn image_of_functions(alloc: Global, n: u32) -> Result<Image, NoMemory>
     requires few { n ≤ 500 }
     ensures { IfOk result (λ i. i ≡ generated_image n) }
 {
-    let main = Vec::from_slice(alloc, &main_code())?;
+    let main = Vec::from_slice(alloc, &generated_main_code())?;
     let system = Vec::from_slice(alloc, &[0x00, 0x80])?; // rfe16
-    let table = generated_table(alloc, n)?;
+    let table = generated_function_table(alloc, n)?;
     let vectors = generated_vectors(alloc, n)?;
     let functions = generated_functions(alloc, n)?;
     let segments = Vec::from_array(
@@ -84,7 +84,7 @@ pub fn image_of_functions(alloc: Global, n: u32) -> Result<Image, NoMemory>
             },
         ],
     )?;
-    read_segments(&segments);
+    establish_segment_bytes(&segments);
     Ok(Image {
         entry: 0x8000_0000,
         segments,

@@ -3,7 +3,7 @@ ghost use Rattle.std.specs.Prelude.{◌≡◌, ◌≤◌, ◌<◌, ◌+◌, ◌*
 ghost use Rattle.tcd_report.specs.Generated.{generated_vectors, generated_function_at, generated_table};
 
 use crate::generating::appending::append_zeros;
-use crate::generating::functions::{append_handler, generated_function_at};
+use crate::generating::functions::{append_handler, generated_function_address};
 use std::alloc::Global;
 use tcd_base::{NoMemory, put_u32};
 
@@ -25,14 +25,14 @@ pub(crate) fn generated_vectors(alloc: Global, n: u32) -> Result<Vec<u8>, NoMemo
 
 /// Returns the segment of the table of a generated image: the addresses of sixteen functions, from
 /// which the main program takes one.
-pub(crate) fn generated_table(alloc: Global, n: u32) -> Result<Vec<u8>, NoMemory>
+pub(crate) fn generated_function_table(alloc: Global, n: u32) -> Result<Vec<u8>, NoMemory>
     requires some { 1 ≤ n }
     requires few { n ≤ 500 }
     ensures { IfOk result (λ v. v.items ≡ generated_table n) }
 {
     let mut out = Vec::new(alloc);
     for j in 0..16 {
-        put_u32(&mut out, generated_function_at(j % n))?;
+        put_u32(&mut out, generated_function_address(j % n))?;
     }
     Ok(out)
 }

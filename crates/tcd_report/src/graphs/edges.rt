@@ -7,10 +7,10 @@ ghost use Rattle.tcd_report.specs.Graphs.KnownHandlers.{KnowsHandlers};
 ghost use Rattle.tcd_report.specs.Judging.{duties_at};
 ghost use Rattle.depth_cert.specs.Points.{point_of};
 
-use crate::graphs::addresses::{keep_once, sort_once};
-use crate::graphs::entries::{set_entries, set_misaligned};
+use crate::graphs::addresses::{set_unique_addresses, set_sorted_addresses};
+use crate::graphs::entries::{set_kind_entries, set_misaligned_entry};
 use crate::graphs::handlers::{Handlers, find_handlers};
-use crate::graphs::successors::{push_successors, set_returns};
+use crate::graphs::successors::{push_successors, set_return_addresses};
 use crate::judged::Judged;
 use cfg_recover::{Located, push_entered_keys};
 use depth_cert::{CALL, Key, SYS};
@@ -51,20 +51,20 @@ pub(crate) fn find_edges(
 {
     ways.found.clear();
     push_successors(&mut ways.found, judged, addr, s, found)?;
-    sort_once(&mut ways.to, &ways.found)?;
+    set_sorted_addresses(&mut ways.to, &ways.found)?;
     ways.keys.clear();
     push_entered_keys(&mut ways.keys, judged.plan, key, addr, s, found.shape)?;
-    set_entries(&mut ways.found, &ways.keys, CALL)?;
-    sort_once(&mut ways.call, &ways.found)?;
-    set_entries(&mut ways.found, &ways.keys, SYS)?;
-    keep_once(&mut ways.sys, &ways.found)?;
-    set_returns(
+    set_kind_entries(&mut ways.found, &ways.keys, CALL)?;
+    set_sorted_addresses(&mut ways.call, &ways.found)?;
+    set_kind_entries(&mut ways.found, &ways.keys, SYS)?;
+    set_unique_addresses(&mut ways.sys, &ways.found)?;
+    set_return_addresses(
         &mut ways.found,
         judged.cert,
         &ways.keys,
         addr.wrapping_add(found.size),
     )?;
-    keep_once(&mut ways.back, &ways.found)?;
-    set_misaligned(&mut ways.aln, judged, key, s, found.shape)?;
+    set_unique_addresses(&mut ways.back, &ways.found)?;
+    set_misaligned_entry(&mut ways.aln, judged, key, s, found.shape)?;
     find_handlers(&mut ways.irq, &mut ways.found, judged.plan, s)
 }

@@ -13,7 +13,7 @@ use tcd_base::NoMemory;
 use value_domain::State;
 
 /// Fills the list, instead of what it held, with the entries of the frames of this kind.
-pub(crate) fn set_entries(all: &mut Vec<u32>, keys: &[Key], kind: u8) -> Result<(), NoMemory>
+pub(crate) fn set_kind_entries(all: &mut Vec<u32>, keys: &[Key], kind: u8) -> Result<(), NoMemory>
     ensures { OnOk result (all.new.items ≡ entries_of_kind kind keys.now) }
 {
     all.clear();
@@ -27,7 +27,7 @@ pub(crate) fn set_entries(all: &mut Vec<u32>, keys: &[Key], kind: u8) -> Result<
 
 /// Fills the list, instead of what it held, with the entry of the frame that the instruction enters
 /// if its access may be misaligned, else with nothing.
-pub(crate) fn set_misaligned(
+pub(crate) fn set_misaligned_entry(
     all: &mut Vec<u32>,
     judged: &Judged,
     key: &Key,

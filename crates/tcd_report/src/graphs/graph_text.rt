@@ -11,9 +11,9 @@ ghost use Rattle.tcd_report.specs.Texts.{GrowsBy};
 ghost use Rattle.depth_cert.specs.Points.{point_of};
 
 use crate::graphs::edges::{Edges, find_edges};
-use crate::graphs::handlers::{no_handlers, set_front};
+use crate::graphs::handlers::{no_handlers, set_handler_line_front};
 use crate::graphs::lines::{
-    append_edges, append_leaving, set_node_line_front, set_point_line_front,
+    append_edges, append_return, set_node_line_front, set_point_line_front,
 };
 use crate::judged::Judged;
 use cfg_recover::KnownCodes;
@@ -57,7 +57,7 @@ pub(crate) fn empty_graph_text(alloc: Global) -> Drawing
 }
 
 /// Appends a node to the text of the graph: the lines of its points, one point after another.
-pub(crate) fn append_node<'a>(
+pub(crate) fn append_node_lines<'a>(
     graph: &mut Drawing,
     judged: &Judged,
     codes: &mut KnownCodes,
@@ -75,13 +75,13 @@ pub(crate) fn append_node<'a>(
     set_node_line_front(&mut graph.key_front, &node.key)?;
     node.walk(walk);
     while let Some(addr) = walk.step() {
-        append_point(graph, judged, codes, &node.key, addr, walk.state())?;
+        append_point_lines(graph, judged, codes, &node.key, addr, walk.state())?;
     }
     Ok(())
 }
 
 // Appends the lines of a point.
-fn append_point(
+fn append_point_lines(
     graph: &mut Drawing,
     judged: &Judged,
     codes: &mut KnownCodes,
@@ -108,7 +108,7 @@ fn append_point(
     };
     find_edges(&mut graph.ways, judged, key, addr, s, &found)?;
     set_point_line_front(&mut graph.front, graph.key_front.as_str(), addr)?;
-    set_front(&mut graph.ways.irq, graph.front.as_str())?;
+    set_handler_line_front(&mut graph.ways.irq, graph.front.as_str())?;
     append_edges(&mut graph.text, graph.front.as_str(), &graph.ways)?;
-    append_leaving(&mut graph.text, graph.front.as_str(), found.shape)
+    append_return(&mut graph.text, graph.front.as_str(), found.shape)
 }

@@ -7,7 +7,7 @@ ghost use Rattle.tcd_plan.specs.PlanData.{PlanData};
 ghost use Rattle.std.specs.Str.{IsAscii};
 ghost use Rattle.tcd_text.specs.HexNumbers.{hex_word};
 
-use crate::graphs::addresses::keep_once;
+use crate::graphs::addresses::set_unique_addresses;
 use cfg_recover::{interrupts, irq_key};
 use std::alloc::Global;
 use tcd_base::NoMemory;
@@ -62,9 +62,9 @@ pub(crate) fn find_handlers(
         return Ok(());
     }
     let irqs = interrupts(plan, s);
-    set_vectors(room, plan, irqs.as_slice())?;
-    keep_once(&mut known.entries, room)?;
-    make_lines(&mut known.lines, "", &known.entries)?;
+    set_handler_entries(room, plan, irqs.as_slice())?;
+    set_unique_addresses(&mut known.entries, room)?;
+    make_handler_lines(&mut known.lines, "", &known.entries)?;
     known.front = 0;
     known.ie = s.ie;
     known.ccpn = s.ccpn;
@@ -72,7 +72,7 @@ pub(crate) fn find_handlers(
 }
 
 // Fills the list with the entries of the handlers of these interrupts, instead of what it held.
-fn set_vectors(all: &mut Vec<u32>, plan: &Plan, irqs: &[u8]) -> Result<(), NoMemory>
+fn set_handler_entries(all: &mut Vec<u32>, plan: &Plan, irqs: &[u8]) -> Result<(), NoMemory>
     ensures { OnOk result (all.new.items ≡ irq_entry_vectors plan.now irqs.now) }
 {
     all.clear();
@@ -84,7 +84,7 @@ fn set_vectors(all: &mut Vec<u32>, plan: &Plan, irqs: &[u8]) -> Result<(), NoMem
 
 /// Makes this the front of the lines of handlers. If it is as long as the front before it, it is
 /// written over that one.
-pub(crate) fn set_front(known: &mut Handlers, front: &str) -> Result<(), NoMemory>
+pub(crate) fn set_handler_line_front(known: &mut Handlers, front: &str) -> Result<(), NoMemory>
     requires { HasHandlerLines known.old.front known.old.entries.items known.old.lines.items }
     ensures lines { OnOk result (known.new.lines.items
         ≡ lines_to front.now (codes "irq ") known.new.entries.items) }
@@ -93,27 +93,27 @@ pub(crate) fn set_front(known: &mut Handlers, front: &str) -> Result<(), NoMemor
     ensures entries { OnOk result (known.new.entries.items ≡ known.old.entries.items) }
 {
     if known.front == front.len() {
-        write_fronts(&mut known.lines, front.as_bytes(), &known.entries);
+        write_handler_fronts(&mut known.lines, front.as_bytes(), &known.entries);
         return Ok(());
     }
     known.front = front.len();
-    make_lines(&mut known.lines, front, &known.entries)
+    make_handler_lines(&mut known.lines, front, &known.entries)
 }
 
 // Makes the lines of handlers with these entries.
-fn make_lines(lines: &mut Vec<u8>, front: &str, entries: &[u32]) -> Result<(), NoMemory>
+fn make_handler_lines(lines: &mut Vec<u8>, front: &str, entries: &[u32]) -> Result<(), NoMemory>
     ensures { OnOk result (lines.new.items ≡ lines_to front.now (codes "irq ") entries.now) }
 {
     lines.clear();
     for entry in entries {
         lines.extend_from_slice(front.as_bytes())?;
-        lines.extend_from_slice(&irq_end(*entry))?;
+        lines.extend_from_slice(&irq_line_end(*entry))?;
     }
     Ok(())
 }
 
 // Writes a front over those of the lines of handlers with these entries.
-fn write_fronts(lines: &mut [u8], front: &[u8], entries: &[u32])
+fn write_handler_fronts(lines: &mut [u8], front: &[u8], entries: &[u32])
     requires { HasHandlerLines (length front.now) entries.now lines.old }
     ensures { lines.new ≡ lines_to front.now (codes "irq ") entries.now }
 {
@@ -133,7 +133,7 @@ fn write_handler_front(lines: &mut [u8], at: usize, front: &[u8])
 }
 
 // The end of the line of a handler with this entry.
-fn irq_end(entry: u32) -> [u8; IRQ_END]
+fn irq_line_end(entry: u32) -> [u8; IRQ_END]
     ensures { result ≡ line_end_to (codes "irq ") entry }
 {
     let w = hex_word(entry);
@@ -143,7 +143,7 @@ fn irq_end(entry: u32) -> [u8; IRQ_END]
 }
 
 /// Appends the lines of the handlers of interrupts, which are made already, to the graph's text.
-pub(crate) fn append_handlers(
+pub(crate) fn append_handler_lines(
     text: &mut String,
     front: &str,
     known: &Handlers,

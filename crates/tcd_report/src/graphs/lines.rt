@@ -5,8 +5,8 @@ ghost use Rattle.tcd_report.specs.Graphs.{key_front, lines_to, ways_text, leavin
 ghost use Rattle.std.specs.Str.{IsAscii};
 
 use crate::graphs::edges::Edges;
-use crate::graphs::handlers::append_handlers;
-use crate::texts::append_key;
+use crate::graphs::handlers::append_handler_lines;
+use crate::texts::append_key_text;
 use depth_cert::Key;
 use tc_isa::Shape;
 use tcd_base::NoMemory;
@@ -21,7 +21,7 @@ pub(crate) fn set_node_line_front(front: &mut String, key: &Key) -> Result<(), N
     let _entry = key.entry;
     let _prio = key.prio;
     front.clear();
-    append_key(front, key)?;
+    append_key_text(front, key)?;
     append_str(front, ": ")
 }
 
@@ -53,12 +53,12 @@ pub(crate) fn append_edges(text: &mut String, front: &str, ways: &Edges) -> Resu
     append_lines(text, front, "back ", &ways.back)?;
     append_lines(text, front, "sys ", &ways.sys)?;
     append_lines(text, front, "aln ", &ways.aln)?;
-    append_handlers(text, front, &ways.irq)
+    append_handler_lines(text, front, &ways.irq)
 }
 
 /// Appends the line of a point's own return, which ends with `ret` or `rfe` and no address, if its
 /// instruction is a return.
-pub(crate) fn append_leaving(text: &mut String, front: &str, shape: Shape) -> Result<(), NoMemory>
+pub(crate) fn append_return(text: &mut String, front: &str, shape: Shape) -> Result<(), NoMemory>
     ensures { OnOk result (string_bytes text.new
         ≡ string_bytes text.old ++ leaving_text front.now shape) }
 {
@@ -83,13 +83,13 @@ fn append_lines(text: &mut String, front: &str, word: &str, targets: &[u32]) -> 
     for to in targets {
         append_str(text, front)?;
         append_str(text, word)?;
-        append_target(text, *to)?;
+        append_target_address(text, *to)?;
     }
     Ok(())
 }
 
 // Appends the address that a line ends with, and a line feed.
-fn append_target(text: &mut String, to: u32) -> Result<(), NoMemory>
+fn append_target_address(text: &mut String, to: u32) -> Result<(), NoMemory>
     ensures { OnOk result
         (string_bytes text.new ≡ string_bytes text.old ++ (hex_word to ++ 10 ∷ [])) }
 {

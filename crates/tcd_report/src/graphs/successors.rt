@@ -36,10 +36,10 @@ pub(crate) fn push_successors(
     let next = addr.wrapping_add(found.size);
     match shape {
         Shape::Branch { by, .. } => {
-            push_side(all, judged, shape, s, false, next)?;
-            push_side(all, judged, shape, s, true, addr.wrapping_add(by))
+            push_branch_successor(all, judged, shape, s, false, next)?;
+            push_branch_successor(all, judged, shape, s, true, addr.wrapping_add(by))
         }
-        Shape::Jump { to } => push_targets(all, judged.plan, addr, s, to),
+        Shape::Jump { to } => push_jump_targets(all, judged.plan, addr, s, to),
         Shape::Call { .. } | Shape::Ret | Shape::Rfe | Shape::Syscall { .. } | Shape::Mtcr { .. } =>
             Ok(()),
         _ => {
@@ -51,7 +51,7 @@ pub(crate) fn push_successors(
 
 /// Appends a point's successors by a jump. A function of its own, as it has room for their list.
 #[inline(never)]
-fn push_targets(
+fn push_jump_targets(
     all: &mut Vec<u32>,
     plan: &Plan,
     addr: u32,
@@ -69,7 +69,7 @@ fn push_targets(
 
 /// Fills the list, instead of what it held, with the address after a call or a system call, once
 /// for each of the entered frames whose node has an exit.
-pub(crate) fn set_returns(
+pub(crate) fn set_return_addresses(
     all: &mut Vec<u32>,
     cert: &Cert,
     keys: &[Key],
@@ -85,7 +85,7 @@ pub(crate) fn set_returns(
 }
 
 // Appends the address of a side of a branch, if that side is possible.
-fn push_side(
+fn push_branch_successor(
     all: &mut Vec<u32>,
     judged: &Judged,
     shape: Shape,
@@ -98,7 +98,7 @@ fn push_side(
     ensures { let j = judged.now in OnOk result (all.new.items ≡ all.old.items
         ++ jumped_in (jump_on to (refine_of j.bounds.now j.plan.now shape s.now taken))) }
 {
-    if is_successor_possible(judged, shape, s, taken) {
+    if is_branch_side_possible(judged, shape, s, taken) {
         all.push(to)?;
     }
     Ok(())
@@ -106,7 +106,7 @@ fn push_side(
 
 // Whether a side of a branch is possible. A function of its own, as it has room for a change.
 #[inline(never)]
-fn is_successor_possible(judged: &Judged, shape: Shape, s: &State, taken: bool) -> bool
+fn is_branch_side_possible(judged: &Judged, shape: Shape, s: &State, taken: bool) -> bool
     requires shape { IsShape shape }
     requires values { AreValues judged.now.bounds.now s.now.regs }
     ensures { let j = judged.now in

@@ -48,7 +48,7 @@ pub(crate) fn longest_by_priority(
 }
 
 /// The longest call chains of the priorities below a number, by ascending priority.
-pub(crate) fn rows_below(
+pub(crate) fn longest_calls_below(
     alloc: Global,
     known: &HashMap<u16, u32>,
     count: u16,
@@ -57,7 +57,7 @@ pub(crate) fn rows_below(
 {
     let mut rows = Vec::new(alloc);
     for prio in 0..count {
-        push_row(&mut rows, prio, known.get(&prio))?;
+        push_longest(&mut rows, prio, known.get(&prio))?;
     }
     Ok(rows)
 }
@@ -73,7 +73,7 @@ fn longest_so_far(known: Option<&u32>, height: u32) -> u32
 }
 
 // Appends the longest chain of a priority, if it has nodes.
-fn push_row(rows: &mut Vec<LongestCalls>, prio: u16, row: Option<&u32>) -> Result<(), NoMemory>
+fn push_longest(rows: &mut Vec<LongestCalls>, prio: u16, row: Option<&u32>) -> Result<(), NoMemory>
     ensures { OnOk result
         (rows.new.items ≡ rows.old.items ++ row_of prio (option_copied row.entry)) }
 {

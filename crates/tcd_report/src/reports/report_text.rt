@@ -5,7 +5,7 @@ ghost use Rattle.cfg_recover.specs.RulesHoldOrFail.{certified_need};
 ghost use Rattle.tcd_report.specs.Reports.{reported_node, nodes_data, rows_data, whole_data};
 
 use crate::reports::longest_by_priority::LongestCalls;
-use crate::texts::append_key;
+use crate::texts::append_key_text;
 use cfg_recover::start_key;
 use elf_image::Image;
 use packed_cert::{Cert, Node};
@@ -26,7 +26,7 @@ pub(crate) fn need_of_start(image: &Image, plan: &Plan, cert: &Cert) -> u32
 }
 
 // The whole report.
-pub(crate) fn whole_value(
+pub(crate) fn report_value(
     alloc: Global,
     plan: &Plan,
     certified: u32,
@@ -61,7 +61,7 @@ pub(crate) fn nodes_value(alloc: Global, cert: &Cert) -> Result<Value, NoMemory>
 }
 
 /// Returns the array of the longest call chains in the report's JSON, one object for each priority.
-pub(crate) fn rows_value(alloc: Global, rows: &[LongestCalls]) -> Result<Value, NoMemory>
+pub(crate) fn longest_calls_value(alloc: Global, rows: &[LongestCalls]) -> Result<Value, NoMemory>
     ensures { IfOk result (λ v. view v ≡ rows_data rows.now) }
 {
     let mut values = Vec::new(alloc);
@@ -78,7 +78,7 @@ fn node_value(alloc: Global, node: &Node<'_>) -> Result<Value, NoMemory>
     ensures { IfOk result (λ v. view v ≡ reported_node node.now) }
 {
     let mut key = String::new(alloc);
-    append_key(&mut key, &node.key)?;
+    append_key_text(&mut key, &node.key)?;
     let value = json!(in alloc; {"key": key, "need": node.need, "points": node.len()})?;
     Ok(value)
 }

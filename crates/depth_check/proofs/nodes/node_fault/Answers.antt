@@ -22,9 +22,9 @@ use Rattle.depth_check.proofs.nodes.node_fault.Goals as goal
 
 pub are_point_values-requires : goal.are_point_values-requires
 are_point_values-requires c =
-    rw (c.walked_point-here.ensures.state, c.requires.limits)
+    rw (c.point_of_walk-here.ensures.state, c.requires.limits)
     (λ known.
-    let k = c.walked_point-here.ensures.known known in
+    let k = c.point_of_walk-here.ensures.known known in
     known_values (limits_in c.args.plan.now c.args.cert.now) (c.loop-addr.scratch.walk).current c.step.new.self c.in-Some.ensures.1 (c.loop-addr.invariant.known (ltb-true 0 c.loop-addr.next k.0))
     (subst (λ (l : Limits). AreValues l c.step.new.self.anew) c.requires.limits k.1))
 
@@ -37,7 +37,7 @@ returns-then-not-are_point_values-clause-fault c =
     let b = stands_behind points inv.done c.step.new.self.left p split in
     broken_at c.args.image.now c.args.plan.now c.args.cert.now c.args.node.now c.requires.member points refl c.walk.ensures.rising (length inv.done) p c.holds_at_entry-good.result 2 c.earlier_node_fault.result b.within b.here
     (subst (λ (l : List Point). All (λ (q : Point). (r : ℕ) → RuleHolds c.args.image.now c.args.plan.now c.args.cert.now c.args.node.now q r) l) (sym b.before) inv.all)
-    (values_broken c.args.image.now c.args.plan.now c.args.cert.now c.args.node.now p c.args.b.now c.requires.limits (refuted c.are_point_values.result _ c.if-not-are_point_values.true (rw c.walked_point-here.ensures.state at c.are_point_values.ensures)))
+    (values_broken c.args.image.now c.args.plan.now c.args.cert.now c.args.node.now p c.args.b.now c.requires.limits (refuted c.are_point_values.result _ c.if-not-are_point_values.true (rw c.point_of_walk-here.ensures.state at c.are_point_values.ensures)))
     c.node_address_limit.ensures
     (subst (λ (n : NodeData). (n.key).entry < 2 ^ 32) c.node.view_is (omega arith))
     (subst (λ (l : Limits). IsTrue c.holds_at_entry-good.result ↔ HoldsAtEntry l c.args.node.now) c.requires.limits c.holds_at_entry-good.ensures)
@@ -50,19 +50,19 @@ returns-in-Some-earlier_node_fault-clause-fault c =
     let p : Point = record { addr = c.in-Some.addr; state = c.step.new.self.current } in
     let split : points ≡ inv.done ++ (p ∷ c.step.new.self.left) = inv.split ∙ ap (λ (l : List Point). inv.done ++ l) c.in-Some.ensures.0 in
     let b = stands_behind points inv.done c.step.new.self.left p split in
-    let finds = rw (c.near-hinted.ensures, c.walked_point-here.ensures.addr, c.walked_point-here.ensures.state) at c.broken_by_point-found.ensures.found in
-    fault_at c.args.image.now c.args.plan.now c.args.cert.now c.args.node.now c.requires.member points refl c.walk.ensures.rising (length inv.done) p c.holds_at_entry-good.result c.broken_by_point-found.result c.in-Some-earlier_node_fault.fault b.within b.here
+    let finds = rw (c.near-hinted.ensures, c.point_of_walk-here.ensures.addr, c.point_of_walk-here.ensures.state) at c.rule_broken_at-found.ensures.found in
+    fault_at c.args.image.now c.args.plan.now c.args.cert.now c.args.node.now c.requires.member points refl c.walk.ensures.rising (length inv.done) p c.holds_at_entry-good.result c.rule_broken_at-found.result c.in-Some-earlier_node_fault.fault b.within b.here
     (subst (λ (l : List Point). All (λ (q : Point). (r : ℕ) → RuleHolds c.args.image.now c.args.plan.now c.args.cert.now c.args.node.now q r) l) (sym b.before) inv.all)
     finds c.node_address_limit.ensures
     (subst (λ (n : NodeData). (n.key).entry < 2 ^ 32) c.node.view_is (omega arith))
     (subst (λ (l : Limits). IsTrue c.holds_at_entry-good.result ↔ HoldsAtEntry l c.args.node.now) c.requires.limits c.holds_at_entry-good.ensures)
-    (ap (λ (n : NodeData). earlier_node_fault c.holds_at_entry-good.result (n.key).entry c.in-Some.addr c.broken_by_point-found.result) (sym c.node.view_is) ∙ sym c.earlier_node_fault-in-Some.ensures ∙ c.in-Some-earlier_node_fault.is)
+    (ap (λ (n : NodeData). earlier_node_fault c.holds_at_entry-good.result (n.key).entry c.in-Some.addr c.rule_broken_at-found.result) (sym c.node.view_is) ∙ sym c.earlier_node_fault-in-Some.ensures ∙ c.in-Some-earlier_node_fault.is)
 
-pub walked_point-here-requires-clause-stacks : goal.walked_point-here-requires-clause-stacks
-walked_point-here-requires-clause-stacks c = stacks_well c.args.plan.now c.args.cert.now c.loop-addr.scratch.interrupts c.loop-addr.invariant.interrupts
+pub point_of_walk-here-requires-clause-stacks : goal.point_of_walk-here-requires-clause-stacks
+point_of_walk-here-requires-clause-stacks c = stacks_well c.args.plan.now c.args.cert.now c.loop-addr.scratch.interrupts c.loop-addr.invariant.interrupts
 
-pub walked_point-here-requires-clause-stack : goal.walked_point-here-requires-clause-stack
-walked_point-here-requires-clause-stack c =
+pub point_of_walk-here-requires-clause-stack : goal.point_of_walk-here-requires-clause-stack
+point_of_walk-here-requires-clause-stack c =
     let p : Point = record { addr = c.in-Some.addr; state = c.step.new.self.current } in
     stack_well c.args.node.now c.loop-addr.invariant.done c.loop-addr.scratch.walk.left c.step.new.self.left p c.requires.points c.loop-addr.invariant.split c.in-Some.ensures.0
 
@@ -75,14 +75,14 @@ invariant_of-at c =
       limits = c.requires.limits;
       values = c.are_point_values.ensures.0 c.if-not-are_point_values.false;
       facts =
-          walk_facts c.args.plan.now c.args.cert.now c.args.node.now inv.done c.loop-addr.scratch.walk.left c.step.new.self p c.walked_point-here.result c.walk.ensures.rising (c.in-Some.ensures.2 ∙ inv.points) inv.split c.in-Some.ensures.0
-          c.walked_point-here.ensures.state (λ again. c.walked_point-here.ensures.again again c.args.plan.now c.args.cert.now inv.interrupts) c.walked_point-here.ensures.next c.walked_point-here.ensures.walk;
+          walk_facts c.args.plan.now c.args.cert.now c.args.node.now inv.done c.loop-addr.scratch.walk.left c.step.new.self p c.point_of_walk-here.result c.walk.ensures.rising (c.in-Some.ensures.2 ∙ inv.points) inv.split c.in-Some.ensures.0
+          c.point_of_walk-here.ensures.state (λ again. c.point_of_walk-here.ensures.again again c.args.plan.now c.args.cert.now inv.interrupts) c.point_of_walk-here.ensures.next c.point_of_walk-here.ensures.walk;
     })
 
-pub broken_by_point-found-requires-clause-registers : goal.broken_by_point-found-requires-clause-registers
-broken_by_point-found-requires-clause-registers c =
+pub rule_broken_at-found-requires-clause-registers : goal.rule_broken_at-found-requires-clause-registers
+rule_broken_at-found-requires-clause-registers c =
     let p : Point = record { addr = c.in-Some.addr; state = c.step.new.self.current } in
-    rw (c.near-hinted.ensures, c.walked_point-here.ensures.state)
+    rw (c.near-hinted.ensures, c.point_of_walk-here.ensures.state)
     (next_holds c.args.plan.now c.args.cert.now c.args.node.now c.loop-addr.scratch.walk.left c.step.new.self.left p c.step.new.self.current c.loop-addr.scratch.point.registers c.loop-addr.invariant.registers c.in-Some.ensures.0 refl)
 
 pub loop-addr-init : goal.loop-addr-init
@@ -102,13 +102,13 @@ loop-addr-preserved c =
     let inv = c.loop-addr.invariant in
     let points = c.args.node.now.points in
     let p : Point = record { addr = c.in-Some.addr; state = c.step.new.self.current } in
-    let finds = rw (c.near-hinted.ensures, c.walked_point-here.ensures.addr, c.walked_point-here.ensures.state) at c.broken_by_point-found.ensures.found in
-    let told = ap (λ (n : NodeData). earlier_node_fault c.holds_at_entry-good.result (n.key).entry c.in-Some.addr c.broken_by_point-found.result) (sym c.node.view_is) ∙ sym c.earlier_node_fault-in-Some.ensures ∙ c.in_default-earlier_node_fault.is in
-    let holds = none_at c.args.image.now c.args.plan.now c.args.cert.now c.args.node.now c.requires.member points refl c.walk.ensures.rising p c.holds_at_entry-good.result c.broken_by_point-found.result told finds in
-    let registers : HoldsNext c.args.plan.now c.args.cert.now c.args.node.now c.step.new.self.left c.if_repeated-scratch.result =
-    rw c.if_repeated-scratch.ensures
-    (holds_next c.args.plan.now c.args.cert.now c.args.node.now c.step.new.self c.step.new.self.current c.walked_point-here.result.next c.broken_by_point-found.new.scratch.registers refl c.walked_point-here.ensures.next
-    (rw (c.near-hinted.ensures, c.walked_point-here.ensures.state) at c.broken_by_point-found.ensures.registers)) in
+    let finds = rw (c.near-hinted.ensures, c.point_of_walk-here.ensures.addr, c.point_of_walk-here.ensures.state) at c.rule_broken_at-found.ensures.found in
+    let told = ap (λ (n : NodeData). earlier_node_fault c.holds_at_entry-good.result (n.key).entry c.in-Some.addr c.rule_broken_at-found.result) (sym c.node.view_is) ∙ sym c.earlier_node_fault-in-Some.ensures ∙ c.in_default-earlier_node_fault.is in
+    let holds = none_at c.args.image.now c.args.plan.now c.args.cert.now c.args.node.now c.requires.member points refl c.walk.ensures.rising p c.holds_at_entry-good.result c.rule_broken_at-found.result told finds in
+    let registers : HoldsNext c.args.plan.now c.args.cert.now c.args.node.now c.step.new.self.left c.kept_if_repeated-scratch.result =
+    rw c.kept_if_repeated-scratch.ensures
+    (holds_next c.args.plan.now c.args.cert.now c.args.node.now c.step.new.self c.step.new.self.current c.point_of_walk-here.result.next c.rule_broken_at-found.new.scratch.registers refl c.point_of_walk-here.ensures.next
+    (rw (c.near-hinted.ensures, c.point_of_walk-here.ensures.state) at c.rule_broken_at-found.ensures.registers)) in
     record {
       done = inv.done ++ p ∷ [];
       split = split_more points inv.done c.loop-addr.scratch.walk.left c.step.new.self.left p inv.split c.in-Some.ensures.0;
@@ -116,7 +116,7 @@ loop-addr-preserved c =
       all = All-push (λ (q : Point). (r : ℕ) → RuleHolds c.args.image.now c.args.plan.now c.args.cert.now c.args.node.now q r) inv.done p inv.all holds;
       known = λ t. (holds 2).values refl;
       interrupts = inv.interrupts;
-      results = c.broken_by_point-found.ensures.results;
+      results = c.rule_broken_at-found.ensures.results;
       registers = registers;
     }
 
@@ -125,23 +125,23 @@ keep_context-requires-clause-holds c =
     let inv = c.loop-addr.invariant in
     let points = c.args.node.now.points in
     let p : Point = record { addr = c.in-Some.addr; state = c.step.new.self.current } in
-    let finds = rw (c.near-hinted.ensures, c.walked_point-here.ensures.addr, c.walked_point-here.ensures.state) at c.broken_by_point-found.ensures.found in
-    let told = ap (λ (n : NodeData). earlier_node_fault c.holds_at_entry-good.result (n.key).entry c.in-Some.addr c.broken_by_point-found.result) (sym c.node.view_is) ∙ sym c.earlier_node_fault-in-Some.ensures ∙ c.in_default-earlier_node_fault.is in
-    let holds = none_at c.args.image.now c.args.plan.now c.args.cert.now c.args.node.now c.requires.member points refl c.walk.ensures.rising p c.holds_at_entry-good.result c.broken_by_point-found.result told finds in
-    rw (c.near-hinted.ensures, c.walked_point-here.ensures.state) (interrupts_at c.args.image.now c.args.plan.now c.args.cert.now c.args.node.now p holds)
+    let finds = rw (c.near-hinted.ensures, c.point_of_walk-here.ensures.addr, c.point_of_walk-here.ensures.state) at c.rule_broken_at-found.ensures.found in
+    let told = ap (λ (n : NodeData). earlier_node_fault c.holds_at_entry-good.result (n.key).entry c.in-Some.addr c.rule_broken_at-found.result) (sym c.node.view_is) ∙ sym c.earlier_node_fault-in-Some.ensures ∙ c.in_default-earlier_node_fault.is in
+    let holds = none_at c.args.image.now c.args.plan.now c.args.cert.now c.args.node.now c.requires.member points refl c.walk.ensures.rising p c.holds_at_entry-good.result c.rule_broken_at-found.result told finds in
+    rw (c.near-hinted.ensures, c.point_of_walk-here.ensures.state) (interrupts_at c.args.image.now c.args.plan.now c.args.cert.now c.args.node.now p holds)
 
 pub loop-addr-preserved-then-is_checked : goal.loop-addr-preserved-then-is_checked
 loop-addr-preserved-then-is_checked c =
     let inv = c.loop-addr.invariant in
     let points = c.args.node.now.points in
     let p : Point = record { addr = c.in-Some.addr; state = c.step.new.self.current } in
-    let finds = rw (c.near-hinted.ensures, c.walked_point-here.ensures.addr, c.walked_point-here.ensures.state) at c.broken_by_point-found.ensures.found in
-    let told = ap (λ (n : NodeData). earlier_node_fault c.holds_at_entry-good.result (n.key).entry c.in-Some.addr c.broken_by_point-found.result) (sym c.node.view_is) ∙ sym c.earlier_node_fault-in-Some.ensures ∙ c.in_default-earlier_node_fault.is in
-    let holds = none_at c.args.image.now c.args.plan.now c.args.cert.now c.args.node.now c.requires.member points refl c.walk.ensures.rising p c.holds_at_entry-good.result c.broken_by_point-found.result told finds in
-    let registers : HoldsNext c.args.plan.now c.args.cert.now c.args.node.now c.step.new.self.left c.if_repeated-scratch.result =
-    rw c.if_repeated-scratch.ensures
-    (holds_next c.args.plan.now c.args.cert.now c.args.node.now c.step.new.self c.step.new.self.current c.walked_point-here.result.next c.broken_by_point-found.new.scratch.registers refl c.walked_point-here.ensures.next
-    (rw (c.near-hinted.ensures, c.walked_point-here.ensures.state) at c.broken_by_point-found.ensures.registers)) in
+    let finds = rw (c.near-hinted.ensures, c.point_of_walk-here.ensures.addr, c.point_of_walk-here.ensures.state) at c.rule_broken_at-found.ensures.found in
+    let told = ap (λ (n : NodeData). earlier_node_fault c.holds_at_entry-good.result (n.key).entry c.in-Some.addr c.rule_broken_at-found.result) (sym c.node.view_is) ∙ sym c.earlier_node_fault-in-Some.ensures ∙ c.in_default-earlier_node_fault.is in
+    let holds = none_at c.args.image.now c.args.plan.now c.args.cert.now c.args.node.now c.requires.member points refl c.walk.ensures.rising p c.holds_at_entry-good.result c.rule_broken_at-found.result told finds in
+    let registers : HoldsNext c.args.plan.now c.args.cert.now c.args.node.now c.step.new.self.left c.kept_if_repeated-scratch.result =
+    rw c.kept_if_repeated-scratch.ensures
+    (holds_next c.args.plan.now c.args.cert.now c.args.node.now c.step.new.self c.step.new.self.current c.point_of_walk-here.result.next c.rule_broken_at-found.new.scratch.registers refl c.point_of_walk-here.ensures.next
+    (rw (c.near-hinted.ensures, c.point_of_walk-here.ensures.state) at c.rule_broken_at-found.ensures.registers)) in
     record {
       done = inv.done ++ p ∷ [];
       split = split_more points inv.done c.loop-addr.scratch.walk.left c.step.new.self.left p inv.split c.in-Some.ensures.0;
@@ -149,7 +149,7 @@ loop-addr-preserved-then-is_checked c =
       all = All-push (λ (q : Point). (r : ℕ) → RuleHolds c.args.image.now c.args.plan.now c.args.cert.now c.args.node.now q r) inv.done p inv.all holds;
       known = λ t. (holds 2).values refl;
       interrupts = c.keep_context.ensures;
-      results = c.broken_by_point-found.ensures.results;
+      results = c.rule_broken_at-found.ensures.results;
       registers = registers;
     }
 

@@ -9,16 +9,16 @@ use Rattle.depth_maker.specs.VisitDuties.{OwesAll, OwesDuty, JoinedBy, calls_by}
 use Rattle.depth_maker.proofs.PartLemmas.{owes_both}
 use Rattle.depth_maker.proofs.calls.join_call.Goals as goal
 
-pub join_entry_and_back-requires-clause-enters : goal.join_entry_and_back-requires-clause-enters
-join_entry_and_back-requires-clause-enters c =
+pub join_entry_and_return-requires-clause-enters : goal.join_entry_and_return-requires-clause-enters
+join_entry_and_return-requires-clause-enters c =
     let v = c.args.v.now in
     let one = (rw c.in-Some.is at c.direct_target.ensures.one) v.ground.now.plan.now v.state.now in
     let owes = owes_both _ _ _ v.key v.addr v.state.now 5 c.args.back (call_key v.key c.in-Some.target) (call_entry v.state.now) (subst (λ (o : Option (List ℕ)). OwesAll v (calls_by v c.args.back (unwrap_or o []))) one c.requires.owes) in
-    subst (λ (k : Key). OwesDuty v (enter k (state_after v.state.now c.enter_by_call.new.c))) (sym c.entered_key-key.ensures)
-    (subst (λ (s : State). OwesDuty v (enter (call_key v.key c.in-Some.target) s)) (sym c.enter_by_call.ensures) owes.0)
+    subst (λ (k : Key). OwesDuty v (enter k (state_after v.state.now c.write_call_entry_change.new.c))) (sym c.entered_key-key.ensures)
+    (subst (λ (s : State). OwesDuty v (enter (call_key v.key c.in-Some.target) s)) (sym c.write_call_entry_change.ensures) owes.0)
 
-pub join_entry_and_back-requires-clause-resumes : goal.join_entry_and_back-requires-clause-resumes
-join_entry_and_back-requires-clause-resumes c =
+pub join_entry_and_return-requires-clause-resumes : goal.join_entry_and_return-requires-clause-resumes
+join_entry_and_return-requires-clause-resumes c =
     let v = c.args.v.now in
     let one = (rw c.in-Some.is at c.direct_target.ensures.one) v.ground.now.plan.now v.state.now in
     let owes = owes_both _ _ _ v.key v.addr v.state.now 5 c.args.back (call_key v.key c.in-Some.target) (call_entry v.state.now) (subst (λ (o : Option (List ℕ)). OwesAll v (calls_by v c.args.back (unwrap_or o []))) one c.requires.owes) in
@@ -27,8 +27,8 @@ join_entry_and_back-requires-clause-resumes c =
 pub returns-in-Some-clause-ok : goal.returns-in-Some-clause-ok
 returns-in-Some-clause-ok c =
     let v = c.args.v.now in
-    let t = c.join_entry_and_back.new.table in
+    let t = c.join_entry_and_return.new.table in
     let one = (rw c.in-Some.is at c.direct_target.ensures.one) v.ground.now.plan.now v.state.now in
-    subst (λ (o : Option (List ℕ)). OnOk c.join_entry_and_back.result (JoinedBy v c.args.table.now t (calls_by v c.args.back (unwrap_or o [])))) (sym one)
-    (subst (λ (k : Key). OnOk c.join_entry_and_back.result (JoinedBy v c.args.table.now t (entered_and_back 5 k (call_entry v.state.now) c.args.back))) c.entered_key-key.ensures
-    (subst (λ (s : State). OnOk c.join_entry_and_back.result (JoinedBy v c.args.table.now t (entered_and_back 5 c.entered_key-key.result s c.args.back))) c.enter_by_call.ensures (c.join_entry_and_back.ensures.ok 5)))
+    subst (λ (o : Option (List ℕ)). OnOk c.join_entry_and_return.result (JoinedBy v c.args.table.now t (calls_by v c.args.back (unwrap_or o [])))) (sym one)
+    (subst (λ (k : Key). OnOk c.join_entry_and_return.result (JoinedBy v c.args.table.now t (entered_and_back 5 k (call_entry v.state.now) c.args.back))) c.entered_key-key.ensures
+    (subst (λ (s : State). OnOk c.join_entry_and_return.result (JoinedBy v c.args.table.now t (entered_and_back 5 c.entered_key-key.result s c.args.back))) c.write_call_entry_change.ensures (c.join_entry_and_return.ensures.ok 5)))

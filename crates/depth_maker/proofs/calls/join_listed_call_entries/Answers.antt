@@ -6,15 +6,15 @@ use Rattle.depth_maker.proofs.calls.join_listed_call_entries.Goals as goal
 pub returns-then-is_call_covered-clause-ok : goal.returns-then-is_call_covered-clause-ok
 returns-then-is_call_covered-clause-ok c = c.is_call_covered.ensures c.if-is_call_covered.true
 
-pub join_each_entry-requires-clause-owes : goal.join_each_entry-requires-clause-owes
-join_each_entry-requires-clause-owes c = subst (λ (l : List ℕ). OwesAll c.args.v.now (enters_by c.args.v.now l)) (sym c.as_slice.ensures.value) c.requires.owes
+pub join_call_entries-requires-clause-owes : goal.join_call_entries-requires-clause-owes
+join_call_entries-requires-clause-owes c = subst (λ (l : List ℕ). OwesAll c.args.v.now (enters_by c.args.v.now l)) (sym c.as_slice.ensures.value) c.requires.owes
 
 pub store_last_call-requires-clause-visited : goal.store_last_call-requires-clause-visited
 store_last_call-requires-clause-visited c =
     let v = c.args.v.now in
-    visited_after _ _ _ v.key v.addr v.state.now c.args.table.now _ _ c.requires.visited c.in_ok-join_each_entry.ensures.ok
+    visited_after _ _ _ v.key v.addr v.state.now c.args.table.now _ _ c.requires.visited c.in_ok-join_call_entries.ensures.ok
 
 pub returns-clause-ok : goal.returns-clause-ok
 returns-clause-ok c =
     let v = c.args.v.now in
-    c.in_ok-store_last_call.ensures.ok c.args.table.now (subst (λ (l : List ℕ). JoinedBy v c.args.table.now c.join_each_entry.new.table (enters_by v l)) c.as_slice.ensures.value c.in_ok-join_each_entry.ensures.ok)
+    c.in_ok-store_last_call.ensures.ok c.args.table.now (subst (λ (l : List ℕ). JoinedBy v c.args.table.now c.join_call_entries.new.table (enters_by v l)) c.as_slice.ensures.value c.in_ok-join_call_entries.ensures.ok)

@@ -44,4 +44,4 @@ returns-clause-ok c =
     c.in_ok-add_queued_place.ensures.work
     (c.in_ok-push.ensures.items ∙ ap (λ (w : List Spot). w ++ x ∷ []) c.new-points.ensures.items)
     (c.in_ok-push-2.ensures.items ∙ ap (λ (w : List Key). w ++ k ∷ []) c.new-frames.ensures.items ∙ ap (λ (z : Key). z ∷ []) c.start_key-key.ensures) refl c.new-calls.ensures.items
-    (λ z. c.fixpoint_start_readers.ensures z)
+    (λ z. c.no_exit_readers.ensures z)

@@ -8,14 +8,14 @@ use Rattle.depth_maker.proofs.fixpoint.least_fixpoint.Goals as goal
 
 pub loop-scratch-smaller : goal.loop-scratch-smaller
 loop-scratch-smaller c =
-    let h = c.in_ok-fixpoint_turn.ensures in
+    let h = c.in_ok-visit_listed_places.ensures in
     let sound = c.args.ground.now.sound in
-    level_falls (level c.loop-scratch.table) (level c.fixpoint_turn.new.table) (h.2 c.if-branch.true)
-    (level_most _ c.fixpoint_turn.new.table sound.limits (cells_well_formed _ _ _ (lawful _ _ _ sound) c.fixpoint_turn.new.table h.0) h.0.counted)
+    level_falls (level c.loop-scratch.table) (level c.visit_listed_places.new.table) (h.2 c.if-branch.true)
+    (level_most _ c.visit_listed_places.new.table sound.limits (cells_well_formed _ _ _ (lawful _ _ _ sound) c.visit_listed_places.new.table h.0) h.0.counted)
 
 pub returns-clause-ok : goal.returns-clause-ok
 returns-clause-ok c =
-    let h = c.in_ok-fixpoint_turn.ensures in
-    let t = c.fixpoint_turn.new.table in
+    let h = c.in_ok-visit_listed_places.ensures in
+    let t = c.visit_listed_places.new.table in
     let all = closed_table _ _ _ (lawful _ _ _ c.args.ground.now.sound) t h.0 h.1 (none_queued t.places (all_work t.work) h.0.listed (h.3 c.if-branch.false)) in
     record { derived = all.0; closed = all.1; faultless = all.2; plain = h.0.plain; counted = h.0.counted }

@@ -13,8 +13,8 @@ returns-then-not-v-clause-ok c =
     subst (λ (l : List Owed). JoinedBy v c.args.table.now c.args.table.now l) (interrupts_off v.ground.now.plan.now v.key v.state.now c.if-not-v.true)
     (duties_none _ _ _ v.key v.addr v.state.now c.args.table.now c.requires.visited.fine)
 
-pub returns-then-is_interrupt_context_noted-clause-ok : goal.returns-then-is_interrupt_context_noted-clause-ok
-returns-then-is_interrupt_context_noted-clause-ok c = c.is_interrupt_context_noted.ensures c.if-is_interrupt_context_noted.true
+pub returns-then-are_interrupts_covered-clause-ok : goal.returns-then-are_interrupts_covered-clause-ok
+returns-then-are_interrupts_covered-clause-ok c = c.are_interrupts_covered.ensures c.if-are_interrupts_covered.true
 
 pub returns-then-is_empty-clause-ok : goal.returns-then-is_empty-clause-ok
 returns-then-is_empty-clause-ok c =

@@ -9,16 +9,16 @@ use Rattle.depth_maker.specs.VisitDuties.{OwesDuty, JoinedBy}
 use Rattle.depth_maker.proofs.PartLemmas.{owes_both}
 use Rattle.depth_maker.proofs.join_entries.join_system_call_entry.Goals as goal
 
-pub join_entry_and_back-requires-clause-enters : goal.join_entry_and_back-requires-clause-enters
-join_entry_and_back-requires-clause-enters c =
+pub join_entry_and_return-requires-clause-enters : goal.join_entry_and_return-requires-clause-enters
+join_entry_and_return-requires-clause-enters c =
     let v = c.args.v.now in
     let g = v.ground.now in
     let owes = owes_both _ _ _ v.key v.addr v.state.now 12 c.args.back (entries.sys_key g.plan.now v.key) (entries.sys_entry g.plan.now v.key v.state.now c.args.tin) c.requires.owes in
     subst (λ (k : Key). OwesDuty v (enter k (state_after v.state.now c.system_change-entry.result))) (sym c.sys_key.ensures)
     (subst (λ (s : State). OwesDuty v (enter (entries.sys_key g.plan.now v.key) s)) (sym c.system_change-entry.ensures.entry) owes.0)
 
-pub join_entry_and_back-requires-clause-resumes : goal.join_entry_and_back-requires-clause-resumes
-join_entry_and_back-requires-clause-resumes c =
+pub join_entry_and_return-requires-clause-resumes : goal.join_entry_and_return-requires-clause-resumes
+join_entry_and_return-requires-clause-resumes c =
     let v = c.args.v.now in
     let g = v.ground.now in
     let owes = owes_both _ _ _ v.key v.addr v.state.now 12 c.args.back (entries.sys_key g.plan.now v.key) (entries.sys_entry g.plan.now v.key v.state.now c.args.tin) c.requires.owes in
@@ -28,5 +28,5 @@ pub returns-clause-ok : goal.returns-clause-ok
 returns-clause-ok c =
     let v = c.args.v.now in
     let g = v.ground.now in
-    subst (λ (k : Key). OnOk c.join_entry_and_back.result (JoinedBy v c.args.table.now c.join_entry_and_back.new.table (entered_and_back 12 k (entries.sys_entry g.plan.now v.key v.state.now c.args.tin) c.args.back))) c.sys_key.ensures
-    (subst (λ (s : State). OnOk c.join_entry_and_back.result (JoinedBy v c.args.table.now c.join_entry_and_back.new.table (entered_and_back 12 c.sys_key.result s c.args.back))) c.system_change-entry.ensures.entry (c.join_entry_and_back.ensures.ok 12))
+    subst (λ (k : Key). OnOk c.join_entry_and_return.result (JoinedBy v c.args.table.now c.join_entry_and_return.new.table (entered_and_back 12 k (entries.sys_entry g.plan.now v.key v.state.now c.args.tin) c.args.back))) c.sys_key.ensures
+    (subst (λ (s : State). OnOk c.join_entry_and_return.result (JoinedBy v c.args.table.now c.join_entry_and_return.new.table (entered_and_back 12 c.sys_key.result s c.args.back))) c.system_change-entry.ensures.entry (c.join_entry_and_return.ensures.ok 12))

@@ -53,8 +53,8 @@ join_from-requires-clause-own c =
     same_Some c.in-Some-get_index.own.now.value (state c.args.v.now.state.now) (sym (ap (option_map (λ (m : Marked Known). m.value)) had) ∙ c.requires.at)
     ∙ sym (ap (λ (s : State). state s) c.requires.own)
 
-pub put_place-requires : goal.put_place-requires
-put_place-requires c = record { listed = c.requires.fine.listed }
+pub put_place_value-requires : goal.put_place_value-requires
+put_place_value-requires c = record { listed = c.requires.fine.listed }
 
 pub returns-then-covers : goal.returns-then-covers
 unfolding seen
@@ -85,8 +85,8 @@ returns c =
       new = λ w there covers.
           (let no : true ≡ false =
           sym (c.covers.ensures.1 (subst (λ (z : Known). CoversKnown z v) (same_Some w c.in-Some.place.now.value (sym there ∙ at)) covers)) ∙ c.if-covers.false in cc);
-      puts = c.in_ok-put_place.ensures.puts c.args.y.now c.requires.there;
-      listed = c.in_ok-put_place.ensures.work c.args.y.now c.requires.there;
+      puts = c.in_ok-put_place_value.ensures.puts c.args.y.now c.requires.there;
+      listed = c.in_ok-put_place_value.ensures.work c.args.y.now c.requires.there;
       near = refl;
       readers = refl;
       covered = refl;

@@ -11,16 +11,16 @@ read_state-requires c =
     let at = c.args.at.now in
     done_well_formed s.ground.now s.table.now (c.requires.source).done (Point at.key at.addr) _ (known_there s at c.requires.at)
 
-pub local_check-requires : goal.local_check-requires
-local_check-requires c =
+pub check_local_rules-requires : goal.check_local_rules-requires
+check_local_rules-requires c =
     let s = c.args.source.now in
     let at = c.args.at.now in
     let done = (c.requires.source).done in
     let there = read_there s.ground.now s.table.now done at.key at.addr _ c.state.result.now (known_there s at c.requires.at) (subst (IsKnownState at.known.now.value) (sym c.state.ensures) c.read_state.ensures) in
     (done_well_formed s.ground.now s.table.now done (Point at.key at.addr) (state c.state.result.now) there).values
 
-pub row_with-requires-clause-well_formed : goal.row_with-requires-clause-well_formed
-row_with-requires-clause-well_formed c =
+pub visited_point_row-requires-clause-well_formed : goal.visited_point_row-requires-clause-well_formed
+visited_point_row-requires-clause-well_formed c =
     let s = c.args.source.now in
     let at = c.args.at.now in
     let done = (c.requires.source).done in
@@ -34,7 +34,7 @@ returns c =
     let at = c.args.at.now in
     let source = c.requires.source in
     let there = read_there s.ground.now s.table.now source.done at.key at.addr _ c.state.result.now (known_there s at c.requires.at) (subst (IsKnownState at.known.now.value) (sym c.state.ensures) c.read_state.ensures) in
-    (c.state.result.now, there, c.in_ok-row_with-in-Ok.ensures s.table.now.frames.items (record { all = source.numbers; taken = source.handlers }) (all_known _ s.table.now source.done there) (c.requires.at).node)
+    (c.state.result.now, there, c.in_ok-visited_point_row-in-Ok.ensures s.table.now.frames.items (record { all = source.numbers; taken = source.handlers }) (all_known _ s.table.now source.done there) (c.requires.at).node)
 
 pub unreachable-requires : goal.unreachable-requires
 unfolding seen

@@ -10,9 +10,9 @@ unfolding duties_of
 returns-clause-ok c =
     let v = c.args.v.now in
     let f = c.args.found.now in
-    on_five _ _ _ v.key v.addr v.state.now (lawful _ _ _ v.ground.now.sound) c.args.table.now c.join_successors.new.table c.join_entries.new.table c.join_access_entry.new.table c.join_interrupts.new.table c.join_leavings.new.table
-    (successors_by v f) (entries_by v f.shape f.size) (access_by v f) (interrupts_by v) (leavings_of v.key v.state.now f.shape) c.join_leavings.result c.requires.visited
-    (owes_duties _ _ _ v.key v.addr v.state.now f c.requires.found) c.in_ok-join_successors.ensures.ok c.in_ok-join_entries.ensures.ok c.in_ok-join_access_entry.ensures.ok c.in_ok-join_interrupts.ensures.ok c.join_leavings.ensures.ok
+    on_five _ _ _ v.key v.addr v.state.now (lawful _ _ _ v.ground.now.sound) c.args.table.now c.join_successors.new.table c.join_entries.new.table c.join_access_entry.new.table c.join_interrupts.new.table c.join_exit_if_left.new.table
+    (successors_by v f) (entries_by v f.shape f.size) (access_by v f) (interrupts_by v) (leavings_of v.key v.state.now f.shape) c.join_exit_if_left.result c.requires.visited
+    (owes_duties _ _ _ v.key v.addr v.state.now f c.requires.found) c.in_ok-join_successors.ensures.ok c.in_ok-join_entries.ensures.ok c.in_ok-join_access_entry.ensures.ok c.in_ok-join_interrupts.ensures.ok c.join_exit_if_left.ensures.ok
 
 pub join_successors-requires-clause-owes : goal.join_successors-requires-clause-owes
 unfolding duties_of
@@ -46,9 +46,9 @@ join_interrupts-requires-clause-owes c =
     let a = successors_by v f in let b = entries_by v f.shape f.size in let d = access_by v f in let e = interrupts_by v in let l = leavings_of v.key v.state.now f.shape in
     owes_back _ _ _ v.key v.addr v.state.now (a ++ b ++ d) e (owes_front _ _ _ v.key v.addr v.state.now (a ++ b ++ d ++ e) l (owes_duties _ _ _ v.key v.addr v.state.now f c.requires.found))
 
-pub join_leavings-requires-clause-owes : goal.join_leavings-requires-clause-owes
+pub join_exit_if_left-requires-clause-owes : goal.join_exit_if_left-requires-clause-owes
 unfolding duties_of
-join_leavings-requires-clause-owes c =
+join_exit_if_left-requires-clause-owes c =
     let v = c.args.v.now in
     let f = c.args.found.now in
     let a = successors_by v f in let b = entries_by v f.shape f.size in let d = access_by v f in let e = interrupts_by v in let l = leavings_of v.key v.state.now f.shape in
@@ -69,8 +69,8 @@ join_interrupts-requires-clause-visited c =
     (visited_after _ _ _ v.key v.addr v.state.now _ _ _ (visited_after _ _ _ v.key v.addr v.state.now c.args.table.now _ _ c.requires.visited c.in_ok-join_successors.ensures.ok) c.in_ok-join_entries.ensures.ok)
     c.in_ok-join_access_entry.ensures.ok
 
-pub join_leavings-requires-clause-visited : goal.join_leavings-requires-clause-visited
-join_leavings-requires-clause-visited c =
+pub join_exit_if_left-requires-clause-visited : goal.join_exit_if_left-requires-clause-visited
+join_exit_if_left-requires-clause-visited c =
     let v = c.args.v.now in
     visited_after _ _ _ v.key v.addr v.state.now _ _ _
     (visited_after _ _ _ v.key v.addr v.state.now _ _ _

@@ -12,10 +12,10 @@ pub returns-in-Some : goal.returns-in-Some
 returns-in-Some g c x stands =
     let m = c.args.places.now in
     let old = c.in-Some.place.now in
-    let w : Marked g.row.V.Denot = record old { mark = c.mark_after-place.result } in
+    let w : Marked g.row.V.Denot = record old { mark = c.mark_after_visit-place.result } in
     let unique = c.in-Some.ensures.unique in
     let had = value_had m c.args.number x unique old c.in-Some.ensures.value stands in
-    subst (λ (k : Mark). MarksAs m (with_value_at m c.args.number w) x k) (c.mark_after-place.ensures ∙ ap (settled_mark c.args.plain) (sym (ap (option_map (λ k. k.mark)) had)))
+    subst (λ (k : Mark). MarksAs m (with_value_at m c.args.number w) x k) (c.mark_after_visit-place.ensures ∙ ap (settled_mark c.args.plain) (sym (ap (option_map (λ k. k.mark)) had)))
     (marks_as m (with_value_at m c.args.number w) x w (written_there m c.args.number x w unique stands) (ap (option_map (λ k. k.value)) had) (written_numbers m c.args.number w))
 
 pub returns-in_default : goal.returns-in_default

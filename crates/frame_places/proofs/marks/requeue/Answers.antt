@@ -16,7 +16,7 @@ returns-in_ok-enqueue-clause-work g c =
     let stands = index_there m c.in-Some.number c.args.x (sym c.in-Some.ensures.index) in
     let marks = c.mark_place.ensures c.args.x stands in
     AllListed-adds m c.mark_place.new.places (all_work c.args.work.now) c.in-Some.number c.args.x marks.marks marks.numbers (all_work c.enqueue.new.work)
-    (adds_either c.is_requeued_later-later.result c.args.work.now c.enqueue.new.work c.in-Some.number c.in_ok-enqueue.ensures) (marks.numbers c.in-Some.number c.args.x stands) c.requires.listed
+    (adds_either c.must_wait_for_round-later.result c.args.work.now c.enqueue.new.work c.in-Some.number c.in_ok-enqueue.ensures) (marks.numbers c.in-Some.number c.args.x stands) c.requires.listed
 
 pub returns-else-not-has_queued_mark-clause-marks : goal.returns-else-not-has_queued_mark-clause-marks
 returns-else-not-has_queued_mark-clause-marks g c =

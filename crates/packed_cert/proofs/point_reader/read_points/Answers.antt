@@ -49,26 +49,26 @@ loop-i-preserved c =
     let next = rw c.loop-i.invariant.last at c.in_ok-addr.ensures.next in
     let same = c.read_address.ensures.read.bytes ∙ c.loop-i.invariant.bytes ∙ c.read_point_count.ensures.read.bytes ∙ c.requires.same in
     let q = c.read_address.new.c in
-    let item : PointPlace = record { addr = c.in_ok-addr.addr; place = c.in_ok-read.read.at.start; row = c.for_point-kept.result.row; same = c.for_point-kept.result.same } in
+    let item : PointPlace = record { addr = c.in_ok-addr.addr; place = c.in_ok-read.read.at.start; row = c.with_whole_row_if_first-kept.result.row; same = c.with_whole_row_if_first-kept.result.same } in
     let stands = c.in_ok-read.ensures.held in
-    let is : state_in version bytes item.place ≡ c.read_state_like.new.out = ap (read_from_bytes_or no_state) stands.read in
+    let is : state_in version bytes item.place ≡ c.read_or_skip_state.new.out = ap (read_from_bytes_or no_state) stands.read in
     let there : HasState version bytes item.place = (_, stands.read) in
     let more = point_more version bytes ps item c.loop-i.c q _ _ is e c.in_ok-read.ensures.ok in
     let pushed : c.push.new.self.items ≡ ps ++ item ∷ [] = c.in_ok-push.ensures.items in
     let size = c.loop-i.invariant.count in
     let is_first : c.loop-i.i ≡ 0 → IsTrue (eqb c.loop-i.i 0) = λ z. ap (λ (n : ℕ). eqb n 0) z in
-    let later : 1 ≤ c.loop-i.i → c.for_point-kept.result ≡ c.in_ok-read.read = λ some. c.for_point-kept.ensures.later (ne_eqb c.loop-i.i 0 (λ z. let e : c.loop-i.i ≡ 0 = z in omega (arith, some))) in
+    let later : 1 ≤ c.loop-i.i → c.with_whole_row_if_first-kept.result ≡ c.in_ok-read.read = λ some. c.with_whole_row_if_first-kept.ensures.later (ne_eqb c.loop-i.i 0 (λ z. let e : c.loop-i.i ≡ 0 = z in omega (arith, some))) in
     let one : (t : State) → StandsBefore version bytes ps (length ps) t → IsMoved version bytes t item = λ t b.
-    moved_next version bytes ps t c.loop-i.room.state c.read_state_like.new.out item c.in_ok-read.read.at.values c.in_ok-read.read.at.end c.loop-i.i (λ k. (c.type_inv.bytes k).fits) is there stands.values.0 stands.values.1 (c.for_point-kept.ensures.from bytes c.in_ok-read.ensures.from)
-    (λ z. c.for_point-kept.ensures.first (is_first z))
-    (λ some. subst (λ (r : ReadState). ChangesRow c.loop-i.room.state.regs c.read_state_like.new.out.regs r.row) (sym (later some)) c.in_ok-read.ensures.row)
+    moved_next version bytes ps t c.loop-i.room.state c.read_or_skip_state.new.out item c.in_ok-read.read.at.values c.in_ok-read.read.at.end c.loop-i.i (λ k. (c.type_inv.bytes k).fits) is there stands.values.0 stands.values.1 (c.with_whole_row_if_first-kept.ensures.from bytes c.in_ok-read.ensures.from)
+    (λ z. c.with_whole_row_if_first-kept.ensures.first (is_first z))
+    (λ some. subst (λ (r : ReadState). ChangesRow c.loop-i.room.state.regs c.read_or_skip_state.new.out.regs r.row) (sym (later some)) c.in_ok-read.ensures.row)
     (λ some y. c.in_ok-read.ensures.again (ap (λ (r : ReadState). r.same) (sym (later some)) ∙ y)) size c.loop-i.invariant.before b
     in
     record {
       read =
           rw (pushed, points_push version bytes ps item)
           (many_more (point_after version) c.in_ok-count.count c.loop-i.i (points_in version bytes ps) c.read_point_count.new.c c.loop-i.c _ _ c.loop-i-test.true c.loop-i.invariant.read more);
-      bytes = c.read_state_like.ensures.bytes ∙ c.read_address.ensures.read.bytes ∙ c.loop-i.invariant.bytes;
+      bytes = c.read_or_skip_state.ensures.bytes ∙ c.read_address.ensures.read.bytes ∙ c.loop-i.invariant.bytes;
       count = omega (arith, c.in_ok-push.ensures.len, c.loop-i.invariant.count);
       states = rw pushed (All-push (λ (p : PointPlace). HasState version bytes p.place) ps item c.loop-i.invariant.states there);
       rising = rw pushed (rising_map_push (λ (p : PointPlace). p.addr) ps item c.loop-i.invariant.rising next);

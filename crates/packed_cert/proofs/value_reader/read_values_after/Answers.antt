@@ -33,7 +33,7 @@ count_repeated_before-requires-clause-first c =
 pub returns-in_err-read_value-clause-err : goal.returns-in_err-read_value-clause-err
 unfolding values_at
 returns-in_err-read_value-clause-err c =
-    let moved : c.pass_unread_values_to-else-next-stop.new.c ≡ place_in_bytes c.args.bytes.now c.loop-i.place = c.pass_unread_values_to-else-next-stop.ensures ∙ ap (λ (l : List ℕ). place_in_bytes l c.loop-i.place) c.loop-i.invariant.bytes in
+    let moved : c.skip_values_to-else-next-stop.new.c ≡ place_in_bytes c.args.bytes.now c.loop-i.place = c.skip_values_to-else-next-stop.ensures ∙ ap (λ (l : List ℕ). place_in_bytes l c.loop-i.place) c.loop-i.invariant.bytes in
     let e = ap (value_at c.args.version) (sym moved) ∙ c.in_err-read_value.ensures.err in
     let fault = many_fail (λ before. value_at c.args.version) (length c.args.out.now) c.loop-i.i (take c.loop-i.i c.loop-i.out) c.args.c.now (place_in_bytes c.args.bytes.now c.loop-i.place) _ c.loop-i-test.true c.loop-i.invariant.read e in
     let p = err_from_is_err_and c.from_residual.result c.from_residual.ensures.1 in
@@ -44,13 +44,13 @@ unfolding values_at
 returns-then-stop-before-clause-ok c =
     let inv = c.loop-i.invariant in
     let there = c.loop-i.place + (c.loop-i.stop - c.loop-i.from) in
-    let moved : c.pass_unread_values_to.new.c ≡ place_in_bytes c.args.bytes.now there = c.pass_unread_values_to.ensures ∙ ap (λ (l : List ℕ). place_in_bytes l there) inv.bytes in
+    let moved : c.skip_values_to.new.c ≡ place_in_bytes c.args.bytes.now there = c.skip_values_to.ensures ∙ ap (λ (l : List ℕ). place_in_bytes l there) inv.bytes in
     rw moved (all_read c.args.version (length c.args.out.now) c.loop-i.i c.loop-i.from c.loop-i.place c.loop-i.stop c.args.before.end c.args.bytes.now c.loop-i.out c.args.c.now (λ k. (c.type_inv.bytes k).fits) c.if-stop-before.true inv.start inv.first (omega (arith, c.loop-i.auto.out)) inv.held inv.second inv.same inv.read)
 
 pub returns-clause-ok : goal.returns-clause-ok
 unfolding values_at
 returns-clause-ok c =
-    let moved : c.pass_unread_values_to-2.new.c ≡ place_in_bytes c.args.bytes.now c.loop-i.place = c.pass_unread_values_to-2.ensures ∙ ap (λ (l : List ℕ). place_in_bytes l c.loop-i.place) c.loop-i.invariant.bytes in
+    let moved : c.skip_values_to-2.new.c ≡ place_in_bytes c.args.bytes.now c.loop-i.place = c.skip_values_to-2.ensures ∙ ap (λ (l : List ℕ). place_in_bytes l c.loop-i.place) c.loop-i.invariant.bytes in
     let all = many_end (λ before. value_at c.args.version) (length c.args.out.now) c.loop-i.i (take c.loop-i.i c.loop-i.out) c.args.c.now (place_in_bytes c.args.bytes.now c.loop-i.place) c.loop-i-test.false c.loop-i.invariant.read in
     rw moved (all ∙ rw (take_all c.loop-i.i c.loop-i.out (omega (arith, c.loop-i.auto.out))) refl)
 
@@ -90,7 +90,7 @@ loop-i-preserved c =
             from = rw w2.row-is inv.from;
           }
       | else-next-stop+in_ok-read_value w2 ↦
-          let moved : w2.pass_unread_values_to-else-next-stop.new.c ≡ place_in_bytes bytes y = w2.pass_unread_values_to-else-next-stop.ensures ∙ ap (λ (l : List ℕ). place_in_bytes l y) inv.bytes in
+          let moved : w2.skip_values_to-else-next-stop.new.c ≡ place_in_bytes bytes y = w2.skip_values_to-else-next-stop.ensures ∙ ap (λ (l : List ℕ). place_in_bytes l y) inv.bytes in
           let back : w2.read_value.new.c.bytes ≡ bytes = w2.read_value.ensures.bytes ∙ ap (λ (p : Place). p.bytes) moved in
           let there : place_in_bytes bytes w2.place-place-else-next-stop.result ≡ w2.read_value.new.c = ap (λ (k : ℕ). place_in_bytes bytes k) w2.place-place-else-next-stop.ensures.place ∙ ap (λ (l : List ℕ). place_in_bytes l w2.read_value.new.c.place) (sym back) in
           let left : drop (c.loop-i.i + 1) c.if-next-stop.out ≡ drop (c.loop-i.i + 1) c.loop-i.out = ap (drop (c.loop-i.i + 1)) w2.out-is ∙ drop-set-lt (c.loop-i.i + 1) c.loop-i.out c.loop-i.i w2.read_value.new.out (omega arith) in
@@ -107,12 +107,12 @@ loop-i-preserved c =
             first = rw w2.stop-is w2.count_repeated_before.ensures.first;
             second = rw (w2.stop-is, w2.place-is) (omega (arith, w2.count_repeated_before.ensures.second));
             same = rw (w2.stop-is, w2.place-is) (subst (λ (m : ℕ). SameBytesAtPlaces bytes (x + n) w2.place-place-else-next-stop.result m) ahead w2.count_repeated_before.ensures.same);
-            row = rw (w2.out-is, w2.row-is) (row_and_more c.args.out.now c.loop-i.out c.loop-i.i w2.read_value.new.out c.loop-i.row _ (omega arith) inv.row w2.with_read-row.ensures.read);
-            few = rw w2.row-is (omega (arith, w2.with_read-row.ensures.read.behind));
+            row = rw (w2.out-is, w2.row-is) (row_and_more c.args.out.now c.loop-i.out c.loop-i.i w2.read_value.new.out c.loop-i.row _ (omega arith) inv.row w2.row_with_read_value-row.ensures.read);
+            few = rw w2.row-is (omega (arith, w2.row_with_read_value-row.ensures.read.behind));
             placed =
                 let read = ap (value_at version) (sym moved) ∙ w2.in_ok-read_value.ensures.ok in
                 let stood = value_stands version bytes y _ _ (λ k. (c.type_inv.bytes k).fits) (omega (arith, inv.second)) read in
                 rw w2.place-is (place_after-more bytes c.args.c.now.place c.loop-i.i ∙ ap (place_after_value bytes) inv.placed ∙ sym (ap (λ (p : Place). p.place) stood.end) ∙ sym w2.place-place-else-next-stop.ensures.place);
-            from = rw w2.row-is (w2.with_read-row.ensures.from bytes c.args.c.now.place inv.from (sym inv.placed));
+            from = rw w2.row-is (w2.row_with_read_value-row.ensures.from bytes c.args.c.now.place inv.from (sym inv.placed));
           }
     ]

@@ -35,8 +35,8 @@ incoming_value-requires-clause-place c =
     place_within c.args.upper.now.known.items c.args.upper.now.rest (incoming_values c.args.incoming.now) c.requires.long c.requires.incoming c.loop-n.n c.index-known-n.result
     (rw v at c.loop-n-test.true) (rw v at c.index-known-n.is) c.loop-n.at c.loop-n.invariant.0
 
-pub covers_given-requires-clause-own : goal.covers_given-requires-clause-own
-covers_given-requires-clause-own c =
+pub covers_incoming-requires-clause-own : goal.covers_incoming-requires-clause-own
+covers_incoming-requires-clause-own c =
     let v = c.as_slice-known.ensures.value in
     let known = c.args.upper.now.known.items in
     let rest = c.args.upper.now.rest in
@@ -48,24 +48,24 @@ covers_given-requires-clause-own c =
     subst IsWell (place_there known rest ws c.requires.long c.requires.incoming c.loop-n.n here lt is c.loop-n.at c.loop-n.invariant.0)
     (c.requires.upper (c.loop-n.at + here.anys) (omega (arith, c.requires.long, within)))
 
-pub covers_given-requires-clause-value : goal.covers_given-requires-clause-value
-covers_given-requires-clause-value c =
+pub covers_incoming-requires-clause-value : goal.covers_incoming-requires-clause-value
+covers_incoming-requires-clause-value c =
     let v = c.as_slice-known.ensures.value in
     rw c.incoming_value.ensures
     (c.requires.incoming (c.loop-n.at + c.index-known-n.result.anys)
     (place_within c.args.upper.now.known.items c.args.upper.now.rest (incoming_values c.args.incoming.now) c.requires.long c.requires.incoming c.loop-n.n c.index-known-n.result
     (rw v at c.loop-n-test.true) (rw v at c.index-known-n.is) c.loop-n.at c.loop-n.invariant.0))
 
-pub returns-then-not-covers_given : goal.returns-then-not-covers_given
-returns-then-not-covers_given c =
+pub returns-then-not-covers_incoming : goal.returns-then-not-covers_incoming
+returns-then-not-covers_incoming c =
     let v = c.as_slice-known.ensures.value in
     let known = c.args.upper.now.known.items in
     let rest = c.args.upper.now.rest in
     let ws = incoming_values c.args.incoming.now in
-    let covers = rw c.incoming_value.ensures at c.covers_given.ensures in (
+    let covers = rw c.incoming_value.ensures at c.covers_incoming.ensures in (
       (λ t. absurd (let g : false ≡ true = t in cc)),
       (λ below.
-          sym c.if-not-covers_given.true
+          sym c.if-not-covers_incoming.true
           ∙ covers.1
           (covered_here known rest ws c.requires.long c.requires.incoming c.loop-n.n c.index-known-n.result (rw v at c.loop-n-test.true) (rw v at c.index-known-n.is) c.loop-n.at
           c.loop-n.invariant.0 below)),
@@ -80,10 +80,10 @@ loop-n-preserved c =
     let here = c.index-known-n.result in
     let lt = rw v at c.loop-n-test.true in
     let is = rw v at c.index-known-n.is in
-    let covers = rw c.incoming_value.ensures at c.covers_given.ensures in (
+    let covers = rw c.incoming_value.ensures at c.covers_incoming.ensures in (
       omega (arith, c.loop-n.invariant.0, length-front known rest c.loop-n.n here lt is),
       covered_more known rest ws c.requires.long c.requires.incoming c.loop-n.n here lt is c.loop-n.at c.loop-n.invariant.0 c.loop-n.invariant.1
-          (covers.0 c.if-not-covers_given.false),
+          (covers.0 c.if-not-covers_incoming.false),
     )
 
 pub returns : goal.returns

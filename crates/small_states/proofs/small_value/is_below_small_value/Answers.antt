@@ -16,12 +16,12 @@ returns-then-words-end c =
           (subst (λ (u : Val). IsBelow (Set c.in-Some.words.now) u) oe (subst (λ (u : Val). IsBelow u c.args.own.now) ve below)))),
     )
 
-pub returns-then-is_value_prefix : goal.returns-then-is_value_prefix
-returns-then-is_value_prefix c =
+pub returns-then-begins_with_words : goal.returns-then-begins_with_words
+returns-then-begins_with_words c =
     let words = c.in-Some.words.now in
     let ve = set_of c.args.v.now words c.in-Some.ensures in
     let oe = set_of c.args.own.now c.in-Some-words.held.now c.in-Some-words.ensures in
-    let begins = c.is_value_prefix.ensures c.if-is_value_prefix.true in (
+    let begins = c.begins_with_words.ensures c.if-begins_with_words.true in (
       (λ t z m. subst (IsMember z) (sym oe) (subst (λ (l : List ℕ). Among z l) (sym begins.1) (append_left z words begins.0 (subst (IsMember z) ve m)))),
       (λ below. refl),
     )

@@ -7,7 +7,7 @@ use Rattle.small_states.specs.declared.values.SpacedValue.{SpacedValue}
 use Rattle.small_states.specs.CompactForms.{compact_front}
 use Rattle.small_states.proofs.SparseLemmas.{known_well, spelled_all, spelled_more}
 use Rattle.small_states.proofs.spelling.spell_values.Goals as goal
-use Rattle.small_states.proofs.spelling.spell_values.Goals.{then-not-put_one+in_ok-spell_spaced_value, else-not-put_one}
+use Rattle.small_states.proofs.spelling.spell_values.Goals.{then-not-put_spaced_word+in_ok-spell_spaced_value, else-not-put_spaced_word}
 
 pub spell_spaced_value-requires : goal.spell_spaced_value-requires
 spell_spaced_value-requires c =
@@ -24,13 +24,13 @@ loop-n-preserved c =
     let old = c.loop-n.gathered in
     let more = spelled_more c.args.values.now.known.items c.args.values.now.rest c.loop-n.n here (rw v at c.loop-n-test.true) (rw v at c.index-known-n.is) (c.args.out.now.items ++ c.args.gathered.now) in
     let next = ap (λ (l : List ℕ). (l ++ zeros) ++ bytes) c.loop-n.invariant ∙ more in
-    elim c.if-not-put_one.branch [
-      | then-not-put_one+in_ok-spell_spaced_value w ↦
+    elim c.if-not-put_spaced_word.branch [
+      | then-not-put_spaced_word+in_ok-spell_spaced_value w ↦
           rw (w.out-is, w.gathered-is)
-          (w.in_ok-spell_spaced_value.ensures ∙ ap (λ (l : List ℕ). ((out ++ l) ++ zeros) ++ bytes) (c.put_one.ensures.kept w.if-not-put_one.true) ∙ next)
-      | else-not-put_one w ↦
+          (w.in_ok-spell_spaced_value.ensures ∙ ap (λ (l : List ℕ). ((out ++ l) ++ zeros) ++ bytes) (c.put_spaced_word.ensures.kept w.if-not-put_spaced_word.true) ∙ next)
+      | else-not-put_spaced_word w ↦
           rw (w.out-is, w.gathered-is)
-          (ap (λ (l : List ℕ). out ++ l) (c.put_one.ensures.put w.if-not-put_one.false)
+          (ap (λ (l : List ℕ). out ++ l) (c.put_spaced_word.ensures.put w.if-not-put_spaced_word.false)
           ∙ sym (append_assoc out (old ++ zeros) bytes)
           ∙ ap (λ (l : List ℕ). l ++ bytes) (sym (append_assoc out old zeros))
           ∙ next)

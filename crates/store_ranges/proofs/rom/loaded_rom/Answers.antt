@@ -10,6 +10,6 @@ returns-then-not-is_in_rom c = (
 
 pub returns : goal.returns
 returns c = (
-  (λ t. record { in_rom = any_one c.args.addr c.args.len c.args.plan.now.rom (sym c.is_in_rom.ensures.value ∙ c.if-not-is_in_rom.false); held = c.are_held_in_rom.ensures.0 t }),
-  (λ r. c.are_held_in_rom.ensures.1 r.held),
+  (λ t. record { in_rom = any_one c.args.addr c.args.len c.args.plan.now.rom (sym c.is_in_rom.ensures.value ∙ c.if-not-is_in_rom.false); held = c.are_bytes_in_image.ensures.0 t }),
+  (λ r. c.are_bytes_in_image.ensures.1 r.held),
 )

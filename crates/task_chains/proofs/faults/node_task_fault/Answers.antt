@@ -11,21 +11,21 @@ use Rattle.task_chains.proofs.FaultLaws.{walked_fails}
 use Rattle.packed_cert.proofs.WalkedPoints.{split_again, split_more, walked, walked_all}
 use Rattle.task_chains.proofs.faults.node_task_fault.Goals as goal
 
-pub holds_apart-requires : goal.holds_apart-requires
-holds_apart-requires c =
+pub keeps_rule_17-requires : goal.keeps_rule_17-requires
+keeps_rule_17-requires c =
     let r = c.args.rule.now in
     let points = (c.args.node.now).points in
     let p : Point = record { addr = c.in-Some.addr; state = c.step.new.self.current } in
     let there : Contains points p = walked points c.loop-addr.invariant.done (c.loop-addr.walk).left c.step.new.self.left p c.loop-addr.invariant.split c.in-Some.ensures.0 in
     subst (λ (s : State). AreValues r.bounds.now s.regs) (sym c.state.ensures) (All-contains (λ (q : Point). AreValues r.bounds.now (q.state).regs) points p c.requires there)
 
-pub returns-then-not-holds_apart-clause-some : goal.returns-then-not-holds_apart-clause-some
-returns-then-not-holds_apart-clause-some c =
+pub returns-then-not-keeps_rule_17-clause-some : goal.returns-then-not-keeps_rule_17-clause-some
+returns-then-not-keeps_rule_17-clause-some c =
     let r = c.args.rule.now in
     let inv = c.loop-addr.invariant in
     let points = (c.args.node.now).points in
     let p : Point = record { addr = c.in-Some.addr; state = c.step.new.self.current } in
-    let fails = broken c.holds_apart.result _ c.if-not-holds_apart.true c.holds_apart.ensures in
+    let fails = broken c.keeps_rule_17.result _ c.if-not-keeps_rule_17.true c.keeps_rule_17.ensures in
     walked_fails r.bounds.now r.view.now r.plan.now r.tasks.now c.args.node.now inv.done c.step.new.self.left p c.walk.ensures.rising
     (split_again points inv.done (c.loop-addr.walk).left c.step.new.self.left p inv.split c.in-Some.ensures.0) inv.hold
     (subst (λ (k : Key). HoldsApartIn r.bounds.now r.view.now r.plan.now r.tasks.now k p → ⊥) (ap (λ (n : NodeData). n.key) c.node.view_is)
@@ -38,7 +38,7 @@ loop-addr-preserved c =
     let p : Point = record { addr = c.in-Some.addr; state = c.step.new.self.current } in
     let holds =
     subst (λ (k : Key). HoldsApartIn r.bounds.now r.view.now r.plan.now r.tasks.now k p) (ap (λ (n : NodeData). n.key) c.node.view_is)
-    (subst (λ (s : State). HoldsApartIn r.bounds.now r.view.now r.plan.now r.tasks.now (c.node.inside).key (record { addr = c.in-Some.addr; state = s })) c.state.ensures (c.holds_apart.ensures.0 c.if-not-holds_apart.false)) in
+    (subst (λ (s : State). HoldsApartIn r.bounds.now r.view.now r.plan.now r.tasks.now (c.node.inside).key (record { addr = c.in-Some.addr; state = s })) c.state.ensures (c.keeps_rule_17.ensures.0 c.if-not-keeps_rule_17.false)) in
     record {
       done = inv.done ++ p ∷ [];
       split = split_more (c.args.node.now).points inv.done (c.loop-addr.walk).left c.step.new.self.left p inv.split c.in-Some.ensures.0;

@@ -17,9 +17,9 @@ invariant_of-result c =
     let sp = ap (λ (l : List Task). (slice_index_or l c.args.u (record { entry = 0; sp = 0 })).sp) (c.as_slice-2.ensures.value ∙ ap (λ (t : TasksData). t.list) c.tasks.view_is) in
     let at = ap (λ (t : TasksData). t.block) c.tasks.view_is in
     let devices =
-    c.devices_beside_block.ensures ∙ ap (λ x. c.args.plan.now.devices ++ map any_view_device (cut_plan_ranges x c.block_size.result c.args.plan.now.ram)) at
+    c.view_devices_beside_block.ensures ∙ ap (λ x. c.args.plan.now.devices ++ map any_view_device (cut_plan_ranges x c.block_size.result c.args.plan.now.ram)) at
     ∙ ap (λ k. c.args.plan.now.devices ++ map any_view_device (cut_plan_ranges c.args.tasks.now.block k c.args.plan.now.ram)) c.block_size.ensures in
     let e =
-    plan_parts (plan_data c.plan.inside) c.args.plan.now c.args.tasks.now c.args.u c.unwrap.result.items c.new.result.items c.devices_beside_block.result.items c.unwrap-2.result.items _ c.is_task_start_enabled.result
-    c.plan.view_is rom c.new.ensures devices irqs sp c.is_task_start_enabled.ensures in
+    plan_parts (plan_data c.plan.inside) c.args.plan.now c.args.tasks.now c.args.u c.unwrap.result.items c.new.result.items c.view_devices_beside_block.result.items c.unwrap-2.result.items _ c.are_interrupts_on_at_start.result
+    c.plan.view_is rom c.new.ensures devices irqs sp c.are_interrupts_on_at_start.ensures in
     subst IsPlan (sym e) (view_is_plan ok c.args.tasks.now (subst AreTasks c.tasks.view_is c.tasks.invariant) c.requires.fit c.args.u c.requires.task)

@@ -9,8 +9,8 @@ use Rattle.tc_asm.proofs.AlikeDrafts.{items_all}
 use Rattle.tc_asm.proofs.KnownSymbols.{whole_draft, symbols_again, new_again}
 use Rattle.tc_asm.proofs.assemble_source.assemble.Goals as goal
 
-pub count_items-requires : goal.count_items-requires
-count_items-requires c = items_all c.args.source.now c.deref.result.now (ap (map item_of) c.deref.ensures.value ∙ c.in_ok-read.ensures.items)
+pub scan_items-requires : goal.scan_items-requires
+scan_items-requires c = items_all c.args.source.now c.deref.result.now (ap (map item_of) c.deref.ensures.value ∙ c.in_ok-read.ensures.items)
 
 pub draft_of_lines-requires-clause-few : goal.draft_of_lines-requires-clause-few
 draft_of_lines-requires-clause-few c =

@@ -9,16 +9,16 @@ use Rattle.tc_encode.proofs.Gaps.{fields_below}
 use Rattle.tc_encode.proofs.Finds.{stands, makes_of}
 use Rattle.tc_encode.proofs.word_search.find_word_in_row.Goals as goal
 
-pub returns-then-not-has_zero_word_gaps-clause-none : goal.returns-then-not-has_zero_word_gaps-clause-none
-returns-then-not-has_zero_word_gaps-clause-none c = λ i m same. both_ways _ (sym c.has_zero_word_gaps.ensures ∙ c.if-not-has_zero_word_gaps.true) (stands c.args.place c.args.w (row_of c.args.row.now) c.requires.place i m same).full
+pub returns-then-not-are_unused_bits_zero-clause-none : goal.returns-then-not-are_unused_bits_zero-clause-none
+returns-then-not-are_unused_bits_zero-clause-none c = λ i m same. both_ways _ (sym c.are_unused_bits_zero.ensures ∙ c.if-not-are_unused_bits_zero.true) (stands c.args.place c.args.w (row_of c.args.row.now) c.requires.place i m same).full
 
-pub has_zero_other_fields-requires-clause-below : goal.has_zero_other_fields-requires-clause-below
-has_zero_other_fields-requires-clause-below c = subst (λ (f : Fields). AreFieldsBelow f (bounds c.args.row.now.form)) (sym c.fields_of_word-f.ensures) (fields_below c.args.row.now.form c.args.w c.ranges.w.fits)
+pub are_missing_fields_zero-requires-clause-below : goal.are_missing_fields_zero-requires-clause-below
+are_missing_fields_zero-requires-clause-below c = subst (λ (f : Fields). AreFieldsBelow f (bounds c.args.row.now.form)) (sym c.fields_of_word-f.ensures) (fields_below c.args.row.now.form c.args.w c.ranges.w.fits)
 
-pub returns-then-not-has_zero_other_fields-clause-none : goal.returns-then-not-has_zero_other_fields-clause-none
-returns-then-not-has_zero_other_fields-clause-none c = λ i m same.
+pub returns-then-not-are_missing_fields_zero-clause-none : goal.returns-then-not-are_missing_fields_zero-clause-none
+returns-then-not-are_missing_fields_zero-clause-none c = λ i m same.
     let s = stands c.args.place c.args.w (row_of c.args.row.now) c.requires.place i m same in
-    both_ways _ (sym c.has_zero_other_fields.ensures ∙ c.if-not-has_zero_other_fields.true) (ap (are_unused_fields_zero (uses_of (row_of c.args.row.now))) c.fields_of_word-f.ensures ∙ s.fits.zero)
+    both_ways _ (sym c.are_missing_fields_zero.ensures ∙ c.if-not-are_missing_fields_zero.true) (ap (are_unused_fields_zero (uses_of (row_of c.args.row.now))) c.fields_of_word-f.ensures ∙ s.fits.zero)
 
 pub returns-then-not-are_registers_apart-clause-none : goal.returns-then-not-are_registers_apart-clause-none
 returns-then-not-are_registers_apart-clause-none c = λ i m same.
@@ -26,7 +26,7 @@ returns-then-not-are_registers_apart-clause-none c = λ i m same.
     both_ways _ (sym c.are_registers_apart.ensures ∙ c.if-not-are_registers_apart.true) (ap (are_registers_apart (row_of c.args.row.now)) c.fields_of_word-f.ensures ∙ s.fits.apart)
 
 pub invariant_of-result : goal.invariant_of-result
-invariant_of-result c = (makes_of c.args.place c.args.w (row_of c.args.row.now) c.fields_of_word-f.result c.requires.place c.fields_of_word-f.ensures c.ranges.w.fits c.requires.short c.requires.first c.requires.second (sym c.has_zero_word_gaps.ensures ∙ c.if-not-has_zero_word_gaps.false) (sym c.has_zero_other_fields.ensures ∙ c.if-not-has_zero_other_fields.false) (sym c.are_registers_apart.ensures ∙ c.if-not-are_registers_apart.false)).inst
+invariant_of-result c = (makes_of c.args.place c.args.w (row_of c.args.row.now) c.fields_of_word-f.result c.requires.place c.fields_of_word-f.ensures c.ranges.w.fits c.requires.short c.requires.first c.requires.second (sym c.are_unused_bits_zero.ensures ∙ c.if-not-are_unused_bits_zero.false) (sym c.are_missing_fields_zero.ensures ∙ c.if-not-are_missing_fields_zero.false) (sym c.are_registers_apart.ensures ∙ c.if-not-are_registers_apart.false)).inst
 
 pub returns-clause-some : goal.returns-clause-some
-returns-clause-some c = makes_of c.args.place c.args.w (row_of c.args.row.now) c.fields_of_word-f.result c.requires.place c.fields_of_word-f.ensures c.ranges.w.fits c.requires.short c.requires.first c.requires.second (sym c.has_zero_word_gaps.ensures ∙ c.if-not-has_zero_word_gaps.false) (sym c.has_zero_other_fields.ensures ∙ c.if-not-has_zero_other_fields.false) (sym c.are_registers_apart.ensures ∙ c.if-not-are_registers_apart.false)
+returns-clause-some c = makes_of c.args.place c.args.w (row_of c.args.row.now) c.fields_of_word-f.result c.requires.place c.fields_of_word-f.ensures c.ranges.w.fits c.requires.short c.requires.first c.requires.second (sym c.are_unused_bits_zero.ensures ∙ c.if-not-are_unused_bits_zero.false) (sym c.are_missing_fields_zero.ensures ∙ c.if-not-are_missing_fields_zero.false) (sym c.are_registers_apart.ensures ∙ c.if-not-are_registers_apart.false)

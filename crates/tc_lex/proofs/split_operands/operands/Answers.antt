@@ -28,11 +28,11 @@ parts-preserved c =
     let found : c.find_comma.result ≡ Some i = c.in-Some.is in
     record {
       parts =
-          ap (λ os. os ++ map operand (slice_split is_comma (map piece_of c.tokens_after-rest.result.now))) c.put_before.ensures.operands
+          ap (λ os. os ++ map operand (slice_split is_comma (map piece_of c.tokens_after-rest.result.now))) c.put_operand_before.ensures.operands
           ∙ ap (λ (ps : List Piece). (out ++ operand (take i (map piece_of c.parts.rest.now)) ∷ []) ++ map operand (slice_split is_comma (map piece_of ps))) c.tokens_after-rest.ensures
           ∙ parted_more out c.parts.rest.now i (sym c.find_comma.ensures.value ∙ found)
           ∙ c.parts.invariant.parts;
       few =
           let within : i < length c.parts.rest.now = subst (λ (o : Option ℕ). IfSome o (λ j. j < length c.parts.rest.now)) found c.find_comma.ensures.within in
-          omega (arith, c.put_before.ensures.one_more, ap length c.tokens_after-rest.ensures, length-drop (i + 1) c.parts.rest.now, within);
+          omega (arith, c.put_operand_before.ensures.one_more, ap length c.tokens_after-rest.ensures, length-drop (i + 1) c.parts.rest.now, within);
     }

@@ -29,14 +29,14 @@ loop-number-preserved c =
     record {
       counts = λ q.
           let n : ℕ = globals_named (take i c.args.objects.now) q in
-          c.in_ok-add_symbols.ensures.counts q n (c.loop-number.invariant.counts q)
+          c.in_ok-add_global_symbols.ensures.counts q n (c.loop-number.invariant.counts q)
           ∙ ap (λ (ss : List SymbolData). twice_of_count (n + count_by (has_global_name q) ss)) e
           ∙ ap twice_of_count (globals_more c.args.objects.now i o q c.loop-number-test.true c.index-objects-number.is);
       globals = λ placed same q.
           let at : PlacedAt placed i o = placed_at placed c.args.objects.now i o same c.loop-number-test.true c.index-objects-number.is in
           let p : PlacedData = at.placed in
           let sofar : List GlobalData = globals_of (take i placed) in
-          c.in_ok-add_symbols.ensures.globals placed p sofar at.found (c.loop-number.invariant.globals placed same) q
+          c.in_ok-add_global_symbols.ensures.globals placed p sofar at.found (c.loop-number.invariant.globals placed same) q
           ∙ ap (λ (ss : List SymbolData). global_address (sofar ++ map (global_data p.bases) (filter is_global ss)) q) (e ∙ ap (λ (x : ObjectData). x.symbols) (sym at.object))
           ∙ ap (λ (gs : List GlobalData). global_address gs q) (globals_next placed i p at.within at.is);
     }

@@ -20,29 +20,29 @@ loop-reloc-init c = record {
   shapes = ap (map section_shape) c.requires;
 }
 
-pub write_in-requires-clause-some : goal.write_in-requires-clause-some
-write_in-requires-clause-some c =
+pub write_reloc_in_object-requires-clause-some : goal.write_reloc_in_object-requires-clause-some
+write_reloc_in_object-requires-clause-some c =
     let o : ObjectData = c.args.placed.now.object in
     let good : IsObject o = subst IsObject (c.object.view_is ∙ ap (λ (p : PlacedData). p.object) c.placed.view_is) c.object.invariant in
     let relocs : c.deref-reloc-items.result.now ≡ o.relocs = c.deref-reloc-items.ensures.value ∙ ap (λ (x : ObjectData). x.relocs) (c.object.view_is ∙ ap (λ (p : PlacedData). p.object) c.placed.view_is) in
     (reloc_here o c.deref-reloc-items.result.now c.loop-reloc.reloc-index _ good relocs c.loop-reloc-test.true).some
 
-pub write_in-requires-clause-most : goal.write_in-requires-clause-most
-write_in-requires-clause-most c =
+pub write_reloc_in_object-requires-clause-most : goal.write_reloc_in_object-requires-clause-most
+write_reloc_in_object-requires-clause-most c =
     let o : ObjectData = c.args.placed.now.object in
     let good : IsObject o = subst IsObject (c.object.view_is ∙ ap (λ (p : PlacedData). p.object) c.placed.view_is) c.object.invariant in
     let relocs : c.deref-reloc-items.result.now ≡ o.relocs = c.deref-reloc-items.ensures.value ∙ ap (λ (x : ObjectData). x.relocs) (c.object.view_is ∙ ap (λ (p : PlacedData). p.object) c.placed.view_is) in
     (reloc_here o c.deref-reloc-items.result.now c.loop-reloc.reloc-index _ good relocs c.loop-reloc-test.true).kind
 
-pub write_in-requires-clause-within : goal.write_in-requires-clause-within
-write_in-requires-clause-within c =
+pub write_reloc_in_object-requires-clause-within : goal.write_reloc_in_object-requires-clause-within
+write_reloc_in_object-requires-clause-within c =
     let o : ObjectData = c.args.placed.now.object in
     let good : IsObject o = subst IsObject (c.object.view_is ∙ ap (λ (p : PlacedData). p.object) c.placed.view_is) c.object.invariant in
     let relocs : c.deref-reloc-items.result.now ≡ o.relocs = c.deref-reloc-items.ensures.value ∙ ap (λ (x : ObjectData). x.relocs) (c.object.view_is ∙ ap (λ (p : PlacedData). p.object) c.placed.view_is) in
     section_in c.loop-reloc.sections o.sections _ c.loop-reloc.invariant.shapes (reloc_here o c.deref-reloc-items.result.now c.loop-reloc.reloc-index _ good relocs c.loop-reloc-test.true).section
 
-pub write_in-requires-clause-room : goal.write_in-requires-clause-room
-write_in-requires-clause-room c =
+pub write_reloc_in_object-requires-clause-room : goal.write_reloc_in_object-requires-clause-room
+write_reloc_in_object-requires-clause-room c =
     let o : ObjectData = c.args.placed.now.object in
     let good : IsObject o = subst IsObject (c.object.view_is ∙ ap (λ (p : PlacedData). p.object) c.placed.view_is) c.object.invariant in
     let relocs : c.deref-reloc-items.result.now ≡ o.relocs = c.deref-reloc-items.ensures.value ∙ ap (λ (x : ObjectData). x.relocs) (c.object.view_is ∙ ap (λ (p : PlacedData). p.object) c.placed.view_is) in
@@ -70,7 +70,7 @@ loop-reloc-preserved c =
     let is : r ≡ get_or o.relocs i r = item_of c.deref-reloc-items.result.now o.relocs i _ relocs c.loop-reloc-test.true in
     let inv = c.loop-reloc.invariant in
     record {
-      sections = λ all same. relocs_next all c.args.placed.now o.sections c.loop-reloc.sections c.write_in.new.sections o.relocs i r h is (inv.sections all same) (c.in_default.ensures.written all same);
+      sections = λ all same. relocs_next all c.args.placed.now o.sections c.loop-reloc.sections c.write_reloc_in_object.new.sections o.relocs i r h is (inv.sections all same) (c.in_default.ensures.written all same);
       none = λ all same. more_item (refusal_at all c.args.number c.args.placed.now) o.relocs i r h is (inv.none all same) (refusal_none all c.args.number c.args.placed.now i r (c.in_default.ensures.refusal all same));
       shapes = c.in_default.ensures.shapes ∙ inv.shapes;
     }

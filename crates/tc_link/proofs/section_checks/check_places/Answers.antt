@@ -18,7 +18,7 @@ returns-in-Some-clause-err c =
     let marks : (k : ℕ) (d : Bool) → k < length c.deref-in-loop-object.result.now → get_or c.deref.result.now k d ≡ has_symbol x.symbols k =
     λ k d h. ap (λ (l : List Bool). get_or l k d) c.deref.ensures.value ∙ c.in_ok-held.ensures.held k d (subst (λ (l : List SectionData). k < length l) e h) in
     let inner : first_refusal_from (no_place_of c.args.places.now x.symbols) 0 x.sections ≡ Some (no_place c.in-Some.name.now) =
-    ap (first_refusal_from (no_place_of c.args.places.now x.symbols) 0) (sym e) ∙ c.first_unplaced.ensures x.symbols marks ∙ ap (option_map (λ (n : Bor (List ℕ)). no_place n.now)) c.in-Some.is in
+    ap (first_refusal_from (no_place_of c.args.places.now x.symbols) 0) (sym e) ∙ c.first_unplaced_section.ensures x.symbols marks ∙ ap (option_map (λ (n : Bor (List ℕ)). no_place n.now)) c.in-Some.is in
     found_item (λ _ (o : ObjectData). first_refusal_from (no_place_of c.args.places.now o.symbols) 0 o.sections) c.args.objects.now c.loop-object.object-index x (no_place c.in-Some.name.now) c.loop-object-test.true c.object-item.is c.loop-object.invariant inner
     ∙ ap (λ (n : List ℕ). Some (no_place n)) (sym c.in_ok-from_str.ensures.ok)
 
@@ -29,7 +29,7 @@ loop-object-preserved c =
     let marks : (k : ℕ) (d : Bool) → k < length c.deref-in-loop-object.result.now → get_or c.deref.result.now k d ≡ has_symbol x.symbols k =
     λ k d h. ap (λ (l : List Bool). get_or l k d) c.deref.ensures.value ∙ c.in_ok-held.ensures.held k d (subst (λ (l : List SectionData). k < length l) e h) in
     let inner : first_refusal_from (no_place_of c.args.places.now x.symbols) 0 x.sections ≡ None =
-    ap (first_refusal_from (no_place_of c.args.places.now x.symbols) 0) (sym e) ∙ c.first_unplaced.ensures x.symbols marks ∙ ap (option_map (λ (n : Bor (List ℕ)). no_place n.now)) c.in_default.is in
+    ap (first_refusal_from (no_place_of c.args.places.now x.symbols) 0) (sym e) ∙ c.first_unplaced_section.ensures x.symbols marks ∙ ap (option_map (λ (n : Bor (List ℕ)). no_place n.now)) c.in_default.is in
     more_item (λ _ (o : ObjectData). first_refusal_from (no_place_of c.args.places.now o.symbols) 0 o.sections) c.args.objects.now c.loop-object.object-index x c.loop-object-test.true c.object-item.is c.loop-object.invariant inner
 
 pub returns-clause-ok : goal.returns-clause-ok

@@ -9,7 +9,7 @@ returns-in_default-clause-byte c = read_none c.args.pages.now c.args.addr c.requ
 pub returns-clause-byte : goal.returns-clause-byte
 returns-clause-byte c =
     let at = is_at c.args.pages.now c.in-Some.i _ c.requires.pages c.in-Some.ensures.within c.in-Some.ensures.found in
-    c.byte.ensures ∙ read_found c.args.pages.now c.in-Some.i c.args.addr at
+    c.page_byte_at.ensures ∙ read_found c.args.pages.now c.in-Some.i c.args.addr at
 
 pub returns-in_default-clause-bytes : goal.returns-in_default-clause-bytes
 returns-in_default-clause-bytes c = HasBytes-mem c.args.pages.now c.requires

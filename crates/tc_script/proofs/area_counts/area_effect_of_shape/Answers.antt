@@ -3,10 +3,10 @@ use Rattle.tc_script.proofs.AreaLaws.{told_load, told_any_store, told_plain}
 use Rattle.tc_script.proofs.area_counts.area_effect_of_shape.Goals as goal
 
 pub returns-in-Load : goal.returns-in-Load
-returns-in-Load c = told_load _ c.args.used c.args.m.now c.args.event.now c.args.shape c.access-addr.result c.in-Load.is c.access-addr.ensures c.area_effect_of_load.ensures
+returns-in-Load c = told_load _ c.args.used c.args.m.now c.args.event.now c.args.shape c.access_address-addr.result c.in-Load.is c.access_address-addr.ensures c.area_effect_of_load.ensures
 
 pub returns-in-Store : goal.returns-in-Store
-returns-in-Store c = told_any_store _ c.args.used c.args.m.now c.args.event.now c.args.shape c.access-addr-in-Store.result c.in-Store.is c.access-addr-in-Store.ensures c.area_effect_of_trapping_store.ensures
+returns-in-Store c = told_any_store _ c.args.used c.args.m.now c.args.event.now c.args.shape c.access_address-addr-in-Store.result c.in-Store.is c.access_address-addr-in-Store.ensures c.area_effect_of_store_or_trap.ensures
 
 pub returns-in-Compute : goal.returns-in-Compute
 returns-in-Compute c = told_plain c.args.used c.args.m.now c.args.event.now c.args.shape _ c.in-Compute.is refl c.requires.counted

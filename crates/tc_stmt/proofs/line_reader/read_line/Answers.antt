@@ -10,8 +10,8 @@ use Rattle.tc_stmt.proofs.line_reader.read_line.Goals as goal
 pub overflow_cast-count : goal.overflow_cast-count
 overflow_cast-count c =
     let old = c.args.items.now.items in
-    let new = c.line_rule.new.items.items in
-    omega (arith, line_few c.args.line.now, ap (λ (l : LineData). length l.items) c.in_ok-rule.ensures, length-append (map item_of old) (line_in c.args.line.now).items, length-map old item_of, length-map new item_of, c.args.items.now.ok.0, c.line_rule.new.items.ok.0)
+    let new = c.read_line_items.new.items.items in
+    omega (arith, line_few c.args.line.now, ap (λ (l : LineData). length l.items) c.in_ok-rule.ensures, length-append (map item_of old) (line_in c.args.line.now).items, length-map old item_of, length-map new item_of, c.args.items.now.ok.0, c.read_line_items.new.items.ok.0)
 
 pub returns-then-is_empty-clause-rule : goal.returns-then-is_empty-clause-rule
 returns-then-is_empty-clause-rule c =

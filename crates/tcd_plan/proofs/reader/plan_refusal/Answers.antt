@@ -8,6 +8,6 @@ use Rattle.tcd_plan.proofs.reader.plan_refusal.Goals as goal
 pub plan_range_overlap-requires : goal.plan_range_overlap-requires
 plan_range_overlap-requires c =
     let d = view c.args.value.now in
-    let many : too_many_of (plan_in d) ≡ None = sym c.in_default-too_many.ensures in
-    let areas : has_areas (plan_in d) ≡ true = sym c.has_areas.ensures ∙ c.if-not-has_areas.false in
+    let many : too_many_of (plan_in d) ≡ None = sym c.in_default-first_oversized_array.ensures in
+    let areas : has_areas (plan_in d) ≡ true = sym c.has_valid_areas.ensures ∙ c.if-not-has_valid_areas.false in
     few_arrays d many areas

@@ -8,8 +8,8 @@ use Rattle.tcd_report.proofs.graphs.graph.Goals as goal
 pub unreachable-requires : goal.unreachable-requires
 unreachable-requires c = never_none (c.args.cert.now).nodes c.loop-i.i (omega (arith, c.loop-i-test.true, c.len-i-end.ensures)) c.in_default.ensures
 
-pub append_node-requires-clause-stands : goal.append_node-requires-clause-stands
-append_node-requires-clause-stands c = (got (c.args.cert.now).nodes c.loop-i.i c.in-Some.node c.in-Some.ensures).2
+pub append_node_lines-requires-clause-stands : goal.append_node_lines-requires-clause-stands
+append_node_lines-requires-clause-stands c = (got (c.args.cert.now).nodes c.loop-i.i c.in-Some.node c.in-Some.ensures).2
 
 pub loop-i-init : goal.loop-i-init
 loop-i-init c = record {
@@ -23,9 +23,9 @@ loop-i-preserved c =
     let node = c.in-Some.node in
     let found = sym c.in-Some.ensures in
     record {
-      grown = grown_more (AreNodeLines c.args.image.now c.args.plan.now c.args.cert.now) nodes c.loop-i.i node [] (string_bytes c.loop-i.graph.text) (string_bytes c.append_node.new.graph.text) (slice_get_within nodes c.loop-i.i node found)
-          (sym (get_or_from_slice_get nodes c.loop-i.i node node found)) c.loop-i.invariant.grown c.in_ok-append_node.ensures.lines;
-      handlers = c.in_ok-append_node.ensures.handlers;
+      grown = grown_more (AreNodeLines c.args.image.now c.args.plan.now c.args.cert.now) nodes c.loop-i.i node [] (string_bytes c.loop-i.graph.text) (string_bytes c.append_node_lines.new.graph.text) (slice_get_within nodes c.loop-i.i node found)
+          (sym (get_or_from_slice_get nodes c.loop-i.i node node found)) c.loop-i.invariant.grown c.in_ok-append_node_lines.ensures.lines;
+      handlers = c.in_ok-append_node_lines.ensures.handlers;
     }
 
 pub returns : goal.returns

@@ -12,8 +12,8 @@ invariant_of-result c =
     let rom = (MatchResult-at_ok _ _ c.unwrap.result c.unwrap.ensures c.try_from.ensures).0 ∙ c.as_slice.ensures.value ∙ ap (λ (p : PlanData). p.rom) c.plan.view_is in
     let irqs = (MatchResult-at_ok _ _ c.unwrap-2.result c.unwrap-2.ensures c.try_from-2.ensures).0 ∙ c.as_slice-2.ensures.value ∙ ap (λ (p : PlanData). p.irqs) c.plan.view_is in
     let ram = c.ram_without_cells.ensures ∙ ap (λ (l : List Cell). ram_without_cells l (c.args.plan.now).ram) c.list.ensures in
-    let devices = c.devices_with.ensures ∙ ap (λ (l : List Cell). (c.args.plan.now).devices ++ map cell_device l) c.list-2.ensures in
+    let devices = c.devices_with_cells.ensures ∙ ap (λ (l : List Cell). (c.args.plan.now).devices ++ map cell_device l) c.list-2.ensures in
     let e =
-    plan_parts (plan_data c.plan.inside) c.args.plan.now c.args.cells.now c.unwrap.result.items c.ram_without_cells.result.items c.devices_with.result.items c.unwrap-2.result.items
+    plan_parts (plan_data c.plan.inside) c.args.plan.now c.args.cells.now c.unwrap.result.items c.ram_without_cells.result.items c.devices_with_cells.result.items c.unwrap-2.result.items
     c.plan.view_is rom ram devices irqs in
     subst IsPlan (sym e) (IsPlan-with_cells ok c.args.cells.now c.requires)

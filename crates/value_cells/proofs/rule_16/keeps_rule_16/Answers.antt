@@ -9,7 +9,7 @@ returns-in-Store c =
     let r = c.args.rule.now in
     let i = c.in-Store in
     keeps_found r.bounds.now r.image.now r.plan.now r.cells.now (record { addr = c.args.addr; state = c.args.s.now }) _ _ c.keeps_cells.result c.in-Some.ensures.code
-    (at_store r.bounds.now r.plan.now r.cells.now c.args.s.now c.in-Some.found.shape i.src i.base i.offset i.size i.after c.address_by-at.result c.reg.result c.keeps_cells.result (sym i.is) c.address_by-at.ensures.address c.reg.ensures c.keeps_cells.ensures)
+    (at_store r.bounds.now r.plan.now r.cells.now c.args.s.now c.in-Some.found.shape i.src i.base i.offset i.size i.after c.address_by_shape-at.result c.reg.result c.keeps_cells.result (sym i.is) c.address_by_shape-at.ensures.address c.reg.ensures c.keeps_cells.ensures)
 
 pub returns-in_default-shape : goal.returns-in_default-shape
 returns-in_default-shape c =

@@ -10,9 +10,9 @@ use Rattle.value_domain.proofs.lattice.is_set_below_set.Goals.{then-k-words-via-
 pub returns-then-k-words : goal.returns-then-k-words
 returns-then-k-words c = (
   (λ t. absurd (let g : false ≡ true = t in cc)),
-  (λ within. absurd (not_among c.args.words.now c.word_place_from-k.result (get_or c.args.own.now c.loop-x.x-index 0) c.requires.words
-      (passed_more c.args.words.now c.loop-x.k c.word_place_from-k.result _ (c.loop-x.invariant.below c.loop-x-test.true) c.word_place_from-k.ensures.below)
-      c.word_place_from-k.ensures.reached
+  (λ within. absurd (not_among c.args.words.now c.lower_bound_from-k.result (get_or c.args.own.now c.loop-x.x-index 0) c.requires.words
+      (passed_more c.args.words.now c.loop-x.k c.lower_bound_from-k.result _ (c.loop-x.invariant.below c.loop-x-test.true) c.lower_bound_from-k.ensures.below)
+      c.lower_bound_from-k.ensures.reached
       (λ h e.
       elim c.then-k-words.branch [
         | then-k-words-via-then-k-words w ↦ omega (arith, w.if-k-words.true)
@@ -24,14 +24,14 @@ returns-then-k-words c = (
 pub loop-x-preserved : goal.loop-x-preserved
 loop-x-preserved c =
     let x = get_or c.args.own.now c.loop-x.x-index 0 in
-    let here = among_here c.args.words.now c.word_place_from-k.result x (omega (arith, c.word_place_from-k.ensures.end, c.if-k-words.false)) c.if-words-k.false in
+    let here = among_here c.args.words.now c.lower_bound_from-k.result x (omega (arith, c.lower_bound_from-k.ensures.end, c.if-k-words.false)) c.if-words-k.false in
     record {
-      end = c.word_place_from-k.ensures.end;
+      end = c.lower_bound_from-k.ensures.end;
       among = λ i h. elim (cases_lt i c.loop-x.x-index) [
         | inl lt ↦ c.loop-x.invariant.among i lt
         | inr ge ↦ let e : c.loop-x.x-index ≡ i = omega arith in subst (λ (k : ℕ). Among (get_or c.args.own.now k 0) c.args.words.now) e here
       ];
-      below = λ h j l. let low = passed_more c.args.words.now c.loop-x.k c.word_place_from-k.result _ (c.loop-x.invariant.below c.loop-x-test.true) c.word_place_from-k.ensures.below j l in let next = rising_places c.args.own.now c.requires.own c.loop-x.x-index (c.loop-x.x-index + 1) (omega arith) h in omega arith;
+      below = λ h j l. let low = passed_more c.args.words.now c.loop-x.k c.lower_bound_from-k.result _ (c.loop-x.invariant.below c.loop-x-test.true) c.lower_bound_from-k.ensures.below j l in let next = rising_places c.args.own.now c.requires.own c.loop-x.x-index (c.loop-x.x-index + 1) (omega arith) h in omega arith;
     }
 
 pub returns : goal.returns

@@ -3,17 +3,17 @@ use Rattle.std.proofs.lemmas.Bool.{eqb-true, eq-eqb}
 use Rattle.value_domain.proofs.RangeLaws.{any_value, span_value, value_span, span_count}
 use Rattle.value_domain.proofs.lattice.is_span_value.Goals as goal
 
-pub returns-then-count_of-most_words : goal.returns-then-count_of-most_words
-returns-then-count_of-most_words c = (
+pub returns-then-span_len-most_words : goal.returns-then-span_len-most_words
+returns-then-span_len-most_words c = (
   (λ t. absurd (let f : false ≡ true = t in cc)),
-  (λ v. absurd (omega (arith, span_count c.args.b.now c.args.lo c.args.last c.args.step v, c.count_of.ensures, c.most_words-most_words.ensures.most_words))),
+  (λ v. absurd (omega (arith, span_count c.args.b.now c.args.lo c.args.last c.args.step v, c.span_len.ensures, c.most_words-most_words.ensures.most_words))),
 )
 
 pub returns-then-lo-floor : goal.returns-then-lo-floor
 returns-then-lo-floor c = (
   (λ t.
       let e = eqb-true _ _ t in
-      span_value c.args.b.now c.args.lo c.args.last c.args.step c.most_words-most_words.ensures.limits (omega arith) c.ranges.last.fits (omega (arith, c.count_of.ensures, c.most_words-most_words.ensures.most_words))
+      span_value c.args.b.now c.args.lo c.args.last c.args.step c.most_words-most_words.ensures.limits (omega arith) c.ranges.last.fits (omega (arith, c.span_len.ensures, c.most_words-most_words.ensures.most_words))
       c.span_extent-e.ensures (c.if-lo-floor.true ∙ c.floor.ensures)
       (omega (arith, c.above.ensures.value, c.above.ensures.above, c.from.ensures, e))),
   (λ v.
@@ -29,7 +29,7 @@ returns-else-lo-floor c = (
       eq-eqb _ _ (e.0 ∙ sym c.floor.ensures)),
 )
 
-pub returns-then-is_all : goal.returns-then-is_all
-returns-then-is_all c =
-    let all = c.is_all.ensures.0 c.if-is_all.true in
+pub returns-then-is_all_words : goal.returns-then-is_all_words
+returns-then-is_all_words c =
+    let all = c.is_all_words.ensures.0 c.if-is_all_words.true in
     rw (all.0, all.1, all.2) ((λ t. any_value c.args.b.now c.most_words-most_words.ensures.limits), (λ v. refl))

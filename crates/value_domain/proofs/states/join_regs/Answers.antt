@@ -6,14 +6,14 @@ use Rattle.value_domain.specs.State.{joined_regs}
 use Rattle.value_domain.specs.Values.{join_of, IsValue, cover, members, any_val}
 use Rattle.value_domain.proofs.RegLaws.{read_at, regs_more, regs_left, regs_same, length-joined}
 use Rattle.value_domain.proofs.states.join_regs.Goals as goal
-use Rattle.value_domain.proofs.states.join_regs.Goals.{then-not-are_same, else-not-are_same}
+use Rattle.value_domain.proofs.states.join_regs.Goals.{then-not-are_values_equal, else-not-are_values_equal}
 
 pub loop-i-preserved : goal.loop-i-preserved
 loop-i-preserved c =
-    elim c.if-not-are_same.branch [
-      | then-not-are_same w ↦
-          let at_s = w.index-s-i-then-not-are_same in
-          let at_t = w.index-t-i-then-not-are_same in
+    elim c.if-not-are_values_equal.branch [
+      | then-not-are_values_equal w ↦
+          let at_s = w.index-s-i-then-not-are_values_equal in
+          let at_t = w.index-t-i-then-not-are_values_equal in
           let j : w.join.result ≡ join_of c.args.b.now at_s.result at_t.result =
           w.join.ensures.cover
           ∙ ap (λ (u : Val). cover c.args.b.now (members u ++ members (get_or c.args.t.now c.loop-i.i at_t.result))) (sym at_s.is)
@@ -27,10 +27,10 @@ loop-i-preserved c =
             left = regs_left c.args.s.now c.loop-i.out c.loop-i.i w.join.result c.loop-i.invariant.left;
             len = simp length-set c.loop-i.invariant.len;
           })
-      | else-not-are_same w ↦
+      | else-not-are_values_equal w ↦
           let v = c.index-s-i.result in
           let u = c.index-t-i.result in
-          let eq : v ≡ u = cc (c.are_same.ensures.0 w.if-not-are_same.false) in
+          let eq : v ≡ u = cc (c.are_values_equal.ensures.0 w.if-not-are_values_equal.false) in
           let value = subst (λ (x : Val). IsValue c.args.b.now x) (read_at c.args.s.now c.loop-i.i v any_val (omega arith) c.index-s-i.is) (c.requires.left c.loop-i.i (omega arith)) in
           rw w.out-is
           (record {

@@ -5,16 +5,16 @@ use Rattle.value_domain.proofs.values.has_set_word.Goals as goal
 
 pub returns-then-at-words : goal.returns-then-at-words
 returns-then-at-words c = (
-  (λ t. among_here c.args.words.now c.word_place-at.result c.args.x c.if-at-words.true (eqb-true _ _ t)),
+  (λ t. among_here c.args.words.now c.count_words_below-at.result c.args.x c.if-at-words.true (eqb-true _ _ t)),
   (λ i.
       eq-eqb _ _ (
-      reached_is c.args.words.now c.word_place-at.result c.args.x c.requires c.word_place-at.ensures.before (c.word_place-at.ensures.after c.word_place-at.result (omega arith)) i)),
+      reached_is c.args.words.now c.count_words_below-at.result c.args.x c.requires c.count_words_below-at.ensures.before (c.count_words_below-at.ensures.after c.count_words_below-at.result (omega arith)) i)),
 )
 
 pub returns-else-at-words : goal.returns-else-at-words
 returns-else-at-words c = (
   (λ t. absurd (let l = ltb-true _ _ t in omega (arith, c.if-at-words.false))),
   (λ i.
-      absurd (not_among c.args.words.now c.word_place-at.result c.args.x c.requires c.word_place-at.ensures.before
-      (c.word_place-at.ensures.after c.word_place-at.result (omega arith)) (λ h e. omega (arith, c.if-at-words.false)) i)),
+      absurd (not_among c.args.words.now c.count_words_below-at.result c.args.x c.requires c.count_words_below-at.ensures.before
+      (c.count_words_below-at.ensures.after c.count_words_below-at.result (omega arith)) (λ h e. omega (arith, c.if-at-words.false)) i)),
 )

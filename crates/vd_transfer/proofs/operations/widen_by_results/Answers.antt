@@ -14,8 +14,8 @@ pub loop-x-preserved : goal.loop-x-preserved
 loop-x-preserved c = record {
   extent =
       extent_pairs (members c.args.v.now) c.args.op c.loop-x.x-index c.args.xs.now c.args.ys.now c.loop-x-test.true
-      (rw c.fill_results.ensures at (c.extent_with-e.ensures (members c.args.v.now ++ pairs c.args.op (take c.loop-x.x-index c.args.xs.now) c.args.ys.now) c.loop-x.invariant.extent));
-  room = rw c.fill_results.ensures (map_length c.args.op _ c.args.ys.now);
+      (rw c.fill_result_row.ensures at (c.extent_with_words-e.ensures (members c.args.v.now ++ pairs c.args.op (take c.loop-x.x-index c.args.xs.now) c.args.ys.now) c.loop-x.invariant.extent));
+  room = rw c.fill_result_row.ensures (map_length c.args.op _ c.args.ys.now);
 }
 
 pub returns-clause-cover : goal.returns-clause-cover

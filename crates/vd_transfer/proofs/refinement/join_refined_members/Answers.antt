@@ -10,6 +10,6 @@ returns-then-not-write_meet-clause-more c = λ xs e.
 
 pub returns-clause-more : goal.returns-clause-more
 returns-clause-more c = λ xs e.
-    rw c.add_value.ensures.cover
+    rw c.join_into.ensures.cover
     (join_both c.args.b.now c.args.out.now c.write_meet.new.out xs (filter (in_span c.args.i.lo c.args.i.last 0) (members c.args.v.now)) e
     (rw c.if-not-write_meet.false at c.write_meet.ensures.meet))

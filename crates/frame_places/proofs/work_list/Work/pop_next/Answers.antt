@@ -7,12 +7,12 @@ returns-in-Some-clause-some c = takes_first c.args.self.now c.pop_first.new.self
 pub returns-then-len-gt1-clause-some : goal.returns-then-len-gt1-clause-some
 returns-then-len-gt1-clause-some c =
     let left = c.in_default.ensures.none in
-    turned_some c.args.self.now c.pop_first.new.self c.turn.new.self c.pop_first-then-len-gt1.new.self c.pop_first-then-len-gt1.result left.1 left.0 c.turn.ensures c.pop_first-then-len-gt1.ensures.some
+    turned_some c.args.self.now c.pop_first.new.self c.refill_first.new.self c.pop_first-then-len-gt1.new.self c.pop_first-then-len-gt1.result left.1 left.0 c.refill_first.ensures c.pop_first-then-len-gt1.ensures.some
 
 pub returns-then-len-gt1-clause-none : goal.returns-then-len-gt1-clause-none
 returns-then-len-gt1-clause-none c =
     let left = c.in_default.ensures.none in
-    turned_none c.args.self.now c.pop_first.new.self c.turn.new.self c.pop_first-then-len-gt1.new.self c.pop_first-then-len-gt1.result left.1 left.0 c.turn.ensures c.pop_first-then-len-gt1.ensures.none
+    turned_none c.args.self.now c.pop_first.new.self c.refill_first.new.self c.pop_first-then-len-gt1.new.self c.pop_first-then-len-gt1.result left.1 left.0 c.refill_first.ensures c.pop_first-then-len-gt1.ensures.none
 
 pub returns-clause-some : goal.returns-clause-some
 returns-clause-some c =

@@ -11,8 +11,8 @@ use Rattle.packed_cert.proofs.CertFinds.{Parts, node_found, node_missing, node_p
 use Rattle.packed_cert.proofs.certs.Cert.node.Goals as goal
 use Rattle.packed_cert.proofs.certs.Cert.node.Goals.{else-at-nodes-via-then-at-nodes+else-nodes-at, else-at-nodes-via-else-at-nodes}
 
-pub cert_node_place-at-requires : goal.cert_node_place-at-requires
-cert_node_place-at-requires c =
+pub count_nodes_below-at-requires : goal.count_nodes_below-at-requires
+count_nodes_below-at-requires c =
     subst IsStrictlyIncreasing
     (keys_in c.self.inside.version c.self.inside.bytes.items c.self.inside.nodes.items c.self.invariant.nodes ∙ ap (map (λ (n : NodePlaces). n.number)) (sym c.as_slice-nodes.ensures.value))
     c.self.invariant.limits.rising
@@ -24,11 +24,11 @@ returns-then-nodes-at c =
     let ns = c.as_slice-nodes.result.now in
     let m = c.index-nodes-at-then-nodes-at.result in
     let all = subst (All (HasPlaces version bytes)) (sym c.as_slice-nodes.ensures.value) c.self.invariant.nodes in
-    let parts = subst (λ (k : ℕ). Parts k ns c.cert_node_place-at.result) c.number_of-number.ensures c.cert_node_place-at.ensures in
-    let e = ap (λ (d : NodePlaces). d.number) (get_or_default ns c.cert_node_place-at.result m _ c.if-at-nodes.true) ∙ c.if-nodes-at.true ∙ c.number_of-number.ensures in
+    let parts = subst (λ (k : ℕ). Parts k ns c.count_nodes_below-at.result) c.key_number-number.ensures c.count_nodes_below-at.ensures in
+    let e = ap (λ (d : NodePlaces). d.number) (get_or_default ns c.count_nodes_below-at.result m _ c.if-at-nodes.true) ∙ c.if-nodes-at.true ∙ c.key_number-number.ensures in
     let made : c.at.result ≡ node_of version bytes m = c.at.ensures ∙ ap (λ (l : List ℕ). node_of version l m) c.as_slice.ensures.value in
     ap (λ (d : NodeData). Some d) (made ∙ ap (node_of version bytes) c.index-nodes-at-then-nodes-at.is)
-    ∙ sym (node_found version bytes c.args.key.now c.cert_node_place-at.result m ns all c.if-at-nodes.true parts e)
+    ∙ sym (node_found version bytes c.args.key.now c.count_nodes_below-at.result m ns all c.if-at-nodes.true parts e)
     ∙ ap (λ (l : List NodePlaces). find_node c.args.key.now (nodes_of version bytes l)) c.as_slice-nodes.ensures.value
     ∙ ap (λ (d : CertData). find_node c.args.key.now d.nodes) c.self.view_is
 
@@ -39,7 +39,7 @@ returns c =
     let key = c.args.key.now in
     let ns = c.as_slice-nodes.result.now in
     let all = subst (All (HasPlaces version bytes)) (sym c.as_slice-nodes.ensures.value) c.self.invariant.nodes in
-    let parts = subst (λ (k : ℕ). Parts k ns c.cert_node_place-at.result) c.number_of-number.ensures c.cert_node_place-at.ensures in
+    let parts = subst (λ (k : ℕ). Parts k ns c.count_nodes_below-at.result) c.key_number-number.ensures c.count_nodes_below-at.ensures in
     let rising =
     subst IsStrictlyIncreasing
     (keys_in version bytes c.self.inside.nodes.items c.self.invariant.nodes ∙ ap (map (λ (n : NodePlaces). n.number)) (sym c.as_slice-nodes.ensures.value))
@@ -49,6 +49,6 @@ returns c =
     ∙ ap (λ (l : List NodePlaces). find_node key (nodes_of version bytes l)) (sym c.as_slice-nodes.ensures.value)
     ∙ elim c.else-at-nodes.branch [
       | else-at-nodes-via-then-at-nodes+else-nodes-at w ↦
-          node_missing version bytes key c.cert_node_place-at.result _ ns all rising parts (rw c.number_of-number.ensures at w.if-nodes-at.false)
-      | else-at-nodes-via-else-at-nodes w ↦ node_past version bytes key c.cert_node_place-at.result ns all parts w.if-at-nodes.false
+          node_missing version bytes key c.count_nodes_below-at.result _ ns all rising parts (rw c.key_number-number.ensures at w.if-nodes-at.false)
+      | else-at-nodes-via-else-at-nodes w ↦ node_past version bytes key c.count_nodes_below-at.result ns all parts w.if-at-nodes.false
     ])

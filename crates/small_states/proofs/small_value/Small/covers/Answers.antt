@@ -10,7 +10,7 @@ use Rattle.small_states.proofs.small_value.Small.covers.Goals as goal
 
 pub returns-in-Some : goal.returns-in-Some
 returns-in-Some c =
-    let whole = rw c.in-Some.is at c.only_register_word.ensures in
+    let whole = rw c.in-Some.is at c.singleton_word.ensures in
     subst (λ (u : Val). IsTrue c.has.result ↔ IsBelow u c.args.self.now) (sym whole) (
       (λ t z m. elim m [ inl e ↦ subst (λ (y : ℕ). IsMember y c.args.self.now) (sym e) (c.has.ensures.0 t) | inr none ↦ absurd none ]),
       (λ below. c.has.ensures.1 (below c.in-Some.x (inl refl))),
@@ -34,13 +34,13 @@ returns-in-None c =
     subst (λ (u : Val). IsTrue c.is_below_range.result ↔ IsBelow c.args.v.now u) (sym (sym c.self.view_is ∙ ap small_value_of c.in-One.is))
     ((λ t. both.0 (c.is_below_range.ensures.0 t)), (λ below. c.is_below_range.ensures.1 (both.1 below)))
 
-pub returns-then-is_the_span : goal.returns-then-is_the_span
-returns-then-is_the_span c =
-    let same = c.is_the_span.ensures.0 c.if-is_the_span.true ∙ sym (sym c.self.view_is ∙ ap small_value_of c.in-Range.is) in
+pub returns-then-is_equal_span : goal.returns-then-is_equal_span
+returns-then-is_equal_span c =
+    let same = c.is_equal_span.ensures.0 c.if-is_equal_span.true ∙ sym (sym c.self.view_is ∙ ap small_value_of c.in-Range.is) in
     ((λ t x m. subst (λ (u : Val). IsMember x u) same m), (λ below. refl))
 
-pub returns-else-is_the_span : goal.returns-else-is_the_span
-returns-else-is_the_span c =
+pub returns-else-is_equal_span : goal.returns-else-is_equal_span
+returns-else-is_equal_span c =
     subst (λ (u : Val). IsTrue c.is_below_range-in-Range.result ↔ IsBelow c.args.v.now u) (sym (sym c.self.view_is ∙ ap small_value_of c.in-Range.is)) c.is_below_range-in-Range.ensures
 
 pub returns-in-Any : goal.returns-in-Any

@@ -16,7 +16,7 @@ returns-in-One c =
 pub returns-in-Many : goal.returns-in-Many
 returns-in-Many c = rw (← c.v.view_is, c.in-Many.is) (rw c.as_ref.ensures at c.covers.ensures)
 
-pub returns-then-has_range : goal.returns-then-has_range
-returns-then-has_range c =
+pub returns-then-has_all_of_range : goal.returns-then-has_all_of_range
+returns-then-has_all_of_range c =
     let range = sym c.v.view_is ∙ ap small_value_of c.in-Range.is in
-    ((λ t. subst (λ (u : Val). IsBelow u c.args.self.now) (sym range) (c.has_range.ensures c.if-has_range.true)), (λ below. refl))
+    ((λ t. subst (λ (u : Val). IsBelow u c.args.self.now) (sym range) (c.has_all_of_range.ensures c.if-has_all_of_range.true)), (λ below. refl))

@@ -10,4 +10,4 @@ returns-then-is_same c =
 pub returns-then-has : goal.returns-then-has
 returns-then-has c =
     IfOk-weaker c.copy-then-has.result _ _
-    (λ s e. e ∙ join_held c.args.b.now c.args.self.now c.args.v.now c.in-Some.x (rw c.in-Some.is at c.only_register_word.ensures) (c.has.ensures.0 c.if-has.true) c.requires.own) c.copy-then-has.ensures
+    (λ s e. e ∙ join_held c.args.b.now c.args.self.now c.args.v.now c.in-Some.x (rw c.in-Some.is at c.singleton_word.ensures) (c.has.ensures.0 c.if-has.true) c.requires.own) c.copy-then-has.ensures

@@ -13,7 +13,7 @@ pub returns-then-n-words : goal.returns-then-n-words
 returns-then-n-words c =
     let own = sym c.self.view_is ∙ ap small_value_of c.in-Many.is ∙ sym c.as_ref.ensures ∙ set_of c.as_ref.result.now c.in-Some.held.now c.in-Some.ensures in
     let all = all_held c.in-Some.held.now c.args.words.now c.count_held_words-n.result c.count_held_words-n.ensures.within c.count_held_words-n.ensures.held (let e = c.if-n-words.true in omega (arith, e)) in
-    IfOk-weaker c.copy_any.result _ _ (λ s e. e ∙ join_words c.args.b.now c.args.self.now c.args.v.now c.in-Some.held.now c.args.words.now own c.requires.words all c.requires.own) c.copy_any.ensures
+    IfOk-weaker c.copy_out_of_line.result _ _ (λ s e. e ∙ join_words c.args.b.now c.args.self.now c.args.v.now c.in-Some.held.now c.args.words.now own c.requires.words all c.requires.own) c.copy_out_of_line.ensures
 
 pub returns-then-held-missing : goal.returns-then-held-missing
 returns-then-held-missing c =

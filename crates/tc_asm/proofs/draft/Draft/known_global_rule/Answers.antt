@@ -7,5 +7,5 @@ pub returns : goal.returns
 returns c =
     c.min.ensures
     ∙ ap (λ a. min a c.min-room.result) c.name_rule.ensures
-    ∙ ap (min (name_rule c.args.name.now)) (c.min-room.ensures ∙ ap (min 15) c.defined_rule.ensures)
+    ∙ ap (min (name_rule c.args.name.now)) (c.min-room.ensures ∙ ap (min 15) c.undefined_global_rule.ensures)
     ∙ global_rule_known c.args.labels.now c.args.self.now c.args.name.now

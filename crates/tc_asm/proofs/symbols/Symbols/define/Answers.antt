@@ -16,7 +16,7 @@ pub returns-in_ok-put-in-Some-clause-symbols : goal.returns-in_ok-put-in-Some-cl
 returns-in_ok-put-in-Some-clause-symbols c =
     labelled_known c.args.self.now c.put.new.self _ c.args.name.now c.args.place _ c.in-Some.old c.in_ok-put.ensures.old c.in-Some.is
     c.in_ok-put.ensures.put
-    (c.in_ok-put-in-Some.ensures.put ∙ ap (put_entry c.put.new.self c.args.name.now) c.with_label.ensures)
+    (c.in_ok-put-in-Some.ensures.put ∙ ap (put_entry c.put.new.self c.args.name.now) c.entry_with_label.ensures)
 
 pub returns-in_ok-put-in-Some-clause-before : goal.returns-in_ok-put-in-Some-clause-before
 returns-in_ok-put-in-Some-clause-before c = ap (λ o. (unwrap_or o unseen).place) (sym c.in-Some.is ∙ c.in_ok-put.ensures.old)

@@ -12,9 +12,9 @@ invariant_of-self-in-Region c =
     let same : old ≡ c.args.self.now.places = ap (λ (d : LayoutDraftData). d.places) c.self.view_is in
     let after : IsPlaceAfter old new =
     subst (λ (name : List ℕ). IsPlaceAfter old (record { section = name; at = c.in-Region.at; most = c.in-Region.most })) (sym c.in_ok-section-in-Region.ensures.ok)
-    (subst (λ (ps : List PlaceData). IsPlaceAfter ps (record { section = c.in-Region.section.now; at = c.in-Region.at; most = c.in-Region.most })) (sym same) c.in_default-fault_at.ensures.after) in
+    (subst (λ (ps : List PlaceData). IsPlaceAfter ps (record { section = c.in-Region.section.now; at = c.in-Region.at; most = c.in-Region.most })) (sym same) c.in_default-place_fault.ensures.after) in
     rw c.in_ok-push-in-Region.ensures.items (record {
       entries = c.self.invariant.entries;
-      few = omega (arith, length-append old (new ∷ []), ap length same, c.in_default-fault_at.ensures.few);
+      few = omega (arith, length-append old (new ∷ []), ap length same, c.in_default-place_fault.ensures.few);
       places = turn_push IsPlaceAfter old new c.self.invariant.places after;
     })

@@ -21,15 +21,15 @@ returns-in_ok-line-in-Some c =
     (subst (λ (q : PlanData). IsLeastWithNeed c.args.image.now q 2 c.in-Ok.cert c.in-Ok.need) c.with_cells.ensures c.in-Ok.ensures) c.in-Some.key c.in-Some.addr _ c.in-Some.ensures.some
     (c.of.ensures ∙ ap (λ t. says Refused t) c.in_ok-line-in-Some.ensures)
 
-pub returns-in_ok-report_file-in-None : goal.returns-in_ok-report_file-in-None
-returns-in_ok-report_file-in-None c =
+pub returns-in_ok-report_with_file-in-None : goal.returns-in_ok-report_with_file-in-None
+returns-in_ok-report_with_file-in-None c =
     kept_report c.args.name.now c.args.image.now (plan_data c.plan.inside) c.args.plan.now c.args.cells.now _ c.in-Ok.need c.plan.view_is c.plan.invariant c.requires
     (subst (λ (q : PlanData). IsLeastWithNeed c.args.image.now q 2 c.in-Ok.cert c.in-Ok.need) c.with_cells.ensures c.in-Ok.ensures) c.into_bytes.result.items _ _ c.into_bytes.ensures c.in-None.ensures.none
     (ap (λ (l : List Cell). length l) c.list-count.ensures)
-    (c.in_ok-report_file-in-None.ensures ∙ ap (λ t. writes_file c.args.name.now c.into_bytes.result.items t) c.in_ok-line-in-None.ensures)
+    (c.in_ok-report_with_file-in-None.ensures ∙ ap (λ t. writes_file c.args.name.now c.into_bytes.result.items t) c.in_ok-line-in-None.ensures)
 
 pub returns-in-Err : goal.returns-in-Err
 returns-in-Err c =
     unmade (IsCertifyingCells c.args.name.now c.args.image.now c.args.plan.now c.args.cells.now) (IsRefused c.args.image.now (with_cells c.args.plan.now c.args.cells.now) 2) c.in-Err.e _
-    (subst (λ (q : PlanData). IsRefused c.args.image.now q 2 c.in-Err.e) c.with_cells.ensures c.in-Err.ensures) c.report_unmade.ensures
+    (subst (λ (q : PlanData). IsRefused c.args.image.now q 2 c.in-Err.e) c.with_cells.ensures c.in-Err.ensures) c.report_no_cert.ensures
     (λ rule key addr r why e. refused rule key addr why.1 why.0 e)

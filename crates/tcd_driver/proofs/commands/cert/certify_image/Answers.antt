@@ -6,12 +6,12 @@ use Rattle.tcd_driver.specs.Cert.{IsCertifying, refused}
 use Rattle.tcd_driver.proofs.MakingLaws.{certifying_report, unmade}
 use Rattle.tcd_driver.proofs.commands.cert.certify_image.Goals as goal
 
-pub returns-in_ok-report_file-in-Ok : goal.returns-in_ok-report_file-in-Ok
-returns-in_ok-report_file-in-Ok c =
+pub returns-in_ok-report_with_file-in-Ok : goal.returns-in_ok-report_with_file-in-Ok
+returns-in_ok-report_with_file-in-Ok c =
     certifying_report _ c.args.image.now (plan_data c.plan.inside) c.args.plan.now _ c.in-Ok.need _ _ c.plan.view_is c.in-Ok.ensures c.into_bytes.ensures
-    (c.in_ok-report_file-in-Ok.ensures ∙ ap (λ t. writes_file c.args.name.now c.into_bytes.result.items t) c.in_ok-line-in-Ok.ensures)
+    (c.in_ok-report_with_file-in-Ok.ensures ∙ ap (λ t. writes_file c.args.name.now c.into_bytes.result.items t) c.in_ok-line-in-Ok.ensures)
 
 pub returns-in-Err : goal.returns-in-Err
 returns-in-Err c =
-    unmade (IsCertifying c.args.name.now c.args.image.now c.args.plan.now) (λ e. MakesBestCert c.args.image.now c.args.plan.now (Err e)) c.in-Err.e _ c.in-Err.ensures c.report_unmade.ensures
+    unmade (IsCertifying c.args.name.now c.args.image.now c.args.plan.now) (λ e. MakesBestCert c.args.image.now c.args.plan.now (Err e)) c.in-Err.e _ c.in-Err.ensures c.report_no_cert.ensures
     (λ rule key addr r why e. refused rule key addr why e)

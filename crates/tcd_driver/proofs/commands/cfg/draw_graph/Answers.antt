@@ -12,5 +12,5 @@ returns-in_ok-text-in-Ok c = drawn _ c.in_ok-text-in-Ok.ensures c.of.ensures
 
 pub returns-in-Err : goal.returns-in-Err
 returns-in-Err c =
-    unmade (IsCfgReport c.args.image.now c.args.plan.now) (λ e. MakesBestCert c.args.image.now c.args.plan.now (Err e)) c.in-Err.e _ c.in-Err.ensures c.report_unmade.ensures
+    unmade (IsCfgReport c.args.image.now c.args.plan.now) (λ e. MakesBestCert c.args.image.now c.args.plan.now (Err e)) c.in-Err.e _ c.in-Err.ensures c.report_no_cert.ensures
     (λ rule key addr r why e. refused rule key addr why e)

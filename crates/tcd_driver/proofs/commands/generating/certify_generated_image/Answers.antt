@@ -12,8 +12,8 @@ use Rattle.tcd_driver.proofs.commands.generating.certify_generated_image.Goals a
 pub read-requires : goal.read-requires
 read-requires c = text_most _ _ c.as_bytes.ensures.value c.generated_plan_text.ensures
 
-pub own_plan_memory_error-requires : goal.own_plan_memory_error-requires
-own_plan_memory_error-requires c =
+pub assert_plan_out_of_memory-requires : goal.assert_plan_out_of_memory-requires
+assert_plan_out_of_memory-requires c =
     let gives : GivesPlan c.as_bytes.result.now (Ok generated_plan) = text_gives _ _ c.as_bytes.ensures.value c.generated_plan_text.ensures c.generated_plan_text.utf8 in
     grind arith
 

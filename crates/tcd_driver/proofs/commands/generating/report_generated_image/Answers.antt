@@ -15,5 +15,5 @@ returns-in_ok-line-in-Ok c =
 
 pub returns-in-Err : goal.returns-in-Err
 returns-in-Err c =
-    unmade (IsGenReport c.args.functions c.args.image.now c.args.plan.now) (IsRefused c.args.image.now c.args.plan.now 1) c.in-Err.e _ c.in-Err.ensures c.report_unmade.ensures
+    unmade (IsGenReport c.args.functions c.args.image.now c.args.plan.now) (IsRefused c.args.image.now c.args.plan.now 1) c.in-Err.e _ c.in-Err.ensures c.report_no_cert.ensures
     (λ rule key addr r why e. refused rule key addr why.1 why.0 e)

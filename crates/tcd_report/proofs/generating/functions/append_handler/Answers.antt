@@ -15,9 +15,9 @@ returns c =
     let middle : ℕ → ℕ → List ℕ = λ x f. call_from (0x80002002 + 32 * x) f in
     let there : c.append_call.new.out.items ≡ (before ++ head) ++ middle p (generated_function_at (n - 1)) =
     c.in_ok-append_call.ensures
-    ∙ ap (λ l. l ++ middle c.from.result c.generated_function_at.result) c.in_ok-append_segment_bytes.ensures
-    ∙ ap (λ x. (before ++ head) ++ middle x c.generated_function_at.result) c.from.ensures
-    ∙ ap (λ f. (before ++ head) ++ middle p f) c.generated_function_at.ensures in
+    ∙ ap (λ l. l ++ middle c.from.result c.generated_function_address.result) c.in_ok-append_segment_bytes.ensures
+    ∙ ap (λ x. (before ++ head) ++ middle x c.generated_function_address.result) c.from.ensures
+    ∙ ap (λ f. (before ++ head) ++ middle p f) c.generated_function_address.ensures in
     let whole : c.append_call.new.out.items ++ tail ≡ before ++ generated_handler n p =
     ap (λ l. l ++ tail) there ∙ joined_three before head (middle p (generated_function_at (n - 1))) tail ∙ ap (λ l. before ++ l) (sym (handler_bytes n p)) in
     subst (λ (l : List ℕ). OnOk c.append_segment_bytes-2.result (c.append_segment_bytes-2.new.out.items ≡ l)) whole c.append_segment_bytes-2.ensures

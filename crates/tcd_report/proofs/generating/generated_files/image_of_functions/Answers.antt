@@ -12,6 +12,6 @@ invariant_of-result c =
     let same : map segment_data c.in_ok-segments.segments.items ≡ generated_segments n =
     ap (map segment_data) c.in_ok-segments.ensures.items
     ∙ segments_are n c.in_ok-main.main.items c.in_ok-table.table.items c.in_ok-vectors.vectors.items c.in_ok-system.system.items c.in_ok-functions.functions.items
-    (c.in_ok-main.ensures.items ∙ c.main_code.ensures) c.in_ok-table.ensures c.in_ok-vectors.ensures (c.in_ok-system.ensures.items ∙ sym system_bytes) c.in_ok-functions.ensures in
-    let bytes : AreSegmentBytes (generated_segments n) = subst AreSegmentBytes (ap (map segment_data) c.deref.ensures.value ∙ same) c.read_segments.ensures in
+    (c.in_ok-main.ensures.items ∙ c.generated_main_code.ensures) c.in_ok-table.ensures c.in_ok-vectors.ensures (c.in_ok-system.ensures.items ∙ sym system_bytes) c.in_ok-functions.ensures in
+    let bytes : AreSegmentBytes (generated_segments n) = subst AreSegmentBytes (ap (map segment_data) c.deref.ensures.value ∙ same) c.establish_segment_bytes.ensures in
     subst (λ (ss : List SegmentData). IsImage (record { entry = 0x80000000; segments = ss })) (sym same) (image_is n c.requires.some c.requires.few bytes)

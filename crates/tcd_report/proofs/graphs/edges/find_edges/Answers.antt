@@ -24,26 +24,26 @@ returns-clause-edges c =
     (λ irq.
     record {
       to =
-          c.in_ok-sort_once.ensures
+          c.in_ok-set_sorted_addresses.ensures
           ∙ ap sorted_set_of (
           c.deref.ensures.value
           ∙ c.in_ok-push_successors.ensures
           ∙ ap (λ l. l ++ jumped_in (successors_at j point found)) c.clear.ensures.items
           ∙ sym (jumps_told b image plan cert key point.addr s found.shape found.size)
           );
-      call = c.in_ok-sort_once-2.ensures ∙ ap sorted_set_of (c.deref-3.ensures.value ∙ c.in_ok-set_entries.ensures ∙ ap (entries_of_kind 1) (c.deref-2.ensures.value ∙ keys) ∙ sym (calls_told b image plan cert key point.addr s found.shape found.size));
+      call = c.in_ok-set_sorted_addresses-2.ensures ∙ ap sorted_set_of (c.deref-3.ensures.value ∙ c.in_ok-set_kind_entries.ensures ∙ ap (entries_of_kind 1) (c.deref-2.ensures.value ∙ keys) ∙ sym (calls_told b image plan cert key point.addr s found.shape found.size));
       sys =
-          c.in_ok-keep_once.ensures
-          ∙ ap each_address_once (c.deref-5.ensures.value ∙ c.in_ok-set_entries-2.ensures ∙ ap (entries_of_kind 3) (c.deref-4.ensures.value ∙ keys) ∙ sym (systems_told b image plan cert key point.addr s found.shape found.size));
+          c.in_ok-set_unique_addresses.ensures
+          ∙ ap each_address_once (c.deref-5.ensures.value ∙ c.in_ok-set_kind_entries-2.ensures ∙ ap (entries_of_kind 3) (c.deref-4.ensures.value ∙ keys) ∙ sym (systems_told b image plan cert key point.addr s found.shape found.size));
       back =
-          c.in_ok-keep_once-2.ensures
+          c.in_ok-set_unique_addresses-2.ensures
           ∙ ap each_address_once (
           c.deref-7.ensures.value
-          ∙ c.in_ok-set_returns.ensures
+          ∙ c.in_ok-set_return_addresses.ensures
           ∙ ap (backs_after cert (machine_address_ahead point.addr found.size)) (c.deref-6.ensures.value ∙ keys)
           ∙ sym (returns_told b image plan cert key point.addr s found.shape found.size)
           );
-      aln = c.in_ok-set_misaligned.ensures ∙ sym (misaligned_once b plan key s found.shape) ∙ ap each_address_once (sym (misaligned_told b image plan cert key point.addr s found.shape found.size));
+      aln = c.in_ok-set_misaligned_entry.ensures ∙ sym (misaligned_once b plan key s found.shape) ∙ ap each_address_once (sym (misaligned_told b image plan cert key point.addr s found.shape found.size));
       irq = irq ∙ ap each_address_once (sym (interrupts_told b image plan cert key point.addr s found.shape found.size));
     })
     c.find_handlers.ensures.entries

@@ -8,7 +8,7 @@ use Rattle.tcd_report.proofs.graphs.successors.push_successors.Goals as goal
 pub returns-in-Jump : goal.returns-in-Jump
 returns-in-Jump c =
     rw c.in-Jump.is
-    (subst (λ l. OnOk c.push_targets.result (c.push_targets.new.all.items ≡ c.args.all.now.items ++ l)) (sym (jumps_are c.args.s.now _)) c.push_targets.ensures)
+    (subst (λ l. OnOk c.push_jump_targets.result (c.push_jump_targets.new.all.items ≡ c.args.all.now.items ++ l)) (sym (jumps_are c.args.s.now _)) c.push_jump_targets.ensures)
 
 pub returns-in_ok-push-in_default : goal.returns-in_ok-push-in_default
 returns-in_ok-push-in_default c =

@@ -5,12 +5,12 @@ use Rattle.value_domain.proofs.values.Words.put.Goals as goal
 
 placed : (c : goal.After-insert) → c.insert.new.self.items ≡ sorted_insert c.args.x c.args.self.now
 placed c =
-    let after = rw c.as_slice.ensures.value at c.word_place-at.ensures.after in
+    let after = rw c.as_slice.ensures.value at c.count_words_below-at.ensures.after in
     c.insert.ensures.items
-    ∙ sym (put-insert c.args.x c.self.inside.words.items c.word_place-at.result c.self.invariant.rising
-    (rw c.as_slice.ensures.value at c.word_place-at.ensures.within)
-    (λ h. let before = rw c.as_slice.ensures.value at c.word_place-at.ensures.before in before (c.word_place-at.result - 1) (omega arith))
-    (above_absent c.args.x c.self.inside.words.items c.word_place-at.result (rw (← c.self.view_is) at c.requires.absent) (after c.word_place-at.result (omega arith))))
+    ∙ sym (put-insert c.args.x c.self.inside.words.items c.count_words_below-at.result c.self.invariant.rising
+    (rw c.as_slice.ensures.value at c.count_words_below-at.ensures.within)
+    (λ h. let before = rw c.as_slice.ensures.value at c.count_words_below-at.ensures.before in before (c.count_words_below-at.result - 1) (omega arith))
+    (above_absent c.args.x c.self.inside.words.items c.count_words_below-at.result (rw (← c.self.view_is) at c.requires.absent) (after c.count_words_below-at.result (omega arith))))
     ∙ ap (sorted_insert c.args.x) c.self.view_is
 
 pub invariant_of-self : goal.invariant_of-self

@@ -1,5 +1,0 @@
-use Rattle.frame_places.specs.NodeGraph.{IsFirstRecurringBefore}
-use Rattle.frame_places.proofs.needs.reach.first_recurring.Given as goal
-
-abbrev pub invariant-loop-node : goal.invariant-loop-node
-invariant-loop-node l = IsFirstRecurringBefore l.orders l.edges l.node l.first

@@ -1,0 +1,17 @@
+use Rattle.std.proofs.Common.{◌∙◌, List, Bool, subst, sym, ap, length}
+use Rattle.frame_places.specs.NodeGraph.{AreEdgesBetween, AreReaching}
+use Rattle.frame_places.proofs.ReachLemmas.{recurring_marks, sources_below}
+use Rattle.frame_places.proofs.needs.reach.is_recursive_node.Goals as goal
+
+pub nodes_reaching_by_predecessors-requires-clause-sources : goal.nodes_reaching_by_predecessors-requires-clause-sources
+nodes_reaching_by_predecessors-requires-clause-sources c = sources_below c.args.edges.now c.args.sources.now c.args.nodes c.requires.sources c.requires.edges
+
+pub has_marked_successor-requires : goal.has_marked_successor-requires
+has_marked_successor-requires c =
+    let are = c.in_ok-marks.ensures c.args.edges.now c.requires.sources in
+    subst (AreEdgesBetween c.args.edges.now) (sym (ap (λ (l : List Bool). length l) c.as_slice.ensures.value ∙ are.each)) c.requires.edges
+
+pub returns : goal.returns
+returns c =
+    recurring_marks c.args.edges.now c.args.nodes c.args.node c.as_slice.result.now c.has_marked_successor.result
+    (subst (AreReaching c.args.edges.now c.args.nodes c.args.node) (sym c.as_slice.ensures.value) (c.in_ok-marks.ensures c.args.edges.now c.requires.sources)) c.has_marked_successor.ensures

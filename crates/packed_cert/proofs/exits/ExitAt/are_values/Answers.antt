@@ -1,8 +1,0 @@
-use Rattle.std.proofs.Common.{List, sym, subst}
-use Rattle.std.specs.Prelude.{IsTrue, ◌↔◌}
-use Rattle.value_domain.specs.declared.values.Val.{Val}
-use Rattle.value_domain.specs.State.{AreValues}
-use Rattle.packed_cert.proofs.exits.ExitAt.are_values.Goals as goal
-
-pub returns : goal.returns
-returns c = subst (λ (l : List Val). IsTrue c.are_values_at.result ↔ AreValues c.args.b.now l) (sym c.lower-lower.ensures.values) c.are_values_at.ensures

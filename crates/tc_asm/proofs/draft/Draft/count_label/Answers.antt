@@ -1,5 +1,0 @@
-use Rattle.tc_asm.proofs.AlikeDrafts.{label_counted}
-use Rattle.tc_asm.proofs.draft.Draft.count_label.Goals as goal
-
-pub returns-clause-alike : goal.returns-clause-alike
-returns-clause-alike c = λ d h. label_counted c.args.self.now d _ c.args.name.now c.in_ok-new.ensures.draft h

@@ -1,0 +1,45 @@
+use Rattle.std.proofs.Common.{◌≡◌, ◌+◌, ◌++◌, ◌∷◌, [], ℕ, List, Some, refl, sym, ap, subst, ◌∙◌, take}
+use Rattle.std.proofs.lemmas.List.{append-nil, take_all}
+use Rattle.tc_object.specs.Objects.{SectionData}
+use Rattle.tc_link.specs.Placing.{bases_after}
+use Rattle.tc_link.specs.Refusals.{no_room, no_room_after}
+use Rattle.tc_link.specs.PlaceSizes.{AreTaken}
+use Rattle.tc_link.proofs.RoomLaws.{take_next, bases_step, taken_step, room_step, room_fault}
+use Rattle.tc_link.proofs.placed.place_sections.Goals as goal
+
+pub loop-section-init : goal.loop-section-init
+unfolding bases_after no_room_after
+loop-section-init c = record {
+  bases = λ before t. c.new-bases.ensures.items;
+  taken = λ before t. subst (λ (l : List SectionData). AreTaken c.args.places.now l c.args.sizes.now) (sym (append-nil before)) t;
+  room = λ before t. refl;
+  small = c.requires.small;
+}
+
+pub loop-section-preserved : goal.loop-section-preserved
+loop-section-preserved c =
+    let i : ℕ = c.loop-section.section-index in
+    let s : SectionData = c.section-item.result in
+    let all : List SectionData = c.args.sections.now in
+    let next : take (i + 1) all ≡ take i all ++ s ∷ [] = take_next all i s c.loop-section-test.true c.section-item.is in
+    let inv = c.loop-section.invariant in
+    record {
+      bases = λ before t. c.in_ok-push.ensures.items ∙ bases_step c.args.places.now before all i s c.base_of.result c.loop-section.bases.items next (inv.bases before t) (c.base_of.ensures (before ++ take i all) (inv.taken before t));
+      taken = λ before t. taken_step c.args.places.now before all i s c.add_section_size.new.sizes next (c.add_section_size.ensures.taken (before ++ take i all) (inv.taken before t));
+      room = λ before t. room_step c.args.places.now before all i s c.are_places_overfull.result next (inv.room before t) (c.are_places_overfull.ensures.over ((before ++ take i all) ++ s ∷ []) (c.add_section_size.ensures.taken (before ++ take i all) (inv.taken before t))) c.if-are_places_overfull.false;
+      small = c.are_places_overfull.ensures.small c.if-are_places_overfull.false;
+    }
+
+pub returns-then-are_places_overfull-clause-err : goal.returns-then-are_places_overfull-clause-err
+returns-then-are_places_overfull-clause-err c = λ before t.
+    let i : ℕ = c.loop-section.section-index in
+    let s : SectionData = c.section-item.result in
+    let all : List SectionData = c.args.sections.now in
+    let next : take (i + 1) all ≡ take i all ++ s ∷ [] = take_next all i s c.loop-section-test.true c.section-item.is in
+    let inv = c.loop-section.invariant in
+    room_fault c.args.places.now before all i s c.are_places_overfull.result next (inv.room before t) (c.are_places_overfull.ensures.over ((before ++ take i all) ++ s ∷ []) (c.add_section_size.ensures.taken (before ++ take i all) (inv.taken before t))) c.if-are_places_overfull.true
+    ∙ ap (λ (n : List ℕ). Some (no_room n)) (sym (c.in_ok-from_str.ensures.ok ∙ ap (λ (x : SectionData). x.name) c.section.view_is))
+
+pub returns-clause-taken : goal.returns-clause-taken
+returns-clause-taken c = λ before t.
+    subst (λ (l : List SectionData). AreTaken c.args.places.now (before ++ l) c.loop-section.sizes) (take_all c.loop-section.section-index c.args.sections.now c.loop-section-test.false) (c.loop-section.invariant.taken before t)

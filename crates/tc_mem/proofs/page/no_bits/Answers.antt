@@ -1,5 +1,0 @@
-use Rattle.tc_mem.proofs.Marks.{is_set-zeros}
-use Rattle.tc_mem.proofs.page.no_bits.Goals as goal
-
-pub returns-clause-clear : goal.returns-clause-clear
-returns-clause-clear c = is_set-zeros

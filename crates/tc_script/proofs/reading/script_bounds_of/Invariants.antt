@@ -1,6 +1,0 @@
-use Rattle.std.proofs.Common.{◌≡◌, map, take}
-use Rattle.tc_script.specs.Ports.{own_bounds}
-use Rattle.tc_script.proofs.reading.script_bounds_of.Given as goal
-
-abbrev pub invariant-loop-device : goal.invariant-loop-device
-invariant-loop-device l = l.bounds.items ≡ map own_bounds (take l.device-index l.devices)

@@ -1,7 +1,0 @@
-use Rattle.std.proofs.Common.{◌∙◌, ap, sym}
-use Rattle.std.specs.Prelude.{is_some}
-use Rattle.tcd_report.proofs.GraphLemmas.DutyLists.{possible_some}
-use Rattle.tcd_report.proofs.graphs.successors.is_successor_possible.Goals as goal
-
-pub returns : goal.returns
-returns c = sym (possible_some c.change_on.result _) ∙ ap is_some c.change_on.ensures.refine
