@@ -18,7 +18,7 @@ use Rattle.depth_cert.specs.declared.points.Exit.{Exit}
 use Rattle.depth_cert.specs.Exits.{exit_of}
 use Rattle.cfg_recover.specs.Entries.{aln_entry, aln_key, call_entry, call_key, irq_entry, irq_key, sys_key, irqs_of}
 use Rattle.cfg_recover.specs.LocalRules.{targets_of}
-use Rattle.cfg_recover.specs.Duties.{Owed, owed, jump, enter, resume, leave, jump_on, loaded_for_duties, next_of, successors_of, entered_and_back, entries_of, may_be_misaligned, misaligned_entry, misaligned_of, interrupts_of, leavings_of, entered_in}
+use Rattle.cfg_recover.specs.Duties.{Owed, owed, jump, enter, resume, leave, jump_on, loaded_for_duties, next_duty_of, successor_duties_of, entry_and_return, entry_duties_of, may_be_misaligned, misaligned_entry, misaligned_duties_of, interrupt_duties_of, exit_duties_of, entered_keys}
 
 -- ---- lists of lists
 pub flat_flat : {A B X : Type 0} (f : B → List X) (h : A → List B) (g : A → List X) → ((x : A) → flat_map f (h x) ≡ g x) → (xs : List A) → flat_map f (flat_map h xs) ≡ flat_map g xs
@@ -53,12 +53,12 @@ module _ {X : Type 0} (f : Owed → List X) where
   side_none e q None = refl
   side_none e q (Some t) = one_none (owed 4 (jump q t)) (e q t)
 
-  next_none : ((q : ℕ) (t : State) → f (owed 4 (jump q t)) ≡ []) → (b : Limits) (image : ImageData) (plan : PlanData) (p : ℕ) (s : State) (shape : Shape) (n : ℕ) → flat_map f (next_of b image plan p s shape n) ≡ []
+  next_none : ((q : ℕ) (t : State) → f (owed 4 (jump q t)) ≡ []) → (b : Limits) (image : ImageData) (plan : PlanData) (p : ℕ) (s : State) (shape : Shape) (n : ℕ) → flat_map f (next_duty_of b image plan p s shape n) ≡ []
   next_none e b image plan p s shape n =
       let t : State = transfer_of b plan shape s (loaded_for_duties b image plan s shape) in
       one_none (owed 4 (jump (machine_address_ahead p n) t)) (e (machine_address_ahead p n) t)
 
-  pub successors_none : ((q : ℕ) (t : State) → f (owed 4 (jump q t)) ≡ []) → (b : Limits) (image : ImageData) (plan : PlanData) (p : ℕ) (s : State) (shape : Shape) (n : ℕ) → flat_map f (successors_of b image plan p s shape n) ≡ []
+  pub successors_none : ((q : ℕ) (t : State) → f (owed 4 (jump q t)) ≡ []) → (b : Limits) (image : ImageData) (plan : PlanData) (p : ℕ) (s : State) (shape : Shape) (n : ℕ) → flat_map f (successor_duties_of b image plan p s shape n) ≡ []
   successors_none e b image plan p s (Branch cond x y by lowers) n =
       let o : Bool → Option State = refine_of b plan (Branch cond x y by lowers) s in
       flat_map-append f (jump_on (machine_address_ahead p n) (o false)) (jump_on (machine_address_ahead p by) (o true))
@@ -75,29 +75,29 @@ module _ {X : Type 0} (f : Owed → List X) where
   successors_none e b image plan p s shape n = next_none e b image plan p s shape n
 
   -- the entries of called functions, one for each target
-  pub calls_are : (g : ℕ → List X) (plan : PlanData) (key : Key) (p : ℕ) (s : State) (to : Target) (n : ℕ) → ((t : ℕ) → flat_map f (entered_and_back 5 (call_key key t) (call_entry s) (machine_address_ahead p n)) ≡ g t)
-      → flat_map f (entries_of plan key p s (Call to) n) ≡ flat_map g (unwrap_or (targets_of plan s p to) [])
-  calls_are g plan key p s to n e = flat_flat f (λ t. entered_and_back 5 (call_key key t) (call_entry s) (machine_address_ahead p n)) g e (unwrap_or (targets_of plan s p to) [])
+  pub calls_are : (g : ℕ → List X) (plan : PlanData) (key : Key) (p : ℕ) (s : State) (to : Target) (n : ℕ) → ((t : ℕ) → flat_map f (entry_and_return 5 (call_key key t) (call_entry s) (machine_address_ahead p n)) ≡ g t)
+      → flat_map f (entry_duties_of plan key p s (Call to) n) ≡ flat_map g (unwrap_or (targets_of plan s p to) [])
+  calls_are g plan key p s to n e = flat_flat f (λ t. entry_and_return 5 (call_key key t) (call_entry s) (machine_address_ahead p n)) g e (unwrap_or (targets_of plan s p to) [])
 
   pub entries_none : ((k : Key) (t : State) → f (owed 5 (enter k t)) ≡ []) → ((k : Key) (t : State) → f (owed 12 (enter k t)) ≡ []) → ((k : Key) (q : ℕ) → f (owed 4 (resume k q)) ≡ []) → (plan : PlanData) (key : Key) (p : ℕ) (s : State) (shape : Shape) (n : ℕ)
-      → flat_map f (entries_of plan key p s shape n) ≡ []
+      → flat_map f (entry_duties_of plan key p s shape n) ≡ []
   entries_none a c back plan key p s (Call to) n =
       calls_are (λ t. []) plan key p s to n (λ t. two_none _ _ (a (call_key key t) (call_entry s)) (back (call_key key t) (machine_address_ahead p n))) ∙ flat_none (unwrap_or (targets_of plan s p to) [])
   entries_none a c back plan key p s (Syscall tin) n = two_none _ _ (c (sys_key plan key) _) (back (sys_key plan key) (machine_address_ahead p n))
   entries_none a c back plan key p s shape n = refl
 
-  pub misaligned_none : ((k : Key) (t : State) → f (owed 10 (enter k t)) ≡ []) → (b : Limits) (plan : PlanData) (key : Key) (s : State) (shape : Shape) → flat_map f (misaligned_of b plan key s shape) ≡ []
+  pub misaligned_none : ((k : Key) (t : State) → f (owed 10 (enter k t)) ≡ []) → (b : Limits) (plan : PlanData) (key : Key) (s : State) (shape : Shape) → flat_map f (misaligned_duties_of b plan key s shape) ≡ []
   misaligned_none e b plan key s shape =
       elim (may_be_misaligned b plan s shape) as (λ t. flat_map f (if t then misaligned_entry plan key s ∷ [] else []) ≡ []) [
         | true ↦ one_none (misaligned_entry plan key s) (e (aln_key plan key) (aln_entry plan key s))
         | false ↦ refl
       ]
 
-  pub interrupts_none : ((k : Key) (t : State) → f (owed 11 (enter k t)) ≡ []) → (plan : PlanData) (key : Key) (s : State) → flat_map f (interrupts_of plan key s) ≡ []
+  pub interrupts_none : ((k : Key) (t : State) → f (owed 11 (enter k t)) ≡ []) → (plan : PlanData) (key : Key) (s : State) → flat_map f (interrupt_duties_of plan key s) ≡ []
   interrupts_none e plan key s =
       flat_mapped f (λ p. owed 11 (enter (irq_key plan p) (irq_entry plan key s p))) (λ p. []) (λ p. e (irq_key plan p) (irq_entry plan key s p)) (irqs_of plan s) ∙ flat_none (irqs_of plan s)
 
-  pub leavings_none : ((x : Exit) → f (owed 6 (leave x)) ≡ []) → ((x : Exit) → f (owed 7 (leave x)) ≡ []) → (key : Key) (s : State) (shape : Shape) → flat_map f (leavings_of key s shape) ≡ []
+  pub leavings_none : ((x : Exit) → f (owed 6 (leave x)) ≡ []) → ((x : Exit) → f (owed 7 (leave x)) ≡ []) → (key : Key) (s : State) (shape : Shape) → flat_map f (exit_duties_of key s shape) ≡ []
   leavings_none a b key s Ret = one_none (owed 6 (leave (exit_of s))) (a (exit_of s))
   leavings_none a b key s Rfe =
       elim (key.kind == 3) as (λ t. flat_map f (if t then owed 7 (leave (exit_of s)) ∷ [] else []) ≡ []) [
@@ -121,7 +121,7 @@ module _ {X : Type 0} (f : Owed → List X) where
       ∙ ap (λ l. v ++ w ++ x ++ y ++ l) he
 
 -- only calls and system calls enter frames by themselves
-pub only_calls_enter : (plan : PlanData) (key : Key) (p : ℕ) (s : State) (shape : Shape) (n : ℕ) → ((to : Target) → shape ≡ Call to → ⊥) → ((tin : ℕ) → shape ≡ Syscall tin → ⊥) → entered_in (entries_of plan key p s shape n) ≡ []
+pub only_calls_enter : (plan : PlanData) (key : Key) (p : ℕ) (s : State) (shape : Shape) (n : ℕ) → ((to : Target) → shape ≡ Call to → ⊥) → ((tin : ℕ) → shape ≡ Syscall tin → ⊥) → entered_keys (entry_duties_of plan key p s shape n) ≡ []
 only_calls_enter plan key p s (Call to) n call sys = absurd (call to refl)
 only_calls_enter plan key p s (Syscall tin) n call sys = absurd (sys tin refl)
 only_calls_enter plan key p s _ n call sys = refl

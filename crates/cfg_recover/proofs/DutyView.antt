@@ -20,11 +20,11 @@ use Rattle.depth_cert.specs.declared.keys.Key.{Key}
 use Rattle.depth_cert.specs.Exits.{exit_of}
 use Rattle.cfg_recover.specs.Entries.{call_key, irq_key, sys_key, aln_key, call_entry, irq_entry, sys_entry, aln_entry, irqs_of}
 use Rattle.cfg_recover.specs.LocalRules.{targets_of}
-use Rattle.cfg_recover.specs.Duties.{Owed, owed, jump, enter, resume, leave, loaded_for_duties, jump_on, next_of, successors_of, entered_and_back, entries_of, may_be_misaligned, misaligned_of, interrupts_of, leavings_of, duties_of}
+use Rattle.cfg_recover.specs.Duties.{Owed, owed, jump, enter, resume, leave, loaded_for_duties, jump_on, next_duty_of, successor_duties_of, entry_and_return, entry_duties_of, may_be_misaligned, misaligned_duties_of, interrupt_duties_of, exit_duties_of, duties_of}
 use Rattle.cfg_recover.proofs.Members.{contained_map, contained_flat, contains_first, contains_map, contains_flat, contains_jump, only_one, owes_successor, owes_entry, owes_misaligned, owes_interrupt, owes_leaving}
 
 pub data DutyAt (b : Limits) (image : ImageData) (plan : PlanData) (key : Key) (p : ℕ) (s : State) (n : ℕ) : Shape → Owed → Type 0 where
-  next : (shape : Shape) → ((t : State) → successors_of b image plan p t shape n ≡ next_of b image plan p t shape n) → DutyAt b image plan key p s n shape (owed 4 (jump (machine_address_ahead p n) (transfer_of b plan shape s (loaded_for_duties b image plan s shape))))
+  next : (shape : Shape) → ((t : State) → successor_duties_of b image plan p t shape n ≡ next_duty_of b image plan p t shape n) → DutyAt b image plan key p s n shape (owed 4 (jump (machine_address_ahead p n) (transfer_of b plan shape s (loaded_for_duties b image plan s shape))))
   straight :
       (test : Cond) (x : ℕ) (y : Arg) (by : ℕ) (lowers : Bool) (t : State) → refine_of b plan (Branch test x y by lowers) s false ≡ Some t
       → DutyAt b image plan key p s n (Branch test x y by lowers) (owed 4 (jump (machine_address_ahead p n) t))
@@ -62,7 +62,7 @@ module _ (b : Limits) (image : ImageData) (plan : PlanData) (key : Key) (p : ℕ
   side_at shape q None h = none_at shape
   side_at shape q (Some t) h = one_at shape (owed 4 (jump q t)) (h t refl)
 
-  successors_at : (shape : Shape) → AreAt shape (successors_of b image plan p s shape n)
+  successors_at : (shape : Shape) → AreAt shape (successor_duties_of b image plan p s shape n)
   unfolding AreAt
   successors_at (Branch test x y by lowers) =
       both_at (Branch test x y by lowers) _ _ (side_at (Branch test x y by lowers) (machine_address_ahead p n) _ (straight test x y by lowers)) (side_at (Branch test x y by lowers) (machine_address_ahead p by) _ (taken test x y by lowers))
@@ -76,25 +76,25 @@ module _ (b : Limits) (image : ImageData) (plan : PlanData) (key : Key) (p : ℕ
   successors_at (Mtcr src number) = none_at (Mtcr src number)
   successors_at shape = one_at shape _ (next shape (λ t. refl))
 
-  entries_at : (shape : Shape) → AreAt shape (entries_of plan key p s shape n)
+  entries_at : (shape : Shape) → AreAt shape (entry_duties_of plan key p s shape n)
   unfolding AreAt
   entries_at (Call to) = λ d c.
-      let r = contained_flat (λ q. entered_and_back 5 (call_key key q) (call_entry s) (machine_address_ahead p n)) (unwrap_or (targets_of plan s p to) []) d c in
+      let r = contained_flat (λ q. entry_and_return 5 (call_key key q) (call_entry s) (machine_address_ahead p n)) (unwrap_or (targets_of plan s p to) []) d c in
       both_at (Call to) (owed 5 (enter (call_key key r.0) (call_entry s)) ∷ []) (owed 4 (resume (call_key key r.0) (machine_address_ahead p n)) ∷ []) (one_at (Call to) _ (called to r.0 r.1)) (one_at (Call to) _ (called_back to r.0 r.1)) d r.2
   entries_at (Syscall tin) =
       both_at (Syscall tin) (owed 12 (enter (sys_key plan key) (sys_entry plan key s tin)) ∷ []) (owed 4 (resume (sys_key plan key) (machine_address_ahead p n)) ∷ []) (one_at (Syscall tin) _ (system tin)) (one_at (Syscall tin) _ (system_back tin))
   entries_at shape = none_at shape
 
-  accesses_at : (shape : Shape) → AreAt shape (misaligned_of b plan key s shape)
+  accesses_at : (shape : Shape) → AreAt shape (misaligned_duties_of b plan key s shape)
   accesses_at shape = elim (cases_Bool (may_be_misaligned b plan s shape)) [ inl t ↦ rw t (one_at shape _ (misaligned shape t)) | inr f ↦ rw f (none_at shape) ]
 
-  interrupts_at : (shape : Shape) → AreAt shape (interrupts_of plan key s)
+  interrupts_at : (shape : Shape) → AreAt shape (interrupt_duties_of plan key s)
   unfolding AreAt
   interrupts_at shape d c =
       let r = contained_map (λ q. owed 11 (enter (irq_key plan q) (irq_entry plan key s q))) (irqs_of plan s) d c in
       subst (λ (u : Owed). DutyAt b image plan key p s n shape u) r.2 (interrupt shape r.0 r.1)
 
-  leavings_at : (shape : Shape) → AreAt shape (leavings_of key s shape)
+  leavings_at : (shape : Shape) → AreAt shape (exit_duties_of key s shape)
   leavings_at Ret = one_at Ret _ returns
   leavings_at Rfe = elim (cases_Bool (eqb key.kind 3)) [ inl t ↦ rw t (one_at Rfe _ (resumes (eqb-true key.kind 3 t))) | inr f ↦ rw f (none_at Rfe) ]
   leavings_at shape = none_at shape
@@ -103,9 +103,9 @@ module _ (b : Limits) (image : ImageData) (plan : PlanData) (key : Key) (p : ℕ
   pub duty_at : (shape : Shape) (d : Owed) → Contains (duties_of b image plan key p s shape n) d → DutyAt b image plan key p s n shape d
   unfolding duties_of AreAt
   duty_at shape =
-      both_at shape _ (leavings_of key s shape)
-      (both_at shape _ (interrupts_of plan key s)
-      (both_at shape _ (misaligned_of b plan key s shape) (both_at shape (successors_of b image plan p s shape n) (entries_of plan key p s shape n) (successors_at shape) (entries_at shape)) (accesses_at shape))
+      both_at shape _ (exit_duties_of key s shape)
+      (both_at shape _ (interrupt_duties_of plan key s)
+      (both_at shape _ (misaligned_duties_of b plan key s shape) (both_at shape (successor_duties_of b image plan p s shape n) (entry_duties_of plan key p s shape n) (successors_at shape) (entries_at shape)) (accesses_at shape))
       (interrupts_at shape)) (leavings_at shape)
 
   -- and each case is a duty of the point
@@ -118,10 +118,10 @@ module _ (b : Limits) (image : ImageData) (plan : PlanData) (key : Key) (p : ℕ
       owes_successor b image plan key p s (Branch test x y by lowers) n d
       (Contains-append_right (jump_on (machine_address_ahead p n) (refine_of b plan (Branch test x y by lowers) s false)) (jump_on (machine_address_ahead p by) (refine_of b plan (Branch test x y by lowers) s true)) d (contains_jump (machine_address_ahead p by) _ t e))
   duty_listed _ d (target to q c) = owes_successor b image plan key p s (Jump to) n d (contains_map (λ q. owed 4 (jump q s)) _ q c)
-  duty_listed _ d (called to q c) = owes_entry b image plan key p s (Call to) n d (contains_flat (λ q. entered_and_back 5 (call_key key q) (call_entry s) (machine_address_ahead p n)) d q _ c (contains_first d (owed 4 (resume (call_key key q) (machine_address_ahead p n)) ∷ [])))
+  duty_listed _ d (called to q c) = owes_entry b image plan key p s (Call to) n d (contains_flat (λ q. entry_and_return 5 (call_key key q) (call_entry s) (machine_address_ahead p n)) d q _ c (contains_first d (owed 4 (resume (call_key key q) (machine_address_ahead p n)) ∷ [])))
   duty_listed _ d (called_back to q c) =
       owes_entry b image plan key p s (Call to) n d
-      (contains_flat (λ q. entered_and_back 5 (call_key key q) (call_entry s) (machine_address_ahead p n)) d q _ c (Contains-append_right (owed 5 (enter (call_key key q) (call_entry s)) ∷ []) (d ∷ []) d (contains_first d [])))
+      (contains_flat (λ q. entry_and_return 5 (call_key key q) (call_entry s) (machine_address_ahead p n)) d q _ c (Contains-append_right (owed 5 (enter (call_key key q) (call_entry s)) ∷ []) (d ∷ []) d (contains_first d [])))
   duty_listed _ d (system tin) = owes_entry b image plan key p s (Syscall tin) n d (contains_first d (owed 4 (resume (sys_key plan key) (machine_address_ahead p n)) ∷ []))
   duty_listed _ d (system_back tin) = owes_entry b image plan key p s (Syscall tin) n d (Contains-append_right (owed 12 (enter (sys_key plan key) (sys_entry plan key s tin)) ∷ []) (d ∷ []) d (contains_first d []))
   duty_listed _ d (misaligned shape e) = owes_misaligned b image plan key p s shape n d (rw e (contains_first d []))

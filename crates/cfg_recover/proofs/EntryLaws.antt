@@ -23,9 +23,9 @@ use Rattle.value_domain.specs.Limits.{Limits}
 use Rattle.value_domain.specs.Values.{IsMember, any_val, word_val}
 use Rattle.value_domain.specs.State.{AreBelow, Covers, is_lower_slot}
 use Rattle.vd_transfer.specs.Operations.{value_of}
-use Rattle.vd_transfer.specs.Registers.{slot, reg_of, register_value_at, fixed_of, set_reg, is_lower_register, set_arg, is_operand_register}
-use Rattle.vd_transfer.specs.EffectsOnStates.{state_with_base, transfer_of}
-use Rattle.vd_transfer.specs.Branches.{refine_of, state_on_side, with_lowered_counter, side_with_register, side_with_operands}
+use Rattle.vd_transfer.specs.Registers.{slot, reg_of, register_value_at, fixed_value_of, set_reg, is_lower_register, set_arg, is_operand_register}
+use Rattle.vd_transfer.specs.EffectsOnStates.{state_with_increased_base, transfer_of}
+use Rattle.vd_transfer.specs.Branches.{refine_of, state_on_side, with_decremented_counter, side_with_register, side_with_operands}
 use Rattle.vd_transfer.specs.Holding.{Holds}
 use Rattle.vd_transfer.specs.EffectsOnWords.{words_with_register}
 use Rattle.vd_transfer.proofs.RegisterLaws.{length-forgotten}
@@ -34,7 +34,7 @@ use Rattle.vd_transfer.proofs.HoldLaws.{same_length, holds_set, holds_narrow}
 use Rattle.depth_cert.specs.declared.keys.Key.{Key}
 use Rattle.depth_cert.specs.declared.points.Exit.{Exit}
 use Rattle.cfg_recover.specs.Entries.{entry_stack_of, entry_state_with, start_state, call_entry, irq_entry, aln_entry, sys_entry}
-use Rattle.depth_cert.specs.Exits.{lower_values, exit_of, with_lower_from, state_after_exit, ExitCovers}
+use Rattle.depth_cert.specs.Exits.{lower_values, exit_of, values_with_lower_from, state_after_exit, ExitCovers}
 
 -- ---- states with the same values, or greater ones
 covered_at : (plan : PlanData) (u s : State) (w r : ℕ) (o : Option ℕ) → o ≡ slot r → length s.regs ≡ 27 → AreBelow s.regs u.regs → IsMember w (register_value_at plan s r o) → IsMember w (register_value_at plan u r o)
@@ -119,13 +119,13 @@ fixed_cases P a0 a1 a8 a9 a11 r lt e =
 
 -- the words of A0, A1, A8 and A9 are the plan's
 abbrev pub HasGlobalWords : PlanData → (ℕ → ℕ) → Type 0
-HasGlobalWords plan word = (r : ℕ) → r < 32 → slot r ≡ None → IsMember (word r) (fixed_of plan r)
+HasGlobalWords plan word = (r : ℕ) → r < 32 → slot r ≡ None → IsMember (word r) (fixed_value_of plan r)
 
 -- they are, if A0 to A9 are as in words that a state holds
 pub globals_stay : (plan : PlanData) (s : State) (word word2 : ℕ → ℕ) (ie : Bool) (ccpn : ℕ) → word2 27 < 2 ^ 32 → ((r : ℕ) → 16 ≤ r → r < 26 → word2 r ≡ word r) → Holds plan word ie ccpn s → HasGlobalWords plan word2
 unfolding slot
 globals_stay plan s word word2 ie ccpn small same h =
-    fixed_cases (λ r. IsMember (word2 r) (fixed_of plan r))
+    fixed_cases (λ r. IsMember (word2 r) (fixed_value_of plan r))
     (rw (same 16 (omega arith) (omega arith)) (h.regs 16 (omega arith)))
     (rw (same 17 (omega arith) (omega arith)) (h.regs 17 (omega arith)))
     (rw (same 24 (omega arith) (omega arith)) (h.regs 24 (omega arith)))
@@ -142,7 +142,7 @@ reg_lt m k r =
 
 globals_start : (plan : PlanData) (m : Machine) → IsMachine m → HasGlobals plan m.a → HasGlobalWords plan (reg m)
 globals_start plan m k same =
-    fixed_cases (λ r. IsMember (reg m r) (fixed_of plan r)) (inl (ap (λ l. get_or l 0 0) same)) (inl (ap (λ l. get_or l 1 0) same)) (inl (ap (λ l. get_or l 2 0) same)) (inl (ap (λ l. get_or l 3 0) same))
+    fixed_cases (λ r. IsMember (reg m r) (fixed_value_of plan r)) (inl (ap (λ l. get_or l 0 0) same)) (inl (ap (λ l. get_or l 1 0) same)) (inl (ap (λ l. get_or l 2 0) same)) (inl (ap (λ l. get_or l 3 0) same))
     (any_member (reg m 27) (reg_lt m k 27))
 
 -- ---- entries
@@ -150,7 +150,7 @@ globals_start plan m k same =
 abbrev blank : Bool → ℕ → Bool → State
 blank ie ccpn lower = record { regs = replicate 27 any_val; ie = ie; ccpn = ccpn; lower = lower; locals = record { items = [] } }
 
-blank_at : (plan : PlanData) (t : State) (w r : ℕ) (o : Option ℕ) → t.regs ≡ replicate 27 any_val → o ≡ slot r → w < 2 ^ 32 → (o ≡ None → IsMember w (fixed_of plan r)) → IsMember w (register_value_at plan t r o)
+blank_at : (plan : PlanData) (t : State) (w r : ℕ) (o : Option ℕ) → t.regs ≡ replicate 27 any_val → o ≡ slot r → w < 2 ^ 32 → (o ≡ None → IsMember w (fixed_value_of plan r)) → IsMember w (register_value_at plan t r o)
 blank_at plan t w r None same e small fixed = fixed refl
 blank_at plan t w r (Some i) same e small fixed =
     let is = slot_is r i (sym e) in
@@ -299,16 +299,16 @@ holds_exit plan s word ie ccpn y len c h = record {
 
 -- ---- returns
 get_or-with_lower : (k : ℕ) (lower vs : List Val) (i : ℕ) → i < length vs
-    → get_or (with_lower_from k lower vs) i any_val ≡ cond (is_lower_slot (k + i)) (get_or lower (cond (ltb (k + i) 8) (k + i) (k + i - 8)) any_val) (get_or vs i any_val)
-unfolding with_lower_from
+    → get_or (values_with_lower_from k lower vs) i any_val ≡ cond (is_lower_slot (k + i)) (get_or lower (cond (ltb (k + i) 8) (k + i) (k + i - 8)) any_val) (get_or vs i any_val)
+unfolding values_with_lower_from
 get_or-with_lower k lower [] i h = absurd (omega arith)
 get_or-with_lower k lower (v ∷ vs) zero h = let e : k ≡ k + zero = omega arith in ap (λ n. cond (is_lower_slot n) (get_or lower (cond (ltb n 8) n (n - 8)) any_val) v) e
 get_or-with_lower k lower (v ∷ vs) (suc i) h =
     let e : k + 1 + i ≡ k + suc i = omega arith in
     get_or-with_lower (k + 1) lower vs i (omega arith) ∙ ap (λ n. cond (is_lower_slot n) (get_or lower (cond (ltb n 8) n (n - 8)) any_val) (get_or vs i any_val)) e
 
-pub with_lower_length : (k : ℕ) (lower vs : List Val) → length (with_lower_from k lower vs) ≡ length vs
-unfolding with_lower_from
+pub with_lower_length : (k : ℕ) (lower vs : List Val) → length (values_with_lower_from k lower vs) ≡ length vs
+unfolding values_with_lower_from
 with_lower_length k lower [] = refl
 with_lower_length k lower (v ∷ vs) = ap suc (with_lower_length (k + 1) lower vs)
 
@@ -355,7 +355,7 @@ pub after_length : (s : State) (x : Exit) (kind : ℕ) → length (state_after_e
 after_length s x kind = with_lower_length 0 x.lower s.regs
 
 -- ---- the number of values of a state
-base_length : (b : Limits) (plan : PlanData) (s : State) (base : Arg) (offset : ℕ) (after : Bool) → length (state_with_base b plan s base offset after).regs ≡ length s.regs
+base_length : (b : Limits) (plan : PlanData) (s : State) (base : Arg) (offset : ℕ) (after : Bool) → length (state_with_increased_base b plan s base offset after).regs ≡ length s.regs
 base_length b plan s (Word w) offset after = refl
 base_length b plan s (Reg r) offset false = refl
 base_length b plan s (Reg r) offset true = same_length s (value_of b Add (reg_of plan s r) (word_val offset)) (slot r)
@@ -364,7 +364,7 @@ pub transfer_length : (b : Limits) (plan : PlanData) (shape : Shape) (s : State)
 unfolding transfer_of
 transfer_length b plan (Compute op dst x y) s loaded = same_length s _ (slot dst)
 transfer_length b plan (Scaled dst base index n) s loaded = same_length s _ (slot dst)
-transfer_length b plan (Load dst base offset size signed after) s loaded = same_length (state_with_base b plan s base offset after) loaded (slot dst) ∙ base_length b plan s base offset after
+transfer_length b plan (Load dst base offset size signed after) s loaded = same_length (state_with_increased_base b plan s base offset after) loaded (slot dst) ∙ base_length b plan s base offset after
 transfer_length b plan (Store src base offset size after) s loaded = base_length b plan s base offset after
 transfer_length b plan Rslcx s loaded = length-forgotten 0 s.regs
 transfer_length b plan (Mfcr dst number) s loaded = same_length s any_val (slot dst)
@@ -384,7 +384,7 @@ with_two_length s x y None w = tt
 with_two_length s x y (Some v) None = tt
 with_two_length s x y (Some v) (Some w) = with_arg_length (set_reg s x v) y w ∙ same_length s v (slot x)
 
-lowered_length : (b : Limits) (plan : PlanData) (s : State) (x : ℕ) (lowers : Bool) (o : Option State) → IfSome o (λ t. length t.regs ≡ length s.regs) → IfSome (with_lowered_counter b plan x lowers o) (λ t. length t.regs ≡ length s.regs)
+lowered_length : (b : Limits) (plan : PlanData) (s : State) (x : ℕ) (lowers : Bool) (o : Option State) → IfSome o (λ t. length t.regs ≡ length s.regs) → IfSome (with_decremented_counter b plan x lowers o) (λ t. length t.regs ≡ length s.regs)
 lowered_length b plan s x lowers None h = tt
 lowered_length b plan s x false (Some t) h = h
 lowered_length b plan s x true (Some t) h = same_length t (value_of b Sub (reg_of plan t x) (word_val 1)) (slot x) ∙ h

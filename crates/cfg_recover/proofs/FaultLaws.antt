@@ -12,7 +12,7 @@ use Rattle.depth_cert.specs.Nodes.{NodeData, IsNode, need_of}
 use Rattle.depth_cert.specs.Certs.{CertData, IsCert}
 use Rattle.cfg_recover.specs.Entries.{start_key}
 use Rattle.cfg_recover.specs.RulesHoldOrFail.{limits_in, RuleHolds, HoldsAtNode, Accepts, RuleFails, at_start, at_entry, at_point}
-use Rattle.cfg_recover.specs.FirstFaultLaws.{IsFaultPlace, start, entry, point, FirstFaultsSay, NeedSays}
+use Rattle.cfg_recover.specs.FirstFaultLaws.{IsFaultPlace, start, entry, point, FirstFaultsNameFirstFailures, CertifiedNeedIsOfStart}
 use Rattle.cfg_recover.proofs.DutyRules.{duty_asked}
 
 -- a certificate with a fault isn't accepted
@@ -95,7 +95,7 @@ before r a p q c x p_lt x_lt r_le q_le le =
           )
     ]
 
-pub first_faults_say : FirstFaultsSay
+pub first_faults_say : FirstFaultsNameFirstFailures
 first_faults_say image plan cert r k p small is_cert f =
     let place = place_of image plan cert r k p f.fails in
     let own = numbers image plan cert small is_cert r k p place in
@@ -115,5 +115,5 @@ first_faults_say image plan cert r k p small is_cert f =
       refuted = λ accepts. fails_refutes image plan cert r k p f.fails accepts;
     }
 
-pub need_says : NeedSays
+pub need_says : CertifiedNeedIsOfStart
 need_says image plan cert node found = ap need_of found

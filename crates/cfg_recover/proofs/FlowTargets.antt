@@ -2,7 +2,7 @@
 use Rattle.std.proofs.Common.{◌≡◌, ℕ, zero, suc, ◌+◌, ◌-◌, ◌*◌, ◌/◌, ◌<◌, ◌≤◌, inl, inr, List, [], ◌∷◌, ◌++◌, length, map, take, get_or, slice_get, Some, None, refl, sym, ap, ◌∙◌, subst, arith}
 use Rattle.std.proofs.lemmas.List.{take_more, map-append, length-map, length-take-le}
 use Rattle.tcd_base.proofs.OptionLaws.{some_same}
-use Rattle.value_domain.specs.Sets.{Among, Rising, sorted_insert, sorted_set_of}
+use Rattle.value_domain.specs.Sets.{Among, IsAscending, sorted_insert, sorted_set_of}
 use Rattle.value_domain.proofs.SetLaws.{put-eq, put-gt, put_has, length_put, distinct_same, among_distinct}
 use Rattle.value_domain.proofs.ExtentLaws.{among_append, append_left, append_right}
 
@@ -13,7 +13,7 @@ last-more y z zs =
     ap (λ (n : ℕ). slice_get (y ∷ z ∷ zs) n) e
 
 -- adding the last word again
-pub put-again : (x : ℕ) (ys : List ℕ) → Rising ys → slice_get ys (length ys - 1) ≡ Some x → sorted_insert x ys ≡ ys
+pub put-again : (x : ℕ) (ys : List ℕ) → IsAscending ys → slice_get ys (length ys - 1) ≡ Some x → sorted_insert x ys ≡ ys
 put-again x [] r e = absurd (let f : None ≡ Some x = e in cc)
 put-again x (y ∷ []) r e = put-eq x y [] (sym (some_same y x e))
 put-again x (y ∷ z ∷ zs) r e =
@@ -22,7 +22,7 @@ put-again x (y ∷ z ∷ zs) r e =
     put-gt x y (z ∷ zs) above ∙ ap (λ (l : List ℕ). y ∷ l) rest
 
 -- adding a word that isn't below the others, and isn't the last one
-pub put-behind : (x : ℕ) (ys : List ℕ) → Rising ys → ((y : ℕ) → Among y ys → y ≤ x) → (slice_get ys (length ys - 1) ≡ Some x → ⊥) → sorted_insert x ys ≡ ys ++ x ∷ []
+pub put-behind : (x : ℕ) (ys : List ℕ) → IsAscending ys → ((y : ℕ) → Among y ys → y ≤ x) → (slice_get ys (length ys - 1) ≡ Some x → ⊥) → sorted_insert x ys ≡ ys ++ x ∷ []
 unfolding sorted_insert
 put-behind x [] r greatest other = refl
 put-behind x (y ∷ []) r greatest other =
@@ -61,7 +61,7 @@ at_among (v ∷ vs) zero h = inl refl
 at_among (v ∷ vs) (suc i) h = inr (at_among vs i (omega arith))
 
 -- the next word of an ascending list names no address below the earlier ones
-earlier_even : (ws : List ℕ) (i : ℕ) → Rising ws → i < length ws → (y : ℕ) → Among y (map even_of (take i ws)) → y ≤ even_of (get_or ws i 0)
+earlier_even : (ws : List ℕ) (i : ℕ) → IsAscending ws → i < length ws → (y : ℕ) → Among y (map even_of (take i ws)) → y ≤ even_of (get_or ws i 0)
 earlier_even [] i r h y a = absurd (omega arith)
 earlier_even (v ∷ vs) zero r h y a = absurd a
 earlier_even (v ∷ vs) (suc i) r h y a =
@@ -79,7 +79,7 @@ earlier_even (v ∷ vs) (suc i) r h y a =
 abbrev pub evens_of : ℕ → List ℕ → List ℕ
 evens_of i ws = sorted_set_of (map (λ w. w / 2 * 2) (take i ws))
 
-pub evens_before : (ws : List ℕ) (i : ℕ) → Rising ws → i < length ws → (y : ℕ) → Among y (evens_of i ws) → y ≤ even_of (get_or ws i 0)
+pub evens_before : (ws : List ℕ) (i : ℕ) → IsAscending ws → i < length ws → (y : ℕ) → Among y (evens_of i ws) → y ≤ even_of (get_or ws i 0)
 evens_before ws i r h y a = earlier_even ws i r h y (among_distinct y (map even_of (take i ws)) a)
 
 pub length_evens : (ws : List ℕ) (i : ℕ) → i < length ws → length (evens_of i ws) ≤ i

@@ -10,8 +10,8 @@ use Rattle.tc_machine.specs.declared.events.Cause.{Cause}
 use Rattle.tc_machine.specs.declared.events.Event.{Event}
 use Rattle.tc_machine.specs.declared.state.Machine.{Machine}
 use Rattle.tc_machine.specs.Instructions.{machine_address_ahead, is_trapping_instruction}
-use Rattle.tc_machine.specs.Fetching.{fetched, fetched_size}
-use Rattle.tc_machine.specs.Stepping.{is_taken, step, run}
+use Rattle.tc_machine.specs.Fetching.{fetched_instruction, fetched_size}
+use Rattle.tc_machine.specs.Stepping.{is_interrupt_taken, step, run}
 use Rattle.depth_cert.specs.declared.points.Point.{Point}
 use Rattle.depth_cert.specs.Points.{find_point}
 use Rattle.depth_cert.specs.Nodes.{NodeData, find_node}
@@ -20,11 +20,11 @@ use Rattle.depth_cert.proofs.KeyLaws.{found_in}
 use Rattle.cfg_recover.specs.Entries.{start_key}
 use Rattle.cfg_recover.specs.Duties.{Owed, duties_of}
 use Rattle.cfg_recover.specs.RulesHoldOrFail.{limits_in}
-use Rattle.cfg_recover.specs.MovesAreOwed.{InState}
-use Rattle.cfg_recover.specs.Frames.{Standing, frames_by, frames_after, frames_from, frames, AreFramesHeld, HoldFrames, IsReturn}
+use Rattle.cfg_recover.specs.MovesAreOwed.{IsInState}
+use Rattle.cfg_recover.specs.Frames.{RunFrame, frames_after_edge, frames_after, frames_from, frames, AreFramesHeld, HoldFrames, IsReturn}
 use Rattle.cfg_recover.specs.EdgesAreOwed.{IsEdgeWayOwed, EdgeOwed, GoesBackToFrame}
 use Rattle.cfg_recover.specs.StepEdges.{EdgeWay, to, call, irq, sys, aln, ret, rfe, edge_way_of_shape, edge_way_by_trap, edge_way_in_fetch, edge_way_of_step}
-use Rattle.cfg_recover.specs.EdgeAndFrameLaws.{StepMeetsShape, KeepsFrame, EdgeIs, EdgesAre, FramesNext, FramesAre, FramesSay, HeldFramesSay, StepOwed, EdgeSays, OwedEdgesSay}
+use Rattle.cfg_recover.specs.EdgeAndFrameLaws.{StepMeetsShape, KeepsFrame, EdgeMatchesStep, EdgesMatchSteps, FramesFollowStep, FramesFollowAllRuns, FramesDescribeMachine, HeldFramesDescribeMachine, IsStepOwed, IsStepOwedByPoint, StepsAreOwedByPoints}
 
 -- ---- edges
 stays_to : (shape : Shape) (q : ℕ) → KeepsFrame shape → edge_way_of_shape shape q ≡ to q
@@ -35,12 +35,12 @@ stays_to (Syscall tin) q keeps = absurd keeps
 stays_to _ q keeps = refl
 
 module _ (m : Machine) (e : Event) where
-  interrupted : is_taken m e ≡ true → edge_way_of_step m e ≡ irq (step m e).pc
-  interrupted t = ap (λ (b : Bool). cond b (irq (step m e).pc) (edge_way_in_fetch m e (fetched m) (step m e).pc)) t
+  interrupted : is_interrupt_taken m e ≡ true → edge_way_of_step m e ≡ irq (step m e).pc
+  interrupted t = ap (λ (b : Bool). cond b (irq (step m e).pc) (edge_way_in_fetch m e (fetched_instruction m) (step m e).pc)) t
 
   met : (shape : Shape) (n : ℕ) → StepMeetsShape m e shape n → edge_way_of_step m e ≡ edge_way_by_trap m e shape (step m e).pc
   met shape n h =
-      ap (λ (b : Bool). cond b (irq (step m e).pc) (edge_way_in_fetch m e (fetched m) (step m e).pc)) h.free
+      ap (λ (b : Bool). cond b (irq (step m e).pc) (edge_way_in_fetch m e (fetched_instruction m) (step m e).pc)) h.free
       ∙ ap (λ (f : Result (Shape × ℕ) Cause). edge_way_in_fetch m e f (step m e).pc) h.there
 
   trapped : (shape : Shape) (n : ℕ) → StepMeetsShape m e shape n → is_trapping_instruction m e shape ≡ true → edge_way_of_step m e ≡ aln (step m e).pc
@@ -50,7 +50,7 @@ module _ (m : Machine) (e : Event) where
   stayed shape n h t keeps =
       met shape n h ∙ ap (λ (b : Bool). cond b (aln (step m e).pc) (edge_way_of_shape shape (step m e).pc)) t ∙ stays_to shape (step m e).pc keeps
 
-  pub edge_is : EdgeIs m e
+  pub edge_is : EdgeMatchesStep m e
   edge_is = record {
     load = λ dst base offset size signed after. refl;
     store = λ src base offset size after. refl;
@@ -65,25 +65,25 @@ module _ (m : Machine) (e : Event) where
     stayed = stayed;
   }
 
-pub edges_are : EdgesAre
+pub edges_are : EdgesMatchSteps
 edges_are m e = edge_is m e
 
 -- ---- frames
 -- the frames after one more event
-frames_more : (m : Machine) (es : List Event) (e : Event) (fs : List Standing) → frames_from m (es ++ e ∷ []) fs ≡ frames_after (run m es) e (frames_from m es fs)
+frames_more : (m : Machine) (es : List Event) (e : Event) (fs : List RunFrame) → frames_from m (es ++ e ∷ []) fs ≡ frames_after (run m es) e (frames_from m es fs)
 frames_more m [] e fs = refl
 frames_more m (x ∷ es) e fs = frames_more (step m x) es e (frames_after m x fs)
 
-module _ (m : Machine) (e : Event) (f : Standing) (older : List Standing) where
-  by_way : (w : EdgeWay) → edge_way_of_step m e ≡ w → frames_after m e (f ∷ older) ≡ frames_by m.pc (machine_address_ahead m.pc (fetched_size (fetched m))) e.irq w (f ∷ older)
-  by_way w h = ap (λ (v : EdgeWay). frames_by m.pc (machine_address_ahead m.pc (fetched_size (fetched m))) e.irq v (f ∷ older)) h
+module _ (m : Machine) (e : Event) (f : RunFrame) (older : List RunFrame) where
+  by_way : (w : EdgeWay) → edge_way_of_step m e ≡ w → frames_after m e (f ∷ older) ≡ frames_after_edge m.pc (machine_address_ahead m.pc (fetched_size (fetched_instruction m))) e.irq w (f ∷ older)
+  by_way w h = ap (λ (v : EdgeWay). frames_after_edge m.pc (machine_address_ahead m.pc (fetched_size (fetched_instruction m))) e.irq v (f ∷ older)) h
 
   -- ways that depend on the instruction's size
-  by_size : (w : EdgeWay) (shape : Shape) (n : ℕ) → edge_way_of_step m e ≡ w → StepMeetsShape m e shape n → frames_after m e (f ∷ older) ≡ frames_by m.pc (machine_address_ahead m.pc n) e.irq w (f ∷ older)
+  by_size : (w : EdgeWay) (shape : Shape) (n : ℕ) → edge_way_of_step m e ≡ w → StepMeetsShape m e shape n → frames_after m e (f ∷ older) ≡ frames_after_edge m.pc (machine_address_ahead m.pc n) e.irq w (f ∷ older)
   by_size w shape n h meets =
-      by_way w h ∙ ap (λ (r : Result (Shape × ℕ) Cause). frames_by m.pc (machine_address_ahead m.pc (fetched_size r)) e.irq w (f ∷ older)) meets.there
+      by_way w h ∙ ap (λ (r : Result (Shape × ℕ) Cause). frames_after_edge m.pc (machine_address_ahead m.pc (fetched_size r)) e.irq w (f ∷ older)) meets.there
 
-  frames_next : FramesNext m e f older (frames_after m e (f ∷ older))
+  frames_next : FramesFollowStep m e f older (frames_after m e (f ∷ older))
   frames_next = record {
     interrupted = λ t. by_way (irq (step m e).pc) (interrupted m e t);
     misaligned = λ shape n h t. by_way (aln (step m e).pc) (trapped m e shape n h t);
@@ -94,18 +94,18 @@ module _ (m : Machine) (e : Event) (f : Standing) (older : List Standing) where
     stayed = λ shape n h t keeps. by_way (to (step m e).pc) (stayed m e shape n h t keeps);
   }
 
-pub frames_are : FramesAre
+pub frames_are : FramesFollowAllRuns
 frames_are image plan m = record {
   start = refl;
   step = λ es e f older are.
-      subst (λ (fs : List Standing). FramesNext (run m es) e f older fs)
-      (sym (frames_more m es e (record { key = start_key image plan; at = m.pc } ∷ []) ∙ ap (λ (fs : List Standing). frames_after (run m es) e fs) are))
+      subst (λ (fs : List RunFrame). FramesFollowStep (run m es) e f older fs)
+      (sym (frames_more m es e (record { key = start_key image plan; at = m.pc } ∷ []) ∙ ap (λ (fs : List RunFrame). frames_after (run m es) e fs) are))
       (frames_next (run m es) e f older);
 }
 
 -- ---- frames that are held
-module _ (plan : PlanData) (cert : CertData) (m : Machine) (f : Standing) (fs : List Standing) (h : AreFramesHeld plan cert m f fs) where
-  at_point : (node : NodeData) (o : Option Point) → find_node f.key cert.nodes ≡ Some node → find_point f.at node.points ≡ o → IsSomeAnd o (λ p. InState plan m p.state) → FramesSay plan cert m (f ∷ fs)
+module _ (plan : PlanData) (cert : CertData) (m : Machine) (f : RunFrame) (fs : List RunFrame) (h : AreFramesHeld plan cert m f fs) where
+  at_point : (node : NodeData) (o : Option Point) → find_node f.key cert.nodes ≡ Some node → find_point f.at node.points ≡ o → IsSomeAnd o (λ p. IsInState plan m p.state) → FramesDescribeMachine plan cert m (f ∷ fs)
   at_point node None stands e inside = absurd inside
   at_point node (Some point) stands e inside =
       let there = found_in (λ (p : Point). p.addr == f.at) node.points point e in
@@ -126,27 +126,27 @@ module _ (plan : PlanData) (cert : CertData) (m : Machine) (f : Standing) (fs : 
         callers = λ i d lt. h.nodes (suc i) d (omega arith);
       }
 
-  at_node : (o : Option NodeData) → find_node f.key cert.nodes ≡ o → IsSomeAnd o (λ n. IsSomeAnd (find_point f.at n.points) (λ p. InState plan m p.state)) → FramesSay plan cert m (f ∷ fs)
+  at_node : (o : Option NodeData) → find_node f.key cert.nodes ≡ o → IsSomeAnd o (λ n. IsSomeAnd (find_point f.at n.points) (λ p. IsInState plan m p.state)) → FramesDescribeMachine plan cert m (f ∷ fs)
   at_node None e inside = absurd inside
   at_node (Some node) e inside = at_point node (find_point f.at node.points) e refl inside
 
-held_say : (plan : PlanData) (cert : CertData) (m : Machine) (fs : List Standing) → HoldFrames plan cert m fs → FramesSay plan cert m fs
+held_say : (plan : PlanData) (cert : CertData) (m : Machine) (fs : List RunFrame) → HoldFrames plan cert m fs → FramesDescribeMachine plan cert m fs
 held_say plan cert m [] h = absurd h
 held_say plan cert m (f ∷ fs) h = at_node plan cert m f fs h (find_node f.key cert.nodes) refl h.point
 
-pub held_frames_say : HeldFramesSay
+pub held_frames_say : HeldFramesDescribeMachine
 held_frames_say image plan cert held m es start fit = held_say plan cert (run m es) (frames image plan m es) (held m es start fit)
 
 -- ---- edges that are owed
-goes_back : (q : ℕ) (f : Standing) (older : List Standing) → IsReturn q (f ∷ older) → GoesBackToFrame older q
+goes_back : (q : ℕ) (f : RunFrame) (older : List RunFrame) → IsReturn q (f ∷ older) → GoesBackToFrame older q
 goes_back q f [] h = absurd h
 goes_back q f (g ∷ rest) h = record { caller = g; rest = rest; are = refl; at = h }
 
-module _ (ds : List Owed) (f : Standing) (older : List Standing) (m : Machine) (e : Event) (h : IsEdgeWayOwed ds f.key e.irq (f ∷ older) (step m e).pc (edge_way_of_step m e)) where
+module _ (ds : List Owed) (f : RunFrame) (older : List RunFrame) (m : Machine) (e : Event) (h : IsEdgeWayOwed ds f.key e.irq (f ∷ older) (step m e).pc (edge_way_of_step m e)) where
   owed_by : (w : EdgeWay) → edge_way_of_step m e ≡ w → IsEdgeWayOwed ds f.key e.irq (f ∷ older) (step m e).pc w
   owed_by w same = subst (λ (v : EdgeWay). IsEdgeWayOwed ds f.key e.irq (f ∷ older) (step m e).pc v) same h
 
-  step_owed : StepOwed ds f older m e
+  step_owed : IsStepOwed ds f older m e
   step_owed = record {
     interrupted = λ t. owed_by (irq (step m e).pc) (interrupted m e t);
     misaligned = λ shape n h t. owed_by (aln (step m e).pc) (trapped m e shape n h t);
@@ -157,7 +157,7 @@ module _ (ds : List Owed) (f : Standing) (older : List Standing) (m : Machine) (
     stayed = λ shape n h t keeps. owed_by (to (step m e).pc) (stayed m e shape n h t keeps);
   }
 
-edge_says : (image : ImageData) (plan : PlanData) (cert : CertData) (m : Machine) (e : Event) (fs : List Standing) → EdgeOwed image plan cert m e fs → EdgeSays image plan cert m e fs
+edge_says : (image : ImageData) (plan : PlanData) (cert : CertData) (m : Machine) (e : Event) (fs : List RunFrame) → EdgeOwed image plan cert m e fs → IsStepOwedByPoint image plan cert m e fs
 edge_says image plan cert m e [] h = absurd h
 edge_says image plan cert m e (f ∷ fs) h =
     let there = found_in (λ (p : Point). p.addr == m.pc) (h.node).points h.point h.found in
@@ -176,5 +176,5 @@ edge_says image plan cert m e (f ∷ fs) h =
       owed = step_owed (duties_of (limits_in plan cert) image plan f.key m.pc (h.point).state h.shape h.size) f fs m e h.owed;
     }
 
-pub owed_edges_say : OwedEdgesSay
+pub owed_edges_say : StepsAreOwedByPoints
 owed_edges_say image plan cert owed m es e start fit fits = edge_says image plan cert (run m es) e (frames image plan m es) (owed m es e start fit fits)

@@ -15,11 +15,11 @@ use Rattle.value_domain.specs.declared.states.State.{State}
 use Rattle.value_domain.specs.Limits.{Limits}
 use Rattle.value_domain.specs.Values.{any_val, word_val}
 use Rattle.vd_transfer.specs.Operations.{value_of}
-use Rattle.vd_transfer.specs.Registers.{slot, reg_of, set_slot, set_reg, write_reg, is_lower_register, RegisterHasValue, set_arg, HasBaseValue, WritesNoFixedRegister, is_operand_register}
-use Rattle.vd_transfer.specs.EffectsOnStates.{state_with_base, transfer_of}
-use Rattle.vd_transfer.specs.Branches.{side_with_register, side_with_operands, state_on_side, with_lowered_counter, refine_of}
-use Rattle.vd_transfer.specs.EffectsOnWords.{words_with_register, with_base_word, words_after}
-use Rattle.vd_transfer.specs.Soundness.{StaysPlain}
+use Rattle.vd_transfer.specs.Registers.{slot, reg_of, set_slot, set_reg, write_reg, is_lower_register, RegisterHasValue, set_arg, IncreasesNoFixedRegister, WritesNoFixedRegister, is_operand_register}
+use Rattle.vd_transfer.specs.EffectsOnStates.{state_with_increased_base, transfer_of}
+use Rattle.vd_transfer.specs.Branches.{side_with_register, side_with_operands, state_on_side, with_decremented_counter, refine_of}
+use Rattle.vd_transfer.specs.EffectsOnWords.{words_with_register, words_with_increased_base, words_after}
+use Rattle.vd_transfer.specs.Soundness.{IsStraightLine}
 use Rattle.cfg_recover.specs.MovesAreOwed.{StaysInFrame}
 use Rattle.cfg_recover.proofs.Went.{set_word-other}
 
@@ -51,12 +51,12 @@ valueless_set : (word : ℕ → ℕ) (dst w r : ℕ) → RegisterHasValue dst �
 valueless_set word dst w r has none = set_word-other word dst w r (without_value dst r has none)
 
 -- ---- accesses
-keeps_base : (b : Limits) (plan : PlanData) (s : State) (word : ℕ → ℕ) (base : Arg) (offset : ℕ) (after : Bool) → KeepsLower word (with_base_word word base offset after) s (state_with_base b plan s base offset after)
+keeps_base : (b : Limits) (plan : PlanData) (s : State) (word : ℕ → ℕ) (base : Arg) (offset : ℕ) (after : Bool) → KeepsLower word (words_with_increased_base word base offset after) s (state_with_increased_base b plan s base offset after)
 keeps_base b plan s word (Word w) offset after = same_keeps word s
 keeps_base b plan s word (Reg r) offset false = same_keeps word s
 keeps_base b plan s word (Reg r) offset true = keeps_write word word s s r ((word r + offset) % 2 ^ 32) (value_of b Add (reg_of plan s r) (word_val offset)) (same_keeps word s)
 
-valueless_base : (word : ℕ → ℕ) (base : Arg) (offset : ℕ) (after : Bool) (r : ℕ) → HasBaseValue base after → slot r ≡ None → with_base_word word base offset after r ≡ word r
+valueless_base : (word : ℕ → ℕ) (base : Arg) (offset : ℕ) (after : Bool) (r : ℕ) → IncreasesNoFixedRegister base after → slot r ≡ None → words_with_increased_base word base offset after r ≡ word r
 valueless_base word (Word w) offset after r has none = refl
 valueless_base word (Reg x) offset false r has none = refl
 valueless_base word (Reg x) offset true r has none = valueless_set word x ((word x + offset) % 2 ^ 32) r (has refl) none
@@ -65,7 +65,7 @@ written_locals : (s : State) (v : Val) (o : Option ℕ) → (set_slot s v o).loc
 written_locals s v (Some i) = refl
 written_locals s v None = refl
 
-base_locals : (b : Limits) (plan : PlanData) (s : State) (base : Arg) (offset : ℕ) (after : Bool) → (state_with_base b plan s base offset after).locals.items ≡ s.locals.items
+base_locals : (b : Limits) (plan : PlanData) (s : State) (base : Arg) (offset : ℕ) (after : Bool) → (state_with_increased_base b plan s base offset after).locals.items ≡ s.locals.items
 base_locals b plan s (Word w) offset after = refl
 base_locals b plan s (Reg r) offset false = refl
 base_locals b plan s (Reg r) offset true = written_locals s (value_of b Add (reg_of plan s r) (word_val offset)) (slot r)
@@ -73,14 +73,14 @@ base_locals b plan s (Reg r) offset true = written_locals s (value_of b Add (reg
 -- ---- instructions
 -- an instruction that goes on with the next one and doesn't touch the frame's contexts
 abbrev pub GoesOn : Shape → Type 0
-GoesOn shape = StaysInFrame shape × StaysPlain shape
+GoesOn shape = StaysInFrame shape × IsStraightLine shape
 
 pub keeps_lower : (b : Limits) (plan : PlanData) (shape : Shape) (s : State) (loaded : Val) (word : ℕ → ℕ) (input : ℕ) → GoesOn shape → KeepsLower word (words_after shape input word) s (transfer_of b plan shape s loaded)
 unfolding transfer_of words_after
 keeps_lower b plan (Compute op dst x y) s loaded word input goes = keeps_write word word s s dst _ any_val (same_keeps word s)
 keeps_lower b plan (Scaled dst base index n) s loaded word input goes = keeps_write word word s s dst _ any_val (same_keeps word s)
 keeps_lower b plan (Load dst base offset size signed after) s loaded word input goes =
-    keeps_write word (with_base_word word base offset after) s (state_with_base b plan s base offset after) dst input loaded (keeps_base b plan s word base offset after)
+    keeps_write word (words_with_increased_base word base offset after) s (state_with_increased_base b plan s base offset after) dst input loaded (keeps_base b plan s word base offset after)
 keeps_lower b plan (Store src base offset size after) s loaded word input goes = keeps_base b plan s word base offset after
 keeps_lower b plan Svlcx s loaded word input goes = absurd goes.0
 keeps_lower b plan (Bisr c) s loaded word input goes = absurd goes.0
@@ -96,7 +96,7 @@ unfolding words_after
 keeps_valueless (Compute op dst x y) word input r writes none = valueless_set word dst _ r writes none
 keeps_valueless (Scaled dst base index n) word input r writes none = valueless_set word dst _ r writes none
 keeps_valueless (Load dst base offset size signed after) word input r writes none =
-    valueless_set (with_base_word word base offset after) dst input r writes.0 none ∙ valueless_base word base offset after r writes.1 none
+    valueless_set (words_with_increased_base word base offset after) dst input r writes.0 none ∙ valueless_base word base offset after r writes.1 none
 keeps_valueless (Store src base offset size after) word input r writes none = valueless_base word base offset after r writes none
 keeps_valueless (Branch test x y by true) word input r writes none = valueless_set word x _ r (writes refl) none
 keeps_valueless (Mfcr dst number) word input r writes none = valueless_set word dst input r writes none
@@ -106,7 +106,7 @@ pub keeps_locals : (b : Limits) (plan : PlanData) (shape : Shape) (s : State) (l
 unfolding transfer_of
 keeps_locals b plan (Compute op dst x y) s loaded goes = written_locals s _ (slot dst)
 keeps_locals b plan (Scaled dst base index n) s loaded goes = written_locals s _ (slot dst)
-keeps_locals b plan (Load dst base offset size signed after) s loaded goes = written_locals (state_with_base b plan s base offset after) loaded (slot dst) ∙ base_locals b plan s base offset after
+keeps_locals b plan (Load dst base offset size signed after) s loaded goes = written_locals (state_with_increased_base b plan s base offset after) loaded (slot dst) ∙ base_locals b plan s base offset after
 keeps_locals b plan (Store src base offset size after) s loaded goes = base_locals b plan s base offset after
 keeps_locals b plan Svlcx s loaded goes = absurd goes.0
 keeps_locals b plan Rslcx s loaded goes = absurd goes.0
@@ -149,7 +149,7 @@ pub record IsKept (word word2 : ℕ → ℕ) (s t : State) : Type 0 where
   pub locals : t.locals.items ≡ s.locals.items
 
 lowered_kept : (b : Limits) (plan : PlanData) (s : State) (x : ℕ) (lowers : Bool) (o : Option State) (word : ℕ → ℕ) → IfSome o (IsNarrowed s)
-    → IfSome (with_lowered_counter b plan x lowers o) (IsKept word (cond lowers (words_with_register word x ((word x + (2 ^ 32 - 1)) % 2 ^ 32)) word) s)
+    → IfSome (with_decremented_counter b plan x lowers o) (IsKept word (cond lowers (words_with_register word x ((word x + (2 ^ 32 - 1)) % 2 ^ 32)) word) s)
 lowered_kept b plan s x lowers None word h = tt
 lowered_kept b plan s x false (Some t) word h = record { lower = λ e. (sym h.lower ∙ e, λ r low. refl); locals = h.locals }
 lowered_kept b plan s x true (Some t) word h = record {

@@ -14,7 +14,7 @@ use Rattle.value_domain.specs.State.{Covers, AreValues}
 use Rattle.vd_transfer.specs.Soundness.{IsSoundSetting}
 use Rattle.depth_cert.specs.declared.keys.Key.{Key}
 use Rattle.depth_cert.specs.declared.points.Point.{Point}
-use Rattle.depth_cert.specs.Keys.{cert_flag_byte, number_of_key, same_key}
+use Rattle.depth_cert.specs.Keys.{cert_flag_byte, number_of_key, is_same_key}
 use Rattle.depth_cert.specs.Points.{find_point, IsPoint}
 use Rattle.depth_cert.specs.Nodes.{NodeData, IsNode}
 use Rattle.depth_cert.specs.Certs.{CertData, IsCert}
@@ -71,7 +71,7 @@ flag_same : (a : Bool) → eqb (cert_flag_byte a) (cert_flag_byte a) ≡ true
 flag_same false = refl
 flag_same true = refl
 
-key_tells : (k j : Key) → same_key k j ≡ true → k ≡ j
+key_tells : (k j : Key) → is_same_key k j ≡ true → k ≡ j
 key_tells k j e =
     let h = and_parts (eqb k.kind j.kind && eqb k.entry j.entry && eqb k.prio j.prio) (eqb (cert_flag_byte k.is) (cert_flag_byte j.is)) e in
     let g = and_parts (eqb k.kind j.kind && eqb k.entry j.entry) (eqb k.prio j.prio) h.0 in
@@ -82,7 +82,7 @@ key_tells k j e =
     let is : k.is ≡ j.is = same_flag k.is j.is h.1 in
     λ i. record { kind = kind i; entry = entry i; prio = prio i; is = is i }
 
-key_same : (k : Key) → same_key k k ≡ true
+key_same : (k : Key) → is_same_key k k ≡ true
 key_same k = rw (eq-eqb k.kind k.kind refl, eq-eqb k.entry k.entry refl, eq-eqb k.prio k.prio refl, flag_same k.is) refl
 
 and_then_some : {A B : Type 0} (f : A → Option B) (o : Option A) (r : B) → option_and_then f o ≡ Some r → (x : A) × (o ≡ Some x) × (f x ≡ Some r)
@@ -95,9 +95,9 @@ map_some f (Some x) r e = (x, refl, (let g : Some (f x) ≡ Some r = e in cc))
 
 -- ---- the places of a certificate
 module _ (cert : CertData) (is_cert : IsCert cert) where
-  node_found : (node : NodeData) → Contains cert.nodes node → find (λ n. same_key n.key node.key) cert.nodes ≡ Some node
+  node_found : (node : NodeData) → Contains cert.nodes node → find (λ n. is_same_key n.key node.key) cert.nodes ≡ Some node
   node_found node has =
-      find_of (λ n. same_key n.key node.key) cert.nodes node has (key_same node.key)
+      find_of (λ n. is_same_key n.key node.key) cert.nodes node has (key_same node.key)
       (λ n in_it t. one_of (λ (z : NodeData). number_of_key z.key) cert.nodes n node is_cert.rising in_it has (ap number_of_key (key_tells n.key node.key t)))
 
   point_found : (node : NodeData) (q : Point) → Contains cert.nodes node → Contains node.points q → find_point q.addr node.points ≡ Some q
@@ -122,9 +122,9 @@ pub record AtPoint (cert : CertData) (k : Key) (p : ℕ) (s : State) : Type 0 wh
 
 pub known_from : (cert : CertData) (k : Key) (p : ℕ) (s : State) → known_in cert (point k p) ≡ Some (state s) → AtPoint cert k p s
 known_from cert k p s e =
-    let a = and_then_some (known_at (point k p)) (find (λ n. same_key n.key k) cert.nodes) (state s) e in
+    let a = and_then_some (known_at (point k p)) (find (λ n. is_same_key n.key k) cert.nodes) (state s) e in
     let m = map_some (λ (q : Point). state q.state) (find_point p (a.0).points) (state s) a.2 in
-    let n = found_in (λ n. same_key n.key k) cert.nodes a.0 a.1 in
+    let n = found_in (λ n. is_same_key n.key k) cert.nodes a.0 a.1 in
     let q = found_in (λ (z : Point). eqb z.addr p) (a.0).points m.0 m.1 in
     record {
       node = a.0;

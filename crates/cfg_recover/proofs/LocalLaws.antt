@@ -13,7 +13,7 @@ use Rattle.value_domain.specs.declared.values.Val.{Val}
 use Rattle.value_domain.specs.declared.states.State.{State}
 use Rattle.value_domain.specs.Limits.{Limits}
 use Rattle.value_domain.specs.Sets.{Among}
-use Rattle.value_domain.specs.Values.{members, IsWell, word_val}
+use Rattle.value_domain.specs.Values.{members, IsWellFormed, word_val}
 use Rattle.value_domain.proofs.CoverLaws.{member_same}
 use Rattle.vd_transfer.specs.EffectsOnStates.{address_of}
 use Rattle.tcd_plan.specs.MappedAddresses.{IsStoreInRange}
@@ -21,7 +21,7 @@ use Rattle.store_ranges.specs.Accesses.{AreAligned, AreStoresInRange, are_aligne
 use Rattle.depth_cert.specs.declared.keys.Key.{Key}
 use Rattle.cfg_recover.specs.Code.{IsCode}
 use Rattle.cfg_recover.specs.LocalRules.{StoresInRange, MayAccess, LocalRule, LocalHolds, StoresInRangeAt, MayAccessAt}
-use Rattle.cfg_recover.specs.LocalFaults.{IsLocalFault, IsLeastLocalFault, FindsFaultless}
+use Rattle.cfg_recover.specs.LocalFaults.{IsLocalFault, IsLeastLocalFault, IsFaultlessInst}
 use Rattle.cfg_recover.proofs.CodeLaws.{IsCode-one}
 
 -- ---- alignment
@@ -36,12 +36,12 @@ all_from n [] each = refl
 all_from n (x ∷ xs) each = and_from _ _ (eq-eqb (x % n) 0 (each x (inl refl))) (all_from n xs (λ z i. each z (inr i)))
 
 -- the listed members of a value are multiples if and only if all its members are
-pub are_aligned-is : (v : Val) (size : ℕ) → IsWell v → AreAligned v size ↔ (are_aligned v size ≡ true)
+pub are_aligned-is : (v : Val) (size : ℕ) → IsWellFormed v → AreAligned v size ↔ (are_aligned v size ≡ true)
 are_aligned-is v size well =
     (λ each. all_from size (members v) (λ z i. each z ((member_same v z well).1 i)), λ t x i. all_at size (members v) x t ((member_same v x well).0 i))
 
 -- if the trap isn't stated, an access is allowed only if all its addresses are aligned
-pub allowed_untrapped : (fields plan : PlanData) (t : Bool) (v : Val) (size : ℕ) → IsWell v → fields ≡ plan → fields.aln ≡ false → IsTrue t ↔ AreAligned v size → IsTrue t ↔ ((are_aligned v size ≡ true) ⊎ (plan.aln ≡ true))
+pub allowed_untrapped : (fields plan : PlanData) (t : Bool) (v : Val) (size : ℕ) → IsWellFormed v → fields ≡ plan → fields.aln ≡ false → IsTrue t ↔ AreAligned v size → IsTrue t ↔ ((are_aligned v size ≡ true) ⊎ (plan.aln ≡ true))
 allowed_untrapped fields plan t v size well e off is =
     let same = are_aligned-is v size well in
     (λ h. inl (same.0 (is.0 h)), λ h. elim h [ inl a ↦ is.1 (same.1 a) | inr on ↦ let none : plan.aln ≡ false = ap (λ (p : PlanData). p.aln) (sym e) ∙ off in cc ])
@@ -100,7 +100,7 @@ IsLocalFault-broken b image plan key p s shape n r code least = record {
   least = λ q lt. LocalHolds-found b image plan key p s shape n q code (least.1 q lt);
 }
 
-pub FindsFaultless-whole : (b : Limits) (image : ImageData) (plan : PlanData) (key : Key) (p : ℕ) (s : State) (inst : InstData) (n : ℕ) → IsCode image plan p (shape_of inst) n → IsLeastLocalFault b plan key p s (shape_of inst) None → FindsFaultless b image plan key p s (inst, n)
+pub FindsFaultless-whole : (b : Limits) (image : ImageData) (plan : PlanData) (key : Key) (p : ℕ) (s : State) (inst : InstData) (n : ℕ) → IsCode image plan p (shape_of inst) n → IsLeastLocalFault b plan key p s (shape_of inst) None → IsFaultlessInst b image plan key p s (inst, n)
 FindsFaultless-whole b image plan key p s inst n code whole = record {
   faultless = λ r. LocalHolds-found b image plan key p s (shape_of inst) n r code (whole r);
   code = code;

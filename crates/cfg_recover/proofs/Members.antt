@@ -13,7 +13,7 @@ use Rattle.value_domain.specs.Limits.{Limits}
 use Rattle.value_domain.specs.Sets.{Among}
 use Rattle.value_domain.proofs.WordLaws.{among_place}
 use Rattle.depth_cert.specs.declared.keys.Key.{Key}
-use Rattle.cfg_recover.specs.Duties.{Owed, owed, jump, jump_on, successors_of, entries_of, misaligned_of, interrupts_of, leavings_of, duties_of}
+use Rattle.cfg_recover.specs.Duties.{Owed, owed, jump, jump_on, successor_duties_of, entry_duties_of, misaligned_duties_of, interrupt_duties_of, exit_duties_of, duties_of}
 
 pub contains_first : {X : Type 0} (x : X) (xs : List X) → Contains (x ∷ xs) x
 contains_first x xs = (0, omega arith, refl)
@@ -88,25 +88,25 @@ contains_jump q o t e = subst (λ u. Contains (jump_on q u) (owed 4 (jump q t)))
 
 module _ (b : Limits) (image : ImageData) (plan : PlanData) (key : Key) (p : ℕ) (s : State) (shape : Shape) (n : ℕ) (d : Owed) where
   -- each part of what a point owes is owed
-  pub owes_successor : Contains (successors_of b image plan p s shape n) d → Contains (duties_of b image plan key p s shape n) d
+  pub owes_successor : Contains (successor_duties_of b image plan p s shape n) d → Contains (duties_of b image plan key p s shape n) d
   unfolding duties_of
-  owes_successor c = Contains-append_left _ (leavings_of key s shape) d (Contains-append_left _ (interrupts_of plan key s) d (Contains-append_left _ (misaligned_of b plan key s shape) d (Contains-append_left _ (entries_of plan key p s shape n) d c)))
+  owes_successor c = Contains-append_left _ (exit_duties_of key s shape) d (Contains-append_left _ (interrupt_duties_of plan key s) d (Contains-append_left _ (misaligned_duties_of b plan key s shape) d (Contains-append_left _ (entry_duties_of plan key p s shape n) d c)))
 
-  pub owes_entry : Contains (entries_of plan key p s shape n) d → Contains (duties_of b image plan key p s shape n) d
+  pub owes_entry : Contains (entry_duties_of plan key p s shape n) d → Contains (duties_of b image plan key p s shape n) d
   unfolding duties_of
   owes_entry c =
-      Contains-append_left _ (leavings_of key s shape) d (Contains-append_left _ (interrupts_of plan key s) d (Contains-append_left _ (misaligned_of b plan key s shape) d (Contains-append_right (successors_of b image plan p s shape n) _ d c)))
+      Contains-append_left _ (exit_duties_of key s shape) d (Contains-append_left _ (interrupt_duties_of plan key s) d (Contains-append_left _ (misaligned_duties_of b plan key s shape) d (Contains-append_right (successor_duties_of b image plan p s shape n) _ d c)))
 
-  pub owes_misaligned : Contains (misaligned_of b plan key s shape) d → Contains (duties_of b image plan key p s shape n) d
+  pub owes_misaligned : Contains (misaligned_duties_of b plan key s shape) d → Contains (duties_of b image plan key p s shape n) d
   unfolding duties_of
-  owes_misaligned c = Contains-append_left _ (leavings_of key s shape) d (Contains-append_left _ (interrupts_of plan key s) d (Contains-append_right (successors_of b image plan p s shape n ++ entries_of plan key p s shape n) _ d c))
+  owes_misaligned c = Contains-append_left _ (exit_duties_of key s shape) d (Contains-append_left _ (interrupt_duties_of plan key s) d (Contains-append_right (successor_duties_of b image plan p s shape n ++ entry_duties_of plan key p s shape n) _ d c))
 
-  pub owes_interrupt : Contains (interrupts_of plan key s) d → Contains (duties_of b image plan key p s shape n) d
+  pub owes_interrupt : Contains (interrupt_duties_of plan key s) d → Contains (duties_of b image plan key p s shape n) d
   unfolding duties_of
   owes_interrupt c =
-      Contains-append_left _ (leavings_of key s shape) d (Contains-append_right (successors_of b image plan p s shape n ++ entries_of plan key p s shape n ++ misaligned_of b plan key s shape) _ d c)
+      Contains-append_left _ (exit_duties_of key s shape) d (Contains-append_right (successor_duties_of b image plan p s shape n ++ entry_duties_of plan key p s shape n ++ misaligned_duties_of b plan key s shape) _ d c)
 
-  pub owes_leaving : Contains (leavings_of key s shape) d → Contains (duties_of b image plan key p s shape n) d
+  pub owes_leaving : Contains (exit_duties_of key s shape) d → Contains (duties_of b image plan key p s shape n) d
   unfolding duties_of
   owes_leaving c =
-      Contains-append_right (successors_of b image plan p s shape n ++ entries_of plan key p s shape n ++ misaligned_of b plan key s shape ++ interrupts_of plan key s) _ d c
+      Contains-append_right (successor_duties_of b image plan p s shape n ++ entry_duties_of plan key p s shape n ++ misaligned_duties_of b plan key s shape ++ interrupt_duties_of plan key s) _ d c

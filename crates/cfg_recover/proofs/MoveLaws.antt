@@ -3,7 +3,7 @@ use Rattle.std.proofs.Common.{◌≡◌, ℕ, ◌*◌, ◌/◌, ◌%◌, ◌^◌
 use Rattle.std.specs.Prelude.{IfSome, IsSome, IsSomeAnd, Contains}
 use Rattle.std.specs.FinMap as memory_map
 use Rattle.std.proofs.lemmas.Bool.{cases_Bool, and_parts, both_ways, not-true, ltb-true, lt-ltb, eq-eqb, false≢true, cond_both}
-use Rattle.csa_chain.specs.MemoryBytes.{Memory, load_number, with_bytes, extend_loaded_bytes}
+use Rattle.csa_chain.specs.MemoryBytes.{Memory, loaded_number, with_bytes, extend_loaded_bytes}
 use Rattle.elf_image.specs.Images.{ImageData}
 use Rattle.tcd_plan.specs.PlanData.{PlanData, IsPlan}
 use Rattle.tc_isa.specs.declared.shapes.Arg.{Arg}
@@ -20,8 +20,8 @@ use Rattle.tc_machine.specs.declared.events.End.TheVariants.{Running}
 use Rattle.tc_machine.specs.declared.state.Machine.{Machine}
 use Rattle.tc_machine.specs.Machine.{reg, a11, IsMachine, core_register}
 use Rattle.tc_machine.specs.Instructions.{machine_address_ahead, does, access_address, is_trapping_access, target_of}
-use Rattle.tc_machine.specs.Fetching.{fetched}
-use Rattle.tc_machine.specs.Stepping.{is_taken, load_in, store_in, where_running, stored, step}
+use Rattle.tc_machine.specs.Fetching.{fetched_instruction}
+use Rattle.tc_machine.specs.Stepping.{is_interrupt_taken, load_of_fetched, store_of_fetched, none_if_dead, stored, step}
 use Rattle.tcd_plan.specs.MappedAddresses.{IsInAreas, AnswersLoad, IsStoreInRange}
 use Rattle.tc_machine.specs.Safe.{Fits}
 use Rattle.tc_machine.proofs.Steps.{with_event, step_does, stored-is}
@@ -31,7 +31,7 @@ use Rattle.value_domain.specs.declared.values.Val.{Val}
 use Rattle.value_domain.specs.declared.values.Val.TheVariants.{Set, Span}
 use Rattle.value_domain.specs.declared.states.State.{State}
 use Rattle.value_domain.specs.Limits.{Limits}
-use Rattle.value_domain.specs.Values.{IsMember, IsValue, IsWell, members, word_val}
+use Rattle.value_domain.specs.Values.{IsMember, IsValue, IsWellFormed, members, word_val}
 use Rattle.value_domain.proofs.CoverLaws.{among_member, has_step}
 use Rattle.value_domain.proofs.RangeLaws.{one_value}
 use Rattle.value_domain.proofs.SetLaws.{distinct_has}
@@ -43,15 +43,15 @@ use Rattle.vd_transfer.specs.Holding.{Holds}
 use Rattle.vd_transfer.specs.Soundness.{ReadsSoundly, IsSoundSetting}
 use Rattle.vd_transfer.proofs.HoldLaws.{same_length, reg_of-other, reg_of-here, transfer_holds, branch_holds, address_holds, arg_value}
 use Rattle.vd_transfer.proofs.ValueLaws.{value_of_value}
-use Rattle.store_ranges.specs.Loads.{HoldsLoads, loaded_of}
+use Rattle.store_ranges.specs.Loads.{HoldsLoads, load_value_of}
 use Rattle.store_ranges.proofs.Covers.{map_has}
 use Rattle.store_ranges.proofs.Sound.{set_sound, span_sound}
 use Rattle.depth_cert.specs.declared.keys.Key.{Key}
 use Rattle.cfg_recover.specs.Entries.{entry_stack_of, sys_entry, irqs_of}
 use Rattle.cfg_recover.specs.LocalRules.{targets_named_by, targets_of}
 use Rattle.store_ranges.specs.Accesses.{are_aligned}
-use Rattle.cfg_recover.specs.Duties.{owed, jump, loaded_for_duties, successors_of, next_of, duties_of}
-use Rattle.cfg_recover.specs.MovesAreOwed.{InState, IsAtPoint, MovesTo, IsMoveOwed, MovesInFrame, TrapsOwed, InterruptsOwed, StoresHeld, CallsOwed, SystemCallsOwed}
+use Rattle.cfg_recover.specs.Duties.{owed, jump, loaded_for_duties, successor_duties_of, next_duty_of, duties_of}
+use Rattle.cfg_recover.specs.MovesAreOwed.{IsInState, IsAtPoint, MovesTo, IsMoveOwed, JumpsAreOwed, TrapsAreOwed, InterruptsAreOwed, PointStoresAreInRange, CallsAreOwed, SystemCallsAreOwed}
 use Rattle.cfg_recover.proofs.EntryLaws.{reg_lt}
 use Rattle.cfg_recover.proofs.Points.{setting, bounded, writes, fetched_at}
 use Rattle.cfg_recover.proofs.Members.{contains_first, contains_among, contains_filter, passes_each}
@@ -118,7 +118,7 @@ module _ {b : Limits} {image : ImageData} {plan : PlanData} {key : Key} {m : Mac
 
   -- the machine goes to the next instruction
   moved_on : (input : ℕ) (mem : Memory) → GoesOn shape → input < 2 ^ 32 → ReadsSoundly shape input (loaded_for_duties b image plan s shape) → ccpn_after shape m.ccpn ≡ m.ccpn → IsSparing image plan m.mem mem
-      → ((t : State) → successors_of b image plan m.pc t shape n ≡ next_of b image plan m.pc t shape n)
+      → ((t : State) → successor_duties_of b image plan m.pc t shape n ≡ next_duty_of b image plan m.pc t shape n)
       → Went m (does m e shape n) (words_after shape input (reg m)) (machine_address_ahead m.pc n) (ie_after shape m.ie) mem → IsMoveOwed b image plan key m e s shape n
   moved_on input mem goes small reads ccpn sparing next_only w =
       let read = loaded_for_duties b image plan s shape in
@@ -137,13 +137,13 @@ address_value b plan s base offset true set is small = arg_value b plan s base s
 address_value b plan s base offset false set is small = value_of_value b Add (arg_of plan s base) (word_val offset) set.limits (arg_value b plan s base set is) (one_value b offset set.limits small)
 
 -- what is loaded is a member of the load's value
-loads_hold : (b : Limits) (image : ImageData) (plan : PlanData) (at : Val) (size : ℕ) (signed : Bool) → IsPlan plan → IsWell at → HoldsLoads image plan at size signed (loaded_of b image plan at size signed)
+loads_hold : (b : Limits) (image : ImageData) (plan : PlanData) (at : Val) (size : ℕ) (signed : Bool) → IsPlan plan → IsWellFormed at → HoldsLoads image plan at size signed (load_value_of b image plan at size signed)
 loads_hold b image plan (Set ws) size signed ok well = set_sound b image plan ws size signed ok
 loads_hold b image plan (Span lo last step) size signed ok well = span_sound b image plan (Span lo last step) size signed ok well
 
 -- the load at pc is answered by its peripheral
-answered : (plan : PlanData) (m : Machine) (e : Event) (shape : Shape) (n : ℕ) → Fits plan m e → is_taken m e ≡ false → fetched m ≡ Ok (shape, n) → AnswersLoad plan e.input (load_in m (Ok (shape, n)))
-answered plan m e shape n fits none at = subst (λ f. AnswersLoad plan e.input (load_in m f)) at (fits.answers none)
+answered : (plan : PlanData) (m : Machine) (e : Event) (shape : Shape) (n : ℕ) → Fits plan m e → is_interrupt_taken m e ≡ false → fetched_instruction m ≡ Ok (shape, n) → AnswersLoad plan e.input (load_of_fetched m (Ok (shape, n)))
+answered plan m e shape n fits none at = subst (λ f. AnswersLoad plan e.input (load_of_fetched m f)) at (fits.answers none)
 
 module _ {b : Limits} {image : ImageData} {plan : PlanData} {key : Key} {m : Machine} {s : State} {n : ℕ} (base : Arg) (offset size : ℕ) (after : Bool) where
   module _ (dst : ℕ) (signed : Bool) (at : IsAtPoint b image plan key m s (Load dst base offset size signed after) n) where
@@ -176,7 +176,7 @@ named_has (Set ws) w some m = contains_among _ (w / 2 * 2) (distinct_has (w / 2 
 named_has (Span lo last step) w some m = absurd (let f : false ≡ true = some in cc)
 
 -- a jump or a call goes to a known target
-goes_to : (plan : PlanData) (m : Machine) (s : State) (to : Target) → IsSome (targets_of plan s m.pc to) → IsTarget to → InState plan m s → Contains (unwrap_or (targets_of plan s m.pc to) []) (target_of m to)
+goes_to : (plan : PlanData) (m : Machine) (s : State) (to : Target) → IsSome (targets_of plan s m.pc to) → IsTarget to → IsInState plan m s → Contains (unwrap_or (targets_of plan s m.pc to) []) (target_of m to)
 goes_to plan m s (target.Rel by) some is inside = contains_first (machine_address_ahead m.pc by) []
 goes_to plan m s (target.Abs x) some is inside = contains_first x []
 goes_to plan m s (target.Reg r) some is inside = named_has (reg_of plan s r) (reg m r) some (inside.regs r is)
@@ -213,7 +213,7 @@ unfolding words_after
 mfcr_word dst number w word = rw (eq-eqb dst dst refl) refl
 
 -- a core register has a word, since every step keeps words
-core_small : (b : Limits) (image : ImageData) (plan : PlanData) (key : Key) (m : Machine) (e : Event) (s : State) (dst number n : ℕ) → IsAtPoint b image plan key m s (Mfcr dst number) n → Fits plan m e → is_taken m e ≡ false
+core_small : (b : Limits) (image : ImageData) (plan : PlanData) (key : Key) (m : Machine) (e : Event) (s : State) (dst number n : ℕ) → IsAtPoint b image plan key m s (Mfcr dst number) n → Fits plan m e → is_interrupt_taken m e ≡ false
     → core_register m e number < 2 ^ 32
 core_small b image plan key m e s dst number n at fits none =
     let w = does-mfcr m at.machine e n dst number (bounded at).0 in
@@ -224,7 +224,7 @@ core_small b image plan key m e s dst number n at fits none =
     let is : reg after dst ≡ core_register m e number = ap (λ (x : Machine). reg x dst) w.is ∙ w.words dst ∙ mfcr_word dst number (core_register m e number) (reg m) in
     subst (λ x. x < 2 ^ 32) is (reg_lt (with_event after e) stays dst)
 
-pub moves_in_frame : MovesInFrame
+pub moves_in_frame : JumpsAreOwed
 unfolding ie_after ccpn_after
 moves_in_frame b image plan key m e s (Compute op dst x y) n at fits none stays quiet =
     moved_on e at 0 m.mem (tt, tt) (omega arith) tt refl (same_memory e at) (λ t. refl) (does-compute m at.machine e n op dst x y 0 (bounded at).0)
@@ -239,7 +239,7 @@ moves_in_frame b image plan key m e s (Load dst base offset size signed after) n
     loads_hold b image plan address size signed at.is_plan (load_value base offset size after dst signed at).well m.mem x e.input at.machine.bytes at.memory at.rom fits.input
     (answered plan m e (Load dst base offset size signed after) n fits none (fetched_at at)) (load_member base offset size after dst signed at)
     in
-    moved_on e at (extend_loaded_bytes signed size (load_number m.mem e.input x size)) m.mem (tt, tt) small member refl (same_memory e at) (λ t. refl)
+    moved_on e at (extend_loaded_bytes signed size (loaded_number m.mem e.input x size)) m.mem (tt, tt) small member refl (same_memory e at) (λ t. refl)
     (does-load m at.machine e n base offset size after is.1 quiet dst signed is.0)
 moves_in_frame b image plan key m e s (Store src base offset size after) n at fits none stays quiet =
     let x = access_address m base offset after in
@@ -275,7 +275,7 @@ unaligned b v x size aln value m traps =
       | inr some ↦ ap not some
     ]
 
-pub traps_owed : TrapsOwed
+pub traps_owed : TrapsAreOwed
 traps_owed b image plan key m e s (Load dst base offset size signed after) n at t =
     duty_listed b image plan key m.pc s n _ _ (misaligned (Load dst base offset size signed after) (unaligned b (address_of b plan (Load dst base offset size signed after) s) (access_address m base offset after) size e.aln (load_value base offset size after dst signed at) (load_member base offset size after dst signed at) t))
 traps_owed b image plan key m e s (Store src base offset size after) n at t =
@@ -283,7 +283,7 @@ traps_owed b image plan key m e s (Store src base offset size after) n at t =
 traps_owed b image plan key m e s shape n at t = absurd (false≢true t)
 
 -- ---- calls
-pub calls_owed : CallsOwed
+pub calls_owed : CallsAreOwed
 calls_owed b image plan key m s to n at =
     let known = goes_to plan m s to ((at.own 5).targets refl) (bounded at) at.inside in
     record {
@@ -292,7 +292,7 @@ calls_owed b image plan key m s to n at =
     }
 
 -- ---- system calls
-pub system_calls_owed : SystemCallsOwed
+pub system_calls_owed : SystemCallsAreOwed
 unfolding slot
 system_calls_owed b image plan key m s tin n at =
     let sp = entry_stack_of plan key s in
@@ -313,7 +313,7 @@ system_calls_owed b image plan key m s tin n at =
     }
 
 -- ---- interrupts
-pub interrupts_owed : InterruptsOwed
+pub interrupts_owed : InterruptsAreOwed
 interrupts_owed b image plan key m e s shape n at fits taken =
     let on = and_parts m.ie (ltb m.ccpn e.irq) taken in
     let above : m.ccpn < e.irq = ltb-true m.ccpn e.irq on.1 in
@@ -324,19 +324,19 @@ interrupts_owed b image plan key m e s shape n at fits taken =
 
 -- ---- stores
 -- a step that takes an interrupt stores nothing
-taken_stores : (m : Machine) (e : Event) → m.end ≡ Running → is_taken m e ≡ true → stored m e ≡ None
+taken_stores : (m : Machine) (e : Event) → m.end ≡ Running → is_interrupt_taken m e ≡ true → stored m e ≡ None
 unfolding stored
 taken_stores m e running taken =
-    ap (λ end. where_running end (cond (is_taken m e) None (store_in m e (fetched m)))) running ∙ ap (λ t. cond t None (store_in m e (fetched m))) taken
+    ap (λ end. none_if_dead end (cond (is_interrupt_taken m e) None (store_of_fetched m e (fetched_instruction m)))) running ∙ ap (λ t. cond t None (store_of_fetched m e (fetched_instruction m))) taken
 
-store_held : (b : Limits) (image : ImageData) (plan : PlanData) (key : Key) (m : Machine) (e : Event) (s : State) (shape : Shape) (n : ℕ) → IsAtPoint b image plan key m s shape n → IfSome (store_in m e (Ok (shape, n))) (IsStoreInRange plan)
+store_held : (b : Limits) (image : ImageData) (plan : PlanData) (key : Key) (m : Machine) (e : Event) (s : State) (shape : Shape) (n : ℕ) → IsAtPoint b image plan key m s shape n → IfSome (store_of_fetched m e (Ok (shape, n))) (IsStoreInRange plan)
 store_held b image plan key m e s (Store src base offset size after) n at =
     cond_both (is_trapping_access e (access_address m base offset after) size) None (Some (access_address m base offset after, size)) (λ (o : Option (ℕ × ℕ)). IfSome o (IsStoreInRange plan)) (λ _. tt) (λ _. store_in_range base offset size after src at)
 store_held b image plan key m e s shape n at = tt
 
-pub stores_held : StoresHeld
+pub stores_held : PointStoresAreInRange
 stores_held b image plan key m e s shape n at =
-    elim (cases_Bool (is_taken m e)) [
+    elim (cases_Bool (is_interrupt_taken m e)) [
       | inl taken ↦ subst (λ (o : Option (ℕ × ℕ)). IfSome o (IsStoreInRange plan)) (sym (taken_stores m e at.running taken)) tt
       | inr none ↦
           subst (λ (o : Option (ℕ × ℕ)). IfSome o (IsStoreInRange plan)) (sym (stored-is m e (Ok (shape, n)) at.running none (fetched_at at))) (store_held b image plan key m e s shape n at)

@@ -20,7 +20,7 @@ use Rattle.vd_transfer.specs.declared.change.Change.{Change}
 use Rattle.vd_transfer.specs.Operations.{value_of}
 use Rattle.vd_transfer.specs.Registers.{slot, is_lower_register, register_value_at, arg_of, set_slot, write_reg}
 use Rattle.vd_transfer.specs.EffectsOnStates.{transfer_of, EffectHasRoom, EffectLoadsValue}
-use Rattle.vd_transfer.specs.Changes.{state_after, reg_put, kept_in}
+use Rattle.vd_transfer.specs.Changes.{state_after, put_of_register, identity_change_over}
 use Rattle.vd_transfer.proofs.ChangeLaws.{written-is, written-values, value-second, length-changed}
 use Rattle.cfg_recover.specs.declared.operation_cache.SetOperation.{SetOperation}
 use Rattle.cfg_recover.specs.declared.operation_cache.CachedOperation.{CachedOperation}
@@ -70,12 +70,12 @@ any_loaded b plan s v w o h = operation_state b plan s v o h ∙ sym (operation_
 -- ---- a hit
 -- a change that writes a value to a data register
 abbrev pub put_at : State → Change → ℕ → Val → Change
-put_at s c r v = record (kept_in c s) { second = record { at = Some r; value = v }; lower = s.lower && leb 8 r }
+put_at s c r v = record (identity_change_over c s) { second = record { at = Some r; value = v }; lower = s.lower && leb 8 r }
 
 put_is : (s : State) (c : Change) (r : ℕ) (v : Val) → r < 16 → state_after s (put_at s c r v) ≡ write_reg s r v
 put_is s c r v h =
-    ap (λ (o : Option ℕ). state_after s (record (kept_in c s) { second = record { at = o; value = v }; lower = s.lower && leb 8 r })) (sym (data_slot r h))
-    ∙ ap (λ (t : Bool). state_after s (record (kept_in c s) { second = reg_put r v; lower = s.lower && t })) (sym (data_lower r h))
+    ap (λ (o : Option ℕ). state_after s (record (identity_change_over c s) { second = record { at = o; value = v }; lower = s.lower && leb 8 r })) (sym (data_slot r h))
+    ∙ ap (λ (t : Bool). state_after s (record (identity_change_over c s) { second = put_of_register r v; lower = s.lower && t })) (sym (data_lower r h))
     ∙ written-is s c r v
 
 -- the entry's result is that of this operation, if the operations are the same

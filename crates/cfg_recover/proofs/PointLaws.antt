@@ -21,7 +21,7 @@ use Rattle.cfg_recover.specs.Entries.{start_key}
 use Rattle.cfg_recover.specs.LocalRules.{LocalRule}
 use Rattle.cfg_recover.specs.LocalFaults.{IsFaultless}
 use Rattle.cfg_recover.specs.Duties.{Owed, duties_of}
-use Rattle.cfg_recover.specs.RulesHoldOrFail.{limits_in, IsMet, EntryNeedRuleHolds, RuleHolds, NeedRuleHolds, HoldsAtNode, Accepts}
+use Rattle.cfg_recover.specs.RulesHoldOrFail.{limits_in, IsDutyMet, EntryNeedRuleHolds, RuleHolds, NeedRuleHolds, HoldsAtNode, Accepts}
 
 -- ---- limits
 pub limits_are : (plan : PlanData) (version : ℕ) → AreLimits (limits_for plan version)
@@ -43,7 +43,7 @@ pub record PointHolds (image : ImageData) (plan : PlanData) (cert : CertData) (n
   pub regs : length s.regs ≡ 27
   pub values : AreValues (limits_in plan cert) s.regs
   pub own : (r : ℕ) → LocalRule (limits_in plan cert) plan node.key p s shape r
-  pub met : (d : Owed) → Contains (duties_at image plan cert node p s shape size) d → IsMet cert node s d.duty
+  pub met : (d : Owed) → Contains (duties_at image plan cert node p s shape size) d → IsDutyMet cert node s d.duty
   pub locals : length s.locals.items ≤ node.need
   pub entered : (d : Owed) → Contains (duties_at image plan cert node p s shape size) d → EntryNeedRuleHolds cert node s d.duty
   pub start : node.key ≡ start_key image plan → p ≡ image.entry → node.need ≤ plan.areas - plan.reserve

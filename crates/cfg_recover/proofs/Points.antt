@@ -10,11 +10,11 @@ use Rattle.tc_isa.specs.InBounds.{IsShape}
 use Rattle.tc_isa.proofs.ShapeBounds.{shape_is}
 use Rattle.tc_machine.specs.declared.events.Event.{Event}
 use Rattle.tc_machine.specs.declared.state.Machine.{Machine}
-use Rattle.tc_machine.specs.Machine.{a11, then_}
-use Rattle.tc_machine.specs.Instructions.{machine_address_ahead, advanced, does, misaligned, is_trapping_instruction}
+use Rattle.tc_machine.specs.Machine.{a11, if_running}
+use Rattle.tc_machine.specs.Instructions.{machine_address_ahead, with_pc_advanced, does, misaligned_access_trap, is_trapping_instruction}
 use Rattle.tc_machine.specs.Handlers.{trap}
 use Rattle.tc_machine.specs.SavesAndRestores.{save, restore}
-use Rattle.tc_machine.specs.Fetching.{fetched}
+use Rattle.tc_machine.specs.Fetching.{fetched_instruction}
 use Rattle.tc_machine.proofs.Fetched.{fetched-is}
 use Rattle.value_domain.specs.declared.states.State.{State}
 use Rattle.value_domain.specs.Limits.{Limits}
@@ -35,26 +35,26 @@ module _ {b : Limits} {image : ImageData} {plan : PlanData} {key : Key} {m : Mac
   writes = (at.own 13).writes refl
 
   -- the instruction of the point is what the machine fetches
-  pub fetched_at : fetched m ≡ Ok (shape, n)
+  pub fetched_at : fetched_instruction m ≡ Ok (shape, n)
   fetched_at =
       fetched-is image at.is_plan m at.rom at.code.even at.code.bytes at.code.inst at.code.spells
       ∙ ap (λ (t : Shape). Ok (t, length at.code.bytes)) at.code.shaped ∙ ap (λ (k : ℕ). Ok (shape, k)) at.code.sized
 
 -- ---- instructions on contexts
 module _ (m : Machine) (e : Event) (n : ℕ) where
-  pub does-rfe : does m e Rfe n ≡ then_ (restore m true) (λ r. record r { pc = a11 m / 2 * 2; ie = pie_of m.core m.pcxi; ccpn = pcpn_of m.core m.pcxi })
+  pub does-rfe : does m e Rfe n ≡ if_running (restore m true) (λ r. record r { pc = a11 m / 2 * 2; ie = pie_of m.core m.pcxi; ccpn = pcpn_of m.core m.pcxi })
   unfolding does
   does-rfe = refl
 
-  pub does-svlcx : does m e Svlcx n ≡ then_ (save m false) (advanced n)
+  pub does-svlcx : does m e Svlcx n ≡ if_running (save m false) (with_pc_advanced n)
   unfolding does
   does-svlcx = refl
 
-  pub does-rslcx : does m e Rslcx n ≡ then_ (restore m false) (advanced n)
+  pub does-rslcx : does m e Rslcx n ≡ if_running (restore m false) (with_pc_advanced n)
   unfolding does
   does-rslcx = refl
 
-  pub does-bisr : (c : ℕ) → does m e (Bisr c) n ≡ then_ (save m false) (λ s. record (advanced n s) { ccpn = c; ie = true })
+  pub does-bisr : (c : ℕ) → does m e (Bisr c) n ≡ if_running (save m false) (λ s. record (with_pc_advanced n s) { ccpn = c; ie = true })
   unfolding does
   does-bisr c = refl
 
@@ -63,7 +63,7 @@ module _ (m : Machine) (e : Event) (n : ℕ) where
   does-syscall tin = refl
 
   -- an access that traps does nothing else
-  pub does-trapped : (shape : Shape) → is_trapping_instruction m e shape ≡ true → does m e shape n ≡ misaligned m
+  pub does-trapped : (shape : Shape) → is_trapping_instruction m e shape ≡ true → does m e shape n ≡ misaligned_access_trap m
   unfolding does
   does-trapped (Load dst base offset size signed after) t = rw t refl
   does-trapped (Store src base offset size after) t = rw t refl

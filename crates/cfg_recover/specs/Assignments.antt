@@ -7,7 +7,7 @@ use Rattle.tc_isa.specs.declared.shapes.Shape.{Shape}
 use Rattle.value_domain.specs.declared.states.State.{State}
 use Rattle.value_domain.specs.Limits.{Limits}
 use Rattle.depth_cert.specs.declared.keys.Key.{Key}
-use Rattle.depth_cert.specs.Keys.{same_key}
+use Rattle.depth_cert.specs.Keys.{is_same_key}
 use Rattle.depth_cert.specs.Points.{find_point}
 use Rattle.depth_cert.specs.Nodes.{NodeData}
 use Rattle.depth_cert.specs.Certs.{CertData}
@@ -28,11 +28,11 @@ abbrev pub Assignment : Type 0
 Assignment = Place → Option Known
 
 -- two places are equal
-abbrev pub same_place : Place → Place → Bool
-same_place (point k p) (point j q) = same_key k j && p == q
-same_place (exit k) (exit j) = same_key k j
-same_place (point k p) (exit j) = false
-same_place (exit k) (point j q) = false
+abbrev pub is_same_place : Place → Place → Bool
+is_same_place (point k p) (point j q) = is_same_key k j && p == q
+is_same_place (exit k) (exit j) = is_same_key k j
+is_same_place (point k p) (exit j) = false
+is_same_place (exit k) (point j q) = false
 
 -- what is known at a place of an assignment, a point or an exit, by a certificate's node of that
 -- frame
@@ -47,7 +47,7 @@ frame_of_place (exit k) = k
 
 -- what a certificate states at a place
 abbrev pub known_in : CertData → Assignment
-known_in cert y = option_and_then (known_at y) (find (λ n. same_key n.key (frame_of_place y)) cert.nodes)
+known_in cert y = option_and_then (known_at y) (find (λ n. is_same_key n.key (frame_of_place y)) cert.nodes)
 
 -- what the assignment has at this place covers this
 pub record CoversAt (a : Assignment) (y : Place) (v : Known) : Type 0 where
@@ -92,7 +92,7 @@ pub record HasDuty (b : Limits) (image : ImageData) (plan : PlanData) (a : Assig
   pub is : owed.duty ≡ d
 
 -- some point of the assignment asks for this at the place y
-pub record Asks (b : Limits) (image : ImageData) (plan : PlanData) (a : Assignment) (y : Place) (v : Known) : Type 0 where
+pub record AsksFor (b : Limits) (image : ImageData) (plan : PlanData) (a : Assignment) (y : Place) (v : Known) : Type 0 where
   pub key : Key
   pub addr : ℕ
   pub before : State
@@ -104,10 +104,10 @@ pub record Asks (b : Limits) (image : ImageData) (plan : PlanData) (a : Assignme
 -- what is known at its place
 pub record Joins (b : Limits) (image : ImageData) (plan : PlanData) (a after : Assignment) (y : Place) : Type 0 where
   pub value : Known
-  pub asks : Asks b image plan a y value
+  pub asks : AsksFor b image plan a y value
   pub known : Known
   pub raises : raised_at_place b (a y) value ≡ Some known
-  pub is : (x : Place) → after x ≡ (if same_place x y then Some known else a x)
+  pub is : (x : Place) → after x ≡ (if is_same_place x y then Some known else a x)
 
 -- the place where a run starts
 abbrev pub first_place : ImageData → PlanData → Place
@@ -117,14 +117,14 @@ first_place image plan = point (start_key image plan) image.entry
 -- join in what duties of points ask for
 pub data Derived (b : Limits) (image : ImageData) (plan : PlanData) : Assignment → Type 0 where
   begins :
-      (a : Assignment) → ((x : Place) → a x ≡ (if same_place x (first_place image plan) then Some (state (start_state plan)) else None))
+      (a : Assignment) → ((x : Place) → a x ≡ (if is_same_place x (first_place image plan) then Some (state (start_state plan)) else None))
       → Derived b image plan a
   joins : (a after : Assignment) (y : Place) → Derived b image plan a → Joins b image plan a after y → Derived b image plan after
 
 -- the assignment covers the start state and all that duties ask for
 pub record Closed (b : Limits) (image : ImageData) (plan : PlanData) (a : Assignment) : Type 0 where
   pub start : CoversAt a (first_place image plan) (state (start_state plan))
-  pub duties : (y : Place) (v : Known) → Asks b image plan a y v → CoversAt a y v
+  pub duties : (y : Place) (v : Known) → AsksFor b image plan a y v → CoversAt a y v
 
 -- no known point of the assignment has a fault of its own
 abbrev pub AllFaultless : Limits → ImageData → PlanData → Assignment → Type 0

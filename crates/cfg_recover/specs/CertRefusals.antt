@@ -9,17 +9,17 @@ use Rattle.value_domain.specs.Limits.{Limits}
 use Rattle.value_domain.specs.State.{joined_states}
 use Rattle.value_domain.specs.VersionLimits.{limits_for}
 use Rattle.depth_cert.specs.declared.keys.Key.{Key}
-use Rattle.depth_cert.specs.Keys.{number_of_key, same_key}
+use Rattle.depth_cert.specs.Keys.{number_of_key, is_same_key}
 use Rattle.cfg_recover.specs.Entries.{start_key}
 use Rattle.cfg_recover.specs.LocalFaults.{IsLocalFault}
-use Rattle.cfg_recover.specs.Assignments.{Place, point, exit, Assignment, same_place, Asks, Joins, Derived, Closed, EntersInAssignment}
+use Rattle.cfg_recover.specs.Assignments.{Place, point, exit, Assignment, is_same_place, AsksFor, Joins, Derived, Closed, EntersInAssignment}
 use Rattle.depth_cert.specs.Known.{state}
 
 -- ---- limits
 -- the assignment has places of more than 2,048 frames, a limit past which a certificate is refused
 pub record HasManyNodes (a : Assignment) : Type 0 where
   pub keys : List Key
-  pub distinct : IsDistinct same_key keys
+  pub distinct : IsDistinct is_same_key keys
   pub stand : (k : Key) → Contains keys k → (y : Place) × IsSome (a y) × ((y ≡ exit k) ⊎ ((p : ℕ) × (y ≡ point k p)))
   pub more : 2048 < length keys
 
@@ -27,7 +27,7 @@ pub record HasManyNodes (a : Assignment) : Type 0 where
 -- limit
 pub record HasManyPoints (a : Assignment) : Type 0 where
   pub places : List Place
-  pub distinct : IsDistinct same_place places
+  pub distinct : IsDistinct is_same_place places
   pub stand : (y : Place) → Contains places y → IsSome (a y) × ((k : Key) × (p : ℕ) × (y ≡ point k p))
   pub more : 2 ^ 16 < length places
 
@@ -48,15 +48,15 @@ pub record PassesCertLimit (b : Limits) (image : ImageData) (plan : PlanData) (k
 
 -- ---- faults
 -- The rule's own part fails at a point, or states with different numbers of locals meet there.
-pub data HasRefusalFault (b : Limits) (image : ImageData) (plan : PlanData) (a : Assignment) : ℕ → Key → ℕ → Type 0 where
-  own : (r : ℕ) (k : Key) (p : ℕ) (s : State) → a (point k p) ≡ Some (state s) → IsLocalFault b image plan k p s r → HasRefusalFault b image plan a r k p
+pub data IsFaultInAssignment (b : Limits) (image : ImageData) (plan : PlanData) (a : Assignment) : ℕ → Key → ℕ → Type 0 where
+  own : (r : ℕ) (k : Key) (p : ℕ) (s : State) → a (point k p) ≡ Some (state s) → IsLocalFault b image plan k p s r → IsFaultInAssignment b image plan a r k p
   locals :
-      (k : Key) (p : ℕ) (s t : State) → a (point k p) ≡ Some (state s) → Asks b image plan a (point k p) (state t) → joined_states b s t ≡ None
-      → HasRefusalFault b image plan a 8 k p
+      (k : Key) (p : ℕ) (s t : State) → a (point k p) ≡ Some (state s) → AsksFor b image plan a (point k p) (state t) → joined_states b s t ≡ None
+      → IsFaultInAssignment b image plan a 8 k p
 
 -- a fault of a derived assignment; number 15 is for the limits
 pub data IsRefusalFault (b : Limits) (image : ImageData) (plan : PlanData) : ℕ → Key → ℕ → Type 0 where
-  derived : (a : Assignment) (r : ℕ) (k : Key) (p : ℕ) → Derived b image plan a → HasRefusalFault b image plan a r k p → IsRefusalFault b image plan r k p
+  derived : (a : Assignment) (r : ℕ) (k : Key) (p : ℕ) → Derived b image plan a → IsFaultInAssignment b image plan a r k p → IsRefusalFault b image plan r k p
   limits : (k : Key) (p : ℕ) → PassesCertLimit b image plan k p → IsRefusalFault b image plan 15 k p
 
 -- a certificate isn't refused by a fault: this is the least assignment, derived and closed, and
@@ -123,21 +123,21 @@ IsRefusal image plan version = IsRefusalWith (limits_for plan version) image pla
 --   is reached again (14).
 -- - This is the start. No frame is reached from itself. Whatever numbers of areas meet the needs,
 --   the start frame's is above the plan's areas without the reserve (14).
-pub data RefusalSays (b : Limits) (image : ImageData) (plan : PlanData) (r : ℕ) (k : Key) (p : ℕ) : Type 0 where
+pub data HasRefusalReason (b : Limits) (image : ImageData) (plan : PlanData) (r : ℕ) (k : Key) (p : ℕ) : Type 0 where
   by_rule :
       (a : Assignment) (s : State) → Derived b image plan a → a (point k p) ≡ Some (state s) → IsLocalFault b image plan k p s r
-      → RefusalSays b image plan r k p
+      → HasRefusalReason b image plan r k p
   by_locals :
-      (a : Assignment) (s t : State) → r ≡ 8 → Derived b image plan a → a (point k p) ≡ Some (state s) → Asks b image plan a (point k p) (state t)
-      → joined_states b s t ≡ None → RefusalSays b image plan r k p
+      (a : Assignment) (s t : State) → r ≡ 8 → Derived b image plan a → a (point k p) ≡ Some (state s) → AsksFor b image plan a (point k p) (state t)
+      → joined_states b s t ≡ None → HasRefusalReason b image plan r k p
   by_limits :
       (before after : Assignment) → r ≡ 15 → Derived b image plan before → (IsPastCertLimits before → ⊥) → before (point k p) ≡ None
-      → Joins b image plan before after (point k p) → IsPastCertLimits after → RefusalSays b image plan r k p
+      → Joins b image plan before after (point k p) → IsPastCertLimits after → HasRefusalReason b image plan r k p
   by_recursion :
       (a : Assignment) (s : State) (into : Key) → r ≡ 14 → IsLeastAssignment b image plan a → EntersInAssignment b image plan a k p s into → Reaches b image plan a k into
-      → ((j : Key) (q : ℕ) → Recurs b image plan a j q → refused_point_number k p ≤ refused_point_number j q) → RefusalSays b image plan r k p
+      → ((j : Key) (q : ℕ) → Recurs b image plan a j q → refused_point_number k p ≤ refused_point_number j q) → HasRefusalReason b image plan r k p
   by_need :
       (a : Assignment) → r ≡ 14 → k ≡ start_key image plan → p ≡ image.entry → IsLeastAssignment b image plan a
       → ((j : Key) (q : ℕ) → Recurs b image plan a j q → ⊥)
       → ((need : Key → ℕ) → MeetsNeeds b image plan a need → plan.areas - plan.reserve < need (start_key image plan))
-      → RefusalSays b image plan r k p
+      → HasRefusalReason b image plan r k p

@@ -14,7 +14,7 @@ use Rattle.value_domain.specs.Limits.{Limits}
 use Rattle.value_domain.specs.Values.{any_val}
 use Rattle.vd_transfer.specs.EffectsOnStates.{transfer_of, address_of}
 use Rattle.vd_transfer.specs.Branches.{refine_of}
-use Rattle.store_ranges.specs.Loads.{loaded_of}
+use Rattle.store_ranges.specs.Loads.{load_value_of}
 use Rattle.depth_cert.specs.declared.keys.Key.{Key}
 use Rattle.depth_cert.specs.declared.points.Exit.{Exit}
 use Rattle.cfg_recover.specs.Entries.{call_key, irq_key, sys_key, aln_key, call_entry, irq_entry, sys_entry, aln_entry, irqs_of}
@@ -46,7 +46,7 @@ owed rule duty = record { rule = rule; duty = duty }
 -- what a load loads; other instructions don't use it
 abbrev pub loaded_for_duties : Limits → ImageData → PlanData → State → Shape → Val
 loaded_for_duties b image plan s (Load dst base offset size signed after) =
-    loaded_of b image plan (address_of b plan (Load dst base offset size signed after) s) size signed
+    load_value_of b image plan (address_of b plan (Load dst base offset size signed after) s) size signed
 loaded_for_duties b image plan s _ = any_val
 
 -- a jump to each of these addresses with this state
@@ -60,32 +60,32 @@ jump_on q (Some s) = owed 4 (jump q s) ∷ []
 
 -- what a point owes by an instruction that goes on to the next one in its frame: the duty to jump
 -- there, with the state after this one
-abbrev pub next_of : Limits → ImageData → PlanData → ℕ → State → Shape → ℕ → List Owed
-next_of b image plan p s shape n = owed 4 (jump (machine_address_ahead p n) (transfer_of b plan shape s (loaded_for_duties b image plan s shape))) ∷ []
+abbrev pub next_duty_of : Limits → ImageData → PlanData → ℕ → State → Shape → ℕ → List Owed
+next_duty_of b image plan p s shape n = owed 4 (jump (machine_address_ahead p n) (transfer_of b plan shape s (loaded_for_duties b image plan s shape))) ∷ []
 
 -- the successors in the same frame (K4), without the one after a call or a system call
-abbrev pub successors_of : Limits → ImageData → PlanData → ℕ → State → Shape → ℕ → List Owed
-successors_of b image plan p s (Branch cond x y by lowers) n =
+abbrev pub successor_duties_of : Limits → ImageData → PlanData → ℕ → State → Shape → ℕ → List Owed
+successor_duties_of b image plan p s (Branch cond x y by lowers) n =
     jump_on (machine_address_ahead p n) (refine_of b plan (Branch cond x y by lowers) s false) ++ jump_on (machine_address_ahead p by) (refine_of b plan (Branch cond x y by lowers) s true)
-successors_of b image plan p s (Jump to) n = jumps_to s (unwrap_or (targets_of plan s p to) [])
-successors_of b image plan p s (Call to) n = []
-successors_of b image plan p s Ret n = []
-successors_of b image plan p s Rfe n = []
-successors_of b image plan p s (Syscall tin) n = []
-successors_of b image plan p s (Mtcr src number) n = []
-successors_of b image plan p s shape n = next_of b image plan p s shape n
+successor_duties_of b image plan p s (Jump to) n = jumps_to s (unwrap_or (targets_of plan s p to) [])
+successor_duties_of b image plan p s (Call to) n = []
+successor_duties_of b image plan p s Ret n = []
+successor_duties_of b image plan p s Rfe n = []
+successor_duties_of b image plan p s (Syscall tin) n = []
+successor_duties_of b image plan p s (Mtcr src number) n = []
+successor_duties_of b image plan p s shape n = next_duty_of b image plan p s shape n
 
 -- what a point owes by entering a frame through a call (K5) or a system call (K12): the duty to
 -- enter it, and the duty to go on after its return (K4)
-abbrev pub entered_and_back : ℕ → Key → State → ℕ → List Owed
-entered_and_back rule key s back = owed rule (enter key s) ∷ owed 4 (resume key back) ∷ []
+abbrev pub entry_and_return : ℕ → Key → State → ℕ → List Owed
+entry_and_return rule key s back = owed rule (enter key s) ∷ owed 4 (resume key back) ∷ []
 
 -- what a point owes by a call or a system call: the entries of the called frames (K5 and K12), and
 -- the returns from them
-abbrev pub entries_of : PlanData → Key → ℕ → State → Shape → ℕ → List Owed
-entries_of plan key p s (Call to) n = flat_map (λ t. entered_and_back 5 (call_key key t) (call_entry s) (machine_address_ahead p n)) (unwrap_or (targets_of plan s p to) [])
-entries_of plan key p s (Syscall tin) n = entered_and_back 12 (sys_key plan key) (sys_entry plan key s tin) (machine_address_ahead p n)
-entries_of plan key p s _ n = []
+abbrev pub entry_duties_of : PlanData → Key → ℕ → State → Shape → ℕ → List Owed
+entry_duties_of plan key p s (Call to) n = flat_map (λ t. entry_and_return 5 (call_key key t) (call_entry s) (machine_address_ahead p n)) (unwrap_or (targets_of plan s p to) [])
+entry_duties_of plan key p s (Syscall tin) n = entry_and_return 12 (sys_key plan key) (sys_entry plan key s tin) (machine_address_ahead p n)
+entry_duties_of plan key p s _ n = []
 
 -- a duty of a point, and the rule that asks for it: to enter the handler of misaligned accesses, by
 -- K10
@@ -101,26 +101,26 @@ may_be_misaligned b plan s _ = false
 
 -- what a point owes by its access: the entry of the handler of misaligned accesses, if the access
 -- may be misaligned
-abbrev pub misaligned_of : Limits → PlanData → Key → State → Shape → List Owed
-misaligned_of b plan key s shape = if may_be_misaligned b plan s shape then misaligned_entry plan key s ∷ [] else []
+abbrev pub misaligned_duties_of : Limits → PlanData → Key → State → Shape → List Owed
+misaligned_duties_of b plan key s shape = if may_be_misaligned b plan s shape then misaligned_entry plan key s ∷ [] else []
 
 -- what a point owes by interrupts: the duties to enter the handlers of those that may be taken,
 -- which K11 asks for
-abbrev pub interrupts_of : PlanData → Key → State → List Owed
-interrupts_of plan key s = map (λ p. owed 11 (enter (irq_key plan p) (irq_entry plan key s p))) (irqs_of plan s)
+abbrev pub interrupt_duties_of : PlanData → Key → State → List Owed
+interrupt_duties_of plan key s = map (λ p. owed 11 (enter (irq_key plan p) (irq_entry plan key s p))) (irqs_of plan s)
 
 -- what a point owes by leaving its frame: the duty of the exit of a function by RET (K6), or of the
 -- handler of system calls by RFE (K7)
-abbrev pub leavings_of : Key → State → Shape → List Owed
-leavings_of key s Ret = owed 6 (leave (exit_of s)) ∷ []
-leavings_of key s Rfe = if key.kind == sys_kind then owed 7 (leave (exit_of s)) ∷ [] else []
-leavings_of key s _ = []
+abbrev pub exit_duties_of : Key → State → Shape → List Owed
+exit_duties_of key s Ret = owed 6 (leave (exit_of s)) ∷ []
+exit_duties_of key s Rfe = if key.kind == sys_kind then owed 7 (leave (exit_of s)) ∷ [] else []
+exit_duties_of key s _ = []
 
 -- All that a point of a node with this key owes, by its address p, its state, and the shape and the
 -- size of its instruction.
 unfoldable pub duties_of : Limits → ImageData → PlanData → Key → ℕ → State → Shape → ℕ → List Owed
 duties_of b image plan key p s shape n =
-    successors_of b image plan p s shape n ++ entries_of plan key p s shape n ++ misaligned_of b plan key s shape ++ interrupts_of plan key s ++ leavings_of key s shape
+    successor_duties_of b image plan p s shape n ++ entry_duties_of plan key p s shape n ++ misaligned_duties_of b plan key s shape ++ interrupt_duties_of plan key s ++ exit_duties_of key s shape
 
 -- the key of the frame that a point's duty asks to enter, as a list; it is empty for a duty of
 -- another kind
@@ -129,5 +129,5 @@ keys_entered_by_duty (enter k t) = k ∷ []
 keys_entered_by_duty _ = []
 
 -- the keys of the frames that these duties enter, in the order of the duties
-abbrev pub entered_in : List Owed → List Key
-entered_in ds = flat_map (λ d. keys_entered_by_duty d.duty) ds
+abbrev pub entered_keys : List Owed → List Key
+entered_keys ds = flat_map (λ d. keys_entered_by_duty d.duty) ds

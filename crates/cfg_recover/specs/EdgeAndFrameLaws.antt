@@ -11,8 +11,8 @@ use Rattle.tc_machine.specs.declared.events.Event.{Event}
 use Rattle.tc_machine.specs.declared.state.Machine.{Machine}
 use Rattle.tc_machine.specs.Machine.{reg, is_interrupt_stack_used}
 use Rattle.tc_machine.specs.Instructions.{machine_address_ahead, access_address, is_trapping_instruction}
-use Rattle.tc_machine.specs.Fetching.{fetched}
-use Rattle.tc_machine.specs.Stepping.{is_taken, step, run}
+use Rattle.tc_machine.specs.Fetching.{fetched_instruction}
+use Rattle.tc_machine.specs.Stepping.{is_interrupt_taken, step, run}
 use Rattle.tc_machine.specs.Safe.{Fits, AllFit}
 use Rattle.tc_machine.specs.Starting.{Starts}
 use Rattle.value_domain.specs.declared.states.State.{State}
@@ -24,7 +24,7 @@ use Rattle.depth_cert.specs.Certs.{CertData}
 use Rattle.cfg_recover.specs.Code.{IsCode}
 use Rattle.cfg_recover.specs.Duties.{Owed, jump, duties_of}
 use Rattle.cfg_recover.specs.RulesHoldOrFail.{limits_in}
-use Rattle.cfg_recover.specs.Frames.{Standing, frames, entered_frame_at, frame_going_on, HoldFrames}
+use Rattle.cfg_recover.specs.Frames.{RunFrame, frames, entered_frame_at, frame_going_on, HoldFrames}
 use Rattle.cfg_recover.specs.EdgesAreOwed.{EdgesOwed, OwesEntryAt, GoesBackToFrame}
 use Rattle.cfg_recover.specs.StepEdges.{to, call, irq, sys, aln, ret, rfe, edge_way_of_step, edge_of_step}
 
@@ -32,8 +32,8 @@ use Rattle.cfg_recover.specs.StepEdges.{to, call, irq, sys, aln, ret, rfe, edge_
 -- a step of which the laws of edges and frames speak by its instruction: no interrupt is taken in
 -- it, and the instruction at pc has this shape and n bytes
 pub record StepMeetsShape (m : Machine) (e : Event) (shape : Shape) (n : ℕ) : Type 0 where
-  pub free : is_taken m e ≡ false
-  pub there : fetched m ≡ Ok (shape, n)
+  pub free : is_interrupt_taken m e ≡ false
+  pub there : fetched_instruction m ≡ Ok (shape, n)
 
 -- an instruction of this shape neither enters nor leaves a frame by itself; by the law of edges it
 -- goes on inside its frame unless it traps
@@ -46,7 +46,7 @@ KeepsFrame _ = Unit {0}
 
 -- the law of one step's edge, from pc to the new pc: inside the frame, or into a new one by an
 -- interrupt, a call, a system call, or a misaligned access that traps; RET and RFE name no address
-pub record EdgeIs (m : Machine) (e : Event) : Type 0 where
+pub record EdgeMatchesStep (m : Machine) (e : Event) : Type 0 where
   pub load :
       (dst : ℕ) (base : Arg) (offset size : ℕ) (signed after : Bool)
       → is_trapping_instruction m e (Load dst base offset size signed after) ≡ (e.aln && not (access_address m base offset after % size == 0))
@@ -55,7 +55,7 @@ pub record EdgeIs (m : Machine) (e : Event) : Type 0 where
       → is_trapping_instruction m e (Store src base offset size after) ≡ (e.aln && not (access_address m base offset after % size == 0))
   pub at : (edge_of_step m e).at ≡ m.pc
   pub same : (edge_of_step m e).way ≡ edge_way_of_step m e
-  pub interrupted : is_taken m e ≡ true → edge_way_of_step m e ≡ irq (step m e).pc
+  pub interrupted : is_interrupt_taken m e ≡ true → edge_way_of_step m e ≡ irq (step m e).pc
   pub misaligned : (shape : Shape) (n : ℕ) → StepMeetsShape m e shape n → is_trapping_instruction m e shape ≡ true → edge_way_of_step m e ≡ aln (step m e).pc
   pub called : (x : Target) (n : ℕ) → StepMeetsShape m e (Call x) n → edge_way_of_step m e ≡ call (step m e).pc
   pub system : (tin n : ℕ) → StepMeetsShape m e (Syscall tin) n → edge_way_of_step m e ≡ sys (step m e).pc
@@ -64,15 +64,15 @@ pub record EdgeIs (m : Machine) (e : Event) : Type 0 where
   pub stayed : (shape : Shape) (n : ℕ) → StepMeetsShape m e shape n → is_trapping_instruction m e shape ≡ false → KeepsFrame shape → edge_way_of_step m e ≡ to (step m e).pc
 
 -- the law of edges: what the edge of a step is, at every step of every machine
-abbrev pub EdgesAre : Type 0
-EdgesAre = (m : Machine) (e : Event) → EdgeIs m e
+abbrev pub EdgesMatchSteps : Type 0
+EdgesMatchSteps = (m : Machine) (e : Event) → EdgeMatchesStep m e
 
 -- ---- frames
 
 -- the law of frames at one step: calls and system calls return past pc, interrupts and misaligned
 -- accesses to pc; handlers use the interrupt stack, and only interrupts change the priority
-pub record FramesNext (m : Machine) (e : Event) (f : Standing) (older next : List Standing) : Type 0 where
-  pub interrupted : is_taken m e ≡ true → next ≡ entered_frame_at 2 (step m e).pc e.irq true ∷ frame_going_on f m.pc ∷ older
+pub record FramesFollowStep (m : Machine) (e : Event) (f : RunFrame) (older next : List RunFrame) : Type 0 where
+  pub interrupted : is_interrupt_taken m e ≡ true → next ≡ entered_frame_at 2 (step m e).pc e.irq true ∷ frame_going_on f m.pc ∷ older
   pub misaligned :
       (shape : Shape) (n : ℕ) → StepMeetsShape m e shape n → is_trapping_instruction m e shape ≡ true
       → next ≡ entered_frame_at 4 (step m e).pc (f.key).prio true ∷ frame_going_on f m.pc ∷ older
@@ -90,22 +90,22 @@ pub record FramesNext (m : Machine) (e : Event) (f : Standing) (older next : Lis
 
 -- At the start there is one frame, of the start's key, and each event of a run makes the next
 -- frames.
-pub record FramesFollow (image : ImageData) (plan : PlanData) (m : Machine) : Type 0 where
+pub record FramesFollowRun (image : ImageData) (plan : PlanData) (m : Machine) : Type 0 where
   pub start : frames image plan m [] ≡ record { key = record { kind = 0; entry = image.entry; prio = 0; is = plan.start_is }; at = m.pc } ∷ []
   pub step :
-      (es : List Event) (e : Event) (f : Standing) (older : List Standing) → frames image plan m es ≡ f ∷ older
-      → FramesNext (run m es) e f older (frames image plan m (es ++ e ∷ []))
+      (es : List Event) (e : Event) (f : RunFrame) (older : List RunFrame) → frames image plan m es ≡ f ∷ older
+      → FramesFollowStep (run m es) e f older (frames image plan m (es ++ e ∷ []))
 
 -- in every run
-abbrev pub FramesAre : Type 0
-FramesAre = (image : ImageData) (plan : PlanData) (m : Machine) → FramesFollow image plan m
+abbrev pub FramesFollowAllRuns : Type 0
+FramesFollowAllRuns = (image : ImageData) (plan : PlanData) (m : Machine) → FramesFollowRun image plan m
 
 -- ---- what frames that are held say
 -- the law of held frames: the newest is at pc, its key has PSW.IS, and the state of its node's
 -- point at pc holds the registers, IE and CCPN; all older frames have nodes
-pub record FramesSay (plan : PlanData) (cert : CertData) (m : Machine) (all : List Standing) : Type 0 where
-  pub newest : Standing
-  pub older : List Standing
+pub record FramesDescribeMachine (plan : PlanData) (cert : CertData) (m : Machine) (all : List RunFrame) : Type 0 where
+  pub newest : RunFrame
+  pub older : List RunFrame
   pub are : all ≡ newest ∷ older
   pub at : newest.at ≡ m.pc
   pub stack : is_interrupt_stack_used m.psw ≡ (newest.key).is
@@ -124,18 +124,18 @@ abbrev pub FramesHeld : ImageData → PlanData → CertData → Type 0
 FramesHeld image plan cert = (m : Machine) (es : List Event) → Starts image plan m → AllFit plan m es → HoldFrames plan cert (run m es) (frames image plan m es)
 
 -- at each boundary of every run from every start state
-abbrev pub HeldFramesSay : Type 0
-HeldFramesSay =
+abbrev pub HeldFramesDescribeMachine : Type 0
+HeldFramesDescribeMachine =
     (image : ImageData) (plan : PlanData) (cert : CertData) → FramesHeld image plan cert
     → (m : Machine) (es : List Event) → Starts image plan m → AllFit plan m es
-    → FramesSay plan cert (run m es) (frames image plan m es)
+    → FramesDescribeMachine plan cert (run m es) (frames image plan m es)
 
 -- ---- what edges that are owed say
 
 -- the law of owed edges, by kinds of steps: the newest frame's point owes the entry of a handler or
 -- of a called frame, or a jump in the frame; RET and RFE go back to the frame before
-pub record StepOwed (ds : List Owed) (newest : Standing) (older : List Standing) (m : Machine) (e : Event) : Type 0 where
-  pub interrupted : is_taken m e ≡ true → OwesEntryAt ds 11 2 (step m e).pc e.irq true
+pub record IsStepOwed (ds : List Owed) (newest : RunFrame) (older : List RunFrame) (m : Machine) (e : Event) : Type 0 where
+  pub interrupted : is_interrupt_taken m e ≡ true → OwesEntryAt ds 11 2 (step m e).pc e.irq true
   pub misaligned : (shape : Shape) (n : ℕ) → StepMeetsShape m e shape n → is_trapping_instruction m e shape ≡ true → OwesEntryAt ds 10 4 (step m e).pc (newest.key).prio true
   pub called : (x : Target) (n : ℕ) → StepMeetsShape m e (Call x) n → OwesEntryAt ds 5 1 (step m e).pc (newest.key).prio (newest.key).is
   pub system : (tin n : ℕ) → StepMeetsShape m e (Syscall tin) n → OwesEntryAt ds 12 3 (step m e).pc (newest.key).prio true
@@ -147,9 +147,9 @@ pub record StepOwed (ds : List Owed) (newest : Standing) (older : List Standing)
 
 -- the law of owed edges at one step: the newest frame's node has a point at pc, the image has an
 -- instruction there, and the point owes the step, unless it goes back to the frame before
-pub record EdgeSays (image : ImageData) (plan : PlanData) (cert : CertData) (m : Machine) (e : Event) (all : List Standing) : Type 0 where
-  pub newest : Standing
-  pub older : List Standing
+pub record IsStepOwedByPoint (image : ImageData) (plan : PlanData) (cert : CertData) (m : Machine) (e : Event) (all : List RunFrame) : Type 0 where
+  pub newest : RunFrame
+  pub older : List RunFrame
   pub are : all ≡ newest ∷ older
   pub node : NodeData
   pub stands : find_node newest.key cert.nodes ≡ Some node
@@ -159,12 +159,12 @@ pub record EdgeSays (image : ImageData) (plan : PlanData) (cert : CertData) (m :
   pub shape : Shape
   pub size : ℕ
   pub code : IsCode image plan m.pc shape size
-  pub owed : StepOwed (duties_of (limits_in plan cert) image plan newest.key m.pc point.state shape size) newest older m e
+  pub owed : IsStepOwed (duties_of (limits_in plan cert) image plan newest.key m.pc point.state shape size) newest older m e
 
 -- one of the laws of edges and frames: if edges are owed, each step of every run from every start
 -- state is owed by the newest frame's point, or goes back to the frame before
-abbrev pub OwedEdgesSay : Type 0
-OwedEdgesSay =
+abbrev pub StepsAreOwedByPoints : Type 0
+StepsAreOwedByPoints =
     (image : ImageData) (plan : PlanData) (cert : CertData) → EdgesOwed image plan cert
     → (m : Machine) (es : List Event) (e : Event) → Starts image plan m → AllFit plan m es → Fits plan (run m es) e
-    → EdgeSays image plan cert (run m es) e (frames image plan m es)
+    → IsStepOwedByPoint image plan cert (run m es) e (frames image plan m es)

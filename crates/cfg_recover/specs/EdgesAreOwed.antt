@@ -19,7 +19,7 @@ use Rattle.cfg_recover.specs.Entries.{call_key, handler_key}
 use Rattle.cfg_recover.specs.Duties.{Owed, duties_of, enter, owed, jump}
 use Rattle.cfg_recover.specs.RulesHoldOrFail.{limits_in}
 use Rattle.cfg_recover.specs.StepEdges.{EdgeWay, aln, call, irq, ret, rfe, sys, to, edge_way_of_step}
-use Rattle.cfg_recover.specs.Frames.{Standing, frames, IsReturn}
+use Rattle.cfg_recover.specs.Frames.{RunFrame, frames, IsReturn}
 use Rattle.value_domain.specs.declared.states.State.{State}
 
 -- an edge inside a frame is owed: among these duties of a point is one to jump to this address,
@@ -34,7 +34,7 @@ OwesEntry ds rule key = (t : State) × Contains ds (owed rule (enter key t))
 
 -- The way of a step is a duty of the newest frame's point, or the return to the frame before it, at
 -- the address q where the step goes.
-abbrev pub IsEdgeWayOwed : List Owed → Key → ℕ → List Standing → ℕ → EdgeWay → Type 0
+abbrev pub IsEdgeWayOwed : List Owed → Key → ℕ → List RunFrame → ℕ → EdgeWay → Type 0
 IsEdgeWayOwed ds key prio fs q (to x) = OwesJump ds x
 IsEdgeWayOwed ds key prio fs q (call x) = OwesEntry ds 5 (call_key key x)
 IsEdgeWayOwed ds key prio fs q (irq x) = OwesEntry ds 11 (handler_key 2 x prio)
@@ -44,7 +44,7 @@ IsEdgeWayOwed ds key prio fs q ret = IsReturn q fs
 IsEdgeWayOwed ds key prio fs q rfe = IsReturn q fs
 
 -- the point of the newest frame, its instruction, and the step's way among its duties
-pub record IsEdgeOwed (image : ImageData) (plan : PlanData) (cert : CertData) (m : Machine) (e : Event) (f : Standing) (fs : List Standing) : Type 0 where
+pub record IsEdgeOwed (image : ImageData) (plan : PlanData) (cert : CertData) (m : Machine) (e : Event) (f : RunFrame) (fs : List RunFrame) : Type 0 where
   pub node : NodeData
   pub stands : find_node f.key cert.nodes ≡ Some node
   pub point : Point
@@ -55,7 +55,7 @@ pub record IsEdgeOwed (image : ImageData) (plan : PlanData) (cert : CertData) (m
   pub owed : IsEdgeWayOwed (duties_of (limits_in plan cert) image plan f.key m.pc point.state shape size) f.key e.irq (f ∷ fs) (step m e).pc (edge_way_of_step m e)
 
 -- there is a newest frame, and the step's edge is among its duties or is the return
-abbrev pub EdgeOwed : ImageData → PlanData → CertData → Machine → Event → List Standing → Type 0
+abbrev pub EdgeOwed : ImageData → PlanData → CertData → Machine → Event → List RunFrame → Type 0
 EdgeOwed image plan cert m e [] = ⊥
 EdgeOwed image plan cert m e (f ∷ fs) = IsEdgeOwed image plan cert m e f fs
 
@@ -73,8 +73,8 @@ OwesEntryAt ds rule kind entry prio is =
 
 -- an edge by RET or RFE, which needs no duty: there is an older frame, and the return goes back to
 -- it at this address
-pub record GoesBackToFrame (older : List Standing) (q : ℕ) : Type 0 where
-  pub caller : Standing
-  pub rest : List Standing
+pub record GoesBackToFrame (older : List RunFrame) (q : ℕ) : Type 0 where
+  pub caller : RunFrame
+  pub rest : List RunFrame
   pub are : older ≡ caller ∷ rest
   pub at : caller.at ≡ q

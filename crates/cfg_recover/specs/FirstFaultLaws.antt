@@ -27,7 +27,7 @@ IsFaultBefore r k p q j x =
 
 -- The printed rule is 1 to 14 and the printed address is a word. They name a place where that rule
 -- doesn't hold; K1 is at the start. If K1 holds, all other faults come later.
-pub record FirstFaultSays (image : ImageData) (plan : PlanData) (cert : CertData) (r : ℕ) (k : Key) (p : ℕ) : Type 0 where
+pub record FirstFaultNamesFirstFailure (image : ImageData) (plan : PlanData) (cert : CertData) (r : ℕ) (k : Key) (p : ℕ) : Type 0 where
   pub some : 1 ≤ r
   pub most : r ≤ 14
   pub addr : p < 2 ^ 32
@@ -38,15 +38,15 @@ pub record FirstFaultSays (image : ImageData) (plan : PlanData) (cert : CertData
   pub refuted : Accepts image plan cert → ⊥
 
 -- of each first fault of a certificate
-abbrev pub FirstFaultsSay : Type 0
-FirstFaultsSay =
+abbrev pub FirstFaultsNameFirstFailures : Type 0
+FirstFaultsNameFirstFailures =
     (image : ImageData) (plan : PlanData) (cert : CertData) (r : ℕ) (k : Key) (p : ℕ) → image.entry < 2 ^ 32 → IsCert cert
-    → IsFirstFault image plan cert r k p → FirstFaultSays image plan cert r k p
+    → IsFirstFault image plan cert r k p → FirstFaultNamesFirstFailure image plan cert r k p
 
 -- a law beside that of the first fault: the certified need, printed where there is no fault, is
 -- that of the certificate's node of the start
-abbrev pub NeedSays : Type 0
-NeedSays =
+abbrev pub CertifiedNeedIsOfStart : Type 0
+CertifiedNeedIsOfStart =
     (image : ImageData) (plan : PlanData) (cert : CertData) (node : NodeData)
     → find_node (record { kind = 0; entry = image.entry; prio = 0; is = plan.start_is }) cert.nodes ≡ Some node
     → certified_need image plan cert ≡ node.need

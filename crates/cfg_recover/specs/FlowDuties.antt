@@ -70,7 +70,7 @@ flow_leave_of _ = Stays
 
 -- The Flow of a point at which no rule's own part fails. It has the point's duties, the state at an
 -- interrupt's entry except its CCPN, and how the frame is left.
-pub record FlowTellsDuties (b : Limits) (image : ImageData) (plan : PlanData) (key : Key) (p : ℕ) (s : State) (f : Flow) : Type 0 where
+pub record FlowHasDuties (b : Limits) (image : ImageData) (plan : PlanData) (key : Key) (p : ℕ) (s : State) (f : Flow) : Type 0 where
   pub faultless : IsFaultless b image plan key p s
   pub shape : Shape
   pub size : ℕ

@@ -7,16 +7,16 @@ use Rattle.cfg_recover.specs.declared.flow_types.Enter.{Enter}
 use Rattle.cfg_recover.specs.declared.flow_types.Flow.{Flow}
 
 -- the state of a jump has values of the plan's lattice
-abbrev pub JumpsWithValues : Limits → Option Jump → Type 0
-JumpsWithValues b jump = IfSome jump (λ j. AreValues b (j.state).regs)
+abbrev pub JumpHasValues : Limits → Option Jump → Type 0
+JumpHasValues b jump = IfSome jump (λ j. AreValues b (j.state).regs)
 
 -- the state of an entry has values of the plan's lattice
-abbrev pub EntersWithValues : Limits → Option Enter → Type 0
-EntersWithValues b entry = IfSome entry (λ e. AreValues b (e.state).regs)
+abbrev pub EntryHasValues : Limits → Option Enter → Type 0
+EntryHasValues b entry = IfSome entry (λ e. AreValues b (e.state).regs)
 
 -- each state has values of the plan's lattice
 pub record FlowHasValues (b : Limits) (f : Flow) : Type 0 where
-  pub jumps : All (JumpsWithValues b) f.jumps
-  pub enter : EntersWithValues b f.enter
-  pub misaligned : EntersWithValues b f.aln
+  pub jumps : All (JumpHasValues b) f.jumps
+  pub enter : EntryHasValues b f.enter
+  pub misaligned : EntryHasValues b f.aln
   pub interrupts : AreValues b (f.irq_entry).regs

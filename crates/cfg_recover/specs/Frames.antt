@@ -6,93 +6,93 @@ use Rattle.tc_machine.specs.declared.events.Event.{Event}
 use Rattle.tc_machine.specs.declared.state.Machine.{Machine}
 use Rattle.tc_machine.specs.Machine.{is_interrupt_stack_used}
 use Rattle.tc_machine.specs.Instructions.{machine_address_ahead}
-use Rattle.tc_machine.specs.Fetching.{fetched, fetched_size}
+use Rattle.tc_machine.specs.Fetching.{fetched_instruction, fetched_size}
 use Rattle.tc_machine.specs.Stepping.{step}
 use Rattle.depth_cert.specs.declared.keys.Key.{Key}
 use Rattle.depth_cert.specs.Points.{find_point}
 use Rattle.depth_cert.specs.Certs.{CertData}
 use Rattle.depth_cert.specs.Nodes.{find_node}
 use Rattle.cfg_recover.specs.Entries.{start_key, call_key, handler_key}
-use Rattle.cfg_recover.specs.MovesAreOwed.{InState}
+use Rattle.cfg_recover.specs.MovesAreOwed.{IsInState}
 use Rattle.cfg_recover.specs.StepEdges.{EdgeWay, aln, call, irq, ret, rfe, sys, to, edge_way_of_step}
 
 -- ---- frames
 -- a frame of a run: its key, and the address at which it is or goes on
-pub record Standing : Type 0 where
+pub record RunFrame : Type 0 where
   pub key : Key
   pub at : ℕ
 
 -- the newest frame goes on at an address
-abbrev pub frames_at : ℕ → List Standing → List Standing
+abbrev pub frames_at : ℕ → List RunFrame → List RunFrame
 frames_at q [] = []
 frames_at q (f ∷ fs) = record { key = f.key; at = q } ∷ fs
 
 -- The newest frame will go on at `back`, and enters a frame at q. The new frame's key follows from
 -- the newest one's.
-abbrev pub frames_entered : (Key → Key) → ℕ → ℕ → List Standing → List Standing
+abbrev pub frames_entered : (Key → Key) → ℕ → ℕ → List RunFrame → List RunFrame
 frames_entered key back q [] = []
 frames_entered key back q (f ∷ fs) = record { key = key f.key; at = q } ∷ record { key = f.key; at = back } ∷ fs
 
 -- the newest frame ends
-abbrev pub frames_left : List Standing → List Standing
+abbrev pub frames_left : List RunFrame → List RunFrame
 frames_left [] = []
 frames_left (f ∷ fs) = fs
 
 -- the frames of a run after a step from p, the newest first: a call and a system call return to the
 -- next instruction, an interrupt and a misaligned access to p itself
-abbrev pub frames_by : ℕ → ℕ → ℕ → EdgeWay → List Standing → List Standing
-frames_by p next prio (to q) fs = frames_at q fs
-frames_by p next prio (call q) fs = frames_entered (λ k. call_key k q) next q fs
-frames_by p next prio (irq q) fs = frames_entered (λ k. handler_key 2 q prio) p q fs
-frames_by p next prio (sys q) fs = frames_entered (λ k. handler_key 3 q k.prio) next q fs
-frames_by p next prio (aln q) fs = frames_entered (λ k. handler_key 4 q k.prio) p q fs
-frames_by p next prio ret fs = frames_left fs
-frames_by p next prio rfe fs = frames_left fs
+abbrev pub frames_after_edge : ℕ → ℕ → ℕ → EdgeWay → List RunFrame → List RunFrame
+frames_after_edge p next prio (to q) fs = frames_at q fs
+frames_after_edge p next prio (call q) fs = frames_entered (λ k. call_key k q) next q fs
+frames_after_edge p next prio (irq q) fs = frames_entered (λ k. handler_key 2 q prio) p q fs
+frames_after_edge p next prio (sys q) fs = frames_entered (λ k. handler_key 3 q k.prio) next q fs
+frames_after_edge p next prio (aln q) fs = frames_entered (λ k. handler_key 4 q k.prio) p q fs
+frames_after_edge p next prio ret fs = frames_left fs
+frames_after_edge p next prio rfe fs = frames_left fs
 
 -- the frames after one step of the machine
-abbrev pub frames_after : Machine → Event → List Standing → List Standing
-frames_after m e fs = frames_by m.pc (machine_address_ahead m.pc (fetched_size (fetched m))) e.irq (edge_way_of_step m e) fs
+abbrev pub frames_after : Machine → Event → List RunFrame → List RunFrame
+frames_after m e fs = frames_after_edge m.pc (machine_address_ahead m.pc (fetched_size (fetched_instruction m))) e.irq (edge_way_of_step m e) fs
 
 -- the frames after the steps of a run, from those before it
-abbrev pub frames_from : Machine → List Event → List Standing → List Standing
+abbrev pub frames_from : Machine → List Event → List RunFrame → List RunFrame
 frames_from m [] fs = fs
 frames_from m (e ∷ es) fs = frames_from (step m e) es (frames_after m e fs)
 
 -- the frames after a run from a start state
-abbrev pub frames : ImageData → PlanData → Machine → List Event → List Standing
+abbrev pub frames : ImageData → PlanData → Machine → List Event → List RunFrame
 frames image plan m es = frames_from m es (record { key = start_key image plan; at = m.pc } ∷ [])
 
 -- ---- what an accepted certificate says about frames
 -- a frame of a run lies at a point: in the certificate, the node of the frame's key has a point at
 -- the frame's address, whose state holds the machine
-abbrev pub FrameLiesAtPoint : PlanData → CertData → Machine → Standing → Type 0
-FrameLiesAtPoint plan cert m f = IsSomeAnd (find_node f.key cert.nodes) (λ n. IsSomeAnd (find_point f.at n.points) (λ p. InState plan m p.state))
+abbrev pub IsFrameAtPoint : PlanData → CertData → Machine → RunFrame → Type 0
+IsFrameAtPoint plan cert m f = IsSomeAnd (find_node f.key cert.nodes) (λ n. IsSomeAnd (find_point f.at n.points) (λ p. IsInState plan m p.state))
 
 -- the frames of a run are held: the newest is at pc and at a point that holds the machine, `is` of
 -- its key is PSW.IS, and each has a node in the certificate
-pub record AreFramesHeld (plan : PlanData) (cert : CertData) (m : Machine) (f : Standing) (fs : List Standing) : Type 0 where
+pub record AreFramesHeld (plan : PlanData) (cert : CertData) (m : Machine) (f : RunFrame) (fs : List RunFrame) : Type 0 where
   pub at : f.at ≡ m.pc
   pub nodes : All (λ g. IsSome (find_node g.key cert.nodes)) (f ∷ fs)
-  pub point : FrameLiesAtPoint plan cert m f
+  pub point : IsFrameAtPoint plan cert m f
   pub is : is_interrupt_stack_used m.psw ≡ (f.key).is
 
 -- the frames of a run are held: there is a newest one, at pc, with PSW.IS in its key and at a point
 -- that holds the machine, and each frame has a node in the certificate
-abbrev pub HoldFrames : PlanData → CertData → Machine → List Standing → Type 0
+abbrev pub HoldFrames : PlanData → CertData → Machine → List RunFrame → Type 0
 HoldFrames plan cert m [] = ⊥
 HoldFrames plan cert m (f ∷ fs) = AreFramesHeld plan cert m f fs
 
 -- the frame that is entered at an address: kind 1 by a call, 2 by an interrupt, 3 by a system call,
 -- 4 by a misaligned access
-abbrev pub entered_frame_at : ℕ → ℕ → ℕ → Bool → Standing
+abbrev pub entered_frame_at : ℕ → ℕ → ℕ → Bool → RunFrame
 entered_frame_at kind at prio is = record { key = record { kind = kind; entry = at; prio = prio; is = is }; at = at }
 
 -- a frame that goes on at an address
-abbrev pub frame_going_on : Standing → ℕ → Standing
+abbrev pub frame_going_on : RunFrame → ℕ → RunFrame
 frame_going_on f at = record { key = f.key; at = at }
 
 -- the frame before the newest one goes on at an address
-abbrev pub IsReturn : ℕ → List Standing → Type 0
+abbrev pub IsReturn : ℕ → List RunFrame → Type 0
 IsReturn q [] = ⊥
 IsReturn q (f ∷ []) = ⊥
 IsReturn q (f ∷ g ∷ fs) = g.at ≡ q

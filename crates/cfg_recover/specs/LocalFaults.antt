@@ -29,7 +29,7 @@ abbrev pub IsFaultless : Limits → ImageData → PlanData → Key → ℕ → S
 IsFaultless b image plan key p s = (r : ℕ) → LocalHolds b image plan key p s r
 
 -- this instruction of so many bytes is at p, and no rule's own part fails there
-pub record FindsFaultless (b : Limits) (image : ImageData) (plan : PlanData) (key : Key) (p : ℕ) (s : State) (found : InstData × ℕ) : Type 0 where
+pub record IsFaultlessInst (b : Limits) (image : ImageData) (plan : PlanData) (key : Key) (p : ℕ) (s : State) (found : InstData × ℕ) : Type 0 where
   pub faultless : IsFaultless b image plan key p s
   pub code : IsCode image plan p (shape_of found.0) found.1
 
@@ -42,7 +42,7 @@ IsAccessFault b plan s shape (Some r) =
 IsAccessFault b plan s shape None = StoresInRange b plan s shape × MayAccess b plan s shape
 
 -- An instruction of this shape and size is at p, and no rule's own part fails there.
-pub record StandsFaultless (b : Limits) (image : ImageData) (plan : PlanData) (key : Key) (p : ℕ) (s : State) (found : Located) : Type 0 where
+pub record IsFaultlessShape (b : Limits) (image : ImageData) (plan : PlanData) (key : Key) (p : ℕ) (s : State) (found : Located) : Type 0 where
   pub faultless : IsFaultless b image plan key p s
   pub code : IsCode image plan p found.shape found.size
   pub shape : IsShape found.shape

@@ -42,10 +42,10 @@ direct_target p (target.Reg r) = None
 
 -- ---- the rules' own parts, by shape; nothing is asked of other shapes
 -- K5: the targets of a jump or a call are a known list of addresses
-abbrev pub KnowsTargets : PlanData → State → ℕ → Shape → Type 0
-KnowsTargets plan s p (Jump to) = IsSome (targets_of plan s p to)
-KnowsTargets plan s p (Call to) = IsSome (targets_of plan s p to)
-KnowsTargets plan s p _ = Unit {0}
+abbrev pub HasKnownTargets : PlanData → State → ℕ → Shape → Type 0
+HasKnownTargets plan s p (Jump to) = IsSome (targets_of plan s p to)
+HasKnownTargets plan s p (Call to) = IsSome (targets_of plan s p to)
+HasKnownTargets plan s p _ = Unit {0}
 
 -- K6: only a called function returns, and it has restored all lower contexts
 abbrev pub MayReturn : Key → State → Shape → Type 0
@@ -84,7 +84,7 @@ MayCallSystem plan _ = Unit {0}
 -- there is room for a local, and restored only if there is one. K13: the instruction isn't MTCR,
 -- and writes none of A0, A1, A8, A9 and A11.
 pub record LocalRule (b : Limits) (plan : PlanData) (key : Key) (p : ℕ) (s : State) (shape : Shape) (r : ℕ) : Type 0 where
-  pub targets : r ≡ 5 → KnowsTargets plan s p shape
+  pub targets : r ≡ 5 → HasKnownTargets plan s p shape
   pub returns : r ≡ 6 → MayReturn key s shape
   pub exceptions : r ≡ 7 → MayReturnFromException key s shape
   pub room : r ≡ 8 → EffectHasRoom b shape s

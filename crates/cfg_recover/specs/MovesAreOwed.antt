@@ -10,7 +10,7 @@ use Rattle.tc_machine.specs.declared.events.End.TheVariants.{Running}
 use Rattle.tc_machine.specs.declared.state.Machine.{Machine}
 use Rattle.tc_machine.specs.Machine.{reg, a11, IsMachine}
 use Rattle.tc_machine.specs.Instructions.{machine_address_ahead, does, is_trapping_instruction, target_of}
-use Rattle.tc_machine.specs.Stepping.{is_taken, stored}
+use Rattle.tc_machine.specs.Stepping.{is_interrupt_taken, stored}
 use Rattle.tcd_plan.specs.MappedAddresses.{IsInAreas, IsStoreInRange}
 use Rattle.tc_machine.specs.Safe.{Fits}
 use Rattle.value_domain.specs.declared.states.State.{State}
@@ -29,8 +29,8 @@ use Rattle.tc_isa.specs.declared.shapes.Target.{Target}
 
 -- where a machine's move from a point begins or ends: the state there holds the machine's
 -- registers, IE and CCPN
-abbrev pub InState : PlanData → Machine → State → Type 0
-InState plan m s = Holds plan (reg m) m.ie m.ccpn s
+abbrev pub IsInState : PlanData → Machine → State → Type 0
+IsInState plan m s = Holds plan (reg m) m.ie m.ccpn s
 
 -- A running machine at a point. Its memory is the plan's, with the image's bytes in rom. At pc
 -- there is an instruction of this shape and size that breaks no rule by itself. The point's state
@@ -46,12 +46,12 @@ pub record IsAtPoint (b : Limits) (image : ImageData) (plan : PlanData) (key : K
   pub own : (r : ℕ) → LocalRule b plan key m.pc s shape r
   pub regs : length s.regs ≡ 27
   pub values : AreValues b s.regs
-  pub inside : InState plan m s
+  pub inside : IsInState plan m s
 
 -- a move in a frame, from machine m and state s to n and t: save areas, context list, PSW and A11
 -- stay; lower registers too, if t says that they are the entry's
 pub record MovesTo (image : ImageData) (plan : PlanData) (m n : Machine) (s t : State) : Type 0 where
-  pub inside : InState plan n t
+  pub inside : IsInState plan n t
   pub lower : t.lower ≡ true → (s.lower ≡ true) × ((r : ℕ) → is_lower_register r ≡ true → reg n r ≡ reg m r)
   pub locals : t.locals.items ≡ s.locals.items
   pub a11 : a11 n ≡ a11 m
@@ -89,16 +89,16 @@ StaysInFrame (Mtcr src number) = ⊥
 StaysInFrame _ = Unit {0}
 
 -- at every point: a step that stays in its frame, without an interrupt or a trap
-abbrev pub MovesInFrame : Type 0
-MovesInFrame =
+abbrev pub JumpsAreOwed : Type 0
+JumpsAreOwed =
     (b : Limits) (image : ImageData) (plan : PlanData) (key : Key) (m : Machine) (e : Event) (s : State) (shape : Shape) (n : ℕ)
-    → IsAtPoint b image plan key m s shape n → Fits plan m e → is_taken m e ≡ false → StaysInFrame shape → is_trapping_instruction m e shape ≡ false
+    → IsAtPoint b image plan key m s shape n → Fits plan m e → is_interrupt_taken m e ≡ false → StaysInFrame shape → is_trapping_instruction m e shape ≡ false
     → IsMoveOwed b image plan key m e s shape n
 
 -- a law of moves: each point whose access traps owes the entry of the handler of misaligned
 -- accesses
-abbrev pub TrapsOwed : Type 0
-TrapsOwed =
+abbrev pub TrapsAreOwed : Type 0
+TrapsAreOwed =
     (b : Limits) (image : ImageData) (plan : PlanData) (key : Key) (m : Machine) (e : Event) (s : State) (shape : Shape) (n : ℕ)
     → IsAtPoint b image plan key m s shape n → is_trapping_instruction m e shape ≡ true
     → Contains (duties_of b image plan key m.pc s shape n) (owed 10 (enter (aln_key plan key) (aln_entry plan key s)))
@@ -110,7 +110,7 @@ owed_system_handler plan key = record { kind = 3; entry = bit_or plan.btv (6 * 2
 
 -- a law of moves: a point with a system call owes the entry of its handler (K12), where D15, A10,
 -- IE, `lower` and the locals are set and the rest stays, and the return (K4)
-pub record SystemCallOwed (b : Limits) (image : ImageData) (plan : PlanData) (key : Key) (m : Machine) (s : State) (tin n : ℕ) : Type 0 where
+pub record IsSystemCallOwed (b : Limits) (image : ImageData) (plan : PlanData) (key : Key) (m : Machine) (s : State) (tin n : ℕ) : Type 0 where
   pub state : State
   pub entered : Contains (duties_of b image plan key m.pc s (Syscall tin) n) (owed 12 (enter (owed_system_handler plan key) state))
   pub back : Contains (duties_of b image plan key m.pc s (Syscall tin) n) (owed 4 (resume (owed_system_handler plan key) (machine_address_ahead m.pc n)))
@@ -123,31 +123,31 @@ pub record SystemCallOwed (b : Limits) (image : ImageData) (plan : PlanData) (ke
   pub locals : state.locals.items ≡ []
 
 -- if an interrupt is taken, the point owes the entry of its handler
-abbrev pub InterruptsOwed : Type 0
-InterruptsOwed =
+abbrev pub InterruptsAreOwed : Type 0
+InterruptsAreOwed =
     (b : Limits) (image : ImageData) (plan : PlanData) (key : Key) (m : Machine) (e : Event) (s : State) (shape : Shape) (n : ℕ)
-    → IsAtPoint b image plan key m s shape n → Fits plan m e → is_taken m e ≡ true
+    → IsAtPoint b image plan key m s shape n → Fits plan m e → is_interrupt_taken m e ≡ true
     → Contains (duties_of b image plan key m.pc s shape n) (owed 11 (enter (irq_key plan e.irq) (irq_entry plan key s e.irq)))
 
 -- a law of moves: whatever a machine at a point stores in its next step is in range
-abbrev pub StoresHeld : Type 0
-StoresHeld =
+abbrev pub PointStoresAreInRange : Type 0
+PointStoresAreInRange =
     (b : Limits) (image : ImageData) (plan : PlanData) (key : Key) (m : Machine) (e : Event) (s : State) (shape : Shape) (n : ℕ)
     → IsAtPoint b image plan key m s shape n → IfSome (stored m e) (IsStoreInRange plan)
 
 -- the point owes the entry that a call goes to, and the return from it
-pub record CallOwed (b : Limits) (image : ImageData) (plan : PlanData) (key : Key) (m : Machine) (s : State) (to : Target) (n : ℕ) : Type 0 where
+pub record IsCallOwed (b : Limits) (image : ImageData) (plan : PlanData) (key : Key) (m : Machine) (s : State) (to : Target) (n : ℕ) : Type 0 where
   pub entered : Contains (duties_of b image plan key m.pc s (Call to) n) (owed 5 (enter (call_key key (target_of m to)) (call_entry s)))
   pub back : Contains (duties_of b image plan key m.pc s (Call to) n) (owed 4 (resume (call_key key (target_of m to)) (machine_address_ahead m.pc n)))
 
 -- a law of moves: each point with a call owes the entry where the machine goes, and the return
-abbrev pub CallsOwed : Type 0
-CallsOwed =
+abbrev pub CallsAreOwed : Type 0
+CallsAreOwed =
     (b : Limits) (image : ImageData) (plan : PlanData) (key : Key) (m : Machine) (s : State) (to : Target) (n : ℕ)
-    → IsAtPoint b image plan key m s (Call to) n → CallOwed b image plan key m s to n
+    → IsAtPoint b image plan key m s (Call to) n → IsCallOwed b image plan key m s to n
 
 -- a law of moves: each point with a system call owes the handler's entry, and the return
-abbrev pub SystemCallsOwed : Type 0
-SystemCallsOwed =
+abbrev pub SystemCallsAreOwed : Type 0
+SystemCallsAreOwed =
     (b : Limits) (image : ImageData) (plan : PlanData) (key : Key) (m : Machine) (s : State) (tin n : ℕ)
-    → IsAtPoint b image plan key m s (Syscall tin) n → SystemCallOwed b image plan key m s tin n
+    → IsAtPoint b image plan key m s (Syscall tin) n → IsSystemCallOwed b image plan key m s tin n

@@ -5,9 +5,9 @@ use Rattle.elf_image.specs.Images.{ImageData}
 use Rattle.tcd_plan.specs.PlanData.{PlanData}
 use Rattle.value_domain.specs.Limits.{Limits}
 use Rattle.depth_cert.specs.declared.keys.Key.{Key}
-use Rattle.cfg_recover.specs.CertRefusals.{IsRefusalWith, RefusalSays}
+use Rattle.cfg_recover.specs.CertRefusals.{IsRefusalWith, HasRefusalReason}
 
 -- of each refusal
-abbrev pub RefusalsSay : Type 0
-RefusalsSay =
-    (b : Limits) (image : ImageData) (plan : PlanData) (r : ℕ) (k : Key) (p : ℕ) → IsRefusalWith b image plan r k p → RefusalSays b image plan r k p
+abbrev pub RefusalsHaveReasons : Type 0
+RefusalsHaveReasons =
+    (b : Limits) (image : ImageData) (plan : PlanData) (r : ℕ) (k : Key) (p : ℕ) → IsRefusalWith b image plan r k p → HasRefusalReason b image plan r k p

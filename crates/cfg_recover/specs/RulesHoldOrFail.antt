@@ -32,11 +32,11 @@ HasCoveringPoint node q s = IsSomeAnd (find_point q node.points) (λ p. Covers p
 
 -- a rule holds at a duty, else it fails: what a point with this state owes by the duty is in the
 -- certificate's nodes, points and exits
-abbrev pub IsMet : CertData → NodeData → State → Duty → Type 0
-IsMet cert node s (jump q t) = HasCoveringPoint node q t
-IsMet cert node s (enter k t) = IsSomeAnd (find_node k cert.nodes) (λ n. HasCoveringPoint n k.entry t)
-IsMet cert node s (resume k q) = IfSome (find_node k cert.nodes) (λ n. IfSome n.exit (λ x. HasCoveringPoint node q (state_after_exit s x k.kind)))
-IsMet cert node s (leave x) = IsSomeAnd node.exit (λ y. ExitCovers y x)
+abbrev pub IsDutyMet : CertData → NodeData → State → Duty → Type 0
+IsDutyMet cert node s (jump q t) = HasCoveringPoint node q t
+IsDutyMet cert node s (enter k t) = IsSomeAnd (find_node k cert.nodes) (λ n. HasCoveringPoint n k.entry t)
+IsDutyMet cert node s (resume k q) = IfSome (find_node k cert.nodes) (λ n. IfSome n.exit (λ x. HasCoveringPoint node q (state_after_exit s x k.kind)))
+IsDutyMet cert node s (leave x) = IsSomeAnd node.exit (λ y. ExitCovers y x)
 
 -- ---- needs
 -- K14 holds at an entry, else it fails: the node's need is at least the sum of the state's locals,
@@ -55,7 +55,7 @@ pub record NeedRuleHolds (image : ImageData) (plan : PlanData) (cert : CertData)
 -- ---- rules
 -- A point that has no fault by itself: its values are of the plan's lattice, and no rule's own part
 -- fails there. This is its instruction.
-pub record IsSoundAlone (image : ImageData) (plan : PlanData) (cert : CertData) (node : NodeData) (point : Point) (shape : Shape) (n : ℕ) : Type 0 where
+pub record IsLocallyFaultless (image : ImageData) (plan : PlanData) (cert : CertData) (node : NodeData) (point : Point) (shape : Shape) (n : ℕ) : Type 0 where
   pub values : AreValues (limits_in plan cert) (point.state).regs
   pub faultless : IsFaultless (limits_in plan cert) image plan node.key point.addr point.state
   pub code : IsCode image plan point.addr shape n
@@ -70,10 +70,10 @@ pub record RuleHolds (image : ImageData) (plan : PlanData) (cert : CertData) (no
   pub values : r ≡ 2 → AreValues (limits_in plan cert) (point.state).regs
   pub own : AreValues (limits_in plan cert) (point.state).regs → LocalHolds (limits_in plan cert) image plan node.key point.addr point.state r
   pub covered :
-      (shape : Shape) (n : ℕ) (d : Owed) → IsSoundAlone image plan cert node point shape n → Contains (owed_at image plan cert node point shape n) d → d.rule ≡ r
-      → IsMet cert node point.state d.duty
+      (shape : Shape) (n : ℕ) (d : Owed) → IsLocallyFaultless image plan cert node point shape n → Contains (owed_at image plan cert node point shape n) d → d.rule ≡ r
+      → IsDutyMet cert node point.state d.duty
   pub needs :
-      (shape : Shape) (n : ℕ) → r ≡ 14 → IsSoundAlone image plan cert node point shape n
+      (shape : Shape) (n : ℕ) → r ≡ 14 → IsLocallyFaultless image plan cert node point shape n
       → NeedRuleHolds image plan cert node point (owed_at image plan cert node point shape n)
 
 -- K1 holds: the certificate has a node of the start frame, and its point at the entry covers the

@@ -5,8 +5,8 @@ use Rattle.tc_isa.specs.declared.shapes.Shape.TheVariants.{Call, Ret, Rfe, Sysca
 use Rattle.tc_machine.specs.declared.events.Cause.{Cause}
 use Rattle.tc_machine.specs.declared.events.Event.{Event}
 use Rattle.tc_machine.specs.declared.state.Machine.{Machine}
-use Rattle.tc_machine.specs.Fetching.{fetched}
-use Rattle.tc_machine.specs.Stepping.{is_taken, step}
+use Rattle.tc_machine.specs.Fetching.{fetched_instruction}
+use Rattle.tc_machine.specs.Stepping.{is_interrupt_taken, step}
 use Rattle.tc_machine.specs.Instructions.{is_trapping_instruction}
 
 -- How a step goes on: to an address in its frame; into the frame of a call, an interrupt, a system
@@ -44,7 +44,7 @@ edge_way_in_fetch m e (Err cause) q = to q
 
 -- by an interrupt if one is taken, else by what was fetched
 abbrev pub edge_way_of_step : Machine → Event → EdgeWay
-edge_way_of_step m e = if is_taken m e then irq (step m e).pc else edge_way_in_fetch m e (fetched m) (step m e).pc
+edge_way_of_step m e = if is_interrupt_taken m e then irq (step m e).pc else edge_way_in_fetch m e (fetched_instruction m) (step m e).pc
 
 -- the edge of a step
 abbrev pub edge_of_step : Machine → Event → Edge

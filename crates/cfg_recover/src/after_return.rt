@@ -2,7 +2,7 @@
 ghost use Rattle.std.specs.Prelude.{◌≡◌, ◌==◌, ◌-◌, ◌<◌, nat_lt, if◌then◌else◌, slice_index_or};
 ghost use Rattle.value_domain.specs.Values.{any_val};
 ghost use Rattle.value_domain.specs.State as states;
-ghost use Rattle.depth_cert.specs.Exits.{state_after_exit, with_lower_from};
+ghost use Rattle.depth_cert.specs.Exits.{state_after_exit, values_with_lower_from};
 
 use depth_cert::{CALL, Exit};
 use value_domain::{State, Val, copy_locals};
@@ -24,7 +24,7 @@ pub fn after(s: &State, exit: &Exit, kind: u8) -> State
 /// Returns the register values after a frame's return: those of the lower registers are the exit's,
 /// all others stay.
 fn regs_after_return(regs: &[Val; 27], lower: &[Val; 14]) -> [Val; 27]
-    ensures { result ≡ with_lower_from 0 lower.now regs.now }
+    ensures { result ≡ values_with_lower_from 0 lower.now regs.now }
 {
     let mut out = std::array::from_fn(|_| Val::any());
     for (i, v) in regs.iter().enumerate() {

@@ -6,7 +6,7 @@ ghost use Rattle.value_domain.specs.State.{AreValues};
 ghost use Rattle.vd_transfer.specs.EffectsOnStates.{address_of};
 ghost use Rattle.store_ranges.specs.Accesses.{are_aligned};
 ghost use Rattle.cfg_recover.specs.Entries.{call_key};
-ghost use Rattle.cfg_recover.specs.Duties.{entered_in, entries_of};
+ghost use Rattle.cfg_recover.specs.Duties.{entered_keys, entry_duties_of};
 ghost use Rattle.cfg_recover.specs.Duties as duties;
 
 use crate::flow_targets::targets;
@@ -30,7 +30,7 @@ pub fn push_entered_keys(
 ) -> Result<(), AllocError>
     requires { IsShape shape }
     ensures { (size : ℕ) → OnOk result (keys.new.items
-        ≡ keys.old.items ++ entered_in (entries_of plan.now key.now addr s.now shape size)) }
+        ≡ keys.old.items ++ entered_keys (entry_duties_of plan.now key.now addr s.now shape size)) }
 {
     match shape {
         Shape::Call { to } => {

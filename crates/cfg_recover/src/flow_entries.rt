@@ -2,8 +2,8 @@
 ghost use Rattle.std.specs.Prelude.{◌≡◌, Some};
 ghost use Rattle.tc_isa.specs.Meanings.{shape_of};
 ghost use Rattle.value_domain.specs.State.{AreValues};
-ghost use Rattle.cfg_recover.specs.Duties.{entries_of, misaligned_of, leavings_of};
-ghost use Rattle.cfg_recover.specs.FlowStates.{EntersWithValues};
+ghost use Rattle.cfg_recover.specs.Duties.{entry_duties_of, misaligned_duties_of, exit_duties_of};
+ghost use Rattle.cfg_recover.specs.FlowStates.{EntryHasValues};
 ghost use Rattle.cfg_recover.specs.FlowDuties.{duties_of_entry, rule_of_entry, duties_of_leaving, flow_leave_of};
 
 use crate::decoded_inst::InstAt;
@@ -28,9 +28,9 @@ pub(crate) fn call_flow_entry(
 ) -> Option<Enter>
     requires { AreValues b.now s.now.regs }
     ensures entry { duties_of_entry (rule_of_entry result) key.now result
-        ≡ entries_of plan.now key.now at.entry.addr s.now
+        ≡ entry_duties_of plan.now key.now at.entry.addr s.now
         (shape_of at.entry.inst.now) at.entry.size }
-    ensures values { EntersWithValues b.now result }
+    ensures values { EntryHasValues b.now result }
 {
     let resume = Some(at.addr.wrapping_add(at.size));
     match shape(at.inst) {
@@ -60,8 +60,8 @@ pub(crate) fn misaligned_flow_entry(
 ) -> Option<Enter>
     requires { AreValues b.now s.now.regs }
     ensures entry { duties_of_entry 10 key.now result
-        ≡ misaligned_of b.now plan.now key.now s.now (shape_of inst.now) }
-    ensures values { EntersWithValues b.now result }
+        ≡ misaligned_duties_of b.now plan.now key.now s.now (shape_of inst.now) }
+    ensures values { EntryHasValues b.now result }
 {
     if !may_be_misaligned(b, plan, s, shape(inst)) {
         return None;
@@ -79,7 +79,7 @@ pub(crate) fn misaligned_flow_entry(
 #[tactic(auto, unfolding(crate::specs::FlowDuties::flow_leave_of))]
 pub(crate) fn flow_leave(key: &Key, s: &State, inst: &Inst) -> Leave
     ensures told { duties_of_leaving key.now s.now result
-        ≡ leavings_of key.now s.now (shape_of inst.now) }
+        ≡ exit_duties_of key.now s.now (shape_of inst.now) }
     ensures leave { result ≡ flow_leave_of (shape_of inst.now) }
 {
     match shape(inst) {

@@ -6,7 +6,7 @@ ghost use Rattle.vd_transfer.specs.EffectsOnStates.{EffectHasRoom};
 ghost use Rattle.cfg_recover.specs.Duties.{duties_of};
 ghost use Rattle.cfg_recover.specs.Entries.{irq_entry};
 ghost use Rattle.cfg_recover.specs.FlowStates.{FlowHasValues};
-ghost use Rattle.cfg_recover.specs.FlowDuties.{duties_of_flow, flow_leave_of, FlowTellsDuties};
+ghost use Rattle.cfg_recover.specs.FlowDuties.{duties_of_flow, flow_leave_of, FlowHasDuties};
 ghost use Rattle.cfg_recover.specs.LocalFaults.{IsLocalFault};
 
 use crate::Flow;
@@ -34,7 +34,7 @@ pub fn flow(
 ) -> Result<Flow, u8>
     requires { AreValues b.now s.now.regs }
     ensures fault { IfErr result (IsLocalFault b.now image.now plan.now key.now addr s.now) }
-    ensures duties { IfOk result (FlowTellsDuties b.now image.now plan.now key.now addr s.now) }
+    ensures duties { IfOk result (FlowHasDuties b.now image.now plan.now key.now addr s.now) }
     ensures values { IfOk result (FlowHasValues b.now) }
 {
     match check_local_rules_of_inst(b, image, plan, key, addr, s) {

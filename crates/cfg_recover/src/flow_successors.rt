@@ -8,8 +8,8 @@ ghost use Rattle.value_domain.specs.State.{AreValues};
 ghost use Rattle.vd_transfer.specs.Changes.{state_after};
 ghost use Rattle.vd_transfer.specs.EffectsOnStates.{EffectHasRoom, address_of, transfer_of};
 ghost use Rattle.vd_transfer.specs.Branches.{refine_of};
-ghost use Rattle.cfg_recover.specs.Duties.{jump_on, loaded_for_duties, next_of, successors_of};
-ghost use Rattle.cfg_recover.specs.FlowStates.{JumpsWithValues};
+ghost use Rattle.cfg_recover.specs.Duties.{jump_on, loaded_for_duties, next_duty_of, successor_duties_of};
+ghost use Rattle.cfg_recover.specs.FlowStates.{JumpHasValues};
 ghost use Rattle.cfg_recover.specs.FlowDuties.{duties_of_jump, duties_of_jumps};
 
 use crate::Jump;
@@ -35,9 +35,9 @@ pub(crate) fn successors(
 ) -> [Option<Jump>; 2]
     requires values { AreValues b.now s.now.regs }
     requires room { EffectHasRoom b.now (shape_of at.inst.now) s.now }
-    ensures values { All (JumpsWithValues b.now) result }
+    ensures values { All (JumpHasValues b.now) result }
     ensures jumps { duties_of_jumps result
-        ≡ successors_of b.now image.now plan.now at.entry.addr s.now
+        ≡ successor_duties_of b.now image.now plan.now at.entry.addr s.now
         (shape_of at.entry.inst.now) at.entry.size }
 {
     let next = at.addr.wrapping_add(at.size);
@@ -98,7 +98,7 @@ fn successor_on_side(
     to: u32,
 ) -> Option<Jump>
     requires { AreValues b.now s.now.regs }
-    ensures values { JumpsWithValues b.now result }
+    ensures values { JumpHasValues b.now result }
     ensures jump { duties_of_jump result
         ≡ jump_on to (refine_of b.now plan.now (shape_of inst.now) s.now taken) }
 {
@@ -113,9 +113,9 @@ fn successor_on_side(
 fn successor_by_step(b: &Bounds, image: &Image, plan: &Plan, s: &State, at: InstAt<'_>) -> Jump
     requires values { AreValues b.now s.now.regs }
     requires room { EffectHasRoom b.now (shape_of at.inst.now) s.now }
-    ensures values { JumpsWithValues b.now (Some result) }
+    ensures values { JumpHasValues b.now (Some result) }
     ensures jump { duties_of_jump (Some result)
-        ≡ next_of b.now image.now plan.now at.entry.addr s.now
+        ≡ next_duty_of b.now image.now plan.now at.entry.addr s.now
         (shape_of at.entry.inst.now) at.entry.size }
 {
     let mut c = identity_change(s);

@@ -3,7 +3,7 @@ ghost use Rattle.std.specs.Prelude.{◌≡◌, ◌<◌, ◌≤◌, ◌-◌, ◌*
 ghost use Rattle.tcd_plan.specs.PlanData.{PlanData};
 ghost use Rattle.tc_isa.specs.InBounds.{IsTarget};
 ghost use Rattle.value_domain.specs.declared.states.State.{State};
-ghost use Rattle.value_domain.specs.Sets.{Among, AreWords, Rising, sorted_set_of, sorted_insert};
+ghost use Rattle.value_domain.specs.Sets.{Among, AreWords, IsAscending, sorted_set_of, sorted_insert};
 ghost use Rattle.vd_transfer.specs.Registers.{reg_of};
 ghost use Rattle.cfg_recover.specs.LocalRules as rules;
 ghost use Rattle.cfg_recover.specs.LocalRules.{targets_named_by, targets_of};
@@ -85,7 +85,7 @@ fn even_targets(words: &[u32]) -> ArrayVec<u32, 128>
 /// Adds a word that isn't below the others, unless it is the last one.
 fn add_target_once(words: &mut ArrayVec<u32, 128>, x: u32)
     requires room { length words.old.items < 128 }
-    requires rising { Rising words.old.items }
+    requires rising { IsAscending words.old.items }
     requires greatest { (y : ℕ) → Among y words.old.items → y ≤ x }
     ensures { words.new.items ≡ sorted_insert x words.old.items }
 {

@@ -3,11 +3,11 @@
 ghost use Rattle.std.specs.Prelude.{◌≡◌, ◌<◌, ◌≤◌, ◌⊎◌, ◌↔◌, ℕ, true, length, IsTrue, IsSome, IfErr, IfOk, IfSome, None, Some, if◌then◌else◌, MatchResult};
 ghost use Rattle.tc_isa.specs.InBounds.{IsArg, IsShape, IsShapeAccessSize, IsTarget};
 ghost use Rattle.tc_isa.specs.declared.shapes.Shape.TheVariants.{Ret, Rfe};
-ghost use Rattle.value_domain.specs.Values.{IsWell, word_val};
-ghost use Rattle.vd_transfer.specs.Registers.{HasBaseValue, RegisterHasValue};
+ghost use Rattle.value_domain.specs.Values.{IsWellFormed, word_val};
+ghost use Rattle.vd_transfer.specs.Registers.{IncreasesNoFixedRegister, RegisterHasValue};
 ghost use Rattle.cfg_recover.specs.LocalRules.{targets_named_by, targets_of, MayReturn, MayReturnFromException, StoresInRangeAt, MayAccessAt};
 ghost use Rattle.store_ranges.specs.Accesses.{are_aligned};
-ghost use Rattle.cfg_recover.specs.LocalFaults.{IsLocalFault, IsLeastLocalFault, IsAccessFault, StandsFaultless, FindsFaultless};
+ghost use Rattle.cfg_recover.specs.LocalFaults.{IsLocalFault, IsLeastLocalFault, IsAccessFault, IsFaultlessShape, IsFaultlessInst};
 ghost use Rattle.elf_image.specs.Images.{ImageData};
 ghost use Rattle.tc_isa.specs.Meanings.{shape_of};
 ghost use Rattle.value_domain.specs.declared.states.State.{State};
@@ -71,7 +71,7 @@ pub fn check_local_rules(
     s: &State,
 ) -> Result<Located, u8>
     requires { AreValues b.now s.now.regs }
-    ensures found { IfOk result (StandsFaultless b.now image.now plan.now key.now addr s.now) }
+    ensures found { IfOk result (IsFaultlessShape b.now image.now plan.now key.now addr s.now) }
     ensures fault { IfErr result (IsLocalFault b.now image.now plan.now key.now addr s.now) }
 {
     let Some(found) = code_at(image, plan, addr) else {
@@ -99,7 +99,7 @@ pub(crate) fn check_local_rules_of_inst(
 ) -> Result<(Inst, u32), u8>
     requires { AreValues b.now s.now.regs }
     ensures { MatchResult result
-        (FindsFaultless b.now image.now plan.now key.now addr s.now)
+        (IsFaultlessInst b.now image.now plan.now key.now addr s.now)
         (IsLocalFault b.now image.now plan.now key.now addr s.now) }
 {
     let Some(found) = code_at(image, plan, addr) else {
@@ -124,7 +124,7 @@ pub fn check_located<'a>(
     requires values { AreValues b.now s.now.regs }
     requires shape { IfSome located.now (λ found. IsShape found.shape) }
     ensures found { (image : ImageData) (p : ℕ) → LocatesCode image plan.now p located.now
-        → IfOk result (λ found. StandsFaultless b.now image plan.now key.now p s.now found.now) }
+        → IfOk result (λ found. IsFaultlessShape b.now image plan.now key.now p s.now found.now) }
     ensures fault { (image : ImageData) (p : ℕ) → LocatesCode image plan.now p located.now
         → IfErr result (IsLocalFault b.now image plan.now key.now p s.now) }
 {
@@ -283,7 +283,7 @@ pub(crate) fn may_restore(s: &State) -> bool
 /// 2^32.
 pub(crate) fn may_store(plan: &Plan, at: &Val, shape: Shape) -> bool
     requires shape { IsShape shape }
-    requires well { IsWell at.now }
+    requires well { IsWellFormed at.now }
     ensures { IsTrue result ↔ StoresInRangeAt plan.now at.now shape }
 {
     match shape {
@@ -307,7 +307,7 @@ pub(crate) fn may_store_at(plan: &Plan, x: u32, shape: Shape) -> bool
 /// accesses.
 pub(crate) fn may_access(plan: &Plan, at: &Val, shape: Shape) -> bool
     requires shape { IsShape shape }
-    requires well { IsWell at.now }
+    requires well { IsWellFormed at.now }
     ensures { IsTrue result ↔ MayAccessAt plan.now at.now shape }
 {
     match shape {
@@ -433,7 +433,7 @@ fn may_handler_return(key: &Key, s: &State) -> bool
 /// Returns true if K10's own part holds for an access of this size: each address is a multiple of
 /// it, or the plan states the trap of misaligned accesses.
 fn may_access_by_size(plan: &Plan, at: &Val, size: u8) -> bool
-    requires well { IsWell at.now }
+    requires well { IsWellFormed at.now }
     requires size { IsShapeAccessSize size }
     ensures { IsTrue result ↔ ((are_aligned at.now size ≡ true) ⊎ (plan.now.aln ≡ true)) }
 {
@@ -454,7 +454,7 @@ fn may_access_by_size_at(plan: &Plan, x: u32, size: u8) -> bool
 /// Tests K13 for a load: true if none of the registers that it writes is one of the fixed
 /// registers.
 pub(crate) fn keeps_fixed_registers_in_load(dst: u8, base: Arg, after: bool) -> bool
-    ensures { IsTrue result ↔ (RegisterHasValue dst × HasBaseValue base after) }
+    ensures { IsTrue result ↔ (RegisterHasValue dst × IncreasesNoFixedRegister base after) }
 {
     may_write_register(dst) && keeps_fixed_base(base, after)
 }
@@ -469,7 +469,7 @@ pub(crate) fn keeps_fixed_registers_in_branch(x: u8, lowers: bool) -> bool
 /// Tests K13 for the base of a load or a store: true if the access doesn't increase it, or it isn't
 /// one of the fixed registers.
 pub(crate) fn keeps_fixed_base(base: Arg, after: bool) -> bool
-    ensures { IsTrue result ↔ HasBaseValue base after }
+    ensures { IsTrue result ↔ IncreasesNoFixedRegister base after }
 {
     match base {
         Arg::Reg(r) => !after || may_write_register(r),

@@ -36,8 +36,8 @@ MissesAreas x n links = AllByRecursion (λ l. (x + n ≤ link_address l) ⊎ (li
 
 -- A store of n bytes that doesn't pass 2^32 and misses all areas of both chains leaves the chains
 -- and all contexts as they are.
-abbrev pub StoreMisses : Type 0
-StoreMisses =
+abbrev pub StoreBesideKeepsChains : Type 0
+StoreBesideKeepsChains =
     (mem : Memory) (x w n pcxi fcx : ℕ) (used free : List ℕ) → x + n ≤ 2 ^ 32 →
     chain mem pcxi ≡ Some used → chain mem fcx ≡ Some free → MissesAreas x n used → MissesAreas x n free →
     (chain (with_bytes mem x w n) pcxi ≡ Some used) × (chain (with_bytes mem x w n) fcx ≡ Some free)
@@ -48,5 +48,5 @@ abbrev pub AgreeOn : List ℕ → Memory → Memory → Type 0
 AgreeOn links old new = AllByRecursion (λ l. (i : ℕ) → i < 64 → map.get new (link_address l + i) ≡ map.get old (link_address l + i)) links
 
 -- A change outside the areas of a chain leaves it as it is.
-abbrev pub StoreLeaves : Memory → Memory → ℕ → List ℕ → Type 0
-StoreLeaves old new word links = chain old word ≡ Some links → AgreeOn links old new → chain new word ≡ Some links
+abbrev pub ChangeOutsideKeepsChain : Memory → Memory → ℕ → List ℕ → Type 0
+ChangeOutsideKeepsChain old new word links = chain old word ≡ Some links → AgreeOn links old new → chain new word ≡ Some links

@@ -47,8 +47,8 @@ abbrev pub HasContextWords : ℕ → List ℕ → Type 0
 HasContextWords n ws = (length ws ≡ n) × All (λ w. w < 2 ^ 32) ws
 
 -- Contexts that are saved or restored from words below 2^32 are words below 2^32.
-abbrev pub WordsStay : Type 0
-WordsStay =
+abbrev pub ContextWordsStayInBounds : Type 0
+ContextWordsStayInBounds =
     (pcxi psw : ℕ) (words d a : List ℕ) → pcxi < 2 ^ 32 → psw < 2 ^ 32 → HasContextWords 16 words → HasContextWords 16 d → HasContextWords 16 a →
     HasContextWords 16 (upper_words_of pcxi psw d a)
     × HasContextWords 16 (lower_words_of pcxi d a)

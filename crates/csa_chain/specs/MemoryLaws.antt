@@ -14,8 +14,8 @@ WordsComeBack =
 
 -- A memory of bytes below 256 has words below 2^32. It still has such bytes after a byte below 256
 -- or words are written.
-abbrev pub BytesStay : Type 0
-BytesStay =
+abbrev pub BytesStayInBounds : Type 0
+BytesStayInBounds =
     (m : Memory) → HasBytes m →
     ((x : ℕ) → word_at m x < 2 ^ 32)
     × ((x b : ℕ) → b < 2 ^ 8 → HasBytes (with_byte m x b))

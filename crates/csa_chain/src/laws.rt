@@ -1,10 +1,10 @@
 // The laws of chains, of contexts and of memory.
 ghost use Rattle.std.specs.Prelude.{ℕ, List};
 ghost use Rattle.csa_chain.specs.MemoryBytes.{Memory};
-ghost use Rattle.csa_chain.specs.ChainLaws.{SaveMoves, RestoreMoves, StoreMisses, StoreLeaves};
+ghost use Rattle.csa_chain.specs.ChainLaws.{SaveMoves, RestoreMoves, StoreBesideKeepsChains, ChangeOutsideKeepsChain};
 ghost use Rattle.csa_chain.specs.SeveralChains.{OwnerSaves, OwnerRestores};
-ghost use Rattle.csa_chain.specs.MemoryLaws.{WordsComeBack, BytesStay};
-ghost use Rattle.csa_chain.specs.ContextWordLaws.{WordsStay, UpperComesBack, LowerComesBack, FieldsComeBack};
+ghost use Rattle.csa_chain.specs.MemoryLaws.{WordsComeBack, BytesStayInBounds};
+ghost use Rattle.csa_chain.specs.ContextWordLaws.{ContextWordsStayInBounds, UpperComesBack, LowerComesBack, FieldsComeBack};
 
 /// The laws of chains: what a save, a restore and a store do to the free list and the used list.
 pub fn chain_laws()
@@ -12,9 +12,9 @@ pub fn chain_laws()
         → SaveMoves mem pcxi fcx f free used }
     ensures restore { (mem : Memory) (pcxi fcx l : ℕ) (used free : List ℕ)
         → RestoreMoves mem pcxi fcx l used free }
-    ensures misses { StoreMisses }
+    ensures misses { StoreBesideKeepsChains }
     ensures store { (old new : Memory) (word : ℕ) (links : List ℕ)
-        → StoreLeaves old new word links }
+        → ChangeOutsideKeepsChain old new word links }
 {}
 
 /// The laws of several chains: what a save or a restore by the owner of one chain does to all.
@@ -34,6 +34,6 @@ pub fn context_laws()
 /// 2^32.
 pub fn memory_laws()
     ensures written { WordsComeBack }
-    ensures bytes { BytesStay }
-    ensures words { WordsStay }
+    ensures bytes { BytesStayInBounds }
+    ensures words { ContextWordsStayInBounds }
 {}

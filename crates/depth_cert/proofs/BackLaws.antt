@@ -20,7 +20,7 @@ use Rattle.depth_cert.specs.Points.{IsState, IsPoint, ArePoints, addresses}
 use Rattle.depth_cert.specs.Exits.{IsExit}
 use Rattle.depth_cert.specs.Nodes.{NodeData, IsNode, count_points, key_numbers}
 use Rattle.depth_cert.specs.Certs.{CertData, IsCert}
-use Rattle.depth_cert.specs.Grammar.{checked_cert_field, is_above_last_read, last_number_read, flag_at, values_at, locals_at, state_at, address_after, point_after, key_after, need_at, has_exit_at, exit_at, optional_exit_at, point_count_at, points_at, node_after, magic_at, version_at, node_count_at, cert_at, certificate_of}
+use Rattle.depth_cert.specs.Grammar.{valid_field_or_fault, is_above_last_read, last_number_read, flag_at, values_at, locals_at, state_at, address_after, point_after, key_after, need_at, has_exit_at, exit_at, optional_exit_at, point_count_at, points_at, node_after, magic_at, version_at, node_count_at, cert_at, certificate_of}
 use Rattle.depth_cert.specs.Spelling.{bytes_of_value, bytes_of_state, bytes_of_point, bytes_of_key, bytes_of_exit, bytes_of_node, bytes_of_cert}
 use Rattle.depth_cert.proofs.WrittenLaws.{IsRead, done, seq, test, byte, half, word, many_read, one_of, above_map, flag, values_read}
 
@@ -43,7 +43,7 @@ locals_read : (version : ℕ) (ls : List Bool) → length ls ≤ most_locals_of 
 unfolding locals_at
 locals_read version ls few =
     seq u8_at _ (length ls ∷ []) (map cert_flag_byte ls) (length ls) ls (byte (length ls))
-    (λ start. seq (λ p. checked_cert_field 5 (leb (length ls) (most_locals_of version)) start (length ls, p)) _ [] (map cert_flag_byte ls) (length ls) ls (test 5 (leb (length ls) (most_locals_of version)) start (length ls) (le-leb _ _ few)) (λ p0. flags_read ls))
+    (λ start. seq (λ p. valid_field_or_fault 5 (leb (length ls) (most_locals_of version)) start (length ls, p)) _ [] (map cert_flag_byte ls) (length ls) ls (test 5 (leb (length ls) (most_locals_of version)) start (length ls) (le-leb _ _ few)) (λ p0. flags_read ls))
 
 pub state_read : (version : ℕ) (s : State) → IsState version s → IsRead (state_at version) (bytes_of_state s) s
 unfolding state_at bytes_of_state
@@ -65,7 +65,7 @@ point_read version all before x after rising each e =
     at_end (point_after version before) (bytes_of_word x.addr) (bytes_of_state x.state) x
     (seq (address_after (last_number_read (addresses before))) _ (bytes_of_word x.addr) (bytes_of_state x.state ++ []) x.addr x
     (alone (address_after (last_number_read (addresses before))) (bytes_of_word x.addr) x.addr
-    (seq u32_at (λ p a. checked_cert_field 3 (is_above_last_read (last_number_read (addresses before)) a.0) p a) (bytes_of_word x.addr) [] x.addr x.addr (word x.addr good.addr) (λ p0. test 3 (is_above_last_read (last_number_read (addresses before)) x.addr) p0 x.addr above)))
+    (seq u32_at (λ p a. valid_field_or_fault 3 (is_above_last_read (last_number_read (addresses before)) a.0) p a) (bytes_of_word x.addr) [] x.addr x.addr (word x.addr good.addr) (λ p0. test 3 (is_above_last_read (last_number_read (addresses before)) x.addr) p0 x.addr above)))
     (λ p1. seq (state_at version) _ (bytes_of_state x.state) [] x.state x (state_read version x.state good.state) (λ p2. done x)))
 
 pub points_read : (version used : ℕ) (ps : List Point) → ArePoints ps → All (IsPoint version) ps → used + length ps ≤ 2 ^ 16 → IsRead (points_at version used) (bytes_of_word (length ps) ++ flat_map bytes_of_point ps) ps
@@ -73,7 +73,7 @@ unfolding points_at point_count_at
 points_read version used ps rising each few =
     seq (point_count_at used) _ (bytes_of_word (length ps)) (flat_map bytes_of_point ps) (length ps) ps
     (alone (point_count_at used) (bytes_of_word (length ps)) (length ps)
-    (seq u32_at (λ p n. checked_cert_field 5 (leb (used + n.0) (2 ^ 16)) p n) (bytes_of_word (length ps)) [] (length ps) (length ps) (word (length ps) (omega arith))
+    (seq u32_at (λ p n. valid_field_or_fault 5 (leb (used + n.0) (2 ^ 16)) p n) (bytes_of_word (length ps)) [] (length ps) (length ps) (word (length ps) (omega arith))
     (λ p0. test 5 (leb (used + length ps) (2 ^ 16)) p0 (length ps) (le-leb _ _ few))))
     (λ p1. many_read (point_after version) bytes_of_point ps (λ before x after e. point_read version ps before x after rising each e) [] ps (length ps) refl refl)
 
@@ -89,13 +89,13 @@ key_read last k good above =
     let made : Key = record { kind = k.kind; entry = k.entry; prio = k.prio; is = eqb (cert_flag_byte k.is) 1 } in
     let same : made ≡ k = ap (λ (b : Bool). record { kind = k.kind; entry = k.entry; prio = k.prio; is = b }) bit.1 in
     seq u8_at _ (k.kind ∷ []) _ k.kind k (byte k.kind)
-    (λ p0. seq (λ p. checked_cert_field 4 (leb k.kind 4) p0 (k.kind, p)) _ [] _ k.kind k (test 4 (leb k.kind 4) p0 k.kind (le-leb _ _ good.kind))
+    (λ p0. seq (λ p. valid_field_or_fault 4 (leb k.kind 4) p0 (k.kind, p)) _ [] _ k.kind k (test 4 (leb k.kind 4) p0 k.kind (le-leb _ _ good.kind))
     (λ p1. seq u32_at _ (bytes_of_word k.entry) _ k.entry k (word k.entry good.entry)
     (λ p2. seq u8_at _ (k.prio ∷ []) _ k.prio k (byte k.prio)
     (λ p3. seq u8_at _ (cert_flag_byte k.is ∷ []) [] (cert_flag_byte k.is) k (byte (cert_flag_byte k.is))
-    (λ p4. seq (λ p. checked_cert_field 3 (is_above_last_read last (key_number k.kind k.entry k.prio (cert_flag_byte k.is))) p0 (cert_flag_byte k.is, p)) _ [] [] (cert_flag_byte k.is) k
+    (λ p4. seq (λ p. valid_field_or_fault 3 (is_above_last_read last (key_number k.kind k.entry k.prio (cert_flag_byte k.is))) p0 (cert_flag_byte k.is, p)) _ [] [] (cert_flag_byte k.is) k
     (test 3 (is_above_last_read last (key_number k.kind k.entry k.prio (cert_flag_byte k.is))) p0 (cert_flag_byte k.is) above)
-    (λ p5. seq (λ p. checked_cert_field 4 (leb (cert_flag_byte k.is) 1) p4 (cert_flag_byte k.is, p)) _ [] [] (cert_flag_byte k.is) k (test 4 (leb (cert_flag_byte k.is) 1) p4 (cert_flag_byte k.is) (le-leb _ _ bit.0))
+    (λ p5. seq (λ p. valid_field_or_fault 4 (leb (cert_flag_byte k.is) 1) p4 (cert_flag_byte k.is, p)) _ [] [] (cert_flag_byte k.is) k (test 4 (leb (cert_flag_byte k.is) 1) p4 (cert_flag_byte k.is) (le-leb _ _ bit.0))
     (λ p6. subst (λ (x : Key). IsRead (λ p. Ok (made, p)) [] x) same (done made))))))))
 
 pub exit_read : (version : ℕ) (x : Exit) → IsExit version x → IsRead (exit_at version) (cert_flag_byte x.ie ∷ x.ccpn ∷ flat_map bytes_of_value x.lower) x
@@ -136,7 +136,7 @@ node_read version all before x after rising each few e =
     (seq (key_after (last_number_read (key_numbers before))) _ (bytes_of_key x.key) _ x.key x (key_read (last_number_read (key_numbers before)) x.key good.key above)
     (λ p0. seq need_at _ (bytes_of_half x.need) _ x.need x
     (alone need_at (bytes_of_half x.need) x.need
-    (seq u16_at (λ p n. checked_cert_field 5 (leb n.0 4096) p n) (bytes_of_half x.need) [] x.need x.need (half x.need (omega (arith, good.need))) (λ p1. test 5 (leb x.need 4096) p1 x.need (le-leb _ _ good.need))))
+    (seq u16_at (λ p n. valid_field_or_fault 5 (leb n.0 4096) p n) (bytes_of_half x.need) [] x.need x.need (half x.need (omega (arith, good.need))) (λ p1. test 5 (leb x.need 4096) p1 x.need (le-leb _ _ good.need))))
     (λ p2. seq (optional_exit_at version x.key.kind) _ (bytes_of_exit x.exit) _ x.exit x (exits_read version x.key.kind x.exit good.exit)
     (λ p3. seq (points_at version (count_points before)) _ points [] x.points x (points_read version (count_points before) x.points good.rising good.points room) (λ p4. done x)))))
 
@@ -154,13 +154,13 @@ cert_read c good =
     subst (λ (l : List ℕ). IsRead cert_at (bytes_of_word 0x43444354 ++ (bytes_of_half c.version ++ (bytes_of_half count ++ l))) c) (append-nil nodes)
     (seq magic_at _ (bytes_of_word 0x43444354) _ 0x43444354 c
     (alone magic_at (bytes_of_word 0x43444354) 0x43444354
-    (seq u32_at (λ p m. checked_cert_field 2 (eqb m.0 0x43444354) p m) (bytes_of_word 0x43444354) [] 0x43444354 0x43444354 (word 0x43444354 (omega arith)) (λ p0. test 2 (eqb 0x43444354 0x43444354) p0 0x43444354 refl)))
+    (seq u32_at (λ p m. valid_field_or_fault 2 (eqb m.0 0x43444354) p m) (bytes_of_word 0x43444354) [] 0x43444354 0x43444354 (word 0x43444354 (omega arith)) (λ p0. test 2 (eqb 0x43444354 0x43444354) p0 0x43444354 refl)))
     (λ p1. seq version_at _ (bytes_of_half c.version) _ c.version c
     (alone version_at (bytes_of_half c.version) c.version
-    (seq u16_at (λ p v. checked_cert_field 2 (eqb v.0 1 || eqb v.0 2) p v) (bytes_of_half c.version) [] c.version c.version (half c.version known.1) (λ p0. test 2 (eqb c.version 1 || eqb c.version 2) p0 c.version known.0)))
+    (seq u16_at (λ p v. valid_field_or_fault 2 (eqb v.0 1 || eqb v.0 2) p v) (bytes_of_half c.version) [] c.version c.version (half c.version known.1) (λ p0. test 2 (eqb c.version 1 || eqb c.version 2) p0 c.version known.0)))
     (λ p2. seq node_count_at _ (bytes_of_half count) _ count c
     (alone node_count_at (bytes_of_half count) count
-    (seq u16_at (λ p n. checked_cert_field 5 (leb n.0 2048) p n) (bytes_of_half count) [] count count (half count (omega arith)) (λ p0. test 5 (leb count 2048) p0 count (le-leb _ _ few))))
+    (seq u16_at (λ p n. valid_field_or_fault 5 (leb n.0 2048) p n) (bytes_of_half count) [] count count (half count (omega arith)) (λ p0. test 5 (leb count 2048) p0 count (le-leb _ _ few))))
     (λ p3. seq (many_fields_at (node_after c.version) count []) _ nodes [] c.nodes c
     (many_read (node_after c.version) bytes_of_node c.nodes (λ before x after e. node_read c.version c.nodes before x after good.rising good.nodes good.points e) [] c.nodes count refl refl)
     (λ p4. done c)))))

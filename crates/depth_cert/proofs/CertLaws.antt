@@ -13,7 +13,7 @@ use Rattle.depth_cert.specs.declared.keys.Key.{Key}
 use Rattle.depth_cert.specs.declared.points.Point.{Point}
 use Rattle.depth_cert.specs.Keys.{cert_flag_byte, key_number, number_of_key, IsKey}
 use Rattle.depth_cert.specs.Points.{IsState, IsPoint, ArePoints, addresses}
-use Rattle.depth_cert.specs.Grammar.{checked_cert_field, is_above_last_read, last_number_read, flag_at, values_at, locals_at, state_at, address_after, point_after, key_after, point_count_at, points_at}
+use Rattle.depth_cert.specs.Grammar.{valid_field_or_fault, is_above_last_read, last_number_read, flag_at, values_at, locals_at, state_at, address_after, point_after, key_after, point_count_at, points_at}
 use Rattle.depth_cert.specs.Spelling.{bytes_of_value, bytes_of_state, bytes_of_point, bytes_of_key}
 use Rattle.depth_cert.proofs.ManyLaws.{rising_map_push}
 use Rattle.tcd_base.proofs.PassedLaws.{AreBytes, Passed, passed_bytes, passed_both, ok_pair, byte_passed, word_passed, many_passed}
@@ -31,7 +31,7 @@ locals_passed version front rest ls q bytes e =
     let b = bind_ok (u8_at (place_between front rest)) _ _ e in
     let n : ℕ = b.0.0 in
     let h = byte_passed front rest n b.0.1 bytes b.1 in
-    let c = bind_ok (checked_cert_field 5 (leb n (most_locals_of version)) (place_between front rest) b.0) _ _ b.2 in
+    let c = bind_ok (valid_field_or_fault 5 (leb n (most_locals_of version)) (place_between front rest) b.0) _ _ b.2 in
     let t = checked_passed 5 (leb n (most_locals_of version)) (place_between front rest) b.0 c.0 c.1 in
     let left : many_fields_at (λ before. flag_at) n [] b.0.1 ≡ Ok (ls, q) = rw t.1 c.2 in
     let m = many_passed (λ before. flag_at) (λ x. cert_flag_byte x ∷ []) (λ ls. Unit {0}) (λ before front rest x q bytes good e. (flag_passed front rest x q bytes e, tt)) n [] ls (front ++ n ∷ []) h.0.after q (passed_bytes h.0 bytes) tt (next (many_fields_at (λ before. flag_at) n []) _ h.0 left) in
@@ -131,7 +131,7 @@ key_passed last front rest k q bytes e =
     let kind = bind_ok (u8_at (place_between front rest)) _ _ e in
     let h1 = byte_passed front rest kind.0.0 kind.0.1 bytes kind.1 in
     let b1 = passed_bytes h1.0 bytes in
-    let kept = bind_ok (checked_cert_field 4 (leb kind.0.0 4) (place_between front rest) kind.0) _ _ kind.2 in
+    let kept = bind_ok (valid_field_or_fault 4 (leb kind.0.0 4) (place_between front rest) kind.0) _ _ kind.2 in
     let t1 = checked_passed 4 (leb kind.0.0 4) (place_between front rest) kind.0 kept.0 kept.1 in
     let same : kind.0.0 ≡ kept.0.0 = ap (λ (v : ℕ × Place). v.0) t1.1 in
     let at : kind.0.1 ≡ kept.0.1 = ap (λ (v : ℕ × Place). v.1) t1.1 in
@@ -143,9 +143,9 @@ key_passed last front rest k q bytes e =
     let b3 = passed_bytes h3.0 b2 in
     let is = bind_ok (u8_at prio.0.1) _ _ prio.2 in
     let h4 = byte_passed _ h3.0.after is.0.0 is.0.1 b3 (next u8_at _ h3.0 is.1) in
-    let above = bind_ok (checked_cert_field 3 (is_above_last_read last (key_number kept.0.0 entry.0.0 prio.0.0 is.0.0)) (place_between front rest) is.0) _ _ is.2 in
+    let above = bind_ok (valid_field_or_fault 3 (is_above_last_read last (key_number kept.0.0 entry.0.0 prio.0.0 is.0.0)) (place_between front rest) is.0) _ _ is.2 in
     let t2 = checked_passed 3 (is_above_last_read last (key_number kept.0.0 entry.0.0 prio.0.0 is.0.0)) (place_between front rest) is.0 above.0 above.1 in
-    let flag = bind_ok (checked_cert_field 4 (leb above.0.0 1) prio.0.1 above.0) _ _ above.2 in
+    let flag = bind_ok (valid_field_or_fault 4 (leb above.0.0 1) prio.0.1 above.0) _ _ above.2 in
     let t3 = checked_passed 4 (leb above.0.0 1) prio.0.1 above.0 flag.0 flag.1 in
     let one : is.0 ≡ flag.0 = t2.1 ∙ t3.1 in
     let low : is.0.0 ≤ 1 = leb-true _ _ (subst (λ (v : ℕ × Place). leb v.0 1 ≡ true) (sym t2.1) t3.0) in

@@ -12,12 +12,12 @@ use Rattle.tcd_base.specs.FieldReaders.{u8_at, u32_at, many_fields_at, field_fau
 use Rattle.tcd_base.proofs.FieldReads.{bind_ok}
 use Rattle.value_domain.specs.declared.values.Val.{Val}
 use Rattle.value_domain.specs.declared.values.Val.TheVariants.{Set, Span}
-use Rattle.value_domain.specs.Values.{any_val, count_in, is_any_span}
+use Rattle.value_domain.specs.Values.{any_val, span_len, is_any_span}
 use Rattle.value_domain.specs.VersionLimits.{most_words_of, most_locals_of}
 use Rattle.value_domain.proofs.WordLaws.{rising_from, among_place}
 use Rattle.depth_cert.specs.Keys.{cert_flag_byte}
-use Rattle.depth_cert.specs.Points.{IsWellCertValue}
-use Rattle.depth_cert.specs.Grammar.{checked_cert_field, flag_at, set_word_after, set_at, span_at, value_at, values_at, is_cert_span, is_above_last_read, last_number_read}
+use Rattle.depth_cert.specs.Points.{IsWellFormedCertValue}
+use Rattle.depth_cert.specs.Grammar.{valid_field_or_fault, flag_at, set_word_after, set_at, span_at, value_at, values_at, is_cert_span, is_above_last_read, last_number_read}
 use Rattle.depth_cert.specs.Spelling.{bytes_of_value}
 use Rattle.depth_cert.proofs.ManyLaws.{rising_push}
 use Rattle.tcd_base.proofs.PassedLaws.{AreBytes, Passed, passed_bytes, passed_both, ok_pair, passed_test, byte_passed, word_passed, many_passed}
@@ -27,7 +27,7 @@ pub next : {A : Type 0} {part front rest : List ℕ} {q : Place} (read : Place �
 next read y h e = ap read (sym h.at) ∙ e
 
 -- a field that passed its test
-pub checked_passed : (kind : ℕ) (good : Bool) (p : Place) (x y : ℕ × Place) → checked_cert_field kind good p x ≡ Ok y → (good ≡ true) × (x ≡ y)
+pub checked_passed : (kind : ℕ) (good : Bool) (p : Place) (x y : ℕ × Place) → valid_field_or_fault kind good p x ≡ Ok y → (good ≡ true) × (x ≡ y)
 checked_passed kind good p x y e = passed_test good x y (record { kind = kind; at = p.place }) e
 
 -- ---- truth values
@@ -59,14 +59,14 @@ record AreAscending (ws : List ℕ) : Type 0 where
 word_after_passed : (before front rest : List ℕ) (x : ℕ) (q : Place) → AreBytes rest → AreAscending before → set_word_after before (place_between front rest) ≡ Ok (x, q) → Passed (bytes_of_word x) front rest q × AreAscending (before ++ x ∷ [])
 unfolding set_word_after
 word_after_passed before front rest x q bytes good e =
-    let b = bind_ok (u32_at (place_between front rest)) (λ w. checked_cert_field 4 (is_above_last_read (last_number_read before) w.0) (place_between front rest) w) (x, q) e in
+    let b = bind_ok (u32_at (place_between front rest)) (λ w. valid_field_or_fault 4 (is_above_last_read (last_number_read before) w.0) (place_between front rest) w) (x, q) e in
     let t = checked_passed 4 (is_above_last_read (last_number_read before) b.0.0) (place_between front rest) b.0 (x, q) b.2 in
     let same : b.0.0 ≡ x = ap (λ (v : ℕ × Place). v.0) t.1 in
     let at : b.0.1 ≡ q = ap (λ (v : ℕ × Place). v.1) t.1 in
     let h = word_passed front rest x q bytes (b.1 ∙ ap (λ (v : ℕ × Place). Ok v) t.1) in
     (h.0, record { rising = rising_push before x good.rising (rw same at t.0); below = All-push (λ w. w < 2 ^ 32) before x good.below h.1 })
 
-words_are : (version n : ℕ) (ws : List ℕ) → length ws ≡ n → 1 ≤ n → n ≤ most_words_of version → AreAscending ws → IsWellCertValue version (Set ws)
+words_are : (version n : ℕ) (ws : List ℕ) → length ws ≡ n → 1 ≤ n → n ≤ most_words_of version → AreAscending ws → IsWellFormedCertValue version (Set ws)
 words_are version n ws len some few h = (
   record {
     some = omega arith;
@@ -78,7 +78,7 @@ words_are version n ws len some few h = (
 )
 
 pub set_passed : (version n : ℕ) (front rest : List ℕ) (v : Val) (q : Place) → AreBytes rest → 1 ≤ n → n ≤ most_words_of version → set_at n (place_between front rest) ≡ Ok (v, q)
-    → (ws : List ℕ) × (v ≡ Set ws) × (length ws ≡ n) × Passed (flat_map bytes_of_word ws) front rest q × IsWellCertValue version (Set ws)
+    → (ws : List ℕ) × (v ≡ Set ws) × (length ws ≡ n) × Passed (flat_map bytes_of_word ws) front rest q × IsWellFormedCertValue version (Set ws)
 unfolding set_at
 set_passed version n front rest v q bytes some few e =
     let b = bind_ok (many_fields_at set_word_after n [] (place_between front rest)) (λ ws. Ok (Set ws.0, ws.1)) (v, q) e in
@@ -91,7 +91,7 @@ unfolding bytes_of_value
 any_is lo last step e = rw e refl
 
 pub span_passed : (version step : ℕ) (start : Place) (front rest : List ℕ) (v : Val) (q : Place) → AreBytes rest → step ≤ 2 → span_at version step start (place_between front rest) ≡ Ok (v, q)
-    → (part : List ℕ) × (bytes_of_value v ≡ (240 + step) ∷ part) × Passed part front rest q × IsWellCertValue version v
+    → (part : List ℕ) × (bytes_of_value v ≡ (240 + step) ∷ part) × Passed part front rest q × IsWellFormedCertValue version v
 unfolding span_at
 span_passed version step start front rest v q bytes small e =
     let lo = bind_ok (u32_at (place_between front rest)) _ _ e in
@@ -101,11 +101,11 @@ span_passed version step start front rest v q bytes small e =
     let t = passed_test (is_cert_span version lo.0.0 last.0.0 step) (Span lo.0.0 last.0.0 step, last.0.1) (v, q) _ last.2 in
     let value : Span lo.0.0 last.0.0 step ≡ v = ap (λ (x : Val × Place). x.0) t.1 in
     let at : last.0.1 ≡ q = ap (λ (x : Val × Place). x.1) t.1 in
-    let good = and_parts (ltb (most_words_of version) (count_in lo.0.0 last.0.0 step)) (not (is_any_span lo.0.0 last.0.0 step)) t.0 in (
+    let good = and_parts (ltb (most_words_of version) (span_len lo.0.0 last.0.0 step)) (not (is_any_span lo.0.0 last.0.0 step)) t.0 in (
       bytes_of_word lo.0.0 ++ bytes_of_word last.0.0,
       ap bytes_of_value (sym value) ∙ any_is lo.0.0 last.0.0 step (not_true _ good.1),
       subst (λ (r : Place). Passed (bytes_of_word lo.0.0 ++ bytes_of_word last.0.0) front rest r) at (passed_both h.0 k.0),
-      subst (IsWellCertValue version) value (small, ltb-true _ _ good.0, k.1),
+      subst (IsWellFormedCertValue version) value (small, ltb-true _ _ good.0, k.1),
     )
   where
     not_true : (b : Bool) → not b ≡ true → b ≡ false
@@ -128,7 +128,7 @@ any_bytes : 0 ∷ [] ≡ bytes_of_value any_val
 unfolding bytes_of_value
 any_bytes = refl
 
-any_well : (version : ℕ) → IsWellCertValue version any_val
+any_well : (version : ℕ) → IsWellFormedCertValue version any_val
 any_well version = (omega arith, omega (arith, (width_le version).1), omega arith)
 
 some_count : (n : ℕ) → eqb n 0 ≡ false → 1 ≤ n
@@ -138,7 +138,7 @@ some_count (suc n) e = omega arith
 in_steps : (n : ℕ) → (leb 240 n && leb n 242) ≡ true → (240 ≤ n) × (n - 240 ≤ 2)
 in_steps n e = let h = and_parts (leb 240 n) (leb n 242) e in let a : 240 ≤ n = leb-true _ _ h.0 in let b : n ≤ 242 = leb-true _ _ h.1 in (a, omega arith)
 
-pub value_passed : (version : ℕ) (front rest : List ℕ) (v : Val) (q : Place) → AreBytes rest → value_at version (place_between front rest) ≡ Ok (v, q) → Passed (bytes_of_value v) front rest q × IsWellCertValue version v
+pub value_passed : (version : ℕ) (front rest : List ℕ) (v : Val) (q : Place) → AreBytes rest → value_at version (place_between front rest) ≡ Ok (v, q) → Passed (bytes_of_value v) front rest q × IsWellFormedCertValue version v
 unfolding value_at
 value_passed version front rest v q bytes e =
     let b = bind_ok (u8_at (place_between front rest)) _ _ e in
@@ -149,11 +149,11 @@ value_passed version front rest v q bytes e =
           let f = ok_pair any_val v b.0.1 q c.1 in
           let zeroth : n ≡ 0 = eqb-true _ _ c.0 in
           let part : n ∷ [] ≡ bytes_of_value v = ap (λ k. k ∷ []) zeroth ∙ any_bytes ∙ ap bytes_of_value f.0 in
-          (subst (λ (r : Place). Passed (bytes_of_value v) front rest r) f.1 (subst (λ (l : List ℕ). Passed l front rest b.0.1) part h.0), subst (IsWellCertValue version) f.0 (any_well version))
+          (subst (λ (r : Place). Passed (bytes_of_value v) front rest r) f.1 (subst (λ (l : List ℕ). Passed l front rest b.0.1) part h.0), subst (IsWellFormedCertValue version) f.0 (any_well version))
       | inr (inl c) ↦
           let s = set_passed version n (front ++ n ∷ []) h.0.after v q (passed_bytes h.0 bytes) (some_count n c.0) (leb-true _ _ c.1) (next (set_at n) _ h.0 c.2) in
           let part : n ∷ flat_map bytes_of_word s.0 ≡ bytes_of_value v = set_bytes s.0 n s.2 ∙ ap bytes_of_value (sym s.1) in
-          (subst (λ (l : List ℕ). Passed l front rest q) part (passed_both h.0 s.3), subst (IsWellCertValue version) (sym s.1) s.4)
+          (subst (λ (l : List ℕ). Passed l front rest q) part (passed_both h.0 s.3), subst (IsWellFormedCertValue version) (sym s.1) s.4)
       | inr (inr (inl c)) ↦
           let steps = in_steps n c.0 in
           let s = span_passed version (n - 240) (place_between front rest) (front ++ n ∷ []) h.0.after v q (passed_bytes h.0 bytes) steps.1 (next (span_at version (n - 240) (place_between front rest)) _ h.0 c.1) in
@@ -167,10 +167,10 @@ value_passed version front rest v q bytes e =
     never e x h = cc
 
 pub values_passed : (version n : ℕ) (front rest : List ℕ) (vs : List Val) (q : Place) → AreBytes rest → values_at version n (place_between front rest) ≡ Ok (vs, q)
-    → Passed (flat_map bytes_of_value vs) front rest q × (length vs ≡ n) × All (IsWellCertValue version) vs
+    → Passed (flat_map bytes_of_value vs) front rest q × (length vs ≡ n) × All (IsWellFormedCertValue version) vs
 unfolding values_at
 values_passed version n front rest vs q bytes e =
-    let m = many_passed (λ before. value_at version) bytes_of_value (All (IsWellCertValue version))
-    (λ before front rest x q bytes good e. let h = value_passed version front rest x q bytes e in (h.0, All-push (IsWellCertValue version) before x good h.1))
-    n [] vs front rest q bytes (All-nil (IsWellCertValue version)) e in
+    let m = many_passed (λ before. value_at version) bytes_of_value (All (IsWellFormedCertValue version))
+    (λ before front rest x q bytes good e. let h = value_passed version front rest x q bytes e in (h.0, All-push (IsWellFormedCertValue version) before x good h.1))
+    n [] vs front rest q bytes (All-nil (IsWellFormedCertValue version)) e in
     (subst (λ (l : List Val). Passed (flat_map bytes_of_value l) front rest q) (sym m.is) m.passed, ap length m.is ∙ m.count, m.good)

@@ -12,7 +12,7 @@ use Rattle.tcd_base.specs.Bytes.{bytes_of_word}
 use Rattle.depth_cert.specs.declared.points.Exit.{Exit}
 use Rattle.depth_cert.specs.declared.points.Point.{Point}
 use Rattle.depth_cert.specs.Keys.{cert_flag_byte}
-use Rattle.depth_cert.specs.Points.{IsWellCertValue, IsState, IsPoint}
+use Rattle.depth_cert.specs.Points.{IsWellFormedCertValue, IsState, IsPoint}
 use Rattle.depth_cert.specs.Exits.{IsExit}
 use Rattle.depth_cert.specs.Nodes.{NodeData, IsNode, count_points}
 use Rattle.depth_cert.specs.Certs.{CertData, IsCert}
@@ -29,14 +29,14 @@ span_most : (b : Bool) (lo last step : ℕ) → length (cond b (0 ∷ []) ((240 
 span_most true lo last step = omega arith
 span_most false lo last step = omega arith
 
-value_most : (version : ℕ) (v : Val) → IsWellCertValue version v → length (bytes_of_value v) ≤ 513
+value_most : (version : ℕ) (v : Val) → IsWellFormedCertValue version v → length (bytes_of_value v) ≤ 513
 unfolding bytes_of_value
 value_most version (Set ws) h =
     let words = parts_most bytes_of_word 4 ws (λ k d lt. omega arith) in
     omega (arith, h.1, (width_le version).1)
 value_most version (Span lo last step) h = span_most (is_any_span lo last step) lo last step
 
-values_most : (version : ℕ) (vs : List Val) → All (IsWellCertValue version) vs → length (flat_map bytes_of_value vs) ≤ length vs * 513
+values_most : (version : ℕ) (vs : List Val) → All (IsWellFormedCertValue version) vs → length (flat_map bytes_of_value vs) ≤ length vs * 513
 values_most version vs h = parts_most bytes_of_value 513 vs (λ k d lt. value_most version (get_or vs k d) (h k d lt))
 
 state_most : (version : ℕ) (s : State) → IsState version s → length (bytes_of_state s) ≤ 13863

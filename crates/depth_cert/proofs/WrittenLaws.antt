@@ -14,12 +14,12 @@ use Rattle.tcd_base.specs.FieldReaders.{◌>>=◌, u8_at, u16_at, u32_at, many_f
 use Rattle.tcd_base.proofs.FieldReads.{u8_at-between, u16_at-between, u32_at-between}
 use Rattle.value_domain.specs.declared.values.Val.{Val}
 use Rattle.value_domain.specs.declared.values.Val.TheVariants.{Set, Span}
-use Rattle.value_domain.specs.Sets.{AreWords, Rising}
-use Rattle.value_domain.specs.Values.{any_val, count_in, is_any_span}
+use Rattle.value_domain.specs.Sets.{AreWords, IsAscending}
+use Rattle.value_domain.specs.Values.{any_val, span_len, is_any_span}
 use Rattle.value_domain.specs.VersionLimits.{most_words_of}
 use Rattle.depth_cert.specs.Keys.{cert_flag_byte}
-use Rattle.depth_cert.specs.Points.{IsWellCertValue}
-use Rattle.depth_cert.specs.Grammar.{checked_cert_field, is_above_last_read, last_number_read, is_cert_span, flag_at, set_word_after, set_at, span_at, value_at, values_at}
+use Rattle.depth_cert.specs.Points.{IsWellFormedCertValue}
+use Rattle.depth_cert.specs.Grammar.{valid_field_or_fault, is_above_last_read, last_number_read, is_cert_span, flag_at, set_word_after, set_at, span_at, value_at, values_at}
 use Rattle.depth_cert.specs.Spelling.{bytes_of_value}
 use Rattle.depth_cert.proofs.ManyLaws.{is_above-last}
 use Rattle.depth_cert.proofs.GrammarLaws.{width_le}
@@ -45,7 +45,7 @@ seq {A} {B} r f a b x y first second = record {
 }
 
 -- a field that passes its test
-pub test : (kind : ℕ) (good : Bool) (start : Place) (n : ℕ) → good ≡ true → IsRead (λ p. checked_cert_field kind good start (n, p)) [] n
+pub test : (kind : ℕ) (good : Bool) (start : Place) (n : ℕ) → good ≡ true → IsRead (λ p. valid_field_or_fault kind good start (n, p)) [] n
 test kind good start n e = record { at = λ front rest. rw e ((done n).at front rest) }
 
 pub byte : (n : ℕ) → IsRead u8_at (n ∷ []) n
@@ -99,8 +99,8 @@ word_read : (all before : List ℕ) (x : ℕ) (after : List ℕ) → IsStrictlyI
 unfolding set_word_after
 word_read all before x after rising below e =
     let above : is_above_last_read (last_number_read before) x ≡ true = above_before before x after (subst IsStrictlyIncreasing e rising) in
-    subst (λ (l : List ℕ). IsRead (λ p. u32_at p >>= λ w. checked_cert_field 4 (is_above_last_read (last_number_read before) w.0) p w) l x) (append-nil (bytes_of_word x))
-    (seq u32_at (λ p w. checked_cert_field 4 (is_above_last_read (last_number_read before) w.0) p w) (bytes_of_word x) [] x x (word x (one_of (λ w. w < 2 ^ 32) all before x after below e)) (λ start. test 4 (is_above_last_read (last_number_read before) x) start x above))
+    subst (λ (l : List ℕ). IsRead (λ p. u32_at p >>= λ w. valid_field_or_fault 4 (is_above_last_read (last_number_read before) w.0) p w) l x) (append-nil (bytes_of_word x))
+    (seq u32_at (λ p w. valid_field_or_fault 4 (is_above_last_read (last_number_read before) w.0) p w) (bytes_of_word x) [] x x (word x (one_of (λ w. w < 2 ^ 32) all before x after below e)) (λ start. test 4 (is_above_last_read (last_number_read before) x) start x above))
 
 set_read : (version : ℕ) (ws : List ℕ) → IsStrictlyIncreasing ws → All (λ w. w < 2 ^ 32) ws → IsRead (set_at (length ws)) (flat_map bytes_of_word ws) (Set ws)
 unfolding set_at
@@ -118,7 +118,7 @@ span_read version step start lo last small below good =
     (λ p0. seq u32_at _ (bytes_of_word last) [] last (Span lo last step) (word last below) (λ p1. record { at = λ front rest. rw good ((done (Span lo last step)).at front rest) })))
 
 -- words with their facts
-rising_steps : (ws : List ℕ) → Rising ws → IsStrictlyIncreasing ws
+rising_steps : (ws : List ℕ) → IsAscending ws → IsStrictlyIncreasing ws
 rising_steps [] r k h = absurd (omega arith)
 rising_steps (x ∷ []) r k h = absurd (omega arith)
 rising_steps (x ∷ y ∷ ys) r zero h = r.0 y (inl refl)
@@ -133,14 +133,14 @@ rising_words ws a = rising_steps ws a.rising
 below_words : (ws : List ℕ) → AreWords ws → All (λ w. w < 2 ^ 32) ws
 below_words ws a k d h = subst (λ n. n < 2 ^ 32) (get_or_default ws k 0 d h) (a.below (get_or ws k 0) (among_get ws k h))
 
-lo_small : (step : ℕ) → step ≤ 2 → (lo last : ℕ) → 1 ≤ count_in lo last step → last < 2 ^ 32 → lo < 2 ^ 32
+lo_small : (step : ℕ) → step ≤ 2 → (lo last : ℕ) → 1 ≤ span_len lo last step → last < 2 ^ 32 → lo < 2 ^ 32
 lo_small =
-    step_cases (λ s. (lo last : ℕ) → 1 ≤ count_in lo last s → last < 2 ^ 32 → lo < 2 ^ 32)
+    step_cases (λ s. (lo last : ℕ) → 1 ≤ span_len lo last s → last < 2 ^ 32 → lo < 2 ^ 32)
     (λ lo last h b. omega arith)
     (λ lo last h b. omega arith)
     (λ lo last h b. omega arith)
 
-pub value_cases : (version : ℕ) (v : Val) → IsWellCertValue version v → IsRead (value_at version) (bytes_of_value v) v
+pub value_cases : (version : ℕ) (v : Val) → IsWellFormedCertValue version v → IsRead (value_at version) (bytes_of_value v) v
 unfolding value_at bytes_of_value
 value_cases version (Set ws) h =
     let not_zero : eqb (length ws) 0 ≡ false = ne_eqb _ _ (λ same. let s : length ws ≡ 0 = same in omega (arith, h.0.some)) in
@@ -149,7 +149,7 @@ value_cases version (Set ws) h =
     (λ start. record { at = λ front rest. rw (not_zero, in_width) ((set_read version ws (rising_words ws h.0) (below_words ws h.0)).at front rest) })
 value_cases version (Span lo last step) h = by_any (is_any_span lo last step) version lo last step h refl
   where
-    by_any : (any : Bool) (version lo last step : ℕ) → IsWellCertValue version (Span lo last step) → is_any_span lo last step ≡ any
+    by_any : (any : Bool) (version lo last step : ℕ) → IsWellFormedCertValue version (Span lo last step) → is_any_span lo last step ≡ any
         → IsRead (value_at version) (cond any (0 ∷ []) ((240 + step) ∷ bytes_of_word lo ++ bytes_of_word last)) (Span lo last step)
     by_any true version lo last step h e =
         let parts = and_parts (eqb lo 0 && eqb last 4294967295) (eqb step 0) e in
@@ -165,12 +165,12 @@ value_cases version (Span lo last step) h = by_any (is_any_span lo last step) ve
         let low : leb 240 (240 + step) ≡ true = le-leb _ _ (omega arith) in
         let high : leb (240 + step) 242 ≡ true = le-leb _ _ (omega (arith, h.0)) in
         let step_is : 240 + step - 240 ≡ step = omega arith in
-        let many : ltb (most_words_of version) (count_in lo last step) ≡ true = lt-ltb _ _ h.1 in
+        let many : ltb (most_words_of version) (span_len lo last step) ≡ true = lt-ltb _ _ h.1 in
         let good : is_cert_span version lo last step ≡ true = rw (many, e) refl in
         seq u8_at _ ((240 + step) ∷ []) (bytes_of_word lo ++ bytes_of_word last) (240 + step) (Span lo last step) (byte (240 + step))
         (λ start. record { at = λ front rest. rw (not_zero, past, low, high, step_is) ((span_read version step start lo last (lo_small step h.0 lo last (omega (arith, h.1)) h.2) h.2 good).at front rest) })
 
-pub values_read : (version n : ℕ) (vs : List Val) → All (IsWellCertValue version) vs → length vs ≡ n → IsRead (values_at version n) (flat_map bytes_of_value vs) vs
+pub values_read : (version n : ℕ) (vs : List Val) → All (IsWellFormedCertValue version) vs → length vs ≡ n → IsRead (values_at version n) (flat_map bytes_of_value vs) vs
 unfolding values_at
 values_read version n vs each len =
-    many_read (λ before. value_at version) bytes_of_value vs (λ before v after e. value_cases version v (one_of (IsWellCertValue version) vs before v after each e)) [] vs n refl len
+    many_read (λ before. value_at version) bytes_of_value vs (λ before v after e. value_cases version v (one_of (IsWellFormedCertValue version) vs before v after each e)) [] vs n refl len

@@ -8,7 +8,7 @@ use Rattle.value_domain.specs.State.{is_lower_slot, AreBelow, joined_regs}
 use Rattle.depth_cert.specs.declared.points.Exit.{Exit}
 use Rattle.value_domain.specs.Limits.{Limits}
 use Rattle.std.specs.List.{All}
-use Rattle.depth_cert.specs.Points.{IsWellCertValue}
+use Rattle.depth_cert.specs.Points.{IsWellFormedCertValue}
 
 -- ---- exits
 -- the values of the lower registers D0..D7 and A2..A7, which have the places 0 to 7 and 16 to 21 in
@@ -22,16 +22,16 @@ exit_of s = record { ie = s.ie; ccpn = s.ccpn; lower = lower_values s.regs }
 
 -- a state's values, from place i on, after a return by an exit of a certificate's node: those of
 -- lower registers are the exit's
-unfoldable pub with_lower_from : ℕ → List Val → List Val → List Val
-with_lower_from i lower [] = []
-with_lower_from i lower (v ∷ vs) =
-    (if is_lower_slot i then slice_index_or lower (if nat_lt i 8 then i else i - 8) any_val else v) ∷ with_lower_from (i + 1) lower vs
+unfoldable pub values_with_lower_from : ℕ → List Val → List Val → List Val
+values_with_lower_from i lower [] = []
+values_with_lower_from i lower (v ∷ vs) =
+    (if is_lower_slot i then slice_index_or lower (if nat_lt i 8 then i else i - 8) any_val else v) ∷ values_with_lower_from (i + 1) lower vs
 
 -- the state after a return by this exit of a certificate's node; a return from a call keeps the
 -- exit's IE and CCPN, one from a system call restores the caller's
 abbrev pub state_after_exit : State → Exit → ℕ → State
 state_after_exit s x kind = record s {
-  regs = with_lower_from 0 x.lower s.regs;
+  regs = values_with_lower_from 0 x.lower s.regs;
   ie = if kind == call_kind then x.ie else s.ie;
   ccpn = if kind == call_kind then x.ccpn else s.ccpn;
   lower = false;
@@ -54,5 +54,5 @@ no_exit = record { ie = false; ccpn = 0; lower = [] }
 -- an exit that a certificate of the format can have: values of the 14 lower registers, and a CCPN
 pub record IsExit (version : ℕ) (e : Exit) : Type 0 where
   pub lower : length e.lower ≡ 14
-  pub values : All (IsWellCertValue version) e.lower
+  pub values : All (IsWellFormedCertValue version) e.lower
   pub ccpn : e.ccpn < 2 ^ 8

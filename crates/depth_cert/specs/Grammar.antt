@@ -8,7 +8,7 @@ use Rattle.tcd_base.specs.FieldReaders.{◌>>=◌, u8_at, u16_at, u32_at, many_f
 use Rattle.value_domain.specs.declared.values.Val.{Val}
 use Rattle.value_domain.specs.declared.values.Val.TheVariants.{Set, Span}
 use Rattle.value_domain.specs.declared.states.State.{State}
-use Rattle.value_domain.specs.Values.{any_val, count_in, is_any_span}
+use Rattle.value_domain.specs.Values.{any_val, span_len, is_any_span}
 use Rattle.value_domain.specs.VersionLimits.{most_words_of, most_locals_of}
 use Rattle.depth_cert.specs.declared.keys.Key.{Key}
 use Rattle.depth_cert.specs.declared.points.Exit.{Exit}
@@ -19,8 +19,8 @@ use Rattle.depth_cert.specs.Certs.{CertData}
 
 -- ---- fields
 -- a valid number, or a fault of this kind at the field
-abbrev pub checked_cert_field : ℕ → Bool → Place → ℕ × Place → Result (ℕ × Place) FormErr
-checked_cert_field kind good p x = if good then Ok x else field_fault_at kind p
+abbrev pub valid_field_or_fault : ℕ → Bool → Place → ℕ × Place → Result (ℕ × Place) FormErr
+valid_field_or_fault kind good p x = if good then Ok x else field_fault_at kind p
 
 -- the last of the numbers that the grammar has read in ascending order, if there is one
 abbrev pub last_number_read : List ℕ → Option ℕ
@@ -38,7 +38,7 @@ flag_at p = u8_at p >>= λ b. if nat_lt 1 b.0 then field_fault_at 4 p else Ok (b
 -- ---- values
 -- a word of a Set
 unfoldable pub set_word_after : List ℕ → Place → Result (ℕ × Place) FormErr
-set_word_after before p = u32_at p >>= λ w. checked_cert_field 4 (is_above_last_read (last_number_read before) w.0) p w
+set_word_after before p = u32_at p >>= λ w. valid_field_or_fault 4 (is_above_last_read (last_number_read before) w.0) p w
 
 -- a Set of n words, each above the one before
 unfoldable pub set_at : ℕ → Place → Result (Val × Place) FormErr
@@ -47,7 +47,7 @@ set_at n p = many_fields_at set_word_after n [] p >>= λ ws. Ok (Set ws.0, ws.1)
 -- the Span has more members than a Set can have (so lo isn't above last), but not all words, which
 -- are spelled otherwise
 abbrev pub is_cert_span : ℕ → ℕ → ℕ → ℕ → Bool
-is_cert_span version lo last step = nat_lt (most_words_of version) (count_in lo last step) && not (is_any_span lo last step)
+is_cert_span version lo last step = nat_lt (most_words_of version) (span_len lo last step) && not (is_any_span lo last step)
 
 -- a Span whose first byte is at start
 unfoldable pub span_at : ℕ → ℕ → Place → Place → Result (Val × Place) FormErr
@@ -71,7 +71,7 @@ values_at version n p = many_fields_at (λ before. value_at version) n [] p
 -- a state's locals: how many, at most the format's limit, and a flag for each
 unfoldable pub locals_at : ℕ → Place → Result (List Bool × Place) FormErr
 locals_at version p =
-    u8_at p >>= λ n. checked_cert_field 5 (nat_le n.0 (most_locals_of version)) p n >>= λ n. many_fields_at (λ before. flag_at) n.0 [] n.1
+    u8_at p >>= λ n. valid_field_or_fault 5 (nat_le n.0 (most_locals_of version)) p n >>= λ n. many_fields_at (λ before. flag_at) n.0 [] n.1
 
 -- a state: ie, ccpn, lower, the locals, and the values of its 27 registers
 unfoldable pub state_at : ℕ → Place → Result (State × Place) FormErr
@@ -81,7 +81,7 @@ state_at version p =
 
 -- an address above the last one
 unfoldable pub address_after : Option ℕ → Place → Result (ℕ × Place) FormErr
-address_after last p = u32_at p >>= λ addr. checked_cert_field 3 (is_above_last_read last addr.0) p addr
+address_after last p = u32_at p >>= λ addr. valid_field_or_fault 3 (is_above_last_read last addr.0) p addr
 
 -- a point whose address is above those before: the address and the state
 unfoldable pub point_after : ℕ → List Point → Place → Result (Point × Place) FormErr
@@ -92,13 +92,13 @@ point_after version before p =
 -- a key whose number is above the last; a fault of the order is at the kind, after `is` was read
 unfoldable pub key_after : Option ℕ → Place → Result (Key × Place) FormErr
 key_after last p =
-    u8_at p >>= λ kind. checked_cert_field 4 (nat_le kind.0 4) p kind >>= λ kind. u32_at kind.1 >>= λ entry. u8_at entry.1 >>= λ prio. u8_at prio.1 >>= λ is.
-    checked_cert_field 3 (is_above_last_read last (key_number kind.0 entry.0 prio.0 is.0)) p is >>= λ is. checked_cert_field 4 (nat_le is.0 1) prio.1 is >>= λ is.
+    u8_at p >>= λ kind. valid_field_or_fault 4 (nat_le kind.0 4) p kind >>= λ kind. u32_at kind.1 >>= λ entry. u8_at entry.1 >>= λ prio. u8_at prio.1 >>= λ is.
+    valid_field_or_fault 3 (is_above_last_read last (key_number kind.0 entry.0 prio.0 is.0)) p is >>= λ is. valid_field_or_fault 4 (nat_le is.0 1) prio.1 is >>= λ is.
     Ok (record { kind = kind.0; entry = entry.0; prio = prio.0; is = is.0 == 1 }, is.1)
 
 -- a node's need, at most 4,096 areas
 unfoldable pub need_at : Place → Result (ℕ × Place) FormErr
-need_at p = u16_at p >>= λ need. checked_cert_field 5 (nat_le need.0 4096) p need
+need_at p = u16_at p >>= λ need. valid_field_or_fault 5 (nat_le need.0 4096) p need
 
 -- a flag: only calls and system calls can have an exit
 unfoldable pub has_exit_at : ℕ → Place → Result (Bool × Place) FormErr
@@ -116,7 +116,7 @@ optional_exit_at version kind p =
 
 -- the number of a node's points, which with those of the nodes before are at most 65,536
 unfoldable pub point_count_at : ℕ → Place → Result (ℕ × Place) FormErr
-point_count_at used p = u32_at p >>= λ n. checked_cert_field 5 (nat_le (used + n.0) (2 ^ 16)) p n
+point_count_at used p = u32_at p >>= λ n. valid_field_or_fault 5 (nat_le (used + n.0) (2 ^ 16)) p n
 
 -- a node's points: their number, and each one after those before
 unfoldable pub points_at : ℕ → ℕ → Place → Result (List Point × Place) FormErr
@@ -131,15 +131,15 @@ node_after version before p =
 -- ---- certificates
 -- the bytes 54 43 44 43
 unfoldable pub magic_at : Place → Result (ℕ × Place) FormErr
-magic_at p = u32_at p >>= λ magic. checked_cert_field 2 (magic.0 == 0x43444354) p magic
+magic_at p = u32_at p >>= λ magic. valid_field_or_fault 2 (magic.0 == 0x43444354) p magic
 
 -- the format, 1 or 2
 unfoldable pub version_at : Place → Result (ℕ × Place) FormErr
-version_at p = u16_at p >>= λ version. checked_cert_field 2 (version.0 == 1 || version.0 == 2) p version
+version_at p = u16_at p >>= λ version. valid_field_or_fault 2 (version.0 == 1 || version.0 == 2) p version
 
 -- the number of nodes, at most 2,048
 unfoldable pub node_count_at : Place → Result (ℕ × Place) FormErr
-node_count_at p = u16_at p >>= λ n. checked_cert_field 5 (nat_le n.0 2048) p n
+node_count_at p = u16_at p >>= λ n. valid_field_or_fault 5 (nat_le n.0 2048) p n
 
 -- a certificate: the magic bytes, the format, and the nodes
 unfoldable pub cert_at : Place → Result (CertData × Place) FormErr

@@ -53,8 +53,8 @@ abbrev pub number_of_key : Key → ℕ
 number_of_key k = key_number k.kind k.entry k.prio (cert_flag_byte k.is)
 
 -- two keys are equal
-abbrev pub same_key : Key → Key → Bool
-same_key k j = k.kind == j.kind && k.entry == j.entry && k.prio == j.prio && cert_flag_byte k.is == cert_flag_byte j.is
+abbrev pub is_same_key : Key → Key → Bool
+is_same_key k j = k.kind == j.kind && k.entry == j.entry && k.prio == j.prio && cert_flag_byte k.is == cert_flag_byte j.is
 
 -- the kind of the key is one of start, call, irq, sys and aln
 pub record IsKey (k : Key) : Type 0 where

@@ -6,21 +6,21 @@ use Rattle.value_domain.specs.declared.values.Val.{Val}
 use Rattle.value_domain.specs.declared.values.Val.TheVariants.{Set, Span}
 use Rattle.value_domain.specs.declared.states.State.{State}
 use Rattle.value_domain.specs.Sets.{AreWords}
-use Rattle.value_domain.specs.Values.{count_in}
+use Rattle.value_domain.specs.Values.{span_len}
 use Rattle.value_domain.specs.VersionLimits.{most_words_of, most_locals_of}
 use Rattle.depth_cert.specs.declared.points.Point.{Point}
 
 -- a value that a certificate's point or exit can have: a well-formed Set of at most as many words
 -- as the format allows, or a well-formed Span of more members
-abbrev pub IsWellCertValue : ℕ → Val → Type 0
-IsWellCertValue version (Set ws) = AreWords ws × (length ws ≤ most_words_of version)
-IsWellCertValue version (Span lo last step) = (step ≤ 2) × (most_words_of version < count_in lo last step) × (last < 2 ^ 32)
+abbrev pub IsWellFormedCertValue : ℕ → Val → Type 0
+IsWellFormedCertValue version (Set ws) = AreWords ws × (length ws ≤ most_words_of version)
+IsWellFormedCertValue version (Span lo last step) = (step ≤ 2) × (most_words_of version < span_len lo last step) × (last < 2 ^ 32)
 
 -- a state that a certificate's point can have: 27 values, a CCPN below 256, and no more locals than
 -- the certificate's format allows
 pub record IsState (version : ℕ) (s : State) : Type 0 where
   pub regs : length s.regs ≡ 27
-  pub values : All (IsWellCertValue version) s.regs
+  pub values : All (IsWellFormedCertValue version) s.regs
   pub ccpn : s.ccpn < 2 ^ 8
   pub locals : length s.locals.items ≤ most_locals_of version
 

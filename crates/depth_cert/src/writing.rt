@@ -4,7 +4,7 @@ ghost use Rattle.std.specs.List.{flat_map};
 ghost use Rattle.tcd_base.specs.Bytes.{bytes_of_word};
 ghost use Rattle.depth_cert.specs.Keys.{cert_flag_byte};
 ghost use Rattle.depth_cert.specs.Spelling.{bytes_of_value, bytes_of_key, bytes_of_exit};
-ghost use Rattle.value_domain.specs.Values.{IsWell};
+ghost use Rattle.value_domain.specs.Values.{IsWellFormed};
 ghost use Rattle.value_domain.specs.declared.values.Val.TheVariants.{Set, Span};
 
 use crate::Key;
@@ -14,7 +14,7 @@ use value_domain::Val;
 
 /// Appends the only bytes that spell a value.
 pub fn write_value(out: &mut Vec<u8>, v: &Val) -> Result<(), NoMemory>
-    requires { IsWell v.now }
+    requires { IsWellFormed v.now }
     ensures { OnOk result (out.new.items ≡ out.old.items ++ bytes_of_value v.now) }
 {
     match v {

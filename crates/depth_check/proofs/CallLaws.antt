@@ -13,9 +13,9 @@ use Rattle.vd_transfer.specs.Changes.{state_after}
 use Rattle.depth_cert.specs.declared.keys.Key.{Key}
 use Rattle.depth_cert.specs.Keys.{call_kind}
 use Rattle.depth_cert.specs.Points.{find_point}
-use Rattle.packed_cert.specs.EnteredAlike.{node_state, AreEnteredAlike}
+use Rattle.packed_cert.specs.EnteredAlike.{node_state, HaveSameEntryAndExit}
 use Rattle.depth_check.specs.PointCheckData.{PointCheckData}
-use Rattle.depth_check.specs.LeastBroken.{LeastBrokenByDuties, lesser_broken_rule, broken_rule_unless}
+use Rattle.depth_check.specs.LeastBroken.{FindsLeastBrokenByDuties, lesser_broken_rule, broken_rule_unless}
 use Rattle.depth_check.proofs.Deciding.{yes}
 use Rattle.depth_check.proofs.DutyLaws.{entry_found}
 use Rattle.depth_cert.specs.declared.points.Exit.{Exit}
@@ -26,10 +26,10 @@ use Rattle.depth_cert.specs.Certs.{CertData}
 use Rattle.cfg_recover.specs.RulesHoldOrFail.{HasCoveringPoint}
 use Rattle.cfg_recover.specs.Entries.{call_key, call_entry}
 use Rattle.cfg_recover.specs.LocalRules.{targets_named_by}
-use Rattle.cfg_recover.specs.Duties.{Owed, owed, enter, resume, entered_and_back}
-use Rattle.packed_cert.specs.Walks.{WalkData, RepeatsAt}
+use Rattle.cfg_recover.specs.Duties.{Owed, owed, enter, resume, entry_and_return}
+use Rattle.packed_cert.specs.Walks.{WalkData, IsNextWithSameState}
 use Rattle.depth_check.specs.declared.fast_paths.CheckedRegisters.{CheckedRegisters}
-use Rattle.depth_check.specs.CheckedRegisters.{calls_by, RegisterCallsHold, RegistersHold, IsHeldCall}
+use Rattle.depth_check.specs.CheckedRegisters.{register_call_duties, RegisterCallsHold, RegistersHold, IsHeldCall}
 use Rattle.depth_check.specs.DutiesHold.{HasPointWithState, DutyHolds, DutiesHold}
 
 -- points with the same state cover the same states
@@ -49,12 +49,12 @@ back_alike node a b kind s (Some n) here there h = exit_alike node a b kind s n.
 
 -- so what holds of calls that return to one of them holds of calls that return to another
 calls_alike : (cert : CertData) (node : NodeData) (s u : State) (key : Key) (a b q : ℕ) (ts : List ℕ) → HasPointWithState node a s → HasPointWithState node b s
-    → DutiesHold cert node s (flat_map (λ t. entered_and_back 5 (call_key key t) u a) ts) q → DutiesHold cert node s (flat_map (λ t. entered_and_back 5 (call_key key t) u b) ts) q
+    → DutiesHold cert node s (flat_map (λ t. entry_and_return 5 (call_key key t) u a) ts) q → DutiesHold cert node s (flat_map (λ t. entry_and_return 5 (call_key key t) u b) ts) q
 calls_alike cert node s u key a b q [] here there h = All-nil (DutyHolds cert node s q)
 calls_alike cert node s u key a b q (t ∷ ts) here there h =
     let k = call_key key t in
     let into = owed 5 (enter k u) in
-    let rest : ℕ → List Owed = λ back. flat_map (λ x. entered_and_back 5 (call_key key x) u back) ts in
+    let rest : ℕ → List Owed = λ back. flat_map (λ x. entry_and_return 5 (call_key key x) u back) ts in
     let on = All-tail (DutyHolds cert node s q) into (owed 4 (resume k a) ∷ rest a) h in
     All-cons (DutyHolds cert node s q) into (owed 4 (resume k b) ∷ rest b) (All-head (DutyHolds cert node s q) into (owed 4 (resume k a) ∷ rest a) h)
     (All-cons (DutyHolds cert node s q) (owed 4 (resume k b)) (rest b)
@@ -66,13 +66,13 @@ calls_alike cert node s u key a b q (t ∷ ts) here there h =
 
 -- calls that hold if they return to one point with the state
 pub calls_kept : (plan : PlanData) (cert : CertData) (node : NodeData) (s : State) (r : ℕ) (next : Option ℕ) (back : ℕ) → next ≡ Some back → IfSome next (λ a. HasPointWithState node a s)
-    → ((q : ℕ) → DutiesHold cert node s (calls_by plan node.key s r back) q) → RegisterCallsHold plan cert node s r
+    → ((q : ℕ) → DutiesHold cert node s (register_call_duties plan node.key s r back) q) → RegisterCallsHold plan cert node s r
 calls_kept plan cert node s r next back e there h = λ other stands q.
     calls_alike cert node s (call_entry s) node.key back other q (unwrap_or (targets_named_by (reg_of plan s r)) []) (subst (λ (o : Option ℕ). IfSome o (λ a. HasPointWithState node a s)) e there) stands (h q)
 
 -- hold if they return to another
 pub kept_calls : (plan : PlanData) (cert : CertData) (node : NodeData) (s : State) (r : ℕ) (called next : Option ℕ) (back : ℕ) → called ≡ Some r → next ≡ Some back → IfSome called (RegisterCallsHold plan cert node s) → IfSome next (λ a. HasPointWithState node a s)
-    → (q : ℕ) → DutiesHold cert node s (calls_by plan node.key s r back) q
+    → (q : ℕ) → DutiesHold cert node s (register_call_duties plan node.key s r back) q
 kept_calls plan cert node s r called next back e f h there =
     (subst (λ (o : Option ℕ). IfSome o (RegisterCallsHold plan cert node s)) e h) back (subst (λ (o : Option ℕ). IfSome o (λ a. HasPointWithState node a s)) f there)
 
@@ -88,7 +88,7 @@ first_same : (p q : Point) (ps qs : List Point) → p ∷ ps ≡ q ∷ qs → p 
 first_same p q ps qs e = cc
 
 -- they do if that is the current state
-pub holds_next : (plan : PlanData) (cert : CertData) (node : NodeData) (w : WalkData) (s : State) (repeats : Option ℕ) (rs : CheckedRegisters) → s ≡ w.current → IfSome repeats (RepeatsAt w) → RegistersHold plan cert node s rs
+pub holds_next : (plan : PlanData) (cert : CertData) (node : NodeData) (w : WalkData) (s : State) (repeats : Option ℕ) (rs : CheckedRegisters) → s ≡ w.current → IfSome repeats (IsNextWithSameState w) → RegistersHold plan cert node s rs
     → HoldsNext plan cert node w.left (record { called = option_and repeats rs.called; jumped = option_and repeats rs.jumped })
 holds_next plan cert node w s None rs e f h = λ p after split. record { called = tt; jumped = tt }
 holds_next plan cert node w s (Some a) rs e f h = λ p after split.
@@ -107,7 +107,7 @@ state_covers a b n m t e h = covers (find_point b m.points) (subst (λ (o : Opti
     covers (Some p) h = h
 
 -- what a call asks of the called node, if the call of another node holds that is entered alike
-met_alike : (cert : CertData) (node : NodeData) (s t : State) (h k : Key) (back : ℕ) (m : NodeData) (o : Option NodeData) → h.kind ≡ k.kind → AreEnteredAlike cert.nodes h k → find_node k cert.nodes ≡ Some m → find_node h cert.nodes ≡ o
+met_alike : (cert : CertData) (node : NodeData) (s t : State) (h k : Key) (back : ℕ) (m : NodeData) (o : Option NodeData) → h.kind ≡ k.kind → HaveSameEntryAndExit cert.nodes h k → find_node k cert.nodes ≡ Some m → find_node h cert.nodes ≡ o
     → IsSomeAnd o (λ n. HasCoveringPoint n h.entry t) → IfSome o (λ n. IfSome n.exit (λ x. HasCoveringPoint node back (state_after_exit s x h.kind))) → HasCoveringPoint m k.entry t × IfSome m.exit (λ x. HasCoveringPoint node back (state_after_exit s x k.kind))
 met_alike cert node s t h k back m None kind alike found other into on = absurd into
 met_alike cert node s t h k back m (Some n) kind alike found other into on =
@@ -121,8 +121,8 @@ lesser_none None = refl
 lesser_none (Some r) = refl
 
 -- so only its need is asked
-pub alike_found : (at : PointCheckData) (entry : Change) (h k : Key) (back : ℕ) (m : NodeData) (need : Bool) → k.kind ≡ call_kind → IsHeldCall at entry back h → AreEnteredAlike (at.cert).nodes h k → find_node k (at.cert).nodes ≡ Some m
-    → (IsTrue need ↔ (length (at.point.state).locals.items + 1 + m.need ≤ (at.node).need)) → LeastBrokenByDuties at (entered_and_back 5 k (state_after at.point.state entry) back) (broken_rule_unless need 14)
+pub alike_found : (at : PointCheckData) (entry : Change) (h k : Key) (back : ℕ) (m : NodeData) (need : Bool) → k.kind ≡ call_kind → IsHeldCall at entry back h → HaveSameEntryAndExit (at.cert).nodes h k → find_node k (at.cert).nodes ≡ Some m
+    → (IsTrue need ↔ (length (at.point.state).locals.items + 1 + m.need ≤ (at.node).need)) → FindsLeastBrokenByDuties at (entry_and_return 5 k (state_after at.point.state entry) back) (broken_rule_unless need 14)
 alike_found at entry h k back m need kind held alike found d =
     let t = state_after at.point.state entry in
     let holds = DutyHolds at.cert at.node at.point.state in

@@ -11,7 +11,7 @@ use Rattle.tcd_plan.specs.PlanData.{PlanData, IsPlan, global_of}
 use Rattle.tc_machine.specs.declared.events.End.TheVariants.{Running}
 use Rattle.tc_machine.specs.declared.state.Machine.{Machine}
 use Rattle.tc_machine.specs.Machine.{reg, a11, is_interrupt_stack_used, IsMachine}
-use Rattle.tc_machine.specs.SavesAndRestores.{context_of, saved, save}
+use Rattle.tc_machine.specs.SavesAndRestores.{context_of, with_context_saved, save}
 use Rattle.tcd_plan.specs.MappedAddresses.{IsMappedBy}
 use Rattle.tc_machine.proofs.Words.{register_lt}
 use Rattle.tc_machine.proofs.PlanLaws.{HoldsRom-written}
@@ -33,7 +33,7 @@ use Rattle.cfg_recover.proofs.EntryLaws.{reg_lt}
 
 -- the machine after a save of its upper context, with these registers, address and status
 abbrev pub begun : Machine → List ℕ → List ℕ → ℕ → ℕ → Bool → ℕ → Machine
-begun m d a pc psw ie ccpn = record (saved m true) { d = d; a = a; pc = pc; psw = psw; ie = ie; ccpn = ccpn }
+begun m d a pc psw ie ccpn = record (with_context_saved m true) { d = d; a = a; pc = pc; psw = psw; ie = ie; ccpn = ccpn }
 
 -- the frame that begins there
 abbrev pub entered : Machine → NodeData → ℕ → Frame
@@ -140,5 +140,5 @@ module _ (image : ImageData) (plan : PlanData) (ok : IsPlan plan) (cert : CertDa
           running = refl;
         }
 
-    pub saves : HasFree plan m.mem m.fcx m.lcx (used_by frame below) → (upper : Bool) → save m upper ≡ saved m upper
+    pub saves : HasFree plan m.mem m.fcx m.lcx (used_by frame below) → (upper : Bool) → save m upper ≡ with_context_saved m upper
     saves free upper = save-is m upper free.some free.area free.not_last

@@ -22,8 +22,8 @@ use Rattle.depth_cert.specs.declared.points.Point.{Point}
 use Rattle.depth_cert.specs.Points.{find_point}
 use Rattle.depth_cert.specs.Nodes.{NodeData}
 use Rattle.depth_cert.specs.Certs.{CertData}
-use Rattle.cfg_recover.specs.Frames.{Standing}
-use Rattle.cfg_recover.specs.MovesAreOwed.{InState}
+use Rattle.cfg_recover.specs.Frames.{RunFrame}
+use Rattle.cfg_recover.specs.MovesAreOwed.{IsInState}
 use Rattle.cfg_recover.proofs.EntryLaws.{HoldsExit}
 use Rattle.cfg_recover.proofs.PointLaws.{Stands}
 
@@ -131,7 +131,7 @@ used_by frame [] = frame.locals
 used_by frame (suspended ∷ below) = frame.locals ++ frame.area ∷ used_by suspended below
 
 -- the frames as a run has them, the running one at an address
-abbrev pub standing : ℕ → Frame → List Frame → List Standing
+abbrev pub standing : ℕ → Frame → List Frame → List RunFrame
 standing pc frame [] = record { key = (frame.node).key; at = pc } ∷ []
 standing pc frame (suspended ∷ below) = record { key = (frame.node).key; at = pc } ∷ standing frame.back suspended below
 
@@ -140,7 +140,7 @@ pub record Invariant (image : ImageData) (plan : PlanData) (cert : CertData) (mo
   pub stands : Stands cert frame.node
   pub point : Point
   pub found : find_point m.pc (frame.node).points ≡ Some point
-  pub inside : InState plan m point.state
+  pub inside : IsInState plan m point.state
   pub flags : FlagsImpliedBy (point.state).locals.items (oldest_first frame.flags)
   pub is : is_interrupt_stack_used m.psw ≡ ((frame.node).key).is
   pub lower_kept : (point.state).lower ≡ true → LowerSame frame.word0 (reg m)

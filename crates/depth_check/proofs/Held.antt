@@ -16,9 +16,9 @@ use Rattle.depth_cert.specs.Points.{find_point}
 use Rattle.depth_cert.specs.Certs.{CertData, IsCert}
 use Rattle.depth_cert.specs.Nodes.{find_node}
 use Rattle.cfg_recover.specs.RulesHoldOrFail.{Accepts, certified_need}
-use Rattle.cfg_recover.specs.Frames.{Standing, FrameLiesAtPoint, HoldFrames}
+use Rattle.cfg_recover.specs.Frames.{RunFrame, IsFrameAtPoint, HoldFrames}
 use Rattle.cfg_recover.specs.EdgesAreOwed.{EdgeOwed}
-use Rattle.cfg_recover.specs.MovesAreOwed.{InState}
+use Rattle.cfg_recover.specs.MovesAreOwed.{IsInState}
 use Rattle.depth_check.specs.AcceptedPromises.{AcceptedHoldsFrames, AcceptedOwesEdges}
 use Rattle.cfg_recover.proofs.PointLaws.{Stands}
 use Rattle.depth_check.proofs.Frames.{Frame, standing, Frames, Invariant}
@@ -28,17 +28,17 @@ use Rattle.depth_check.proofs.Sound.{few, held}
 module _ (image : ImageData) (plan : PlanData) (cert : CertData) (most : ℕ) where
   -- the node of each frame exists
   all_stand : (core : Core) (mem : Memory) (pcxi back pc : ℕ) (frame : Frame) (below : List Frame) → Stands cert frame.node → Frames plan cert most core mem pcxi back frame below →
-      (i : ℕ) (d : Standing) → i < length (standing pc frame below) → IsSome (find_node (get_or (standing pc frame below) i d).key cert.nodes)
+      (i : ℕ) (d : RunFrame) → i < length (standing pc frame below) → IsSome (find_node (get_or (standing pc frame below) i d).key cert.nodes)
   all_stand core mem pcxi back pc frame [] stands h zero d lt = ap is_some stands
   all_stand core mem pcxi back pc frame [] stands h (suc i) d lt = absurd (omega arith)
   all_stand core mem pcxi back pc frame (s ∷ below) stands h zero d lt = ap is_some stands
   all_stand core mem pcxi back pc frame (s ∷ below) stands h (suc i) d lt =
       all_stand core mem (area_word mem frame.area 0) (area_word mem frame.area 3) frame.back s below (h.1).stands h.2 i d (omega arith)
 
-  lies_at : (m : Machine) (frame : Frame) (below : List Frame) → Invariant image plan cert most m frame below → FrameLiesAtPoint plan cert m (record { key = (frame.node).key; at = m.pc })
+  lies_at : (m : Machine) (frame : Frame) (below : List Frame) → Invariant image plan cert most m frame below → IsFrameAtPoint plan cert m (record { key = (frame.node).key; at = m.pc })
   lies_at m frame below k =
-      subst (λ o. IsSomeAnd o (λ n. IsSomeAnd (find_point m.pc n.points) (λ p. InState plan m p.state))) (sym k.stands)
-      (subst (λ o. IsSomeAnd o (λ p. InState plan m p.state)) (sym k.found) k.inside)
+      subst (λ o. IsSomeAnd o (λ n. IsSomeAnd (find_point m.pc n.points) (λ p. IsInState plan m p.state))) (sym k.stands)
+      (subst (λ o. IsSomeAnd o (λ p. IsInState plan m p.state)) (sym k.found) k.inside)
 
   -- the frames are held by the invariant
   hold_kept : (m : Machine) (frame : Frame) (below : List Frame) → Invariant image plan cert most m frame below → HoldFrames plan cert m (standing m.pc frame below)

@@ -18,7 +18,7 @@ use Rattle.depth_cert.specs.Certs.{CertData}
 use Rattle.cfg_recover.specs.Code.{IsCode}
 use Rattle.cfg_recover.specs.LocalRules.{direct_target, targets_of, LocalRule}
 use Rattle.cfg_recover.specs.LocalFaults.{IsFaultless}
-use Rattle.cfg_recover.specs.Duties.{owed, jump, jumps_to, successors_of, entries_of, misaligned_of, interrupts_of, leavings_of, duties_of}
+use Rattle.cfg_recover.specs.Duties.{owed, jump, jumps_to, successor_duties_of, entry_duties_of, misaligned_duties_of, interrupt_duties_of, exit_duties_of, duties_of}
 use Rattle.cfg_recover.proofs.LocalLaws.{LocalHolds-found}
 use Rattle.depth_check.specs.LeastBroken.{FindsLeastBroken, lesser_broken_rule}
 use Rattle.depth_check.specs.DutiesHold.{DutiesHold}
@@ -62,9 +62,9 @@ idle_faultless b image plan key p s next on r = LocalHolds-found b image plan ke
 
 -- a point whose only duties are its successors and the interrupts
 alone_found : (b : Limits) (image : ImageData) (plan : PlanData) (cert : CertData) (node : NodeData) (p : ℕ) (s : State) (shape : Shape) (n : ℕ) (on irqs : Option ℕ)
-    → FindsLeastBroken (DutiesHold cert node s (successors_of b image plan p s shape n)) on → FindsLeastBroken (DutiesHold cert node s (entries_of plan node.key p s shape n)) None
-    → FindsLeastBroken (DutiesHold cert node s (misaligned_of b plan node.key s shape)) None → FindsLeastBroken (DutiesHold cert node s (interrupts_of plan node.key s)) irqs
-    → FindsLeastBroken (DutiesHold cert node s (leavings_of node.key s shape)) None → FindsLeastBroken (DutiesHold cert node s (duties_of b image plan node.key p s shape n)) (lesser_broken_rule on irqs)
+    → FindsLeastBroken (DutiesHold cert node s (successor_duties_of b image plan p s shape n)) on → FindsLeastBroken (DutiesHold cert node s (entry_duties_of plan node.key p s shape n)) None
+    → FindsLeastBroken (DutiesHold cert node s (misaligned_duties_of b plan node.key s shape)) None → FindsLeastBroken (DutiesHold cert node s (interrupt_duties_of plan node.key s)) irqs
+    → FindsLeastBroken (DutiesHold cert node s (exit_duties_of node.key s shape)) None → FindsLeastBroken (DutiesHold cert node s (duties_of b image plan node.key p s shape n)) (lesser_broken_rule on irqs)
 alone_found b image plan cert node p s shape n on irqs j e m i l =
     let same : lesser_broken_rule (lesser_broken_rule (lesser_broken_rule (lesser_broken_rule on None) None) irqs) None ≡ lesser_broken_rule on irqs =
     lesser_none (lesser_broken_rule (lesser_broken_rule (lesser_broken_rule on None) None) irqs)
@@ -73,7 +73,7 @@ alone_found b image plan cert node p s shape n on irqs j e m i l =
     (parts_found b image plan cert node p s shape n on None None irqs None j e m i l)
 
 found_of : (b : Limits) (image : ImageData) (plan : PlanData) (cert : CertData) (node : NodeData) (p : ℕ) (s : State) (shape : Shape) (n next : ℕ) (on irqs : Option ℕ) → IsPassingShape p shape n next
-    → FindsLeastBroken (DutiesHold cert node s (owed 4 (jump next s) ∷ [])) on → FindsLeastBroken (DutiesHold cert node s (interrupts_of plan node.key s)) irqs
+    → FindsLeastBroken (DutiesHold cert node s (owed 4 (jump next s) ∷ [])) on → FindsLeastBroken (DutiesHold cert node s (interrupt_duties_of plan node.key s)) irqs
     → FindsLeastBroken (DutiesHold cert node s (duties_of b image plan node.key p s shape n)) (lesser_broken_rule on irqs)
 unfolding transfer_of
 found_of b image plan cert node p s Nothing n next on irqs h j i =
@@ -86,6 +86,6 @@ found_of b image plan cert node p s (Jump to) n next on irqs h j i =
 found_of b image plan cert node p s shape n next on irqs h j i = absurd h
 
 pub idle_found : (b : Limits) (image : ImageData) (plan : PlanData) (cert : CertData) (node : NodeData) (p : ℕ) (s : State) (next : ℕ) (at : HasPassingInstruction image plan p next) (on irqs : Option ℕ)
-    → FindsLeastBroken (DutiesHold cert node s (owed 4 (jump next s) ∷ [])) on → FindsLeastBroken (DutiesHold cert node s (interrupts_of plan node.key s)) irqs
+    → FindsLeastBroken (DutiesHold cert node s (owed 4 (jump next s) ∷ [])) on → FindsLeastBroken (DutiesHold cert node s (interrupt_duties_of plan node.key s)) irqs
     → FindsLeastBroken (DutiesHold cert node s (duties_of b image plan node.key p s at.shape at.size)) (lesser_broken_rule on irqs)
 idle_found b image plan cert node p s next at on irqs j i = found_of b image plan cert node p s at.shape at.size next on irqs at.passes j i

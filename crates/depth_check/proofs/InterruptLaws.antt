@@ -10,15 +10,15 @@ use Rattle.elf_image.specs.Images.{ImageData}
 use Rattle.tcd_plan.specs.PlanData.{PlanData}
 use Rattle.value_domain.specs.declared.values.Val.{Val}
 use Rattle.value_domain.specs.declared.states.State.{State}
-use Rattle.value_domain.specs.Values.{any_val, IsWell, IsValue, IsBelow, word_val}
+use Rattle.value_domain.specs.Values.{any_val, IsWellFormed, IsValue, IsBelow, word_val}
 use Rattle.value_domain.specs.Limits.{Limits}
-use Rattle.value_domain.specs.State.{AreValues, AreWell, Covers}
+use Rattle.value_domain.specs.State.{AreValues, AreWellFormed, Covers}
 use Rattle.value_domain.proofs.RegLaws.{read_at}
 use Rattle.arrayvec.specs.ArrayVec.{ArrayVec}
 use Rattle.vd_transfer.specs.declared.change.Base.TheVariants.{Any}
 use Rattle.vd_transfer.specs.declared.change.Put.{Put}
 use Rattle.vd_transfer.specs.Registers.{slot}
-use Rattle.vd_transfer.specs.Changes.{state_after, no_put, reg_put}
+use Rattle.vd_transfer.specs.Changes.{state_after, no_put, put_of_register}
 use Rattle.depth_cert.specs.declared.keys.Key.{Key}
 use Rattle.depth_cert.specs.declared.points.Point.{Point}
 use Rattle.depth_cert.specs.Points.{find_point}
@@ -27,7 +27,7 @@ use Rattle.depth_cert.specs.Certs.{CertData}
 use Rattle.cfg_recover.specs.Code.{HasCode}
 use Rattle.cfg_recover.specs.Entries.{irq_key, irq_entry, entry_state_with, entry_stack_of, irqs_of, entry_stack_with}
 use Rattle.cfg_recover.specs.LocalFaults.{IsFaultless}
-use Rattle.cfg_recover.specs.Duties.{Owed, owed, enter, successors_of, entries_of, misaligned_of, interrupts_of, leavings_of, duties_of}
+use Rattle.cfg_recover.specs.Duties.{Owed, owed, enter, successor_duties_of, entry_duties_of, misaligned_duties_of, interrupt_duties_of, exit_duties_of, duties_of}
 use Rattle.cfg_recover.specs.FlowDuties.{duties_of_irqs}
 use Rattle.cfg_recover.specs.RulesHoldOrFail.{limits_in, HasCoveringPoint, RuleHolds}
 use Rattle.cfg_recover.proofs.EntryLaws.{entry_length}
@@ -36,7 +36,7 @@ use Rattle.depth_check.specs.declared.last_interrupts.InterruptContext.{Interrup
 use Rattle.depth_check.specs.declared.last_interrupts.LastInterrupts.{LastInterrupts}
 use Rattle.depth_check.specs.LeastBroken.{FindsLeastBroken}
 use Rattle.depth_check.specs.DutiesHold.{DutyHolds, DutiesHold}
-use Rattle.depth_check.specs.Interrupts.{IsContext, IsBelowContext, InterruptsHold, HoldsInContext, AreWellStacks, LastInterruptsHold, InterruptsHoldWith}
+use Rattle.depth_check.specs.Interrupts.{IsContext, IsBelowContext, InterruptsHold, HoldsInContext, AreStacksWellFormed, LastInterruptsHold, InterruptsHoldWith}
 use Rattle.depth_check.proofs.DutyLaws.{All-left, All-right}
 use Rattle.depth_check.proofs.RuleLaws.{holds_from}
 use Rattle.depth_check.proofs.NarrowLaws.{apart, covers_trans, found_more}
@@ -48,11 +48,11 @@ interrupts_at image plan cert node point all q =
     let values : AreValues (limits_in plan cert) (point.state).regs = (all 2).values refl in
     let faultless : IsFaultless (limits_in plan cert) image plan node.key point.addr point.state = λ r. (all r).own values in
     let has : HasCode image plan point.addr = (faultless 3).code refl in
-    let js = successors_of (limits_in plan cert) image plan point.addr point.state has.shape has.size in
-    let es = entries_of plan node.key point.addr point.state has.shape has.size in
-    let ms = misaligned_of (limits_in plan cert) plan node.key point.state has.shape in
-    let is = interrupts_of plan node.key point.state in
-    let ls = leavings_of node.key point.state has.shape in
+    let js = successor_duties_of (limits_in plan cert) image plan point.addr point.state has.shape has.size in
+    let es = entry_duties_of plan node.key point.addr point.state has.shape has.size in
+    let ms = misaligned_duties_of (limits_in plan cert) plan node.key point.state has.shape in
+    let is = interrupt_duties_of plan node.key point.state in
+    let ls = exit_duties_of node.key point.state has.shape in
     let each = (holds_from image plan cert node point has.shape has.size values faultless has.code q (all q)).0 in
     All-right (DutyHolds cert node point.state q) (js ++ es ++ ms) is (All-left (DutyHolds cert node point.state q) (js ++ es ++ ms ++ is) ls each)
 
@@ -103,14 +103,14 @@ pub other_stack : (plan : PlanData) (cert : CertData) (node : NodeData) (s entry
 other_stack plan cert node s entry sp n irqs e f on h q = subst (λ (l : List Owed). DutiesHold cert node s l q) (told_stack plan (node.key).is s entry sp n irqs e f on) (h q)
 
 -- a change that puts A10 alone, over unknown values, gives the state at an entry
-pub entered_state : (s : State) (sp : Val) (n : ℕ) (p q r : Put) (l : ArrayVec Bool) → p ≡ reg_put 26 sp → q ≡ no_put → r ≡ no_put → l ≡ record { items = [] }
+pub entered_state : (s : State) (sp : Val) (n : ℕ) (p q r : Put) (l : ArrayVec Bool) → p ≡ put_of_register 26 sp → q ≡ no_put → r ≡ no_put → l ≡ record { items = [] }
     → state_after s (record { base = Any; first = p; second = q; third = r; ie = false; ccpn = n; lower = true; locals = l }) ≡ entry_state_with sp false n true
 entered_state s sp n p q r l e f g h =
     let made : Put → Put → Put → ArrayVec Bool → State = λ a b c d. state_after s (record { base = Any; first = a; second = b; third = c; ie = false; ccpn = n; lower = true; locals = d }) in
     ap (λ (x : Put). made x q r l) e
-    ∙ ap (λ (x : Put). made (reg_put 26 sp) x r l) f
-    ∙ ap (λ (x : Put). made (reg_put 26 sp) no_put x l) g
-    ∙ ap (λ (x : ArrayVec Bool). made (reg_put 26 sp) no_put no_put x) h
+    ∙ ap (λ (x : Put). made (put_of_register 26 sp) x r l) f
+    ∙ ap (λ (x : Put). made (put_of_register 26 sp) no_put x l) g
+    ∙ ap (λ (x : ArrayVec Bool). made (put_of_register 26 sp) no_put no_put x) h
     ∙ handler-is s sp n
 
 -- two values that are put at one place of a list, the first below the second
@@ -180,10 +180,10 @@ below_context plan cert node other context s t a b h q =
     (subst (λ (l : List ℕ). DutiesHold cert node s (map (λ p. owed 11 (enter (irq_key plan p) (entry_state_with v false p true))) l) q) irqs (h q))
 
 -- each of well-formed values is well-formed, and so is what stands for those past the last
-any_well : IsWell any_val
+any_well : IsWellFormed any_val
 any_well = (omega arith, omega arith, omega arith)
 
-at_well : (vs : List Val) (i : ℕ) → AreWell vs → IsWell (get_or vs i any_val)
+at_well : (vs : List Val) (i : ℕ) → AreWellFormed vs → IsWellFormed (get_or vs i any_val)
 at_well vs i w =
     elim (cases_lt i (length vs)) [
       | inl h ↦ w i h
@@ -191,18 +191,18 @@ at_well vs i w =
     ]
 
 -- A10 of the next point of a walk
-pub stack_well : (node : NodeData) (done left after : List Point) (p : Point) → All (λ (q : Point). AreWell (q.state).regs) node.points → node.points ≡ done ++ left → left ≡ p ∷ after → IsWell (slice_index_or (p.state).regs 22 any_val)
+pub stack_well : (node : NodeData) (done left after : List Point) (p : Point) → All (λ (q : Point). AreWellFormed (q.state).regs) node.points → node.points ≡ done ++ left → left ≡ p ∷ after → IsWellFormed (slice_index_or (p.state).regs 22 any_val)
 stack_well node done left after p well split next =
-    let all : All (λ (q : Point). AreWell (q.state).regs) (done ++ p ∷ after) =
-    subst (λ (l : List Point). All (λ (q : Point). AreWell (q.state).regs) l) (split ∙ ap (λ (l : List Point). done ++ l) next) well in
-    at_well (p.state).regs 22 (All-head (λ (q : Point). AreWell (q.state).regs) p after (All-right (λ (q : Point). AreWell (q.state).regs) done (p ∷ after) all))
+    let all : All (λ (q : Point). AreWellFormed (q.state).regs) (done ++ p ∷ after) =
+    subst (λ (l : List Point). All (λ (q : Point). AreWellFormed (q.state).regs) l) (split ∙ ap (λ (l : List Point). done ++ l) next) well in
+    at_well (p.state).regs 22 (All-head (λ (q : Point). AreWellFormed (q.state).regs) p after (All-right (λ (q : Point). AreWellFormed (q.state).regs) done (p ∷ after) all))
 
 -- A10 of a context is well-formed, and a value of the limits
-stack_of_context_well : (plan : PlanData) (cert : CertData) (o : Option InterruptContext) → IfSome o (HoldsInContext plan cert) → IfSome o (λ a. IsWell a.sp)
+stack_of_context_well : (plan : PlanData) (cert : CertData) (o : Option InterruptContext) → IfSome o (HoldsInContext plan cert) → IfSome o (λ a. IsWellFormed a.sp)
 stack_of_context_well plan cert None h = tt
 stack_of_context_well plan cert (Some a) h = (h.sp).well
 
-pub stacks_well : (plan : PlanData) (cert : CertData) (kept : LastInterrupts) → LastInterruptsHold plan cert kept → AreWellStacks kept
+pub stacks_well : (plan : PlanData) (cert : CertData) (kept : LastInterrupts) → LastInterruptsHold plan cert kept → AreStacksWellFormed kept
 stacks_well plan cert kept h = record { last = stack_of_context_well plan cert kept.last h.last; before = stack_of_context_well plan cert kept.before h.before }
 
 -- so the entries hold in a state below a kept context

@@ -2,7 +2,7 @@
 use Rattle.std.proofs.Common.{◌≡◌, ℕ, ◌≤◌, Bool, true, false, Option, Some, None, min, arith, inl, inr, refl, subst, sym}
 use Rattle.std.specs.Prelude.{IsTrue, ◌↔◌}
 use Rattle.std.proofs.lemmas.Bool.{cases_lt}
-use Rattle.depth_check.specs.LeastBroken.{FindsLeastBroken, IsLeastBroken, lesser_broken_rule, broken_rule_unless}
+use Rattle.depth_check.specs.LeastBroken.{FindsLeastBroken, IsLeastBrokenRule, lesser_broken_rule, broken_rule_unless}
 
 -- a test decides what a single rule asks
 pub found_by : (b : Bool) (r : ℕ) (X : Type 0) → r ≤ 14 → (IsTrue b ↔ X) → FindsLeastBroken (λ q. r ≡ q → X) (broken_rule_unless b r)
@@ -22,10 +22,10 @@ found_both P Q (Some a) (Some b) f g =
     elim (cases_lt b a) [
       | inl lt ↦
           let e : min a b ≡ b = omega arith in
-          subst (λ n. IsLeastBroken (λ q. P q × Q q) n) (sym e) (record { broken = λ h. g.broken h.1; least = λ q l. (f.least q (omega arith), g.least q l); known = g.known })
+          subst (λ n. IsLeastBrokenRule (λ q. P q × Q q) n) (sym e) (record { broken = λ h. g.broken h.1; least = λ q l. (f.least q (omega arith), g.least q l); known = g.known })
       | inr le ↦
           let e : min a b ≡ a = omega arith in
-          subst (λ n. IsLeastBroken (λ q. P q × Q q) n) (sym e) (record { broken = λ h. f.broken h.0; least = λ q l. (f.least q l, g.least q (omega arith)); known = f.known })
+          subst (λ n. IsLeastBrokenRule (λ q. P q × Q q) n) (sym e) (record { broken = λ h. f.broken h.0; least = λ q l. (f.least q l, g.least q (omega arith)); known = f.known })
     ]
 
 -- the least rule for equivalent facts

@@ -11,7 +11,7 @@ use Rattle.tcd_plan.specs.PlanData.{PlanData, IsPlan, global_of}
 use Rattle.tc_machine.specs.declared.events.End.TheVariants.{Running}
 use Rattle.tc_machine.specs.declared.state.Machine.{Machine}
 use Rattle.tc_machine.specs.Machine.{reg, a11, IsMachine}
-use Rattle.tc_machine.specs.SavesAndRestores.{saved_area_words, last_context, restored, restore}
+use Rattle.tc_machine.specs.SavesAndRestores.{saved_area_words, last_context, with_context_restored, restore}
 use Rattle.tc_machine.proofs.PlanLaws.{HoldsRom-written}
 use Rattle.tc_machine.proofs.Saves.{restore-is}
 use Rattle.tc_machine.proofs.Areas.{Areas, Areas-restored, is_freed}
@@ -65,7 +65,7 @@ module _ (image : ImageData) (plan : PlanData) (ok : IsPlan plan) (cert : CertDa
 
     pub record Back (ie : Bool) (ccpn : ℕ) : Type 0 where
       pub at : a11 m / 2 * 2 ≡ frame.back
-      pub kept : Invariant image plan cert most (record (restored m true) { pc = a11 m / 2 * 2; ie = ie; ccpn = ccpn; end = Running }) suspended below
+      pub kept : Invariant image plan cert most (record (with_context_restored m true) { pc = a11 m / 2 * 2; ie = ie; ccpn = ccpn; end = Running }) suspended below
 
     pub comes_back : (ie : Bool) (ccpn : ℕ) → Leaves (pie_of m.core m.pcxi) (pcpn_of m.core m.pcxi) frame.node frame.word0 (reg m) ie ccpn → Back ie ccpn
     comes_back ie ccpn leaves =
@@ -101,7 +101,7 @@ module _ (image : ImageData) (plan : PlanData) (ok : IsPlan plan) (cert : CertDa
           };
         }
 
-    pub restores : restore m true ≡ restored m true
+    pub restores : restore m true ≡ with_context_restored m true
     restores = restore-is m true (λ z. (entry).some (sym (entry).named ∙ z)) (entry).ul (rw (entry).named (entry).area)
 
   pub none_held : (m : Machine) (frame : Frame) (below : List Frame) (k : Invariant image plan cert most m frame below) → length ((k.point).state).locals.items ≡ 0 → frame.locals ≡ []

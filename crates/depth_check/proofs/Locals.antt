@@ -12,7 +12,7 @@ use Rattle.tcd_plan.specs.PlanData.{PlanData, IsPlan}
 use Rattle.tc_machine.specs.declared.events.End.TheVariants.{Running}
 use Rattle.tc_machine.specs.declared.state.Machine.{Machine}
 use Rattle.tc_machine.specs.Machine.{reg, a11, IsMachine}
-use Rattle.tc_machine.specs.SavesAndRestores.{context_of, saved, last_context, restored, restore}
+use Rattle.tc_machine.specs.SavesAndRestores.{context_of, with_context_saved, last_context, with_context_restored, restore}
 use Rattle.tc_machine.proofs.Words.{register_lt}
 use Rattle.tc_machine.proofs.PlanLaws.{HoldsRom-written}
 use Rattle.tc_machine.proofs.Saves.{restore-is}
@@ -93,7 +93,7 @@ module _ (image : ImageData) (plan : PlanData) (ok : IsPlan plan) (cert : CertDa
           word (suc (suc j)) (omega arith) (subst (λ x. x < 2 ^ 32) (sym e) (reg_lt m words (get_or lower_regs j 0))) ∙ e
 
       pub lower_pushed : (pc : ℕ) (ie : Bool) (ccpn : ℕ) (t : State) → t.locals.items ≡ ((k.point).state).locals.items ++ ((k.point).state).lower ∷ [] → t.lower ≡ ((k.point).state).lower → length t.regs ≡ 27 → Holds plan (reg m) ie ccpn t → PointFor frame.node pc t →
-          Invariant image plan cert most (record (saved m false) { pc = pc; ie = ie; ccpn = ccpn; end = Running }) (with_locals frame (link_in m.fcx ∷ frame.locals) (((k.point).state).lower ∷ frame.flags)) below
+          Invariant image plan cert most (record (with_context_saved m false) { pc = pc; ie = ie; ccpn = ccpn; end = Running }) (with_locals frame (link_in m.fcx ∷ frame.locals) (((k.point).state).lower ∷ frame.flags)) below
       lower_pushed pc ie ccpn t pushed same_lower long holds at =
           let stay = Frames-same plan cert most m.core m.mem (with_words m.mem (link_address (link_in m.fcx)) (context_of m false)) m.pcxi (a11 m) frame below
           (SameAreas-written m.mem (link_in m.fcx) (used_by frame below) (context_of m false) (omega arith) free.avoids_used) k.frames in
@@ -134,12 +134,12 @@ module _ (image : ImageData) (plan : PlanData) (ok : IsPlan plan) (cert : CertDa
 
     -- ---- a restore of the lower context
     pub record Popped (pc : ℕ) : Type 0 where
-      pub restores : restore m false ≡ restored m false
+      pub restores : restore m false ≡ with_context_restored m false
       pub areas : List ℕ
       pub flags : List Bool
-      pub kept : Invariant image plan cert most (record (restored m false) { pc = pc; end = Running }) (with_locals frame areas flags) below
+      pub kept : Invariant image plan cert most (record (with_context_restored m false) { pc = pc; end = Running }) (with_locals frame areas flags) below
 
-    pub lower_popped : (pc : ℕ) → 1 ≤ length ((k.point).state).locals.items → length ((k.point).state).regs ≡ 27 → PointFor frame.node pc (effects.state_restored_lower (k.point).state) → Popped pc
+    pub lower_popped : (pc : ℕ) → 1 ≤ length ((k.point).state).locals.items → length ((k.point).state).regs ≡ 27 → PointFor frame.node pc (effects.state_after_lower_restore (k.point).state) → Popped pc
     lower_popped pc some long at =
         let count = counted image plan ok cert most few m frame below k in
         let top : Newest m.core m.mem m.pcxi (a11 m) frame.word0 frame.flags frame.locals =
@@ -150,8 +150,8 @@ module _ (image : ImageData) (plan : PlanData) (ok : IsPlan plan) (cert : CertDa
         let links : Links m.mem m.pcxi (top.area ∷ used_by (with_locals frame top.areas top.flags) below) = subst (Links m.mem m.pcxi) used (Links-Frames plan cert most m.core m.mem m.pcxi (a11 m) frame below k.frames) in
         let freed = is_freed m.mem m.fcx m.lcx top.area (used_by (with_locals frame top.areas top.flags) below) k.free areas in
         let small : top.area < 2 ^ 20 = subst (λ l. l < 2 ^ 20) local.named (link_in-lt m.pcxi) in
-        let restores : restore m false ≡ restored m false = restore-is m false (λ z. local.some (sym local.named ∙ z)) (ap not local.ul) (rw local.named local.area) in
-        let after_words : IsMachine (restored m false) = subst IsMachine restores (stays_restore m words false) in
+        let restores : restore m false ≡ with_context_restored m false = restore-is m false (λ z. local.some (sym local.named ∙ z)) (ap not local.ul) (rw local.named local.area) in
+        let after_words : IsMachine (with_context_restored m false) = subst IsMachine restores (stays_restore m words false) in
         let same_a11 : area_word m.mem (link_in m.pcxi) 1 ≡ a11 m = rw local.named local.a11_is in
         let flags = ImpliedBy-pop ((k.point).state).locals.items (oldest_first top.flags) top.flag (subst (λ fs. FlagsImpliedBy ((k.point).state).locals.items (oldest_first fs)) top.same_flags k.flags) in
         let popped : Frames plan cert most m.core m.mem (area_word m.mem top.area 0) (a11 m) (with_locals frame top.areas top.flags) below =
@@ -165,8 +165,8 @@ module _ (image : ImageData) (plan : PlanData) (ok : IsPlan plan) (cert : CertDa
             point = at.point;
             found = at.found;
             inside =
-                holds_covered plan (at.point).state (effects.state_restored_lower (k.point).state) (reg_of (d_after_lower (last_context m) m.d) (a_after_lower (last_context m) m.a)) m.ie m.ccpn at.covers (length-forgotten 0 ((k.point).state).regs ∙ long)
-                (restore_holds plan (k.point).state (reg m) (reg_of (d_after_lower (last_context m) m.d) (a_after_lower (last_context m) m.a)) m.ie m.ccpn long (λ r lt. reg_lt (restored m false) after_words r)
+                holds_covered plan (at.point).state (effects.state_after_lower_restore (k.point).state) (reg_of (d_after_lower (last_context m) m.d) (a_after_lower (last_context m) m.a)) m.ie m.ccpn at.covers (length-forgotten 0 ((k.point).state).regs ∙ long)
+                (restore_holds plan (k.point).state (reg m) (reg_of (d_after_lower (last_context m) m.d) (a_after_lower (last_context m) m.a)) m.ie m.ccpn long (λ r lt. reg_lt (with_context_restored m false) after_words r)
                 (λ r lt high. elim (cases_eq r 27) [
                   | inl is ↦ subst (λ r. reg_of (d_after_lower (last_context m) m.d) (a_after_lower (last_context m) m.a) r ≡ reg m r) (sym is) same_a11
                   | inr other ↦ lower-UpperSame (last_context m) m.d m.a r lt high other

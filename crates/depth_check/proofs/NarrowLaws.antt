@@ -17,10 +17,10 @@ use Rattle.value_domain.specs.Sets.{Within}
 use Rattle.value_domain.specs.Values.{any_val, members, cover, IsValue, IsBelow}
 use Rattle.value_domain.specs.State.{AreValues, Covers}
 use Rattle.value_domain.proofs.CoverLaws.{cover_mono}
-use Rattle.vd_transfer.specs.Refinement.{refining_condition_holds, kept_left, kept_right, kept_both}
-use Rattle.value_domain.specs.Meets.{cover_of_meet}
+use Rattle.vd_transfer.specs.Refinement.{condition_goes_to_side, kept_left, kept_right, kept_against_itself}
+use Rattle.value_domain.specs.Meets.{cover_if_any}
 use Rattle.vd_transfer.specs.Registers.{slot, set_slot, register_value_at, reg_of, arg_of, is_operand_register}
-use Rattle.vd_transfer.specs.Branches.{side_with_register, side_with_operands, state_on_side, with_lowered_counter, refine_of}
+use Rattle.vd_transfer.specs.Branches.{side_with_register, side_with_operands, state_on_side, with_decremented_counter, refine_of}
 use Rattle.value_domain.proofs.MeetLaws.{among_filter}
 use Rattle.depth_cert.specs.declared.points.Point.{Point}
 use Rattle.depth_cert.specs.Points.{find_point}
@@ -51,13 +51,13 @@ found_more (Some p) s t f h = f p.state h
 
 -- ---- values
 -- the cover of some members of a value is below the value
-cover_below : (b : Limits) (v z : Val) (xs : List ℕ) → IsValue b v → Within xs (members v) → cover_of_meet b xs ≡ Some z → IsBelow z v
+cover_below : (b : Limits) (v z : Val) (xs : List ℕ) → IsValue b v → Within xs (members v) → cover_if_any b xs ≡ Some z → IsBelow z v
 cover_below b v z [] value there e = absurd (let f : None ≡ Some z = e in cc)
 cover_below b v z (x ∷ xs) value there e =
     let same : cover b (x ∷ xs) ≡ z = (let f : Some (cover b (x ∷ xs)) ≡ Some z = e in cc) in
     subst (λ (u : Val). IsBelow u v) same (subst (λ (u : Val). IsBelow (cover b (x ∷ xs)) u) value.own (cover_mono b (x ∷ xs) (members v) (omega arith) there))
 
-place_below : (b : Limits) (plan : PlanData) (s : State) (r : ℕ) (o : Option ℕ) (z : Val) (xs : List ℕ) → AreValues b s.regs → Within xs (members (register_value_at plan s r o)) → cover_of_meet b xs ≡ Some z
+place_below : (b : Limits) (plan : PlanData) (s : State) (r : ℕ) (o : Option ℕ) (z : Val) (xs : List ℕ) → AreValues b s.regs → Within xs (members (register_value_at plan s r o)) → cover_if_any b xs ≡ Some z
     → IfSome o (λ i. i < length s.regs → IsBelow z (get_or s.regs i any_val))
 place_below b plan s r None z xs values there e = tt
 place_below b plan s r (Some i) z xs values there e = λ lt. cover_below b (get_or s.regs i any_val) z xs (values i lt) there e
@@ -91,12 +91,12 @@ set_covers s t v (Some i) len c h = record {
   locals = c.locals;
 }
 
-one_covers : (b : Limits) (plan : PlanData) (s : State) (x : ℕ) (xs : List ℕ) (o : Option Val) → AreValues b s.regs → Within xs (members (reg_of plan s x)) → cover_of_meet b xs ≡ o → IfSome (side_with_register s x o) (Covers s)
+one_covers : (b : Limits) (plan : PlanData) (s : State) (x : ℕ) (xs : List ℕ) (o : Option Val) → AreValues b s.regs → Within xs (members (reg_of plan s x)) → cover_if_any b xs ≡ o → IfSome (side_with_register s x o) (Covers s)
 one_covers b plan s x xs None values there e = tt
 one_covers b plan s x xs (Some z) values there e = set_covers s s z (slot x) refl (covers_same s) (place_below b plan s x (slot x) z xs values there e)
 
 two_covers : (b : Limits) (plan : PlanData) (s : State) (x : ℕ) (y : Arg) (xs ys : List ℕ) (o q : Option Val) → AreValues b s.regs → Within xs (members (reg_of plan s x)) → Within ys (members (arg_of plan s y))
-    → cover_of_meet b xs ≡ o → cover_of_meet b ys ≡ q → IfSome (side_with_operands s x y o q) (Covers s)
+    → cover_if_any b xs ≡ o → cover_if_any b ys ≡ q → IfSome (side_with_operands s x y o q) (Covers s)
 two_covers b plan s x y xs ys None q values left right e f = tt
 two_covers b plan s x y xs ys (Some v) None values left right e f = tt
 two_covers b plan s x (Word k) xs ys (Some v) (Some w) values left right e f = one_covers b plan s x xs (Some v) values left e
@@ -106,27 +106,27 @@ two_covers b plan s x (Reg r) xs ys (Some v) (Some w) values left right e f =
 -- ---- sides
 left_within : (test : Cond) (side : Bool) (vs ws : List ℕ) → Within (kept_left test side vs ws) vs
 unfolding kept_left
-left_within test side vs ws z i = (among_filter (λ x. list_any (λ y. refining_condition_holds test side x y) ws) z vs i).0
+left_within test side vs ws z i = (among_filter (λ x. list_any (λ y. condition_goes_to_side test side x y) ws) z vs i).0
 
 right_within : (test : Cond) (side : Bool) (vs ws : List ℕ) → Within (kept_right test side vs ws) ws
 unfolding kept_right
-right_within test side vs ws z i = (among_filter (λ y. list_any (λ x. refining_condition_holds test side x y) vs) z ws i).0
+right_within test side vs ws z i = (among_filter (λ y. list_any (λ x. condition_goes_to_side test side x y) vs) z ws i).0
 
-both_within : (test : Cond) (side : Bool) (vs : List ℕ) → Within (kept_both test side vs) vs
-unfolding kept_both
-both_within test side vs z i = (among_filter (λ z. refining_condition_holds test side z z) z vs i).0
+both_within : (test : Cond) (side : Bool) (vs : List ℕ) → Within (kept_against_itself test side vs) vs
+unfolding kept_against_itself
+both_within test side vs z i = (among_filter (λ z. condition_goes_to_side test side z z) z vs i).0
 
 side_covers : (b : Limits) (plan : PlanData) (test : Cond) (x : ℕ) (y : Arg) (s : State) (side : Bool) → AreValues b s.regs → IfSome (state_on_side b plan test x y s side) (Covers s)
 side_covers b plan test x y s side values =
     elim (cases_Bool (is_operand_register x y)) [
-      | inl one ↦ rw one (one_covers b plan s x (kept_both test side (members (reg_of plan s x))) _ values (both_within test side (members (reg_of plan s x))) refl)
+      | inl one ↦ rw one (one_covers b plan s x (kept_against_itself test side (members (reg_of plan s x))) _ values (both_within test side (members (reg_of plan s x))) refl)
       | inr two ↦
           rw two
           (two_covers b plan s x y (kept_left test side (members (reg_of plan s x)) (members (arg_of plan s y))) (kept_right test side (members (reg_of plan s x)) (members (arg_of plan s y))) _ _ values
           (left_within test side (members (reg_of plan s x)) (members (arg_of plan s y))) (right_within test side (members (reg_of plan s x)) (members (arg_of plan s y))) refl refl)
     ]
 
-unlowered : (b : Limits) (plan : PlanData) (x : ℕ) (o : Option State) (P : State → Type 0) → IfSome o P → IfSome (with_lowered_counter b plan x false o) P
+unlowered : (b : Limits) (plan : PlanData) (x : ℕ) (o : Option State) (P : State → Type 0) → IfSome o P → IfSome (with_decremented_counter b plan x false o) P
 unlowered b plan x None P h = h
 unlowered b plan x (Some t) P h = h
 

@@ -10,15 +10,15 @@ use Rattle.tc_isa.specs.declared.shapes.Target.{Target}
 use Rattle.tc_machine.specs.declared.events.Event.{Event}
 use Rattle.tc_machine.specs.declared.events.End.TheVariants.{Running}
 use Rattle.tc_machine.specs.declared.state.Machine.{Machine}
-use Rattle.tc_machine.specs.Machine.{reg, a11, then_, with_reg}
-use Rattle.tc_machine.specs.Instructions.{machine_address_ahead, advanced, misaligned, does, access_address, with_base, target_of, is_trapping_instruction}
+use Rattle.tc_machine.specs.Machine.{reg, a11, if_running, with_reg}
+use Rattle.tc_machine.specs.Instructions.{machine_address_ahead, with_pc_advanced, misaligned_access_trap, does, access_address, with_base_incremented, target_of, is_trapping_instruction}
 use Rattle.tc_machine.specs.Handlers.{handler_psw, trap, interrupt}
-use Rattle.tc_machine.specs.SavesAndRestores.{saved, save, restored, restore}
-use Rattle.csa_chain.specs.MemoryBytes.{load_number, with_bytes, extend_loaded_bytes}
+use Rattle.tc_machine.specs.SavesAndRestores.{with_context_saved, save, with_context_restored, restore}
+use Rattle.csa_chain.specs.MemoryBytes.{loaded_number, with_bytes, extend_loaded_bytes}
 use Rattle.tc_machine.proofs.Saves.{then_-running}
 use Rattle.value_domain.specs.declared.states.State.{State}
 use Rattle.value_domain.specs.Limits.{Limits}
-use Rattle.vd_transfer.specs.EffectsOnStates.{state_saved_lower, state_restored_lower, transfer_of}
+use Rattle.vd_transfer.specs.EffectsOnStates.{state_after_lower_save, state_after_lower_restore, transfer_of}
 use Rattle.depth_cert.specs.declared.keys.Key.{Key}
 use Rattle.cfg_recover.specs.Entries.{sys_key, sys_entry}
 use Rattle.depth_cert.specs.Exits.{exit_of}
@@ -29,15 +29,15 @@ use Rattle.depth_check.proofs.Handlers.{handler_a}
 
 -- ---- duties
 module _ (b : Limits) (image : ImageData) (plan : PlanData) (key : Key) (p : ℕ) (s : State) (n : ℕ) where
-  pub owes-svlcx : Contains (duties_of b image plan key p s Svlcx n) (owed 4 (jump (machine_address_ahead p n) (state_saved_lower s)))
+  pub owes-svlcx : Contains (duties_of b image plan key p s Svlcx n) (owed 4 (jump (machine_address_ahead p n) (state_after_lower_save s)))
   unfolding transfer_of
   owes-svlcx = duty_listed b image plan key p s n Svlcx _ (goes_next Svlcx (λ t. refl))
 
-  pub owes-bisr : (c : ℕ) → Contains (duties_of b image plan key p s (Bisr c) n) (owed 4 (jump (machine_address_ahead p n) (record (state_saved_lower s) { ie = true; ccpn = c })))
+  pub owes-bisr : (c : ℕ) → Contains (duties_of b image plan key p s (Bisr c) n) (owed 4 (jump (machine_address_ahead p n) (record (state_after_lower_save s) { ie = true; ccpn = c })))
   unfolding transfer_of
   owes-bisr c = duty_listed b image plan key p s n (Bisr c) _ (goes_next (Bisr c) (λ t. refl))
 
-  pub owes-rslcx : Contains (duties_of b image plan key p s Rslcx n) (owed 4 (jump (machine_address_ahead p n) (state_restored_lower s)))
+  pub owes-rslcx : Contains (duties_of b image plan key p s Rslcx n) (owed 4 (jump (machine_address_ahead p n) (state_after_lower_restore s)))
   unfolding transfer_of
   owes-rslcx = duty_listed b image plan key p s n Rslcx _ (goes_next Rslcx (λ t. refl))
 
@@ -55,21 +55,21 @@ module _ (b : Limits) (image : ImageData) (plan : PlanData) (key : Key) (p : ℕ
 
 -- ---- what is done
 -- after a successful save, and after a restore
-pub saved_then : (m : Machine) (upper : Bool) (next : Machine → Machine) → save m upper ≡ saved m upper → m.end ≡ Running → then_ (save m upper) next ≡ next (record (saved m upper) { end = Running })
-saved_then m upper next is running = ap (λ s. then_ s next) is ∙ then_-running (saved m upper) next running ∙ ap (λ x. next (record (saved m upper) { end = x })) running
+pub saved_then : (m : Machine) (upper : Bool) (next : Machine → Machine) → save m upper ≡ with_context_saved m upper → m.end ≡ Running → if_running (save m upper) next ≡ next (record (with_context_saved m upper) { end = Running })
+saved_then m upper next is running = ap (λ s. if_running s next) is ∙ then_-running (with_context_saved m upper) next running ∙ ap (λ x. next (record (with_context_saved m upper) { end = x })) running
 
-pub restored_then : (m : Machine) (upper : Bool) (next : Machine → Machine) → restore m upper ≡ restored m upper → m.end ≡ Running → then_ (restore m upper) next ≡ next (record (restored m upper) { end = Running })
-restored_then m true next is running = ap (λ s. then_ s next) is ∙ then_-running (restored m true) next running ∙ ap (λ x. next (record (restored m true) { end = x })) running
-restored_then m false next is running = ap (λ s. then_ s next) is ∙ then_-running (restored m false) next running ∙ ap (λ x. next (record (restored m false) { end = x })) running
+pub restored_then : (m : Machine) (upper : Bool) (next : Machine → Machine) → restore m upper ≡ with_context_restored m upper → m.end ≡ Running → if_running (restore m upper) next ≡ next (record (with_context_restored m upper) { end = Running })
+restored_then m true next is running = ap (λ s. if_running s next) is ∙ then_-running (with_context_restored m true) next running ∙ ap (λ x. next (record (with_context_restored m true) { end = x })) running
+restored_then m false next is running = ap (λ s. if_running s next) is ∙ then_-running (with_context_restored m false) next running ∙ ap (λ x. next (record (with_context_restored m false) { end = x })) running
 
 module _ (m : Machine) (running : m.end ≡ Running) where
-  pub interrupt-is : save m true ≡ saved m true → (irq : ℕ) → interrupt m irq ≡ record (begun m m.d (handler_a m m.pc) (bit_or m.biv (irq * 2 ^ 5)) (handler_psw m.psw) false irq) { end = Running }
+  pub interrupt-is : save m true ≡ with_context_saved m true → (irq : ℕ) → interrupt m irq ≡ record (begun m m.d (handler_a m m.pc) (bit_or m.biv (irq * 2 ^ 5)) (handler_psw m.psw) false irq) { end = Running }
   interrupt-is is irq = saved_then m true _ is running
 
-  pub trap-is : save m true ≡ saved m true → (class tin back : ℕ) → trap m class tin back ≡ record (begun m (set m.d 15 tin) (handler_a m back) (bit_or m.btv (class * 2 ^ 5)) (handler_psw m.psw) false m.ccpn) { end = Running }
+  pub trap-is : save m true ≡ with_context_saved m true → (class tin back : ℕ) → trap m class tin back ≡ record (begun m (set m.d 15 tin) (handler_a m back) (bit_or m.btv (class * 2 ^ 5)) (handler_psw m.psw) false m.ccpn) { end = Running }
   trap-is is class tin back = saved_then m true _ is running
 
-  pub call-is : save m true ≡ saved m true → (e : Event) (to : Target) (n : ℕ) → does m e (Call to) n ≡ record (begun m m.d (set m.a 11 (machine_address_ahead m.pc n)) (target_of m to) m.psw m.ie m.ccpn) { end = Running }
+  pub call-is : save m true ≡ with_context_saved m true → (e : Event) (to : Target) (n : ℕ) → does m e (Call to) n ≡ record (begun m m.d (set m.a 11 (machine_address_ahead m.pc n)) (target_of m to) m.psw m.ie m.ccpn) { end = Running }
   unfolding does
   call-is is e to n = saved_then m true _ is running
 
@@ -77,31 +77,31 @@ module _ (m : Machine) (running : m.end ≡ Running) where
   unfolding does
   syscall-is e tin n = refl
 
-  pub ret-is : restore m true ≡ restored m true → (e : Event) (n : ℕ) → does m e Ret n ≡ record (restored m true) { pc = a11 m / 2 * 2; ie = m.ie; ccpn = m.ccpn; end = Running }
+  pub ret-is : restore m true ≡ with_context_restored m true → (e : Event) (n : ℕ) → does m e Ret n ≡ record (with_context_restored m true) { pc = a11 m / 2 * 2; ie = m.ie; ccpn = m.ccpn; end = Running }
   unfolding does
   ret-is is e n = restored_then m true _ is running
 
-  pub rfe-is : restore m true ≡ restored m true → (e : Event) (n : ℕ) → does m e Rfe n ≡ record (restored m true) { pc = a11 m / 2 * 2; ie = pie_of m.core m.pcxi; ccpn = pcpn_of m.core m.pcxi; end = Running }
+  pub rfe-is : restore m true ≡ with_context_restored m true → (e : Event) (n : ℕ) → does m e Rfe n ≡ record (with_context_restored m true) { pc = a11 m / 2 * 2; ie = pie_of m.core m.pcxi; ccpn = pcpn_of m.core m.pcxi; end = Running }
   unfolding does
   rfe-is is e n = restored_then m true _ is running
 
-  pub svlcx-is : save m false ≡ saved m false → (e : Event) (n : ℕ) → does m e Svlcx n ≡ record (saved m false) { pc = machine_address_ahead m.pc n; ie = m.ie; ccpn = m.ccpn; end = Running }
+  pub svlcx-is : save m false ≡ with_context_saved m false → (e : Event) (n : ℕ) → does m e Svlcx n ≡ record (with_context_saved m false) { pc = machine_address_ahead m.pc n; ie = m.ie; ccpn = m.ccpn; end = Running }
   unfolding does
   svlcx-is is e n = saved_then m false _ is running
 
-  pub bisr-is : save m false ≡ saved m false → (e : Event) (c n : ℕ) → does m e (Bisr c) n ≡ record (saved m false) { pc = machine_address_ahead m.pc n; ie = true; ccpn = c; end = Running }
+  pub bisr-is : save m false ≡ with_context_saved m false → (e : Event) (c n : ℕ) → does m e (Bisr c) n ≡ record (with_context_saved m false) { pc = machine_address_ahead m.pc n; ie = true; ccpn = c; end = Running }
   unfolding does
   bisr-is is e c n = saved_then m false _ is running
 
-  pub rslcx-is : restore m false ≡ restored m false → (e : Event) (n : ℕ) → does m e Rslcx n ≡ record (restored m false) { pc = machine_address_ahead m.pc n; end = Running }
+  pub rslcx-is : restore m false ≡ with_context_restored m false → (e : Event) (n : ℕ) → does m e Rslcx n ≡ record (with_context_restored m false) { pc = machine_address_ahead m.pc n; end = Running }
   unfolding does
   rslcx-is is e n = restored_then m false _ is running
 
 -- an access that traps
-pub traps-is : (m : Machine) (e : Event) (shape : Shape) (n : ℕ) → is_trapping_instruction m e shape ≡ true → does m e shape n ≡ misaligned m
+pub traps-is : (m : Machine) (e : Event) (shape : Shape) (n : ℕ) → is_trapping_instruction m e shape ≡ true → does m e shape n ≡ misaligned_access_trap m
 unfolding does
 traps-is m e (Load dst base offset size signed after) n h =
-    ap (λ t. cond t (misaligned m) (advanced n (with_reg (with_base m base offset after) dst (extend_loaded_bytes signed size (load_number m.mem e.input (access_address m base offset after) size))))) h
+    ap (λ t. cond t (misaligned_access_trap m) (with_pc_advanced n (with_reg (with_base_incremented m base offset after) dst (extend_loaded_bytes signed size (loaded_number m.mem e.input (access_address m base offset after) size))))) h
 traps-is m e (Store src base offset size after) n h =
-    ap (λ t. cond t (misaligned m) (advanced n (record (with_base m base offset after) { mem = with_bytes m.mem (access_address m base offset after) (reg m src) size }))) h
+    ap (λ t. cond t (misaligned_access_trap m) (with_pc_advanced n (record (with_base_incremented m base offset after) { mem = with_bytes m.mem (access_address m base offset after) (reg m src) size }))) h
 traps-is m e _ n h = absurd (let f : false ≡ true = h in cc)

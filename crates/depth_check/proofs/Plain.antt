@@ -19,7 +19,7 @@ use Rattle.depth_cert.specs.Certs.{CertData}
 use Rattle.cfg_recover.specs.MovesAreOwed.{MovesTo}
 use Rattle.cfg_recover.proofs.EntryLaws.{holds_covered}
 use Rattle.depth_check.proofs.Frames.{Frame, Frames, used_by, Invariant, Frames-same, ImpliedBy-trans}
-use Rattle.tc_machine.specs.PlanAreas.{area_links_up, first_link, plan_areas}
+use Rattle.tc_machine.specs.PlanAreas.{consecutive_links, first_link, plan_areas}
 
 -- areas of two lists, one after the other
 SameAreas-onto : (m n : Memory) (xs ys : List ℕ) → SameAreas m n (reverse_onto xs ys) → SameAreas m n xs × SameAreas m n ys
@@ -36,16 +36,16 @@ module _ (plan : PlanData) (ok : IsPlan plan) (m n : Memory) (same : (x : ℕ) �
   area_same : (i : ℕ) → i < plan.areas → SameArea m n (first_link plan + i)
   area_same i lt = let at = link_address-area ok i lt in record { bytes = λ j small. same (link_address (first_link plan + i) + j) (omega arith, omega arith) }
 
-  areas_from : (i k : ℕ) → i + k ≡ plan.areas → SameAreas m n (area_links_up (first_link plan + i) k)
+  areas_from : (i k : ℕ) → i + k ≡ plan.areas → SameAreas m n (consecutive_links (first_link plan + i) k)
   areas_from i zero e = tt
   areas_from i (suc k) e =
-      (area_same i (omega arith), subst (λ l. SameAreas m n (area_links_up l k)) (next_one (first_link plan) i) (areas_from (i + 1) k (omega arith)))
+      (area_same i (omega arith), subst (λ l. SameAreas m n (consecutive_links l k)) (next_one (first_link plan) i) (areas_from (i + 1) k (omega arith)))
 
   -- all areas of the plan are the same, so are those in use and the free ones
   pub all_same : (used free : List ℕ) → reverse_onto used free ≡ plan_areas plan → SameAreas m n used × SameAreas m n free
   all_same used free whole =
       SameAreas-onto m n used free
-      (subst (SameAreas m n) (sym whole) (subst (λ l. SameAreas m n (area_links_up l plan.areas)) (plus_zero (first_link plan)) (areas_from 0 plan.areas (omega arith))))
+      (subst (SameAreas m n) (sym whole) (subst (λ l. SameAreas m n (consecutive_links l plan.areas)) (plus_zero (first_link plan)) (areas_from 0 plan.areas (omega arith))))
 
 module _ (image : ImageData) (plan : PlanData) (ok : IsPlan plan) (cert : CertData) (most : ℕ) where
   pub Invariant-moved : (m n : Machine) (frame : Frame) (below : List Frame) (k : Invariant image plan cert most m frame below) (t : State) → MovesTo image plan m n (k.point).state t → length t.regs ≡ 27 →

@@ -18,7 +18,7 @@ use Rattle.depth_check.specs.declared.points.CurrentPoint.{CurrentPoint}
 use Rattle.depth_check.specs.Interrupts.{InterruptsHold}
 use Rattle.depth_cert.proofs.FindLaws.{non_decreasing, found}
 use Rattle.cfg_recover.specs.RulesHoldOrFail.{HasCoveringPoint}
-use Rattle.packed_cert.specs.Walks.{WalkData, RepeatsAt, KeepsOthers}
+use Rattle.packed_cert.specs.Walks.{WalkData, IsNextWithSameState, KeepsOtherValues}
 use Rattle.packed_cert.proofs.NodeFinds.{covers_same}
 use Rattle.packed_cert.proofs.WalkedPoints.{split_more}
 use Rattle.depth_check.specs.DutiesHold.{HasPointWithState}
@@ -68,7 +68,7 @@ looks_ahead node done before w p s rising all split step same = record {
       stands_covers node.points q t (next_stands node done w.left (drop 1 w.left) p q rising (split ∙ ap (λ (l : List Point). done ++ l) step) h.1) h.2;
 }
 
-pub repeats_stand : (node : NodeData) (done before : List Point) (w : WalkData) (p : Point) (r : Option ℕ) (s : State) → ArePoints node.points → node.points ≡ done ++ before → before ≡ p ∷ w.left → s ≡ w.current → IfSome r (RepeatsAt w)
+pub repeats_stand : (node : NodeData) (done before : List Point) (w : WalkData) (p : Point) (r : Option ℕ) (s : State) → ArePoints node.points → node.points ≡ done ++ before → before ≡ p ∷ w.left → s ≡ w.current → IfSome r (IsNextWithSameState w)
     → IfSome r (λ a. HasPointWithState node a s)
 repeats_stand node done before w p None s rising split step same h = tt
 repeats_stand node done before w p (Some a) s rising split step same h =
@@ -78,7 +78,7 @@ repeats_stand node done before w p (Some a) s rising split step same h =
 -- ---- what is known at a point of a walk
 pub walk_facts : (plan : PlanData) (cert : CertData) (node : NodeData) (done before : List Point) (w : WalkData) (p : Point) (here : CurrentPoint)
     → ArePoints node.points → w.points ≡ node.points → node.points ≡ done ++ before → before ≡ p ∷ w.left → here.state.now ≡ w.current
-    → (IsTrue here.again → InterruptsHold plan cert node w.current) → IfSome here.next (RepeatsAt w) → here.walk.now ≡ w → HasPathFacts plan cert node here
+    → (IsTrue here.again → InterruptsHold plan cert node w.current) → IfSome here.next (IsNextWithSameState w) → here.walk.now ≡ w → HasPathFacts plan cert node here
 walk_facts plan cert node done before w p here rising all split step same again next walk = record {
   again = λ t. subst (InterruptsHold plan cert node) (sym same) (again t);
   next = repeats_stand node done before w p here.next here.state.now rising split step same next;
@@ -86,7 +86,7 @@ walk_facts plan cert node done before w p here rising all split step same again 
 }
 
 -- ---- values that are known
-pub known_values : (b : Limits) (before : State) (w : WalkData) → KeepsOthers before w → AreValues b before.regs → AreValues b w.anew → AreValues b (w.current).regs
+pub known_values : (b : Limits) (before : State) (w : WalkData) → KeepsOtherValues before w → AreValues b before.regs → AreValues b w.anew → AreValues b (w.current).regs
 known_values b before w kept own anew r lt = elim (kept r lt) [
   | inl same ↦ subst (IsValue b) (sym same.1) (own r same.0)
   | inr among ↦ subst (IsValue b) (get_or_default w.anew among.0 any_val _ among.1 ∙ among.2) (anew among.0 among.1)

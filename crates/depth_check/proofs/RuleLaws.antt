@@ -9,14 +9,14 @@ use Rattle.tcd_plan.specs.PlanData.{PlanData}
 use Rattle.tc_isa.specs.declared.shapes.Shape.{Shape}
 use Rattle.value_domain.specs.declared.values.Val.{Val}
 use Rattle.value_domain.specs.Limits.{Limits}
-use Rattle.value_domain.specs.State.{AreValues, AreWell}
+use Rattle.value_domain.specs.State.{AreValues, AreWellFormed}
 use Rattle.depth_cert.specs.declared.points.Point.{Point}
 use Rattle.depth_cert.specs.Nodes.{NodeData}
 use Rattle.depth_cert.specs.Certs.{CertData}
 use Rattle.cfg_recover.specs.Code.{IsCode}
 use Rattle.cfg_recover.specs.LocalFaults.{IsLocalFault, IsFaultless}
 use Rattle.cfg_recover.specs.Duties.{Owed, duties_of}
-use Rattle.cfg_recover.specs.RulesHoldOrFail.{IsSoundAlone, limits_in, RuleHolds, EntryNeedRuleHolds}
+use Rattle.cfg_recover.specs.RulesHoldOrFail.{IsLocallyFaultless, limits_in, RuleHolds, EntryNeedRuleHolds}
 use Rattle.cfg_recover.proofs.CodeLaws.{IsCode-one}
 use Rattle.depth_check.specs.LeastBroken.{FindsLeastBroken, lesser_broken_rule, broken_rule_unless}
 use Rattle.depth_check.specs.DutiesHold.{DutyHolds, DutiesHold, HasOwnNeed}
@@ -27,7 +27,7 @@ pub All-from_contains : {X : Type 0} (P : X → Type 0) (xs : List X) → ((x : 
 All-from_contains P xs each k d lt = each (get_or xs k d) (Contains-get_or xs k d lt)
 
 -- ---- values
-pub values_well : (b : Limits) (vs : List Val) → AreValues b vs → AreWell vs
+pub values_well : (b : Limits) (vs : List Val) → AreValues b vs → AreWellFormed vs
 values_well b vs values r lt = (values r lt).well
 
 -- ---- rules
@@ -75,7 +75,7 @@ module _ (image : ImageData) (plan : PlanData) (cert : CertData) (node : NodeDat
 
   -- duties and the need
   module _ (shape : Shape) (size : ℕ) (values : AreValues (limits_in plan cert) (point.state).regs) (faultless : IsFaultless (limits_in plan cert) image plan node.key point.addr point.state) (code : IsCode image plan point.addr shape size) where
-    alone : IsSoundAlone image plan cert node point shape size
+    alone : IsLocallyFaultless image plan cert node point shape size
     alone = record { values = values; faultless = faultless; code = code }
 
     -- for any shape and size of the code there

@@ -20,7 +20,7 @@ use Rattle.depth_cert.specs.Points.{find_point}
 use Rattle.depth_cert.specs.Nodes.{NodeData, need_of, find_node}
 use Rattle.depth_cert.specs.Certs.{CertData, IsCert}
 use Rattle.cfg_recover.specs.Entries.{start_key, start_state}
-use Rattle.cfg_recover.specs.Frames.{Standing, frames_after, frames_from, frames}
+use Rattle.cfg_recover.specs.Frames.{RunFrame, frames_after, frames_from, frames}
 use Rattle.cfg_recover.specs.RulesHoldOrFail.{limits_in, HasCoveringPoint, Accepts, certified_need}
 use Rattle.cfg_recover.proofs.MoveLaws.{stores_held}
 use Rattle.cfg_recover.proofs.EntryLaws.{holds_covered, holds_start, entry_length}
@@ -82,7 +82,7 @@ module _ (image : ImageData) (plan : PlanData) (ok : IsPlan plan) (cert : CertDa
       omega (arith, b.need, ((rules_at image plan cert is_cert accepted b.node image.entry at.point found.stands at.found).holds).start found.key refl)
 
   module _ (most : ℕ) (few : most ≤ plan.areas - plan.reserve) where
-    run-kept : (m : Machine) (es : List Event) → IsMachine m → (now : List Standing) → Goes image plan cert most m now → AllFit plan m es → Goes image plan cert most (run m es) (frames_from m es now)
+    run-kept : (m : Machine) (es : List Event) → IsMachine m → (now : List RunFrame) → Goes image plan cert most m now → AllFit plan m es → Goes image plan cert most (run m es) (frames_from m es now)
     run-kept m [] words now g fits = g
     run-kept m (e ∷ es) words now g fits =
         run-kept (step m e) es (stays_step m e words (irq_lt ok m e fits.0) (fits.0).input (fits.0).status) (frames_after m e now)

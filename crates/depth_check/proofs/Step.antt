@@ -18,9 +18,9 @@ use Rattle.tc_machine.specs.declared.state.Machine.{Machine}
 use Rattle.tc_machine.specs.Machine.{reg, a11, is_interrupt_stack_used, psw_with_status, IsMachine}
 use Rattle.tc_machine.specs.Instructions.{machine_address_ahead, target_of, does, is_trapping_instruction}
 use Rattle.tc_machine.specs.Handlers.{handler_psw, interrupt}
-use Rattle.tc_machine.specs.Stepping.{is_taken, executed, machine_after_event, step}
-use Rattle.tc_machine.specs.SavesAndRestores.{saved, save, restored, restore}
-use Rattle.tc_machine.specs.Fetching.{fetched, fetched_size}
+use Rattle.tc_machine.specs.Stepping.{is_interrupt_taken, after_found_instruction, machine_after_event, step}
+use Rattle.tc_machine.specs.SavesAndRestores.{with_context_saved, save, with_context_restored, restore}
+use Rattle.tc_machine.specs.Fetching.{fetched_instruction, fetched_size}
 use Rattle.tc_machine.specs.Safe.{Fits}
 use Rattle.tc_machine.proofs.Saves.{moved-lt}
 use Rattle.tc_machine.proofs.Fetched.{fetched-is}
@@ -28,7 +28,7 @@ use Rattle.tc_machine.proofs.ShapeWords.{IsShape, IsTarget, shape_of-suits}
 use Rattle.tc_machine.proofs.Stays.{irq_lt}
 use Rattle.tc_machine.proofs.Steps.{done-is, step-is, with_event}
 use Rattle.value_domain.specs.declared.states.State.{State}
-use Rattle.vd_transfer.specs.EffectsOnStates.{state_saved_lower, state_restored_lower}
+use Rattle.vd_transfer.specs.EffectsOnStates.{state_after_lower_save, state_after_lower_restore}
 use Rattle.depth_cert.specs.declared.keys.Key.{Key}
 use Rattle.depth_cert.specs.declared.points.Exit.{Exit}
 use Rattle.depth_cert.specs.Keys.{IsKey}
@@ -40,7 +40,7 @@ use Rattle.cfg_recover.specs.Entries.{call_key, irq_key, sys_key, aln_key, call_
 use Rattle.depth_cert.specs.Exits.{exit_of, state_after_exit, ExitCovers}
 use Rattle.cfg_recover.specs.Duties.{Owed, jump, enter, resume, leave, owed}
 use Rattle.cfg_recover.specs.EdgesAreOwed.{OwesEntry, IsEdgeWayOwed}
-use Rattle.cfg_recover.specs.Frames.{IsReturn, Standing, frames_at, frames_entered, frames_left, frames_by, frames_after}
+use Rattle.cfg_recover.specs.Frames.{IsReturn, RunFrame, frames_at, frames_entered, frames_left, frames_after_edge, frames_after}
 use Rattle.cfg_recover.specs.RulesHoldOrFail.{limits_in, HasCoveringPoint, Accepts}
 use Rattle.cfg_recover.specs.StepEdges.{EdgeWay, to, call, irq, sys, aln, edge_way_of_shape, edge_way_by_trap, edge_way_in_fetch}
 use Rattle.cfg_recover.specs.MovesAreOwed.{IsAtPoint, StaysInFrame}
@@ -60,13 +60,13 @@ use Rattle.tc_mem.specs.PlanMemory.{HoldsRom}
 use Rattle.value_domain.proofs.RegLaws.{implied_length}
 
 -- the invariant, with some frames
-pub record Goes (image : ImageData) (plan : PlanData) (cert : CertData) (most : ℕ) (m : Machine) (now : List Standing) : Type 0 where
+pub record Goes (image : ImageData) (plan : PlanData) (cert : CertData) (most : ℕ) (m : Machine) (now : List RunFrame) : Type 0 where
   pub frame : Frame
   pub below : List Frame
   pub kept : Invariant image plan cert most m frame below
   pub stands : standing m.pc frame below ≡ now
 
-Goes-as : {image : ImageData} {plan : PlanData} {cert : CertData} {most : ℕ} {m : Machine} {now then : List Standing} → now ≡ then → Goes image plan cert most m now → Goes image plan cert most m then
+Goes-as : {image : ImageData} {plan : PlanData} {cert : CertData} {most : ℕ} {m : Machine} {now then : List RunFrame} → now ≡ then → Goes image plan cert most m now → Goes image plan cert most m then
 Goes-as e g = record { frame = g.frame; below = g.below; kept = g.kept; stands = g.stands ∙ e }
 
 -- a frame goes on, with other lower contexts, and enters another
@@ -85,7 +85,7 @@ entered_standing key back q pc frame (s ∷ below) = refl
 -- The invariant of a machine x after a step from m with these frames. The step's way is among the
 -- duties of the point, or is the return to the frame before it.
 pub record Steps (image : ImageData) (plan : PlanData) (cert : CertData) (most : ℕ) (m : Machine) (frame : Frame) (below : List Frame) (ds : List Owed) (e : Event) (n : ℕ) (way : EdgeWay) (x : Machine) : Type 0 where
-  pub goes : Goes image plan cert most x (frames_by m.pc (machine_address_ahead m.pc n) e.irq way (standing m.pc frame below))
+  pub goes : Goes image plan cert most x (frames_after_edge m.pc (machine_address_ahead m.pc n) e.irq way (standing m.pc frame below))
   pub owes : IsEdgeWayOwed ds (frame.node).key e.irq (standing m.pc frame below) x.pc way
 
 Steps-as : {image : ImageData} {plan : PlanData} {cert : CertData} {most : ℕ} {m : Machine} {frame : Frame} {below : List Frame} {ds : List Owed} {e : Event} {n : ℕ} {way other : EdgeWay} {x : Machine} → other ≡ way
@@ -115,7 +115,7 @@ shape_is : (image : ImageData) (plan : PlanData) (p : ℕ) (shape : Shape) (n : 
 shape_is image plan p shape n code = subst IsShape code.shaped (shape_of-suits code.inst ((code.spells).spelled).inst)
 
 -- the fetched instruction at an address with code
-pub fetched_at : (image : ImageData) (plan : PlanData) → IsPlan plan → (m : Machine) → HoldsRom image plan m.mem → (shape : Shape) (n : ℕ) → IsCode image plan m.pc shape n → fetched m ≡ Ok (shape, n)
+pub fetched_at : (image : ImageData) (plan : PlanData) → IsPlan plan → (m : Machine) → HoldsRom image plan m.mem → (shape : Shape) (n : ℕ) → IsCode image plan m.pc shape n → fetched_instruction m ≡ Ok (shape, n)
 fetched_at image plan ok m rom shape n code =
     fetched-is image ok m rom code.even code.bytes code.inst code.spells ∙ ap (λ s. Ok (s, length code.bytes)) code.shaped ∙ ap (λ l. Ok (shape, l)) code.sized
 
@@ -185,7 +185,7 @@ module _ (image : ImageData) (plan : PlanData) (ok : IsPlan plan) (cert : CertDa
 
     -- ---- frames that begin
     record Began (d a : List ℕ) (pc psw : ℕ) (ie : Bool) (ccpn back : ℕ) (key : Key) : Type 0 where
-      pub saves : save m true ≡ saved m true
+      pub saves : save m true ≡ with_context_saved m true
       pub goes : Goes image plan cert most (record (begun m d a pc psw ie ccpn) { end = Running }) (record { key = key; at = pc } ∷ standing back frame below)
 
     began : (d a : List ℕ) (pc psw : ℕ) (ie : Bool) (ccpn back : ℕ) (key : Key) → Begins plan cert m frame (k.point).state d a pc psw ie ccpn back key → Began d a pc psw ie ccpn back key
@@ -230,7 +230,7 @@ module _ (image : ImageData) (plan : PlanData) (ok : IsPlan plan) (cert : CertDa
       jumping q t owes = point_for frame.node q t (find_point q (frame.node).points) refl (h.met (owed 4 (jump q t)) owes)
 
       -- ---- inside the frame
-      plain : (e : Event) → Fits plan m e → is_taken m e ≡ false → StaysInFrame shape → is_trapping_instruction m e shape ≡ false → Steps image plan cert most m frame below (duties_at image plan cert frame.node m.pc (k.point).state shape n) e n (edge_way_by_trap m e shape (does m e shape n).pc) (does m e shape n)
+      plain : (e : Event) → Fits plan m e → is_interrupt_taken m e ≡ false → StaysInFrame shape → is_trapping_instruction m e shape ≡ false → Steps image plan cert most m frame below (duties_at image plan cert frame.node m.pc (k.point).state shape n) e n (edge_way_by_trap m e shape (does m e shape n).pc) (does m e shape n)
       plain e fits none stays free =
           let mv = moves_in_frame (limits_in plan cert) image plan (frame.node).key m e (k.point).state shape n at_point fits none stays free in
           let at = jumping (does m e shape n).pc mv.state mv.owes in
@@ -265,7 +265,7 @@ module _ (image : ImageData) (plan : PlanData) (ok : IsPlan plan) (cert : CertDa
           }))
 
       -- ---- an interrupt
-      pub interrupted : (e : Event) → Fits plan m e → is_taken m e ≡ true → Steps image plan cert most m frame below (duties_at image plan cert frame.node m.pc (k.point).state shape n) e n (irq (interrupt m e.irq).pc) (interrupt m e.irq)
+      pub interrupted : (e : Event) → Fits plan m e → is_interrupt_taken m e ≡ true → Steps image plan cert most m frame below (duties_at image plan cert frame.node m.pc (k.point).state shape n) e n (irq (interrupt m e.irq).pc) (interrupt m e.irq)
       interrupted e fits taken =
           let low = irq_lt ok m e fits in
           let small : IsKey (irq_key plan e.irq) = record { kind = omega arith; entry = or_lt 32 plan.biv (e.irq * 2 ^ 5) (ok.words).biv (omega arith); prio = low } in
@@ -320,7 +320,7 @@ module _ (image : ImageData) (plan : PlanData) (ok : IsPlan plan) (cert : CertDa
   -- no frame is left below the start's
   left_to : (m : Machine) (words : IsMachine m) (frame : Frame) (below : List Frame) (k : Invariant image plan cert most m frame below) → length ((k.point).state).locals.items ≡ 0 → (frame.node).key.kind ≢ 0 →
       (ie : Bool) (ccpn : ℕ) → Leaves (pie_of m.core m.pcxi) (pcpn_of m.core m.pcxi) frame.node frame.word0 (reg m) ie ccpn → (n : Machine) →
-      (restore m true ≡ restored m true → n ≡ record (restored m true) { pc = a11 m / 2 * 2; ie = ie; ccpn = ccpn; end = Running }) → Left m frame below n
+      (restore m true ≡ with_context_restored m true → n ≡ record (with_context_restored m true) { pc = a11 m / 2 * 2; ie = ie; ccpn = ccpn; end = Running }) → Left m frame below n
   left_to m words frame [] k none other ie ccpn leaves n is = absurd (other ((k.frames).1).kind)
   left_to m words frame (suspended ∷ below) k none other ie ccpn leaves n is =
       let held = none_held image plan ok cert most few m frame (suspended ∷ below) k none in
@@ -357,10 +357,10 @@ module _ (image : ImageData) (plan : PlanData) (ok : IsPlan plan) (cert : CertDa
 
     -- ---- lower contexts
     saves_lower : (e : Event) (shape : Shape) (n : ℕ) (h : PointHolds image plan cert frame.node m.pc (k.point).state shape n) (pc : ℕ) (ie : Bool) (ccpn : ℕ) →
-        Contains (duties_at image plan cert frame.node m.pc (k.point).state shape n) (owed 4 (jump pc (record (state_saved_lower (k.point).state) { ie = ie; ccpn = ccpn }))) → (ie2 : Bool) (ccpn2 : ℕ) → (ie2 ≡ true → ie ≡ true) → ccpn ≤ ccpn2 →
-        (n2 : Machine) → (save m false ≡ saved m false → n2 ≡ record (saved m false) { pc = pc; ie = ie2; ccpn = ccpn2; end = Running }) → Steps image plan cert most m frame below (duties_at image plan cert frame.node m.pc (k.point).state shape n) e n (to n2.pc) n2
+        Contains (duties_at image plan cert frame.node m.pc (k.point).state shape n) (owed 4 (jump pc (record (state_after_lower_save (k.point).state) { ie = ie; ccpn = ccpn }))) → (ie2 : Bool) (ccpn2 : ℕ) → (ie2 ≡ true → ie ≡ true) → ccpn ≤ ccpn2 →
+        (n2 : Machine) → (save m false ≡ with_context_saved m false → n2 ≡ record (with_context_saved m false) { pc = pc; ie = ie2; ccpn = ccpn2; end = Running }) → Steps image plan cert most m frame below (duties_at image plan cert frame.node m.pc (k.point).state shape n) e n (to n2.pc) n2
     saves_lower e shape n h pc ie ccpn owes ie2 ccpn2 enabled priority n2 is =
-        let at = jumping m words frame below k shape n h pc (record (state_saved_lower (k.point).state) { ie = ie; ccpn = ccpn }) owes in
+        let at = jumping m words frame below k shape n h pc (record (state_after_lower_save (k.point).state) { ie = ie; ccpn = ccpn }) owes in
         let fits = (rules_at image plan cert is_cert accepted frame.node pc at.point k.stands at.found).holds.locals in
         let same = implied_length ((at.point).state).locals.items (((k.point).state).locals.items ++ ((k.point).state).lower ∷ []) (at.covers).locals in
         let long = length-append ((k.point).state).locals.items (((k.point).state).lower ∷ []) in
@@ -370,25 +370,25 @@ module _ (image : ImageData) (plan : PlanData) (ok : IsPlan plan) (cert : CertDa
           goes = record {
             frame = with_locals frame (link_in m.fcx ∷ frame.locals) (((k.point).state).lower ∷ frame.flags);
             below = below;
-            kept = lower_pushed image plan ok cert most few m words frame below k free pc ie2 ccpn2 (record (state_saved_lower (k.point).state) { ie = ie; ccpn = ccpn }) refl refl h.regs
-                (holds_same plan (k.point).state (record (state_saved_lower (k.point).state) { ie = ie; ccpn = ccpn }) (reg m) (reg m) m.ie ie2 m.ccpn ccpn2 refl enabled priority (reg_lt m words 27) (λ r lt other. refl) k.inside) at;
+            kept = lower_pushed image plan ok cert most few m words frame below k free pc ie2 ccpn2 (record (state_after_lower_save (k.point).state) { ie = ie; ccpn = ccpn }) refl refl h.regs
+                (holds_same plan (k.point).state (record (state_after_lower_save (k.point).state) { ie = ie; ccpn = ccpn }) (reg m) (reg m) m.ie ie2 m.ccpn ccpn2 refl enabled priority (reg_lt m words 27) (λ r lt other. refl) k.inside) at;
             stands = locals_standing pc m.pc frame (link_in m.fcx ∷ frame.locals) (((k.point).state).lower ∷ frame.flags) below;
           };
-          owes = (record (state_saved_lower (k.point).state) { ie = ie; ccpn = ccpn }, owes);
+          owes = (record (state_after_lower_save (k.point).state) { ie = ie; ccpn = ccpn }, owes);
         })
 
     restores_lower : (e : Event) (n : ℕ) → PointHolds image plan cert frame.node m.pc (k.point).state Rslcx n → Steps image plan cert most m frame below (duties_at image plan cert frame.node m.pc (k.point).state Rslcx n) e n (to (does m e Rslcx n).pc) (does m e Rslcx n)
     restores_lower e n h =
-        let at = jumping m words frame below k Rslcx n h (machine_address_ahead m.pc n) (state_restored_lower (k.point).state) (owes-rslcx (limits_in plan cert) image plan (frame.node).key m.pc (k.point).state n) in
+        let at = jumping m words frame below k Rslcx n h (machine_address_ahead m.pc n) (state_after_lower_restore (k.point).state) (owes-rslcx (limits_in plan cert) image plan (frame.node).key m.pc (k.point).state n) in
         let p = lower_popped image plan ok cert most few m words frame below k (machine_address_ahead m.pc n) ((h.own 8).room refl) h.regs at in
         subst (λ x. Steps image plan cert most m frame below (duties_at image plan cert frame.node m.pc (k.point).state Rslcx n) e n (to x.pc) x) (sym (rslcx-is m k.running p.restores e n))
         (record {
           goes = record { frame = with_locals frame p.areas p.flags; below = below; kept = p.kept; stands = locals_standing (machine_address_ahead m.pc n) m.pc frame p.areas p.flags below };
-          owes = (state_restored_lower (k.point).state, owes-rslcx (limits_in plan cert) image plan (frame.node).key m.pc (k.point).state n);
+          owes = (state_after_lower_restore (k.point).state, owes-rslcx (limits_in plan cert) image plan (frame.node).key m.pc (k.point).state n);
         })
 
     -- ---- what the instruction at pc does
-    module _ (e : Event) (fits : Fits plan m e) (none : is_taken m e ≡ false) where
+    module _ (e : Event) (fits : Fits plan m e) (none : is_interrupt_taken m e ≡ false) where
       accesses : (shape : Shape) (n : ℕ) (h : PointHolds image plan cert frame.node m.pc (k.point).state shape n) → StaysInFrame shape → Steps image plan cert most m frame below (duties_at image plan cert frame.node m.pc (k.point).state shape n) e n (edge_way_by_trap m e shape (does m e shape n).pc) (does m e shape n)
       accesses shape n h stays =
           elim (cases_Bool (is_trapping_instruction m e shape)) [
@@ -413,43 +413,43 @@ module _ (image : ImageData) (plan : PlanData) (ok : IsPlan plan) (cert : CertDa
 
   -- ---- one event
   -- the frames of m after a step of an event to q, from what is fetched
-  abbrev by : Machine → Event → Bool → Result (Shape × ℕ) Cause → ℕ → List Standing → List Standing
-  by m e taken f q fs = frames_by m.pc (machine_address_ahead m.pc (fetched_size f)) e.irq (cond taken (irq q) (edge_way_in_fetch m e f q)) fs
+  abbrev by : Machine → Event → Bool → Result (Shape × ℕ) Cause → ℕ → List RunFrame → List RunFrame
+  by m e taken f q fs = frames_after_edge m.pc (machine_address_ahead m.pc (fetched_size f)) e.irq (cond taken (irq q) (edge_way_in_fetch m e f q)) fs
 
   -- what a step keeps, and which way it goes
   pub record Done (m : Machine) (frame : Frame) (below : List Frame) (k : Invariant image plan cert most m frame below) (e : Event) (x : Machine) : Type 0 where
     pub shape : Shape
     pub size : ℕ
     pub code : IsCode image plan m.pc shape size
-    pub goes : Goes image plan cert most x (by m e (is_taken m e) (fetched m) x.pc (standing m.pc frame below))
-    pub owes : IsEdgeWayOwed (duties_at image plan cert frame.node m.pc (k.point).state shape size) (frame.node).key e.irq (standing m.pc frame below) x.pc (cond (is_taken m e) (irq x.pc) (edge_way_in_fetch m e (fetched m) x.pc))
+    pub goes : Goes image plan cert most x (by m e (is_interrupt_taken m e) (fetched_instruction m) x.pc (standing m.pc frame below))
+    pub owes : IsEdgeWayOwed (duties_at image plan cert frame.node m.pc (k.point).state shape size) (frame.node).key e.irq (standing m.pc frame below) x.pc (cond (is_interrupt_taken m e) (irq x.pc) (edge_way_in_fetch m e (fetched_instruction m) x.pc))
 
   done-kept : (m : Machine) → IsMachine m → (e : Event) → Fits plan m e → (frame : Frame) (below : List Frame) (k : Invariant image plan cert most m frame below) → Done m frame below k e (machine_after_event m e)
   done-kept m words e fits frame below k =
       let r = rules_at image plan cert is_cert accepted frame.node m.pc k.point k.stands k.found in
-      elim (cases_Bool (is_taken m e)) [
+      elim (cases_Bool (is_interrupt_taken m e)) [
         | inl taken ↦
             let s = interrupted m words frame below k r.shape r.size r.holds e fits taken in
-            subst (Done m frame below k e) (sym (ap (λ t. cond t (interrupt m e.irq) (executed m e (fetched m))) taken))
+            subst (Done m frame below k e) (sym (ap (λ t. cond t (interrupt m e.irq) (after_found_instruction m e (fetched_instruction m))) taken))
             (record {
               shape = r.shape;
               size = r.size;
               code = (r.holds).code;
-              goes = Goes-as (ap (λ t. by m e t (fetched m) (interrupt m e.irq).pc (standing m.pc frame below)) (sym taken)) s.goes;
-              owes = subst (λ t. IsEdgeWayOwed (duties_at image plan cert frame.node m.pc (k.point).state r.shape r.size) (frame.node).key e.irq (standing m.pc frame below) (interrupt m e.irq).pc (cond t (irq (interrupt m e.irq).pc) (edge_way_in_fetch m e (fetched m) (interrupt m e.irq).pc)))
+              goes = Goes-as (ap (λ t. by m e t (fetched_instruction m) (interrupt m e.irq).pc (standing m.pc frame below)) (sym taken)) s.goes;
+              owes = subst (λ t. IsEdgeWayOwed (duties_at image plan cert frame.node m.pc (k.point).state r.shape r.size) (frame.node).key e.irq (standing m.pc frame below) (interrupt m e.irq).pc (cond t (irq (interrupt m e.irq).pc) (edge_way_in_fetch m e (fetched_instruction m) (interrupt m e.irq).pc)))
                   (sym taken) s.owes;
             })
         | inr none ↦
-            let at : fetched m ≡ Ok (r.shape, r.size) = fetched_at image plan ok m k.rom r.shape r.size (r.holds).code in
+            let at : fetched_instruction m ≡ Ok (r.shape, r.size) = fetched_at image plan ok m k.rom r.shape r.size (r.holds).code in
             let s = follows m words frame below k e fits none r.shape r.size r.holds in
             subst (Done m frame below k e) (sym (done-is m e r.shape r.size none at))
             (record {
               shape = r.shape;
               size = r.size;
               code = (r.holds).code;
-              goes = Goes-as (ap (λ t. by m e t (Ok (r.shape, r.size)) (does m e r.shape r.size).pc (standing m.pc frame below)) (sym none) ∙ ap (λ f. by m e (is_taken m e) f (does m e r.shape r.size).pc (standing m.pc frame below)) (sym at)) s.goes;
+              goes = Goes-as (ap (λ t. by m e t (Ok (r.shape, r.size)) (does m e r.shape r.size).pc (standing m.pc frame below)) (sym none) ∙ ap (λ f. by m e (is_interrupt_taken m e) f (does m e r.shape r.size).pc (standing m.pc frame below)) (sym at)) s.goes;
               owes = subst (λ w. IsEdgeWayOwed (duties_at image plan cert frame.node m.pc (k.point).state r.shape r.size) (frame.node).key e.irq (standing m.pc frame below) (does m e r.shape r.size).pc w)
-                  (ap (λ t. cond t (irq (does m e r.shape r.size).pc) (edge_way_in_fetch m e (Ok (r.shape, r.size)) (does m e r.shape r.size).pc)) (sym none) ∙ ap (λ f. cond (is_taken m e) (irq (does m e r.shape r.size).pc) (edge_way_in_fetch m e f (does m e r.shape r.size).pc)) (sym at)) s.owes;
+                  (ap (λ t. cond t (irq (does m e r.shape r.size).pc) (edge_way_in_fetch m e (Ok (r.shape, r.size)) (does m e r.shape r.size).pc)) (sym none) ∙ ap (λ f. cond (is_interrupt_taken m e) (irq (does m e r.shape r.size).pc) (edge_way_in_fetch m e f (does m e r.shape r.size).pc)) (sym at)) s.owes;
             })
       ]
 
@@ -466,6 +466,6 @@ module _ (image : ImageData) (plan : PlanData) (ok : IsPlan plan) (cert : CertDa
         owes = d.owes;
       })
 
-  pub step-kept : (m : Machine) → IsMachine m → (e : Event) → Fits plan m e → (now : List Standing) → Goes image plan cert most m now → Goes image plan cert most (step m e) (frames_after m e now)
+  pub step-kept : (m : Machine) → IsMachine m → (e : Event) → Fits plan m e → (now : List RunFrame) → Goes image plan cert most m now → Goes image plan cert most (step m e) (frames_after m e now)
   step-kept m words e fits now g =
-      Goes-as (ap (by m e (is_taken m e) (fetched m) (step m e).pc) g.stands) (step-done m words e fits g.frame g.below g.kept).goes
+      Goes-as (ap (by m e (is_interrupt_taken m e) (fetched_instruction m) (step m e).pc) g.stands) (step-done m words e fits g.frame g.below g.kept).goes

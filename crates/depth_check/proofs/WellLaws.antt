@@ -8,9 +8,9 @@ use Rattle.value_domain.specs.declared.values.Val.{Val}
 use Rattle.value_domain.specs.Values.{any_val, word_val}
 use Rattle.value_domain.specs.Limits.{AreLimits}
 use Rattle.value_domain.specs.VersionLimits.{limits_for}
-use Rattle.value_domain.specs.State.{AreWell}
+use Rattle.value_domain.specs.State.{AreWellFormed}
 use Rattle.value_domain.proofs.RangeLaws.{one_value}
-use Rattle.depth_cert.specs.Points.{IsWellCertValue}
+use Rattle.depth_cert.specs.Points.{IsWellFormedCertValue}
 use Rattle.depth_cert.specs.Nodes.{NodeData, IsNode}
 use Rattle.depth_cert.specs.Certs.{CertData, IsCert}
 use Rattle.packed_cert.proofs.ValueShapes.{well_of}
@@ -26,15 +26,15 @@ limits_are plan version =
       | inr other ↦ record { wide = rw other (omega arith); narrow = rw other (omega arith); few_locals = rw other (omega arith) }
     ]
 
-pub well_start : (plan : PlanData) → IsPlan plan → AreWell (start_state plan).regs
+pub well_start : (plan : PlanData) → IsPlan plan → AreWellFormed (start_state plan).regs
 well_start plan is =
     let b = limits_for plan 1 in
     values_well b (start_state plan).regs (entry_values b (word_val plan.sp) plan.start_ie plan.start_ccpn false (limits_are plan 1) (one_value b plan.sp (limits_are plan 1) is.words.sp))
 
 -- ---- certificates
-well_values : (version : ℕ) (vs : List Val) → All (IsWellCertValue version) vs → AreWell vs
+well_values : (version : ℕ) (vs : List Val) → All (IsWellFormedCertValue version) vs → AreWellFormed vs
 well_values version vs all r lt = well_of version (get_or vs r any_val) (all r any_val lt)
 
 -- the values of a certificate's points are well-formed
-pub well_points : (c : CertData) (n : NodeData) → IsCert c → Contains c.nodes n → All (λ p. AreWell (p.state).regs) n.points
+pub well_points : (c : CertData) (n : NodeData) → IsCert c → Contains c.nodes n → All (λ p. AreWellFormed (p.state).regs) n.points
 well_points c n h member k d lt = well_values c.version (get_or n.points k d).state.regs (((All-contains (IsNode c.version) c.nodes n h.nodes member).points k d lt).state).values

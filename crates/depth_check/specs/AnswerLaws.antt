@@ -8,7 +8,7 @@ use Rattle.depth_cert.specs.declared.keys.Key.{Key}
 use Rattle.depth_cert.specs.Nodes.{NodeData, find_node}
 use Rattle.depth_cert.specs.Certs.{CertData, IsCert}
 use Rattle.cfg_recover.specs.RulesHoldOrFail.{RuleFails, Accepts, IsFirstFault}
-use Rattle.cfg_recover.specs.FirstFaultLaws.{FirstFaultSays}
+use Rattle.cfg_recover.specs.FirstFaultLaws.{FirstFaultNamesFirstFailure}
 use Rattle.depth_check.specs.declared.verdicts.Verdict.TheVariants.{Yes, No}
 use Rattle.depth_check.specs.CheckAnswers.{IsCheckAnswer, IfAnswerIsYes}
 
@@ -25,7 +25,7 @@ pub record YesSays (image : ImageData) (plan : PlanData) (cert : CertData) (n : 
 pub record AnswerSays (image : ImageData) (plan : PlanData) (cert : CertData) : Type 0 where
   pub yes : (n : ℕ) → IsCheckAnswer image plan cert (Yes n) → YesSays image plan cert n
   pub safe : (n : ℕ) → IfAnswerIsYes (Yes n) (Safe image plan) → Safe image plan n
-  pub no : (r : ℕ) (k : Key) (p : ℕ) → IsCheckAnswer image plan cert (No r k p) → FirstFaultSays image plan cert r k p
+  pub no : (r : ℕ) (k : Key) (p : ℕ) → IsCheckAnswer image plan cert (No r k p) → FirstFaultNamesFirstFailure image plan cert r k p
 
 -- of every image, plan and certificate
 abbrev pub AnswersSay : Type 0

@@ -12,19 +12,19 @@ use Rattle.depth_cert.specs.Nodes.{NodeData}
 use Rattle.depth_cert.specs.Certs.{CertData}
 use Rattle.cfg_recover.specs.Entries.{call_key, call_entry}
 use Rattle.cfg_recover.specs.LocalRules.{targets_named_by}
-use Rattle.cfg_recover.specs.Duties.{Owed, entered_and_back}
+use Rattle.cfg_recover.specs.Duties.{Owed, entry_and_return}
 use Rattle.depth_check.specs.declared.fast_paths.CheckedRegisters.{CheckedRegisters}
 use Rattle.depth_check.specs.PointCheckData.{PointCheckData}
 use Rattle.depth_check.specs.DutiesHold.{HasPointWithState, HasCoveringPoints, DutiesHold}
 
 -- the calls to all functions that a checked register names in a state: duties to enter them and,
 -- after each, to go on at one address
-abbrev pub calls_by : PlanData → Key → State → ℕ → ℕ → List Owed
-calls_by plan key s r back = flat_map (λ t. entered_and_back 5 (call_key key t) (call_entry s) back) (unwrap_or (targets_named_by (reg_of plan s r)) [])
+abbrev pub register_call_duties : PlanData → Key → State → ℕ → ℕ → List Owed
+register_call_duties plan key s r back = flat_map (λ t. entry_and_return 5 (call_key key t) (call_entry s) back) (unwrap_or (targets_named_by (reg_of plan s r)) [])
 
 -- calls by a register hold in a state, whichever point of the node with that state they return to
 abbrev pub RegisterCallsHold : PlanData → CertData → NodeData → State → ℕ → Type 0
-RegisterCallsHold plan cert node s r = (back : ℕ) → HasPointWithState node back s → (q : ℕ) → DutiesHold cert node s (calls_by plan node.key s r back) q
+RegisterCallsHold plan cert node s r = (back : ℕ) → HasPointWithState node back s → (q : ℕ) → DutiesHold cert node s (register_call_duties plan node.key s r back) q
 
 -- the node has points for jumps by a register in a state
 abbrev pub RegisterJumpsHold : PlanData → NodeData → State → ℕ → Type 0
@@ -51,4 +51,4 @@ RegisterJumpsHoldAt at jumped = IfSome jumped (RegisterJumpsHold at.plan at.node
 -- address
 pub record IsHeldCall (at : PointCheckData) (entry : Change) (back : ℕ) (key : Key) : Type 0 where
   pub kind : key.kind ≡ call_kind
-  pub holds : (q : ℕ) → DutiesHold at.cert at.node at.point.state (entered_and_back 5 key (state_after at.point.state entry) back) q
+  pub holds : (q : ℕ) → DutiesHold at.cert at.node at.point.state (entry_and_return 5 key (state_after at.point.state entry) back) q

@@ -13,12 +13,12 @@ use Rattle.cfg_recover.specs.declared.flow_types.Leave.TheVariants.{Stays, Ret, 
 use Rattle.cfg_recover.specs.Entries.{start_key}
 use Rattle.depth_cert.specs.Exits.{exit_of, state_after_exit, ExitCovers}
 use Rattle.cfg_recover.specs.Duties.{Owed}
-use Rattle.cfg_recover.specs.RulesHoldOrFail.{HasCoveringPoint, IsMet, EntryNeedRuleHolds}
+use Rattle.cfg_recover.specs.RulesHoldOrFail.{HasCoveringPoint, IsDutyMet, EntryNeedRuleHolds}
 
 -- what the checker tests of a point's duty for rule q: that it is met, if q is its rule, and for
 -- K14 that the need has room for the entered node
 pub record DutyHolds (cert : CertData) (node : NodeData) (s : State) (q : ℕ) (d : Owed) : Type 0 where
-  pub met : d.rule ≡ q → IsMet cert node s d.duty
+  pub met : d.rule ≡ q → IsDutyMet cert node s d.duty
   pub need : q ≡ 14 → EntryNeedRuleHolds cert node s d.duty
 
 -- what makes a duty hold at once in the check: the node has a point at this address with this very
@@ -36,19 +36,19 @@ abbrev pub HasCoveringPoints : NodeData → State → List ℕ → Type 0
 HasCoveringPoints node s targets = All (λ t. HasCoveringPoint node t s) targets
 
 -- the node goes on where a frame of the entered node returns
-abbrev pub GoesOn : NodeData → State → NodeData → ℕ → Option ℕ → Type 0
-GoesOn node s entered kind back = IfSome back (λ q. IfSome entered.exit (λ x. HasCoveringPoint node q (state_after_exit s x kind)))
+abbrev pub GoesOnAfterReturn : NodeData → State → NodeData → ℕ → Option ℕ → Type 0
+GoesOnAfterReturn node s entered kind back = IfSome back (λ q. IfSome entered.exit (λ x. HasCoveringPoint node q (state_after_exit s x kind)))
 
 -- the node has an exit that covers the exit of the state
-abbrev pub HasExit : NodeData → State → Type 0
-HasExit node s = IsSomeAnd node.exit (λ y. ExitCovers y (exit_of s))
+abbrev pub HasCoveringExit : NodeData → State → Type 0
+HasCoveringExit node s = IsSomeAnd node.exit (λ y. ExitCovers y (exit_of s))
 
 -- what rule q asks of an instruction that leaves the node: K6 of RET, K7 of RFE in the handler of
 -- system calls
 abbrev pub LeavingHolds : NodeData → State → Leave → ℕ → Type 0
 LeavingHolds node s Stays q = Unit {0}
-LeavingHolds node s Ret q = 6 ≡ q → HasExit node s
-LeavingHolds node s Rfe q = (node.key).kind ≡ sys_kind → 7 ≡ q → HasExit node s
+LeavingHolds node s Ret q = 6 ≡ q → HasCoveringExit node s
+LeavingHolds node s Rfe q = (node.key).kind ≡ sys_kind → 7 ≡ q → HasCoveringExit node s
 
 -- what the checker tests of a node's own need for K14, apart from the duties: room for the locals
 -- and, at the start's entry, that the reserve stays free

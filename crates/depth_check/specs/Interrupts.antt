@@ -3,13 +3,13 @@ use Rattle.std.specs.Prelude.{◌≡◌, ◌≤◌, ◌+◌, ◌-◌, ℕ, true,
 use Rattle.tcd_plan.specs.PlanData.{PlanData}
 use Rattle.value_domain.specs.declared.values.Val.{Val}
 use Rattle.value_domain.specs.declared.states.State.{State}
-use Rattle.value_domain.specs.Values.{IsWell, IsValue, IsBelow}
+use Rattle.value_domain.specs.Values.{IsWellFormed, IsValue, IsBelow}
 use Rattle.vd_transfer.specs.Registers.{a10_of}
 use Rattle.depth_cert.specs.declared.keys.Key.{Key}
 use Rattle.depth_cert.specs.Nodes.{NodeData}
 use Rattle.depth_cert.specs.Certs.{CertData}
 use Rattle.cfg_recover.specs.Entries.{irq_key, entry_state_with, irqs_of, entry_stack_with}
-use Rattle.cfg_recover.specs.Duties.{Owed, owed, enter, interrupts_of}
+use Rattle.cfg_recover.specs.Duties.{Owed, owed, enter, interrupt_duties_of}
 use Rattle.cfg_recover.specs.RulesHoldOrFail.{limits_in}
 use Rattle.depth_check.specs.declared.last_interrupts.InterruptContext.{InterruptContext}
 use Rattle.depth_check.specs.declared.last_interrupts.LastInterrupts.{LastInterrupts}
@@ -24,7 +24,7 @@ pub record IsContext (context : InterruptContext) (node : NodeData) (s : State) 
   pub spare : context.spare ≡ node.need - length s.locals.items
 
 -- a state of a node's point has this context, apart from A10, and no fewer areas are left
-pub record FitsContext (context : InterruptContext) (node : NodeData) (s : State) : Type 0 where
+pub record FitsContextExceptStack (context : InterruptContext) (node : NodeData) (s : State) : Type 0 where
   pub is : context.is ≡ (node.key).is
   pub ie : context.ie ≡ s.ie
   pub ccpn : context.ccpn ≡ s.ccpn
@@ -32,12 +32,12 @@ pub record FitsContext (context : InterruptContext) (node : NodeData) (s : State
 
 -- a state has this context and, on the interrupt stack, its A10 is below the context's
 pub record IsBelowContext (context : InterruptContext) (node : NodeData) (s : State) : Type 0 where
-  pub like : FitsContext context node s
+  pub like : FitsContextExceptStack context node s
   pub sp : IsTrue context.is → IsBelow (a10_of s) context.sp
 
 -- all rules hold of the entries of interrupts in a state of a node's point
 abbrev pub InterruptsHold : PlanData → CertData → NodeData → State → Type 0
-InterruptsHold plan cert node s = (q : ℕ) → DutiesHold cert node s (interrupts_of plan node.key s) q
+InterruptsHold plan cert node s = (q : ℕ) → DutiesHold cert node s (interrupt_duties_of plan node.key s) q
 
 -- the duties to enter handlers of interrupts, for a context that the checker keeps: those of all
 -- that may be taken in a state, with this A10 instead of the state's
@@ -50,9 +50,9 @@ pub record HoldsInContext (plan : PlanData) (cert : CertData) (context : Interru
   pub holds : (node : NodeData) (s : State) → IsBelowContext context node s → InterruptsHold plan cert node s
 
 -- A10 of both contexts is a well-formed value
-pub record AreWellStacks (kept : LastInterrupts) : Type 0 where
-  pub last : IfSome kept.last (λ a. IsWell a.sp)
-  pub before : IfSome kept.before (λ a. IsWell a.sp)
+pub record AreStacksWellFormed (kept : LastInterrupts) : Type 0 where
+  pub last : IfSome kept.last (λ a. IsWellFormed a.sp)
+  pub before : IfSome kept.before (λ a. IsWellFormed a.sp)
 
 -- the entries hold in both contexts
 pub record LastInterruptsHold (plan : PlanData) (cert : CertData) (kept : LastInterrupts) : Type 0 where

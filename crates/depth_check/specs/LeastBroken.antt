@@ -5,7 +5,7 @@ use Rattle.depth_check.specs.PointCheckData.{PointCheckData}
 use Rattle.depth_check.specs.DutiesHold.{DutiesHold}
 
 -- r is the least rule that fails
-pub record IsLeastBroken (holds : ℕ → Type 0) (r : ℕ) : Type 0 where
+pub record IsLeastBrokenRule (holds : ℕ → Type 0) (r : ℕ) : Type 0 where
   pub broken : holds r → ⊥
   pub least : (q : ℕ) → q < r → holds q
   pub known : r ≤ 14
@@ -13,7 +13,7 @@ pub record IsLeastBroken (holds : ℕ → Type 0) (r : ℕ) : Type 0 where
 -- `None` if all rules hold, else the least that fails
 abbrev pub FindsLeastBroken : (ℕ → Type 0) → Option ℕ → Type 0
 FindsLeastBroken holds None = (q : ℕ) → holds q
-FindsLeastBroken holds (Some r) = IsLeastBroken holds r
+FindsLeastBroken holds (Some r) = IsLeastBrokenRule holds r
 
 -- the lesser of two rules that fail
 abbrev pub lesser_broken_rule : Option ℕ → Option ℕ → Option ℕ
@@ -26,5 +26,5 @@ abbrev pub broken_rule_unless : Bool → ℕ → Option ℕ
 broken_rule_unless holds rule = if holds then None else Some rule
 
 -- the least rule that these duties of the point break
-abbrev pub LeastBrokenByDuties : PointCheckData → List Owed → Option ℕ → Type 0
-LeastBrokenByDuties at duties found = FindsLeastBroken (DutiesHold at.cert at.node at.point.state duties) found
+abbrev pub FindsLeastBrokenByDuties : PointCheckData → List Owed → Option ℕ → Type 0
+FindsLeastBrokenByDuties at duties found = FindsLeastBroken (DutiesHold at.cert at.node at.point.state duties) found

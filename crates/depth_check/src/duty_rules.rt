@@ -1,16 +1,16 @@
 // The rules of the duties of a point: what it enters, its interrupts, and how it leaves the node.
 ghost use Rattle.std.specs.Prelude.{◌≡◌, length, ◌≤◌, ◌↔◌, IsTrue, IfSome, ◌+◌, [], ◌∷◌, unwrap_or};
 ghost use Rattle.std.specs.List.{flat_map};
-ghost use Rattle.depth_check.specs.LeastBroken.{FindsLeastBroken, LeastBrokenByDuties};
-ghost use Rattle.depth_check.specs.DutiesHold.{GoesOn, LeavingHolds};
+ghost use Rattle.depth_check.specs.LeastBroken.{FindsLeastBroken, FindsLeastBrokenByDuties};
+ghost use Rattle.depth_check.specs.DutiesHold.{GoesOnAfterReturn, LeavingHolds};
 ghost use Rattle.depth_cert.specs.Keys.{call_kind};
-ghost use Rattle.value_domain.specs.State.{AreWell};
+ghost use Rattle.value_domain.specs.State.{AreWellFormed};
 ghost use Rattle.vd_transfer.specs.Changes.{state_after};
 ghost use Rattle.tc_isa.specs.InBounds.{IsShape, IsTarget};
-ghost use Rattle.cfg_recover.specs.LocalFaults.{StandsFaultless};
+ghost use Rattle.cfg_recover.specs.LocalFaults.{IsFaultlessShape};
 ghost use Rattle.cfg_recover.specs.Entries.{call_key, irqs_of};
 ghost use Rattle.cfg_recover.specs.LocalRules.{targets_of};
-ghost use Rattle.cfg_recover.specs.Duties.{owed, enter, entered_and_back, entries_of, misaligned_of, interrupts_of, duties_of};
+ghost use Rattle.cfg_recover.specs.Duties.{owed, enter, entry_and_return, entry_duties_of, misaligned_duties_of, interrupt_duties_of, duties_of};
 ghost use Rattle.cfg_recover.specs.FlowDuties.{duties_of_flow_return, duties_of_irqs};
 ghost use Rattle.cfg_recover.specs.SetOperations.{HoldsCachedResults};
 ghost use Rattle.depth_check.specs.CheckedRegisters.{IsHeldCall, RegisterCallsHoldAt, RegistersHoldAt};
@@ -41,11 +41,11 @@ pub(crate) fn rule_broken_by_duties(
     found: &Located,
     scratch: &mut PointScratch,
 ) -> Option<u8>
-    requires found { StandsFaultless at.now.bounds at.now.image at.now.plan
+    requires found { IsFaultlessShape at.now.bounds at.now.image at.now.plan
         at.now.node.key at.now.point.addr at.now.point.state found.now }
     requires results { HoldsCachedResults at.now.bounds scratch.old.cache }
     requires registers { RegistersHoldAt at.now scratch.old.registers }
-    ensures found { LeastBrokenByDuties at.now
+    ensures found { FindsLeastBrokenByDuties at.now
         (duties_of at.now.bounds at.now.image at.now.plan at.now.node.key
         at.now.point.addr at.now.point.state found.now.shape found.now.size) result }
     ensures results { HoldsCachedResults at.now.bounds scratch.new.cache }
@@ -68,8 +68,8 @@ pub(crate) fn rule_broken_by_duties(
 /// Returns the least rule that a point's duties to enter interrupt handlers break. They are passed
 /// over if they are known to hold.
 pub(crate) fn rule_broken_by_interrupts(at: &PointCheck<'_, '_>) -> Option<u8>
-    ensures { LeastBrokenByDuties at.now
-        (interrupts_of at.now.plan at.now.node.key at.now.point.state) result }
+    ensures { FindsLeastBrokenByDuties at.now
+        (interrupt_duties_of at.now.plan at.now.node.key at.now.point.state) result }
 {
     let again = at.point.again;
     if again {
@@ -89,8 +89,8 @@ pub(crate) fn rule_broken_by_interrupts(at: &PointCheck<'_, '_>) -> Option<u8>
 /// The least rule that the entries of these interrupts break. `entry` is their change, except for
 /// its CCPN.
 pub(crate) fn rule_broken_by_irqs(at: &PointCheck<'_, '_>, irqs: &[u8], entry: Change) -> Option<u8>
-    requires { AreWell (state_after at.now.point.state entry).regs }
-    ensures { LeastBrokenByDuties at.now
+    requires { AreWellFormed (state_after at.now.point.state entry).regs }
+    ensures { FindsLeastBrokenByDuties at.now
         (duties_of_irqs at.now.plan (state_after at.now.point.state entry) irqs.now) result }
 {
     let mut entry = entry;
@@ -112,8 +112,8 @@ fn rule_broken_by_entries(
 ) -> Option<u8>
     requires shape { IsShape shape }
     requires called { RegisterCallsHoldAt at.now called.old }
-    ensures found { LeastBrokenByDuties at.now
-        (entries_of at.now.plan at.now.node.key at.now.point.addr at.now.point.state
+    ensures found { FindsLeastBrokenByDuties at.now
+        (entry_duties_of at.now.plan at.now.node.key at.now.point.addr at.now.point.state
         shape size) result }
     ensures called { RegisterCallsHoldAt at.now called.new }
 {
@@ -128,10 +128,10 @@ fn rule_broken_by_entries(
 /// The least rule that the trap of a misaligned access breaks. Without that trap in the plan no
 /// entry is owed, since K10 holds.
 fn rule_broken_by_access(at: &PointCheck<'_, '_>, found: &Located) -> Option<u8>
-    requires { StandsFaultless at.now.bounds at.now.image at.now.plan
+    requires { IsFaultlessShape at.now.bounds at.now.image at.now.plan
         at.now.node.key at.now.point.addr at.now.point.state found.now }
-    ensures { LeastBrokenByDuties at.now
-        (misaligned_of at.now.bounds at.now.plan at.now.node.key at.now.point.state
+    ensures { FindsLeastBrokenByDuties at.now
+        (misaligned_duties_of at.now.bounds at.now.plan at.now.node.key at.now.point.state
         found.now.shape) result }
 {
     let plan = at.plan;
@@ -148,7 +148,7 @@ fn rule_broken_by_access(at: &PointCheck<'_, '_>, found: &Located) -> Option<u8>
 /// handler of system calls.
 #[tactic(auto, unfolding(cfg_recover::specs::FlowDuties::flow_leave_of))]
 fn rule_broken_by_leaving(node: &Node<'_>, s: &State, shape: Shape) -> Option<u8>
-    requires { AreWell s.now.regs }
+    requires { AreWellFormed s.now.regs }
     ensures { FindsLeastBroken (LeavingHolds node.now s.now (flows.flow_leave_of shape)) result }
 {
     match shape {
@@ -174,8 +174,8 @@ fn rule_broken_by_unknown_call(
 ) -> Option<u8>
     requires target { IsTarget to }
     requires called { RegisterCallsHoldAt at.now called.old }
-    ensures found { LeastBrokenByDuties at.now
-        (flat_map (λ t. entered_and_back 5 (call_key at.now.node.key t)
+    ensures found { FindsLeastBrokenByDuties at.now
+        (flat_map (λ t. entry_and_return 5 (call_key at.now.node.key t)
         (entries.call_entry at.now.point.state) back)
         (unwrap_or (targets_of at.now.plan at.now.point.state at.now.point.addr to) []))
         result }
@@ -202,8 +202,8 @@ fn rule_broken_by_unknown_call(
 /// point to which it returns.
 #[inline(never)]
 fn rule_broken_by_system_call(at: &PointCheck<'_, '_>, tin: u8, back: u32) -> Option<u8>
-    ensures { LeastBrokenByDuties at.now
-        (entered_and_back 12 (entries.sys_key at.now.plan at.now.node.key)
+    ensures { FindsLeastBrokenByDuties at.now
+        (entry_and_return 12 (entries.sys_key at.now.plan at.now.node.key)
         (entries.sys_entry at.now.plan at.now.node.key at.now.point.state tin) back) result }
 {
     let node = at.node;
@@ -217,8 +217,8 @@ fn rule_broken_by_system_call(at: &PointCheck<'_, '_>, tin: u8, back: u32) -> Op
 #[inline(never)]
 fn rule_broken_by_call(at: &PointCheck<'_, '_>, to: Target, back: u32) -> Option<u8>
     requires { IsTarget to }
-    ensures { LeastBrokenByDuties at.now
-        (flat_map (λ t. entered_and_back 5 (call_key at.now.node.key t)
+    ensures { FindsLeastBrokenByDuties at.now
+        (flat_map (λ t. entry_and_return 5 (call_key at.now.node.key t)
         (entries.call_entry at.now.point.state) back)
         (unwrap_or (targets_of at.now.plan at.now.point.state at.now.point.addr to) []))
         result }
@@ -237,9 +237,9 @@ fn rule_broken_by_calls(
     targets: &[u32],
     back: u32,
 ) -> Option<u8>
-    requires { AreWell (state_after at.now.point.state entry.now).regs }
-    ensures { LeastBrokenByDuties at.now
-        (flat_map (λ t. entered_and_back 5 (call_key at.now.node.key t)
+    requires { AreWellFormed (state_after at.now.point.state entry.now).regs }
+    ensures { FindsLeastBrokenByDuties at.now
+        (flat_map (λ t. entry_and_return 5 (call_key at.now.node.key t)
         (state_after at.now.point.state entry.now) back) targets.now) result }
 {
     let node = at.node;
@@ -262,11 +262,11 @@ fn rule_broken_by_called_node(
     back: u32,
     held: &mut Option<Key>,
 ) -> Option<u8>
-    requires entry { AreWell (state_after at.now.point.state entry.now).regs }
+    requires entry { AreWellFormed (state_after at.now.point.state entry.now).regs }
     requires kind { key.now.kind ≡ call_kind }
     requires held { IfSome held.old (IsHeldCall at.now entry.now back) }
-    ensures found { LeastBrokenByDuties at.now
-        (entered_and_back 5 key.now (state_after at.now.point.state entry.now) back) result }
+    ensures found { FindsLeastBrokenByDuties at.now
+        (entry_and_return 5 key.now (state_after at.now.point.state entry.now) back) result }
     ensures held { IfSome held.new (IsHeldCall at.now entry.now back) }
 {
     if let Some(last) = *held {
@@ -294,9 +294,9 @@ fn rule_broken_by_call_list(
     back: u32,
 ) -> Option<u8>
     requires target { IsTarget to }
-    requires entry { AreWell (state_after at.now.point.state entry.now).regs }
-    ensures { LeastBrokenByDuties at.now
-        (flat_map (λ t. entered_and_back 5 (call_key at.now.node.key t)
+    requires entry { AreWellFormed (state_after at.now.point.state entry.now).regs }
+    ensures { FindsLeastBrokenByDuties at.now
+        (flat_map (λ t. entry_and_return 5 (call_key at.now.node.key t)
         (state_after at.now.point.state entry.now) back)
         (unwrap_or (targets_of at.now.plan at.now.point.state at.now.point.addr to) []))
         result }
@@ -315,8 +315,8 @@ fn rule_broken_by_entry(
     back: Option<u32>,
 ) -> Option<u8>
     requires rule { rule ≤ 14 }
-    requires entry { AreWell (state_after at.now.point.state entry.now).regs }
-    ensures { LeastBrokenByDuties at.now
+    requires entry { AreWellFormed (state_after at.now.point.state entry.now).regs }
+    ensures { FindsLeastBrokenByDuties at.now
         (owed rule (enter key.now (state_after at.now.point.state entry.now))
         ∷ duties_of_flow_return key.now back) result }
 {
@@ -352,8 +352,8 @@ fn has_point_after_entry(
     kind: u8,
     back: Option<u32>,
 ) -> bool
-    requires { AreWell s.now.regs }
-    ensures { IsTrue result ↔ GoesOn node.now s.now entered.now kind back }
+    requires { AreWellFormed s.now.regs }
+    ensures { IsTrue result ↔ GoesOnAfterReturn node.now s.now entered.now kind back }
 {
     match back {
         Some(at) => has_point_after_return(node, at, s, entered, kind),
@@ -364,7 +364,7 @@ fn has_point_after_entry(
 /// The least rule that the entry of the handler of misaligned accesses breaks.
 #[inline(never)]
 fn rule_broken_by_trap_entry(at: &PointCheck<'_, '_>) -> Option<u8>
-    ensures { LeastBrokenByDuties at.now
+    ensures { FindsLeastBrokenByDuties at.now
         (owed 10 (enter (entries.aln_key at.now.plan at.now.node.key)
         (entries.aln_entry at.now.plan at.now.node.key at.now.point.state)) ∷ [])
         result }
@@ -379,8 +379,8 @@ fn rule_broken_by_trap_entry(at: &PointCheck<'_, '_>) -> Option<u8>
 #[inline(never)]
 fn rule_broken_by_taken_irqs(at: &PointCheck<'_, '_>, irqs: &[u8]) -> Option<u8>
     requires { irqs.now ≡ irqs_of at.now.plan at.now.point.state }
-    ensures { LeastBrokenByDuties at.now
-        (interrupts_of at.now.plan at.now.node.key at.now.point.state) result }
+    ensures { FindsLeastBrokenByDuties at.now
+        (interrupt_duties_of at.now.plan at.now.node.key at.now.point.state) result }
 {
     let node = at.node;
     let entry = handler_change(at.bounds, at.plan, &node.key, at.point.state, 0);

@@ -2,7 +2,7 @@
 // saves.
 ghost use Rattle.std.specs.Prelude.{◌≡◌, IfSome, Some, IsTrue, Bool, [], ◌∷◌, ◌<◌};
 ghost use Rattle.std.specs.Option.{option_and};
-ghost use Rattle.depth_check.specs.LeastBroken.{LeastBrokenByDuties};
+ghost use Rattle.depth_check.specs.LeastBroken.{FindsLeastBrokenByDuties};
 ghost use Rattle.value_domain.specs.State.{AreValues, Covers};
 ghost use Rattle.vd_transfer.specs.EffectsOnStates.{transfer_of};
 ghost use Rattle.tcd_plan.specs.PlanData.{PlanData};
@@ -135,7 +135,7 @@ pub(crate) const NO_REGISTERS: CheckedRegisters = CheckedRegisters {
 
 /// The least rule that a step breaks which changes nothing.
 pub(crate) fn rule_broken_by_kept_state(at: &PointCheck<'_, '_>, next: u32) -> Option<u8>
-    ensures { LeastBrokenByDuties at.now (owed 4 (jump next at.now.point.state) ∷ []) result }
+    ensures { FindsLeastBrokenByDuties at.now (owed 4 (jump next at.now.point.state) ∷ []) result }
 {
     rule_unless(is_own_state_covered(at, next), NO_POINT)
 }

@@ -2,10 +2,10 @@
 ghost use Rattle.std.specs.Prelude.{◌≡◌, IfSome, IsTrue, IsSomeAnd, ◌<◌};
 ghost use Rattle.depth_cert.specs.Certs.{CertData};
 ghost use Rattle.value_domain.specs.State.{AreValues};
-ghost use Rattle.value_domain.specs.Values.{IsWell, IsValue};
+ghost use Rattle.value_domain.specs.Values.{IsWellFormed, IsValue};
 ghost use Rattle.vd_transfer.specs.Registers.{a10_of};
 ghost use Rattle.tcd_plan.specs.PlanData.{PlanData};
-ghost use Rattle.depth_check.specs.Interrupts.{IsContext, FitsContext, IsBelowContext, InterruptsHold, AreWellStacks, LastInterruptsHold, InterruptsHoldWith};
+ghost use Rattle.depth_check.specs.Interrupts.{IsContext, FitsContextExceptStack, IsBelowContext, InterruptsHold, AreStacksWellFormed, LastInterruptsHold, InterruptsHoldWith};
 
 use crate::duty_rules::rule_broken_by_irqs;
 use crate::points::PointCheck;
@@ -37,8 +37,8 @@ impl LastInterrupts {
     /// Whether the entries are known to hold in a state of the node's point. It isn't looked up if
     /// interrupts are off.
     pub(crate) fn covers(&self, node: &Node<'_>, s: &State) -> bool
-        requires stacks { AreWellStacks self.now }
-        requires stack { IsWell (a10_of s.now) }
+        requires stacks { AreStacksWellFormed self.now }
+        requires stack { IsWellFormed (a10_of s.now) }
         ensures { IsTrue result → (plan : PlanData) (cert : CertData)
             → LastInterruptsHold plan cert self.now → InterruptsHold plan cert node.now s.now }
     {
@@ -115,7 +115,7 @@ impl InterruptContext {
     /// Whether a state of the node's point has this context, apart from A10, with no fewer areas
     /// left.
     fn is_equal_except_stack(&self, node: &Node<'_>, s: &State) -> bool
-        ensures { IsTrue result → FitsContext self.now node.now s.now }
+        ensures { IsTrue result → FitsContextExceptStack self.now node.now s.now }
     {
         self.ie == s.ie
             && self.ccpn == s.ccpn
@@ -126,8 +126,8 @@ impl InterruptContext {
 
 /// Whether the entries of interrupts that hold in this context hold in the state too.
 fn context_covers(context: &Option<InterruptContext>, node: &Node<'_>, s: &State) -> bool
-    requires own { IfSome context.now (λ a. IsWell a.sp) }
-    requires stack { IsWell (a10_of s.now) }
+    requires own { IfSome context.now (λ a. IsWellFormed a.sp) }
+    requires stack { IsWellFormed (a10_of s.now) }
     ensures { IsTrue result → IsSomeAnd context.now (λ a. IsBelowContext a node.now s.now) }
 {
     match context {

@@ -1,8 +1,8 @@
 // Whether the points and the exit of a node cover states.
 ghost use Rattle.std.specs.Prelude.{IfSome, ◌↔◌, IsTrue};
 ghost use Rattle.cfg_recover.specs.RulesHoldOrFail.{HasCoveringPoint};
-ghost use Rattle.depth_check.specs.DutiesHold.{HasCoveringPoints, HasExit};
-ghost use Rattle.value_domain.specs.State.{AreWell};
+ghost use Rattle.depth_check.specs.DutiesHold.{HasCoveringPoints, HasCoveringExit};
+ghost use Rattle.value_domain.specs.State.{AreWellFormed};
 ghost use Rattle.vd_transfer.specs.Changes.{state_after};
 ghost use Rattle.depth_cert.specs.Exits.{state_after_exit};
 
@@ -14,7 +14,7 @@ use vd_transfer::Change;
 
 /// Whether the node has a point at this address that covers the state.
 pub(crate) fn has_covering_point(node: &Node<'_>, addr: u32, s: &State) -> bool
-    requires { AreWell s.now.regs }
+    requires { AreWellFormed s.now.regs }
     ensures { IsTrue result ↔ HasCoveringPoint node.now addr s.now }
 {
     match node.point(addr) {
@@ -61,7 +61,7 @@ pub(crate) fn is_kept_state_covered(at: &PointCheck<'_, '_>, addr: u32, c: &mut 
 
 /// Whether the node has a point at this address that covers the changed state.
 pub(crate) fn has_changed_point(node: &Node<'_>, addr: u32, s: &State, c: &Change) -> bool
-    requires { AreWell (state_after s.now c.now).regs }
+    requires { AreWellFormed (state_after s.now c.now).regs }
     ensures { IsTrue result ↔ HasCoveringPoint node.now addr (state_after s.now c.now) }
 {
     match node.point(addr) {
@@ -73,7 +73,7 @@ pub(crate) fn has_changed_point(node: &Node<'_>, addr: u32, s: &State, c: &Chang
 /// Returns true if the node has a point at this address that covers the changed state. The next
 /// point of the walk is tried first.
 pub(crate) fn is_changed_state_covered(at: &PointCheck<'_, '_>, addr: u32, c: &Change) -> bool
-    requires { AreWell (state_after at.now.point.state c.now).regs }
+    requires { AreWellFormed (state_after at.now.point.state c.now).regs }
     ensures { IsTrue result
         ↔ HasCoveringPoint at.now.node addr (state_after at.now.point.state c.now) }
 {
@@ -89,7 +89,7 @@ pub(crate) fn has_point_after_return(
     entered: &Node<'_>,
     kind: u8,
 ) -> bool
-    requires { AreWell s.now.regs }
+    requires { AreWellFormed s.now.regs }
     ensures { IsTrue result
         ↔ IfSome entered.now.exit
         (λ x. HasCoveringPoint node.now at (state_after_exit s.now x kind)) }
@@ -105,8 +105,8 @@ pub(crate) fn has_point_after_return(
 
 /// Whether the node has an exit that covers the exit of the state.
 pub(crate) fn has_covering_exit(node: &Node<'_>, s: &State) -> bool
-    requires { AreWell s.now.regs }
-    ensures { IsTrue result ↔ HasExit node.now s.now }
+    requires { AreWellFormed s.now.regs }
+    ensures { IsTrue result ↔ HasCoveringExit node.now s.now }
 {
     match node.exit() {
         Some(exit) => exit.covers(s),

@@ -1,7 +1,7 @@
 // The rules of a node, and its first fault.
 ghost use Rattle.std.specs.Prelude.{◌≡◌, All, ◌<◌, ◌^◌, Contains, MatchOption, ◌↔◌, IsTrue};
 ghost use Rattle.cfg_recover.specs.RulesHoldOrFail.{limits_in, HoldsAtNode, HoldsAtEntry};
-ghost use Rattle.value_domain.specs.State.{AreWell};
+ghost use Rattle.value_domain.specs.State.{AreWellFormed};
 ghost use Rattle.cfg_recover.specs.SetOperations.{HoldsCachedResults};
 ghost use Rattle.depth_check.specs.Interrupts.{LastInterruptsHold};
 ghost use Rattle.depth_check.specs.NodeFaults.{IsNodeFault};
@@ -44,7 +44,7 @@ pub(crate) fn node_fault<'a>(
     scratch: &mut NodeScratch<'a>,
 ) -> Option<Fault>
     requires limits { b.now ≡ limits_in plan.now cert.now }
-    requires points { All (λ p. AreWell p.state.regs) node.now.points }
+    requires points { All (λ p. AreWellFormed p.state.regs) node.now.points }
     requires member { Contains cert.now.nodes node.now }
     requires interrupts { LastInterruptsHold plan.now cert.now scratch.old.interrupts }
     requires results { HoldsCachedResults b.now scratch.old.point.cache }

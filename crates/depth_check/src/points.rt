@@ -6,15 +6,15 @@ ghost use Rattle.value_domain.specs.State.{AreValues};
 ghost use Rattle.vd_transfer.specs.Registers.{a10_of};
 ghost use Rattle.cfg_recover.specs.SetOperations.{HoldsCachedResults};
 ghost use Rattle.depth_check.specs.CheckedRegisters.{RegistersHoldAt};
-ghost use Rattle.depth_check.specs.Interrupts.{InterruptsHold, AreWellStacks, LastInterruptsHold};
+ghost use Rattle.depth_check.specs.Interrupts.{InterruptsHold, AreStacksWellFormed, LastInterruptsHold};
 ghost use Rattle.vd_transfer.specs.Changes.{state_after};
 ghost use Rattle.vd_transfer.specs.EffectsOnStates.{transfer_of};
-ghost use Rattle.cfg_recover.specs.LocalFaults.{StandsFaultless};
+ghost use Rattle.cfg_recover.specs.LocalFaults.{IsFaultlessShape};
 ghost use Rattle.cfg_recover.specs.Duties.{loaded_for_duties};
 ghost use Rattle.tcd_plan.specs.PlanData.{PlanData};
-ghost use Rattle.value_domain.specs.Values.{IsWell};
+ghost use Rattle.value_domain.specs.Values.{IsWellFormed};
 ghost use Rattle.depth_cert.specs.Certs.{CertData};
-ghost use Rattle.packed_cert.specs.Walks.{RepeatsAt};
+ghost use Rattle.packed_cert.specs.Walks.{IsNextWithSameState};
 
 use crate::duty_rules::{rule_broken_by_duties, rule_broken_by_interrupts};
 use crate::fast_paths::{CheckedRegisters, rule_broken_by_kept_state, fast_path_next};
@@ -127,7 +127,7 @@ pub(crate) fn rule_broken_at(at: &PointCheck<'_, '_>, scratch: &mut PointScratch
 /// two sets may be in its cache.
 #[inline(always)]
 pub(crate) fn write_change_at(at: &PointCheck<'_, '_>, found: &Located, scratch: &mut PointScratch)
-    requires found { StandsFaultless at.now.bounds at.now.image at.now.plan
+    requires found { IsFaultlessShape at.now.bounds at.now.image at.now.plan
         at.now.node.key at.now.point.addr at.now.point.state found.now }
     requires results { HoldsCachedResults at.now.bounds scratch.old.cache }
     ensures change { state_after at.now.point.state scratch.new.change
@@ -167,15 +167,15 @@ pub(crate) fn point_of_walk<'b>(
     interrupts: &LastInterrupts,
     walk: &'b PointWalk<'b>,
 ) -> CurrentPoint<'b>
-    requires stacks { AreWellStacks interrupts.now }
-    requires stack { IsWell (a10_of walk.now.current) }
+    requires stacks { AreStacksWellFormed interrupts.now }
+    requires stack { IsWellFormed (a10_of walk.now.current) }
     ensures addr { result.addr ≡ addr }
     ensures state { result.state.now ≡ walk.now.current }
     ensures again { IsTrue result.again → (plan : PlanData) (cert : CertData)
         → LastInterruptsHold plan cert interrupts.now
         → InterruptsHold plan cert node.now walk.now.current }
     ensures known { IsTrue result.known → IsTrue known × AreValues b.now walk.now.anew }
-    ensures next { IfSome result.next (RepeatsAt walk.now) }
+    ensures next { IfSome result.next (IsNextWithSameState walk.now) }
     ensures walk { result.walk.now ≡ walk.now }
 {
     let state = walk.state();

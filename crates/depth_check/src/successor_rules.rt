@@ -1,10 +1,10 @@
 // K4 for the successors of a point in its frame.
 ghost use Rattle.std.specs.Prelude.{◌≡◌, ◌+◌, [], unwrap_or, ◌<◌, ◌++◌, false, true};
-ghost use Rattle.depth_check.specs.LeastBroken.{LeastBrokenByDuties};
+ghost use Rattle.depth_check.specs.LeastBroken.{FindsLeastBrokenByDuties};
 ghost use Rattle.tc_isa.specs.InBounds.{IsShape, IsTarget};
-ghost use Rattle.cfg_recover.specs.LocalFaults.{StandsFaultless};
+ghost use Rattle.cfg_recover.specs.LocalFaults.{IsFaultlessShape};
 ghost use Rattle.cfg_recover.specs.LocalRules.{targets_of, targets_named_by};
-ghost use Rattle.cfg_recover.specs.Duties.{jumps_to, jump_on, next_of, successors_of};
+ghost use Rattle.cfg_recover.specs.Duties.{jumps_to, jump_on, next_duty_of, successor_duties_of};
 ghost use Rattle.cfg_recover.specs.SetOperations.{HoldsCachedResults};
 ghost use Rattle.depth_check.specs.CheckedRegisters.{RegistersHoldAt, RegisterJumpsHoldAt};
 ghost use Rattle.vd_transfer.specs.Registers.{reg_of};
@@ -25,12 +25,12 @@ pub(crate) fn rule_broken_by_successors(
     found: &Located,
     scratch: &mut PointScratch,
 ) -> Option<u8>
-    requires found { StandsFaultless at.now.bounds at.now.image at.now.plan
+    requires found { IsFaultlessShape at.now.bounds at.now.image at.now.plan
         at.now.node.key at.now.point.addr at.now.point.state found.now }
     requires results { HoldsCachedResults at.now.bounds scratch.old.cache }
     requires registers { RegistersHoldAt at.now scratch.old.registers }
-    ensures found { LeastBrokenByDuties at.now
-        (successors_of at.now.bounds at.now.image at.now.plan at.now.point.addr
+    ensures found { FindsLeastBrokenByDuties at.now
+        (successor_duties_of at.now.bounds at.now.image at.now.plan at.now.point.addr
         at.now.point.state found.now.shape found.now.size) result }
     ensures results { HoldsCachedResults at.now.bounds scratch.new.cache }
     ensures registers { RegistersHoldAt at.now scratch.new.registers }
@@ -62,7 +62,7 @@ fn rule_broken_by_branch_sides(
     c: &mut Change,
 ) -> Option<u8>
     requires { IsShape shape }
-    ensures { LeastBrokenByDuties at.now
+    ensures { FindsLeastBrokenByDuties at.now
         (jump_on next (refine_of at.now.bounds at.now.plan shape at.now.point.state false)
         ++ jump_on to (refine_of at.now.bounds at.now.plan shape at.now.point.state true)) result }
 {
@@ -76,7 +76,7 @@ fn rule_broken_by_branch_sides(
 fn rule_broken_by_jump(at: &PointCheck<'_, '_>, to: Target, jumped: &mut Option<u8>) -> Option<u8>
     requires target { IsTarget to }
     requires jumped { RegisterJumpsHoldAt at.now jumped.old }
-    ensures found { LeastBrokenByDuties at.now
+    ensures found { FindsLeastBrokenByDuties at.now
         (jumps_to at.now.point.state
         (unwrap_or (targets_of at.now.plan at.now.point.state at.now.point.addr to) [])) result }
     ensures jumped { RegisterJumpsHoldAt at.now jumped.new }
@@ -94,11 +94,11 @@ fn rule_broken_by_next(
     found: &Located,
     scratch: &mut PointScratch,
 ) -> Option<u8>
-    requires found { StandsFaultless at.now.bounds at.now.image at.now.plan
+    requires found { IsFaultlessShape at.now.bounds at.now.image at.now.plan
         at.now.node.key at.now.point.addr at.now.point.state found.now }
     requires results { HoldsCachedResults at.now.bounds scratch.old.cache }
-    ensures found { LeastBrokenByDuties at.now
-        (next_of at.now.bounds at.now.image at.now.plan at.now.point.addr
+    ensures found { FindsLeastBrokenByDuties at.now
+        (next_duty_of at.now.bounds at.now.image at.now.plan at.now.point.addr
         at.now.point.state found.now.shape found.now.size) result }
     ensures results { HoldsCachedResults at.now.bounds scratch.new.cache }
     ensures registers { scratch.new.registers ≡ scratch.old.registers }
@@ -119,7 +119,7 @@ fn rule_broken_by_branch_side(
     c: &mut Change,
 ) -> Option<u8>
     requires { IsShape shape }
-    ensures { LeastBrokenByDuties at.now
+    ensures { FindsLeastBrokenByDuties at.now
         (jump_on to (refine_of at.now.bounds at.now.plan shape at.now.point.state taken)) result }
 {
     let _bounds = at.bounds;
@@ -142,7 +142,7 @@ fn rule_broken_by_refined_side(
     c: &mut Change,
 ) -> Option<u8>
     requires { IsShape shape }
-    ensures { LeastBrokenByDuties at.now
+    ensures { FindsLeastBrokenByDuties at.now
         (jump_on to (refine_of at.now.bounds at.now.plan shape at.now.point.state taken)) result }
 {
     if !change_on(at.bounds, at.plan, shape, at.point.state, taken, c) {
@@ -157,7 +157,7 @@ fn rule_broken_by_refined_side(
 fn rule_broken_by_jump_list(at: &PointCheck<'_, '_>, r: u8, jumped: &mut Option<u8>) -> Option<u8>
     requires register { r < 32 }
     requires jumped { RegisterJumpsHoldAt at.now jumped.old }
-    ensures found { LeastBrokenByDuties at.now
+    ensures found { FindsLeastBrokenByDuties at.now
         (jumps_to at.now.point.state
         (unwrap_or (targets_named_by (reg_of at.now.plan at.now.point.state r)) [])) result }
     ensures jumped { RegisterJumpsHoldAt at.now jumped.new }
@@ -182,11 +182,11 @@ fn rule_broken_by_changed_state(
     found: &Located,
     scratch: &mut PointScratch,
 ) -> Option<u8>
-    requires found { StandsFaultless at.now.bounds at.now.image at.now.plan
+    requires found { IsFaultlessShape at.now.bounds at.now.image at.now.plan
         at.now.node.key at.now.point.addr at.now.point.state found.now }
     requires results { HoldsCachedResults at.now.bounds scratch.old.cache }
-    ensures found { LeastBrokenByDuties at.now
-        (next_of at.now.bounds at.now.image at.now.plan at.now.point.addr
+    ensures found { FindsLeastBrokenByDuties at.now
+        (next_duty_of at.now.bounds at.now.image at.now.plan at.now.point.addr
         at.now.point.state found.now.shape found.now.size) result }
     ensures results { HoldsCachedResults at.now.bounds scratch.new.cache }
     ensures registers { scratch.new.registers ≡ scratch.old.registers }

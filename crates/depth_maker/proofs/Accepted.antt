@@ -11,7 +11,7 @@ use Rattle.value_domain.specs.State.{Covers, AreValues}
 use Rattle.depth_cert.specs.declared.keys.Key.{Key}
 use Rattle.depth_cert.specs.declared.points.Exit.{Exit}
 use Rattle.depth_cert.specs.declared.points.Point.{Point}
-use Rattle.depth_cert.specs.Keys.{number_of_key, IsKey, same_key}
+use Rattle.depth_cert.specs.Keys.{number_of_key, IsKey, is_same_key}
 use Rattle.depth_cert.specs.Points.{find_point, IsPoint}
 use Rattle.depth_cert.specs.Exits.{IsExit, state_after_exit, ExitCovers}
 use Rattle.depth_cert.specs.Nodes.{NodeData, IsNode, need_of, find_node}
@@ -20,7 +20,7 @@ use Rattle.cfg_recover.specs.Code.{IsCode}
 use Rattle.cfg_recover.specs.Entries.{start_key, start_state}
 use Rattle.cfg_recover.specs.LocalFaults.{IsFaultless}
 use Rattle.cfg_recover.specs.Duties.{Duty, jump, enter, resume, leave, Owed, duties_of}
-use Rattle.cfg_recover.specs.RulesHoldOrFail.{IsSoundAlone, limits_in, HasCoveringPoint, IsMet, EntryNeedRuleHolds, RuleHolds, HoldsAtNode, Accepts}
+use Rattle.cfg_recover.specs.RulesHoldOrFail.{IsLocallyFaultless, limits_in, HasCoveringPoint, IsDutyMet, EntryNeedRuleHolds, RuleHolds, HoldsAtNode, Accepts}
 use Rattle.cfg_recover.specs.Assignments.{Place, point, exit, known_at, known_in, CoversAt, asked_by_duty, HasDuty, Closed, first_place, AllFaultless}
 use Rattle.depth_cert.specs.Known.{Known, state, leaving}
 use Rattle.depth_cert.specs.WellFormed.{IsWellFormedState, IsWellFormedKnown}
@@ -51,21 +51,21 @@ All-at P xs x all c = subst P c.2 (all c.0 x c.1)
 
 -- ---- keys
 
-same_test : (j k : Key) → IsKey j → IsKey k → same_key j k ≡ eqb (number_of_key j) (number_of_key k)
+same_test : (j k : Key) → IsKey j → IsKey k → is_same_key j k ≡ eqb (number_of_key j) (number_of_key k)
 same_test j k hj hk =
     elim (cases_Bool (eqb (number_of_key j) (number_of_key k))) [
-      | inl e ↦ let same = one_number j k hj hk (eqb-true _ _ e) in subst (λ (x : Key). same_key j x ≡ true) same (key_same j) ∙ sym e
-      | inr e ↦ elim (cases_Bool (same_key j k)) [
+      | inl e ↦ let same = one_number j k hj hk (eqb-true _ _ e) in subst (λ (x : Key). is_same_key j x ≡ true) same (key_same j) ∙ sym e
+      | inr e ↦ elim (cases_Bool (is_same_key j k)) [
         | inl t ↦ let same = key_tells j k t in absurd (let f : true ≡ false = sym (eq-eqb (number_of_key j) (number_of_key k) (ap (λ (x : Key). number_of_key x) same)) ∙ e in cc)
         | inr t ↦ t ∙ sym e
       ]
     ]
 
-pub find_agrees : (version : ℕ) (k : Key) (ns : List NodeData) → IsKey k → All (IsNode version) ns → find (λ n. same_key n.key k) ns ≡ find_node k ns
+pub find_agrees : (version : ℕ) (k : Key) (ns : List NodeData) → IsKey k → All (IsNode version) ns → find (λ n. is_same_key n.key k) ns ≡ find_node k ns
 find_agrees version k [] key all = refl
 find_agrees version k (n ∷ ns) key all =
     let here : IsNode version n = all 0 n (omega arith) in
-    ap (λ t. cond t (Some n) (find (λ n. same_key n.key k) ns)) (same_test n.key k here.key key)
+    ap (λ t. cond t (Some n) (find (λ n. is_same_key n.key k) ns)) (same_test n.key k here.key key)
     ∙ ap (λ (o : Option NodeData). cond (eqb (number_of_key n.key) (number_of_key k)) (Some n) o) (find_agrees version k ns key (λ i d lt. all (suc i) d (omega arith)))
 
 -- what holds at a key, an address and a state holds at equal ones
@@ -75,7 +75,7 @@ carried P j k x p t s a b c h = subst (λ (z : State). P k p z) c (subst (λ (z 
 -- the node and the point of a known place
 pub record AtPoint (cert : CertData) (k : Key) (p : ℕ) (s : State) : Type 0 where
   pub node : NodeData
-  pub found : find (λ n. same_key n.key k) cert.nodes ≡ Some node
+  pub found : find (λ n. is_same_key n.key k) cert.nodes ≡ Some node
   pub member : Contains cert.nodes node
   pub key : node.key ≡ k
   pub place : Point
@@ -86,9 +86,9 @@ pub record AtPoint (cert : CertData) (k : Key) (p : ℕ) (s : State) : Type 0 wh
 
 pub at_point : (cert : CertData) (k : Key) (p : ℕ) (v : Known) → known_in cert (point k p) ≡ Some v → (s : State) × (v ≡ state s) × AtPoint cert k p s
 at_point cert k p v e =
-    let a = and_then_some (known_at (point k p)) (find (λ n. same_key n.key k) cert.nodes) v e in
+    let a = and_then_some (known_at (point k p)) (find (λ n. is_same_key n.key k) cert.nodes) v e in
     let m = map_some (λ (q : Point). state q.state) (find_point p (a.0).points) v a.2 in
-    let f = found_in (λ n. same_key n.key k) cert.nodes a.0 a.1 in
+    let f = found_in (λ n. is_same_key n.key k) cert.nodes a.0 a.1 in
     let g = found_in (λ q. eqb q.addr p) (a.0).points m.0 m.1 in (
       (m.0).state,
       sym m.2,
@@ -108,16 +108,16 @@ at_point cert k p v e =
 -- the node of a known exit
 pub record AtExit (cert : CertData) (k : Key) (x : Exit) : Type 0 where
   pub node : NodeData
-  pub found : find (λ n. same_key n.key k) cert.nodes ≡ Some node
+  pub found : find (λ n. is_same_key n.key k) cert.nodes ≡ Some node
   pub member : Contains cert.nodes node
   pub key : node.key ≡ k
   pub is : node.exit ≡ Some x
 
 pub at_exit : (cert : CertData) (k : Key) (v : Known) → known_in cert (exit k) ≡ Some v → (x : Exit) × (v ≡ leaving x) × AtExit cert k x
 at_exit cert k v e =
-    let a = and_then_some (known_at (exit k)) (find (λ n. same_key n.key k) cert.nodes) v e in
+    let a = and_then_some (known_at (exit k)) (find (λ n. is_same_key n.key k) cert.nodes) v e in
     let m = map_some leaving (a.0).exit v a.2 in
-    let f = found_in (λ n. same_key n.key k) cert.nodes a.0 a.1 in
+    let f = found_in (λ n. is_same_key n.key k) cert.nodes a.0 a.1 in
     (m.0, sym m.2, record { node = a.0; found = a.1; member = f.0; key = key_tells (a.0).key k f.1; is = m.1 })
 
 module _ (image : ImageData) (plan : PlanData) (cert : CertData) (ground : IsGround (limits_in plan cert) image plan) (entry : image.entry < 2 ^ 32) (is_cert : IsCert cert) (accepted : Accepts image plan cert) where
@@ -130,14 +130,14 @@ module _ (image : ImageData) (plan : PlanData) (cert : CertData) (ground : IsGro
   key_is : (k : Key) (n : NodeData) → Contains cert.nodes n → n.key ≡ k → IsKey k
   key_is k n c e = subst IsKey e (node_is n c).key
 
-  agrees : (k : Key) → IsKey k → find (λ n. same_key n.key k) cert.nodes ≡ find_node k cert.nodes
+  agrees : (k : Key) → IsKey k → find (λ n. is_same_key n.key k) cert.nodes ≡ find_node k cert.nodes
   agrees k key = find_agrees cert.version k cert.nodes key is_cert.nodes
 
   -- what a node says of its places is known
-  known_point : (k : Key) (n : NodeData) (q : ℕ) (p : Point) → find (λ n. same_key n.key k) cert.nodes ≡ Some n → find_point q n.points ≡ Some p → known_in cert (point k q) ≡ Some (state p.state)
+  known_point : (k : Key) (n : NodeData) (q : ℕ) (p : Point) → find (λ n. is_same_key n.key k) cert.nodes ≡ Some n → find_point q n.points ≡ Some p → known_in cert (point k q) ≡ Some (state p.state)
   known_point k n q p found at = ap (option_and_then (known_at (point k q))) found ∙ ap (option_map (λ (q : Point). state q.state)) at
 
-  known_exit : (k : Key) (n : NodeData) (x : Exit) → find (λ n. same_key n.key k) cert.nodes ≡ Some n → n.exit ≡ Some x → known_in cert (exit k) ≡ Some (leaving x)
+  known_exit : (k : Key) (n : NodeData) (x : Exit) → find (λ n. is_same_key n.key k) cert.nodes ≡ Some n → n.exit ≡ Some x → known_in cert (exit k) ≡ Some (leaving x)
   known_exit k n x found at = ap (option_and_then (known_at (exit k))) found ∙ ap (option_map leaving) at
 
   -- ---- the rules at a point
@@ -162,12 +162,12 @@ module _ (image : ImageData) (plan : PlanData) (cert : CertData) (ground : IsGro
     pub point_well_formed : IsWellFormedState (limits_in plan cert) s
     point_well_formed = subst (IsWellFormedState (limits_in plan cert)) a.is place_well_formed
 
-    place_alone : (shape : Shape) (n : ℕ) → IsCode image plan (a.place).addr shape n → IsSoundAlone image plan cert a.node a.place shape n
+    place_alone : (shape : Shape) (n : ℕ) → IsCode image plan (a.place).addr shape n → IsLocallyFaultless image plan cert a.node a.place shape n
     place_alone shape n code = record { values = place_values; faultless = place_faultless; code = code }
 
     abbrev AllMet : Key → ℕ → State → Type 0
     AllMet k p s =
-        (shape : Shape) (n : ℕ) (d : Owed) → IsCode image plan p shape n → Contains (duties_of (limits_in plan cert) image plan k p s shape n) d → IsMet cert a.node s d.duty × EntryNeedRuleHolds cert a.node s d.duty
+        (shape : Shape) (n : ℕ) (d : Owed) → IsCode image plan p shape n → Contains (duties_of (limits_in plan cert) image plan k p s shape n) d → IsDutyMet cert a.node s d.duty × EntryNeedRuleHolds cert a.node s d.duty
 
     place_met : AllMet (a.node).key (a.place).addr (a.place).state
     place_met shape n d code c = (
@@ -189,7 +189,7 @@ module _ (image : ImageData) (plan : PlanData) (cert : CertData) (ground : IsGro
         (λ code. ((rules 14).needs shape n refl (place_alone shape n code)).start) code
 
     -- a duty that is met is covered
-    pub met_covers : (d : Duty) → HasKey d → IsMet cert a.node s d → (y : Place) (v : Known) → asked_by_duty (known_in cert) k s d ≡ Some (y, v) → CoversAt (known_in cert) y v
+    pub met_covers : (d : Duty) → HasKey d → IsDutyMet cert a.node s d → (y : Place) (v : Known) → asked_by_duty (known_in cert) k s d ≡ Some (y, v) → CoversAt (known_in cert) y v
     met_covers (jump q t) key met y v e =
         let f : (point k q, state t) ≡ (y, v) = cc in
         let m = some_and (λ (p : Point). Covers p.state t) (find_point q (a.node).points) met in
@@ -243,12 +243,12 @@ module _ (image : ImageData) (plan : PlanData) (cert : CertData) (ground : IsGro
   point_of : (k : Key) (p : ℕ) (s : State) → known_in cert (point k p) ≡ Some (state s) → AtPoint cert k p s
   point_of k p s e = let a = at_point cert k p (state s) e in subst (AtPoint cert k p) (one_state a.0 s (sym a.1)) a.2
 
-  duty_met : (k : Key) (p : ℕ) (s : State) (d : Duty) (h : HasDuty (limits_in plan cert) image plan (known_in cert) k p s d) → HasKey d × IsMet cert (point_of k p s h.at).node s d × EntryNeedRuleHolds cert (point_of k p s h.at).node s d
+  duty_met : (k : Key) (p : ℕ) (s : State) (d : Duty) (h : HasDuty (limits_in plan cert) image plan (known_in cert) k p s d) → HasKey d × IsDutyMet cert (point_of k p s h.at).node s d × EntryNeedRuleHolds cert (point_of k p s h.at).node s d
   duty_met k p s d h =
       let a = point_of k p s h.at in
       let m = point_met k p s a h.shape h.size h.owed h.code h.listed in
       let key = setting k p s a (point_well_formed k p s a) h.shape h.size h.owed h.code h.listed in
-      subst (λ (u : Duty). HasKey u × IsMet cert a.node s u × EntryNeedRuleHolds cert a.node s u) h.is (key, m.0, m.1)
+      subst (λ (u : Duty). HasKey u × IsDutyMet cert a.node s u × EntryNeedRuleHolds cert a.node s u) h.is (key, m.0, m.1)
 
   start_is : IsKey (start_key image plan)
   start_is = record { kind = omega arith; entry = entry; prio = omega arith }
@@ -276,7 +276,7 @@ module _ (image : ImageData) (plan : PlanData) (cert : CertData) (ground : IsGro
   need_at : (k : Key) (p : ℕ) (s : State) (a : AtPoint cert k p s) → need_in k ≡ (a.node).need
   need_at k p s a = ap need_of (sym (agrees k (key_is k a.node a.member a.key)) ∙ a.found)
 
-  need_entered : (t : Key) (u s : State) (n : NodeData) (l : ℕ) → HasKey (enter t u) → IsMet cert n s (enter t u) → IfSome (find_node t cert.nodes) (λ m. l + 1 + m.need ≤ n.need) → l + 1 + need_in t ≤ n.need
+  need_entered : (t : Key) (u s : State) (n : NodeData) (l : ℕ) → HasKey (enter t u) → IsDutyMet cert n s (enter t u) → IfSome (find_node t cert.nodes) (λ m. l + 1 + m.need ≤ n.need) → l + 1 + need_in t ≤ n.need
   need_entered t u s n l key met above =
       let o = some_and (λ (m : NodeData). HasCoveringPoint m t.entry u) (find_node t cert.nodes) met in
       let h : l + 1 + (o.0).need ≤ n.need = subst (λ (x : Option NodeData). IfSome x (λ m. l + 1 + m.need ≤ n.need)) o.1 above in

@@ -10,10 +10,10 @@ use Rattle.depth_cert.specs.declared.keys.Key.{Key}
 use Rattle.cfg_recover.specs.Entries.{start_state}
 use Rattle.depth_cert.specs.Exits.{state_after_exit}
 use Rattle.cfg_recover.specs.Duties.{Duty, jump, enter, resume, leave}
-use Rattle.cfg_recover.specs.Assignments.{Place, point, exit, Assignment, same_place, CoversAt, IsBelowAt, raised_at_place, asked_by_duty, asked_by_resume, HasDuty, Asks, Joins, Derived, begins, joins, Closed, first_place, AllFaultless}
+use Rattle.cfg_recover.specs.Assignments.{Place, point, exit, Assignment, is_same_place, CoversAt, IsBelowAt, raised_at_place, asked_by_duty, asked_by_resume, HasDuty, AsksFor, Joins, Derived, begins, joins, Closed, first_place, AllFaultless}
 use Rattle.depth_cert.specs.Known.{Known, state, leaving, CoversKnown, joined_known}
 use Rattle.depth_cert.specs.WellFormed.{IsWellFormedState, IsWellFormedKnown}
-use Rattle.cfg_recover.specs.CertRefusals.{HasManyNodes, HasManyPoints, IsPastCertLimits, HasRefusalFault, own, locals, IsRefusalFault, derived, limits}
+use Rattle.cfg_recover.specs.CertRefusals.{HasManyNodes, HasManyPoints, IsPastCertLimits, IsFaultInAssignment, own, locals, IsRefusalFault, derived, limits}
 use Rattle.depth_maker.specs.DutiesMonotone.{IsDutyBelow}
 use Rattle.depth_maker.specs.WellFormedAssignments.{IsWellFormedDuty, AllWellFormed}
 use Rattle.depth_maker.specs.MakerLaws.{AreMakerLaws}
@@ -73,7 +73,7 @@ module _ (b : Limits) (image : ImageData) (plan : PlanData) (laws : AreMakerLaws
   duty_well_formed a key p s d cells h =
       subst (IsWellFormedDuty b) h.is (laws.duties_well_formed key p s h.shape h.size h.owed (cells (point key p) (state s) h.at) h.faultless h.code h.listed)
 
-  pub asks_well_formed : (a : Assignment) (y : Place) (v : Known) → AllWellFormed b a → Asks b image plan a y v → IsWellFormedKnown b v
+  pub asks_well_formed : (a : Assignment) (y : Place) (v : Known) → AllWellFormed b a → AsksFor b image plan a y v → IsWellFormedKnown b v
   asks_well_formed a y v cells k =
       asked_well_formed a k.key k.before k.duty y v cells (cells (point k.key k.addr) (state k.before) (k.has).at) (duty_well_formed a k.key k.addr k.before k.duty cells k.has) k.asks
 
@@ -97,11 +97,11 @@ module _ (b : Limits) (image : ImageData) (plan : PlanData) (laws : AreMakerLaws
           subst (λ (u : Duty). IsDutyBelow u (e.0).duty) h.is (e.2).duty,
         )
 
-    pub asks_covered : (a : Assignment) → IsBelowAt a c → AllWellFormed b a → (y : Place) (v : Known) → Asks b image plan a y v → CoversAt c y v
+    pub asks_covered : (a : Assignment) → IsBelowAt a c → AllWellFormed b a → (y : Place) (v : Known) → AsksFor b image plan a y v → CoversAt c y v
     asks_covered a below pa y v k =
         let up = duty_above a below pa k.key k.addr k.before k.duty k.has in
         let r = incoming_rises a c below pa pc k.key k.before up.0 (pa (point k.key k.addr) (state k.before) (k.has).at) up.4 up.3 k.duty up.1 up.5 y v k.asks in
-        let there : Asks b image plan c y r.0 = record { key = k.key; addr = k.addr; before = up.0; duty = up.1; has = up.2; asks = r.1 } in
+        let there : AsksFor b image plan c y r.0 = record { key = k.key; addr = k.addr; before = up.0; duty = up.1; has = up.2; asks = r.1 } in
         let o = closed.duties y r.0 there in
         record { known = o.known; at = o.at; covers = laws.covers_through v r.0 o.known (asks_well_formed a y v pa k) (asks_well_formed c y r.0 pc there) o.covers r.2 }
 
@@ -124,17 +124,17 @@ module _ (b : Limits) (image : ImageData) (plan : PlanData) (laws : AreMakerLaws
         (stays.1 y w at, (let same : h.known ≡ top.known = (let q : Some h.known ≡ Some top.known = sym h.at ∙ top.at in cc) in subst (λ (k : Known). CoversKnown k w) same h.covers))) in
         let new = raised_covered (a y) j.value j.known top.known old (asks_well_formed a y j.value stays.1 j.asks) ptop top.covers j.raises in
         let each : (x : Place) (s : Known) → after x ≡ Some s → CoversAt c x s × IsWellFormedKnown b s =
-        λ x s at. elim (from_if (same_place x y) j.known (a x) (after x) s (j.is x) at) [
+        λ x s at. elim (from_if (is_same_place x y) j.known (a x) (after x) s (j.is x) at) [
           | inl h ↦ (let e = place_tells x y h.0 in
               (record { known = top.known; at = ap c e ∙ top.at; covers = subst (CoversKnown top.known) h.1 new.1 }, subst (IsWellFormedKnown b) h.1 new.0))
           | inr h ↦ (stays.0 x s h.1, stays.1 x s h.1)
         ] in
         ((λ x s at. (each x s at).0), (λ x s at. (each x s at).1))
 
-    start_below : (a : Assignment) → ((x : Place) → a x ≡ (if same_place x (first_place image plan) then Some (state (start_state plan)) else None)) → IsBelowAt a c × AllWellFormed b a
+    start_below : (a : Assignment) → ((x : Place) → a x ≡ (if is_same_place x (first_place image plan) then Some (state (start_state plan)) else None)) → IsBelowAt a c × AllWellFormed b a
     start_below a is =
         let each : (x : Place) (s : Known) → a x ≡ Some s → CoversAt c x s × IsWellFormedKnown b s =
-        λ x s at. elim (from_if (same_place x (first_place image plan)) (state (start_state plan)) None (a x) s (is x) at) [
+        λ x s at. elim (from_if (is_same_place x (first_place image plan)) (state (start_state plan)) None (a x) s (is x) at) [
           | inl h ↦ (let e = place_tells x (first_place image plan) h.0 in
               (record { known = closed.start.known; at = ap c e ∙ closed.start.at; covers = subst (CoversKnown closed.start.known) h.1 closed.start.covers }, subst (IsWellFormedKnown b) h.1 laws.start_well_formed))
           | inr h ↦ (let q : None ≡ Some s = h.1 in cc)
@@ -154,7 +154,7 @@ module _ (b : Limits) (image : ImageData) (plan : PlanData) (laws : AreMakerLaws
         let there : c (point k p) ≡ Some (state up.0) = o.at ∙ ap (λ (w : Known). Some w) up.1 in
         laws.faults_fall k p s up.0 (h.1 (point k p) (state s) at) (pc (point k p) (state up.0) there) up.2 (faultless k p up.0 there)
 
-    pub derived_joins : (a : Assignment) → Derived b image plan a → (y : Place) (v w : Known) → Asks b image plan a y v → a y ≡ Some w → joined_known b w v ≡ None → ⊥
+    pub derived_joins : (a : Assignment) → Derived b image plan a → (y : Place) (v w : Known) → AsksFor b image plan a y v → a y ≡ Some w → joined_known b w v ≡ None → ⊥
     derived_joins a d y v w k at none =
         let h = derived_below a d in
         let top = asks_covered a h.0 h.1 y v k in
@@ -190,7 +190,7 @@ module _ (b : Limits) (image : ImageData) (plan : PlanData) (laws : AreMakerLaws
     large_above a below h = elim h [ inl n ↦ inl (nodes_above a below n) | inr n ↦ inr (points_above a below n) ]
 
     -- if there is a closed one without faults and within the limits, no derived one has a fault
-    fault_of : (a : Assignment) (r : ℕ) (k : Key) (p : ℕ) → Derived b image plan a → HasRefusalFault b image plan a r k p → ⊥
+    fault_of : (a : Assignment) (r : ℕ) (k : Key) (p : ℕ) → Derived b image plan a → IsFaultInAssignment b image plan a r k p → ⊥
     fault_of a _ _ _ d (own r k p s at is) = is.fails (derived_faultless a d k p s at r)
     fault_of a _ _ _ d (locals k p s t at asks none) = derived_joins a d (point k p) (state t) (state s) asks at (unjoined s t none) where
       unjoined : (s t : State) → joined_states b s t ≡ None → joined_known b (state s) (state t) ≡ None

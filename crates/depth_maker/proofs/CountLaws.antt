@@ -9,22 +9,22 @@ use Rattle.elf_image.specs.Images.{ImageData}
 use Rattle.tcd_plan.specs.PlanData.{PlanData}
 use Rattle.value_domain.specs.Limits.{Limits}
 use Rattle.depth_cert.specs.declared.keys.Key.{Key}
-use Rattle.depth_cert.specs.Keys.{same_key}
-use Rattle.cfg_recover.specs.Assignments.{Place, point, exit, Assignment, same_place, frame_of_place, Joins, Derived}
+use Rattle.depth_cert.specs.Keys.{is_same_key}
+use Rattle.cfg_recover.specs.Assignments.{Place, point, exit, Assignment, is_same_place, frame_of_place, Joins, Derived}
 use Rattle.depth_cert.specs.Known.{Known}
 use Rattle.cfg_recover.specs.CertRefusals.{IsPastCertLimits, IsRefusalFault, limits}
-use Rattle.depth_maker.specs.AssignmentCounts.{AreCounted, AreFew}
+use Rattle.depth_maker.specs.AssignmentCounts.{ListsPointsAndFrames, AreFewEnough}
 use Rattle.frame_places.proofs.KeyLaws.{key_tells, key_same}
 use Rattle.depth_maker.proofs.PlaceLaws.{place_tells, place_same}
 use Rattle.depth_maker.proofs.Sizes.{decides, any_contained, no_more}
 use Rattle.depth_maker.proofs.Reached.{entry_of, asked_where}
 
 -- ---- within
-pub counted_within : (a : Assignment) (ps : List Place) (ks : List Key) → AreCounted a ps ks → AreFew ps ks → IsPastCertLimits a → ⊥
+pub counted_within : (a : Assignment) (ps : List Place) (ks : List Key) → ListsPointsAndFrames a ps ks → AreFewEnough ps ks → IsPastCertLimits a → ⊥
 counted_within a ps ks c few h =
     elim h [
       | inl n ↦
-          let le = no_more same_key key_tells key_same n.keys ks n.distinct
+          let le = no_more is_same_key key_tells key_same n.keys ks n.distinct
           (λ k i. let s = n.stand k i in
           elim s.2 [
             | inl e ↦ subst (λ (y : Place). Contains ks (frame_of_place y)) e (c.frames s.0 s.1)
@@ -32,7 +32,7 @@ counted_within a ps ks c few h =
           ]) in
           absurd (omega (arith, n.more, few.frames, le))
       | inr n ↦
-          let le = no_more same_place place_tells place_same n.places ps n.distinct
+          let le = no_more is_same_place place_tells place_same n.places ps n.distinct
           (λ y i. let s = n.stand y i in
           subst (Contains ps) (sym (s.1).2) (c.points (s.1).0 (s.1).1 (subst (λ (z : Place). IsSome (a z)) (s.1).2 s.0))) in
           absurd (omega (arith, n.more, few.points, le))
@@ -50,7 +50,7 @@ distinct_more same tells own xs y once absent =
 
 module _ (b : Limits) (image : ImageData) (plan : PlanData) (a after : Assignment) (y : Place) (j : Joins b image plan a after y) where
   stays : (x : Place) → IsSome (a x) → IsSome (after x)
-  stays x h = at (same_place x y) (j.is x) where
+  stays x h = at (is_same_place x y) (j.is x) where
     at : (t : Bool) → after x ≡ (if t then Some j.known else a x) → IsSome (after x)
     at true e = subst (λ (o : Option Known). IsSome o) (sym e) refl
     at false e = subst (λ (o : Option Known). IsSome o) (sym e) h
@@ -60,13 +60,13 @@ module _ (b : Limits) (image : ImageData) (plan : PlanData) (a after : Assignmen
 
   before : (x : Place) → IsSome (after x) → (x ≡ y) ⊎ IsSome (a x)
   before x h =
-      elim (cases_Bool (same_place x y)) [
+      elim (cases_Bool (is_same_place x y)) [
         | inl t ↦ inl (place_tells x y t)
         | inr f ↦ inr (subst (λ (o : Option Known). IsSome o) (j.is x ∙ ap (λ t. if t then Some j.known else a x) f) h)
       ]
 
   -- the state of a known place rises
-  pub counted_rises : (ps : List Place) (ks : List Key) → AreCounted a ps ks → IsSome (a y) → AreCounted after ps ks
+  pub counted_rises : (ps : List Place) (ks : List Key) → ListsPointsAndFrames a ps ks → IsSome (a y) → ListsPointsAndFrames after ps ks
   counted_rises ps ks c old = record {
     points = λ k p h. elim (before (point k p) h) [ inl e ↦ c.points k p (subst (λ (z : Place). IsSome (a z)) (sym e) old) | inr g ↦ c.points k p g ];
     known = λ x i. let s = c.known x i in (stays x s.0, s.1);
@@ -77,7 +77,7 @@ module _ (b : Limits) (image : ImageData) (plan : PlanData) (a after : Assignmen
   }
 
   -- the frame of an asked place is there, or its entry is asked for
-  pub frame_stands : (ps : List Place) (ks : List Key) → AreCounted a ps ks → Contains ks (frame_of_place y) ⊎ ((k : Key) × (y ≡ entry_of k))
+  pub frame_stands : (ps : List Place) (ks : List Key) → ListsPointsAndFrames a ps ks → Contains ks (frame_of_place y) ⊎ ((k : Key) × (y ≡ entry_of k))
   frame_stands ps ks c =
       let k = j.asks in
       elim (asked_where a k.key k.before k.duty y j.value k.asks) [
@@ -86,7 +86,7 @@ module _ (b : Limits) (image : ImageData) (plan : PlanData) (a after : Assignmen
       ]
 
   -- an exit is added
-  pub counted_exit : (ps : List Place) (ks : List Key) (l : Key) → AreCounted a ps ks → y ≡ exit l → AreCounted after ps ks
+  pub counted_exit : (ps : List Place) (ks : List Key) (l : Key) → ListsPointsAndFrames a ps ks → y ≡ exit l → ListsPointsAndFrames after ps ks
   counted_exit ps ks l c is = record {
     points = λ k p h. elim (before (point k p) h) [ inl e ↦ absurd (let f : point k p ≡ exit l = e ∙ is in cc) | inr g ↦ c.points k p g ];
     known = λ x i. let s = c.known x i in (stays x s.0, s.1);
@@ -103,7 +103,7 @@ module _ (b : Limits) (image : ImageData) (plan : PlanData) (a after : Assignmen
     once_each = c.once_each;
   }
 
-  module _ (ps : List Place) (ks : List Key) (c : AreCounted a ps ks) (l : Key) (q : ℕ) (is : y ≡ point l q) (new : a y ≡ None) where
+  module _ (ps : List Place) (ks : List Key) (c : ListsPointsAndFrames a ps ks) (l : Key) (q : ℕ) (is : y ≡ point l q) (new : a y ≡ None) where
     absent : Contains ps y → ⊥
     absent i = none_some (a y) new (c.known y i).0
 
@@ -122,22 +122,22 @@ module _ (b : Limits) (image : ImageData) (plan : PlanData) (a after : Assignmen
         ]
 
     -- a point of a known frame is added
-    pub counted_point : Contains ks l → AreCounted after (ps ++ y ∷ []) ks
+    pub counted_point : Contains ks l → ListsPointsAndFrames after (ps ++ y ∷ []) ks
     counted_point has = record {
       points = more_points;
       known = more_known;
-      once = distinct_more same_place place_tells place_same ps y c.once absent;
+      once = distinct_more is_same_place place_tells place_same ps y c.once absent;
       frames = λ x h. elim (before x h) [ inl e ↦ subst (λ (z : Place). Contains ks (frame_of_place z)) (sym (e ∙ is)) has | inr g ↦ c.frames x g ];
       entered = λ k i. stays (entry_of k) (c.entered k i);
       once_each = c.once_each;
     }
 
     -- the entry of a new frame is added
-    pub counted_entry : (Contains ks l → ⊥) → AreCounted after (ps ++ y ∷ []) (ks ++ l ∷ [])
+    pub counted_entry : (Contains ks l → ⊥) → ListsPointsAndFrames after (ps ++ y ∷ []) (ks ++ l ∷ [])
     counted_entry fresh = record {
       points = more_points;
       known = more_known;
-      once = distinct_more same_place place_tells place_same ps y c.once absent;
+      once = distinct_more is_same_place place_tells place_same ps y c.once absent;
       frames = λ x h.
           elim (before x h) [
             | inl e ↦ subst (λ (z : Place). Contains (ks ++ l ∷ []) (frame_of_place z)) (sym (e ∙ is)) (Contains-push ks l)
@@ -153,11 +153,11 @@ module _ (b : Limits) (image : ImageData) (plan : PlanData) (a after : Assignmen
                   subst (λ (z : Key). IsSome (after (entry_of z))) (sym same ∙ e) (subst (λ (z : Place). IsSome (after z)) n.1 added)
             ]
           ];
-      once_each = distinct_more same_key key_tells key_same ks l c.once_each fresh;
+      once_each = distinct_more is_same_key key_tells key_same ks l c.once_each fresh;
     }
 
     -- ---- a limit is passed
-    passed : Derived b image plan a → AreFew ps ks → IsPastCertLimits after → IsRefusalFault b image plan 15 l q
+    passed : Derived b image plan a → AreFewEnough ps ks → IsPastCertLimits after → IsRefusalFault b image plan 15 l q
     passed d few more =
         limits l q (record {
           before = a;
@@ -169,16 +169,16 @@ module _ (b : Limits) (image : ImageData) (plan : PlanData) (a after : Assignmen
           more = more;
         })
 
-    pub passed_points : Derived b image plan a → AreFew ps ks → length ps ≡ 2 ^ 16 → IsRefusalFault b image plan 15 l q
+    pub passed_points : Derived b image plan a → AreFewEnough ps ks → length ps ≡ 2 ^ 16 → IsRefusalFault b image plan 15 l q
     passed_points d few full =
         passed d few (inr (record {
           places = ps ++ y ∷ [];
-          distinct = distinct_more same_place place_tells place_same ps y c.once absent;
+          distinct = distinct_more is_same_place place_tells place_same ps y c.once absent;
           stand = more_known;
           more = omega (arith, length-append ps (y ∷ []), full);
         }))
 
-    pub passed_frames : Derived b image plan a → AreFew ps ks → (Contains ks l → ⊥) → length ks ≡ 2048 → IsRefusalFault b image plan 15 l q
+    pub passed_frames : Derived b image plan a → AreFewEnough ps ks → (Contains ks l → ⊥) → length ks ≡ 2048 → IsRefusalFault b image plan 15 l q
     passed_frames d few fresh full =
         let m = counted_entry fresh in
         passed d few (inl (record {

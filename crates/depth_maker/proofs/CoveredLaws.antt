@@ -15,11 +15,11 @@ use Rattle.cfg_recover.specs.Assignments.{Assignment, CoversAt, Joins, Place, po
 use Rattle.cfg_recover.specs.Duties.{Owed, enter, owed}
 use Rattle.cfg_recover.specs.Entries.{call_key}
 use Rattle.cfg_recover.proofs.Members.{contains_map}
-use Rattle.depth_maker.specs.Covered.{AreCallsCovered, EntriesCovered, AreLastCallsCovered, IsCallOf, called_key}
+use Rattle.depth_maker.specs.Covered.{AreCallsCovered, AreNotedEntriesCovered, AreLastCallsCovered, IsCallOf, called_key}
 use Rattle.depth_maker.specs.WellFormedAssignments.{AllWellFormed}
 use Rattle.depth_maker.specs.MakerLaws.{AreMakerLaws}
 use Rattle.depth_maker.specs.TableView.{TableView}
-use Rattle.depth_maker.specs.TableInvariant.{Settled}
+use Rattle.depth_maker.specs.TableInvariant.{IsDutySettled}
 use Rattle.depth_maker.specs.declared.covered.CoveredEntries.{CoveredEntries}
 use Rattle.depth_maker.specs.declared.last_call.LastCall.{LastCall}
 use Rattle.depth_maker.proofs.DutyGrowth.{contained_map}
@@ -36,7 +36,7 @@ call_stays b image plan laws a after y well_formed j x h = record {
 }
 
 pub covered_stay : (b : Limits) (image : ImageData) (plan : PlanData) (laws : AreMakerLaws b image plan) (a after : Assignment) (y : Place) (well_formed : AllWellFormed b a) (j : Joins b image plan a after y) (covered : CoveredEntries)
-    → EntriesCovered b plan a covered → EntriesCovered b plan after covered
+    → AreNotedEntriesCovered b plan a covered → AreNotedEntriesCovered b plan after covered
 covered_stay b image plan laws a after y well_formed j covered h = (interrupts_stay b image plan laws a after y well_formed j covered.interrupts h.0, λ x c. call_stays b image plan laws a after y well_formed j x (h.1 x c))
 
 -- the same values
@@ -48,7 +48,7 @@ call_again b a after same x h = record {
       record { known = e.known; at = same (point (called_key x t) t) ∙ e.at; covers = e.covers };
 }
 
-pub covered_again : (b : Limits) (plan : PlanData) (a after : Assignment) → ((q : Place) → after q ≡ a q) → (covered : CoveredEntries) → EntriesCovered b plan a covered → EntriesCovered b plan after covered
+pub covered_again : (b : Limits) (plan : PlanData) (a after : Assignment) → ((q : Place) → after q ≡ a q) → (covered : CoveredEntries) → AreNotedEntriesCovered b plan a covered → AreNotedEntriesCovered b plan after covered
 covered_again b plan a after same covered h = (interrupts_again b plan a after same covered.interrupts h.0, λ x c. call_again b a after same x (h.1 x c))
 
 -- ---- calls
@@ -72,11 +72,11 @@ call_new b a h k targets v of well_formed covered = record {
 
 -- the entries that a call asks for are covered
 pub call_settles : (b : Limits) (image : ImageData) (plan : PlanData) (laws : AreMakerLaws b image plan) (t : TableView) (k : Key) (p : ℕ) (u s : State) (h : LastCall) (targets : List ℕ) → AreCallsCovered b t.cells h → IsCallOf h k targets h.entry
-    → IsWellFormedState b s → CoversKnown h.entry (state s) → (d : Owed) → Contains (map (λ (q : ℕ). owed 5 (enter (call_key k q) s)) targets) d → Settled t k p u d.duty
+    → IsWellFormedState b s → CoversKnown h.entry (state s) → (d : Owed) → Contains (map (λ (q : ℕ). owed 5 (enter (call_key k q) s)) targets) d → IsDutySettled t k p u d.duty
 call_settles b image plan laws t k p u s h targets entered of well_formed below d c =
     let r = contained_map (λ (q : ℕ). owed 5 (enter (call_key k q) s)) targets d c in
     let e = call_covers b t.cells h k targets entered of r.0 r.1 in
-    subst (λ (o : Owed). Settled t k p u o.duty) r.2 (record { known = e.known; at = e.at; covers = laws.covers_through (state s) h.entry e.known well_formed entered.well_formed e.covers below })
+    subst (λ (o : Owed). IsDutySettled t k p u o.duty) r.2 (record { known = e.known; at = e.at; covers = laws.covers_through (state s) h.entry e.known well_formed entered.well_formed e.covers below })
 
 -- what two states ask of a place is covered there, so their join is
 pub both_covered : (b : Limits) (image : ImageData) (plan : PlanData) (laws : AreMakerLaws b image plan) (a : Assignment) (y : Place) (v w e : Known) → AllWellFormed b a → IsWellFormedKnown b v → IsWellFormedKnown b w → joined_known b v w ≡ Some e

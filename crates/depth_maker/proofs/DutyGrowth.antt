@@ -25,7 +25,7 @@ use Rattle.store_ranges.proofs.Growth.{loads_grow}
 use Rattle.depth_cert.specs.declared.keys.Key.{Key}
 use Rattle.cfg_recover.specs.Code.{IsCode}
 use Rattle.cfg_recover.specs.Entries.{entry_stack_of, entry_state_with, call_entry, aln_entry, sys_entry}
-use Rattle.depth_cert.specs.Exits.{lower_values, exit_of, with_lower_from, ExitCovers}
+use Rattle.depth_cert.specs.Exits.{lower_values, exit_of, values_with_lower_from, ExitCovers}
 use Rattle.store_ranges.specs.Accesses.{are_aligned}
 use Rattle.cfg_recover.specs.LocalFaults.{IsFaultless}
 use Rattle.cfg_recover.specs.Duties.{jump, Owed, owed, loaded_for_duties, may_be_misaligned, duties_of}
@@ -35,7 +35,7 @@ use Rattle.depth_cert.proofs.ExitValues.{after-at, with_lower_length}
 use Rattle.cfg_recover.proofs.DutyView.{DutyAt, next, straight, taken, target, called, called_back, system, system_back, misaligned, interrupt, returns, resumes, duty_at, duty_listed}
 pub use Rattle.cfg_recover.proofs.Members.{contained_map, contained_flat, contained_filter}
 use Rattle.cfg_recover.proofs.Members.{contains_filter}
-use Rattle.depth_maker.specs.DutiesMonotone.{IsDutyBelow, IsOwedBelow, DutiesMonotone, AfterMonotone}
+use Rattle.depth_maker.specs.DutiesMonotone.{IsDutyBelow, IsOwedBelow, DutiesMonotone, ReturnStatesMonotone}
 use Rattle.depth_maker.proofs.StateGrowth.{reg_grows, set_covers}
 use Rattle.depth_maker.proofs.EffectGrowth.{transfer_covers, address_grows, address_value, branch_grows}
 use Rattle.depth_maker.proofs.OwnGrowth.{targets_within, aligned_falls, setting_of}
@@ -82,7 +82,7 @@ lower_place i e =
       | inr a ↦ let h = and_parts (leb 16 i) (ltb i 22) a in let low = leb-true 16 i h.0 in let high = ltb-true i 22 h.1 in rw (le-ltb i 8 (omega arith)) (omega arith)
     ]
 
-after_regs : (vs ws xs ys : List Val) → length vs ≡ 27 → length ws ≡ 27 → length xs ≡ 14 → AreBelow vs ws → AreBelow xs ys → AreBelow (with_lower_from 0 xs vs) (with_lower_from 0 ys ws)
+after_regs : (vs ws xs ys : List Val) → length vs ≡ 27 → length ws ≡ 27 → length xs ≡ 14 → AreBelow vs ws → AreBelow xs ys → AreBelow (values_with_lower_from 0 xs vs) (values_with_lower_from 0 ys ws)
 after_regs vs ws xs ys lv lw lx below there r lt =
     let within : r < length vs = omega (arith, with_lower_length xs vs) in
     rw (after-at xs vs r within, after-at ys ws r (omega arith))
@@ -91,7 +91,7 @@ after_regs vs ws xs ys lv lw lx below there r lt =
       | inr f ↦ rw f (below r within)
     ])
 
-pub after_grows : AfterMonotone
+pub after_grows : ReturnStatesMonotone
 after_grows b s t x y kind ps pt px py c d = record {
   regs = after_regs s.regs t.regs x.lower y.lower ps.regs pt.regs px.regs c.regs d.lower;
   context = elim (cases_Bool (eqb kind 1)) [

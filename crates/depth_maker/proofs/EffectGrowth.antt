@@ -20,11 +20,11 @@ use Rattle.value_domain.specs.State.{Covers, AreBelow, is_lower_slot}
 use Rattle.value_domain.proofs.CoverLaws.{cover_mono}
 use Rattle.value_domain.proofs.RangeLaws.{one_value, cover_value, members_below, any_value}
 use Rattle.vd_transfer.specs.Operations.{value_of}
-use Rattle.vd_transfer.specs.Refinement.{kept_left, kept_right, kept_both, refining_condition_holds}
-use Rattle.value_domain.specs.Meets.{cover_of_meet}
+use Rattle.vd_transfer.specs.Refinement.{kept_left, kept_right, kept_against_itself, condition_goes_to_side}
+use Rattle.value_domain.specs.Meets.{cover_if_any}
 use Rattle.vd_transfer.specs.Registers.{reg_of, arg_of, set_reg, write_reg, set_arg, is_operand_register}
-use Rattle.vd_transfer.specs.EffectsOnStates.{state_with_base, access_of, forgotten_from, transfer_of, address_of, state_saved_lower, state_restored_lower}
-use Rattle.vd_transfer.specs.Branches.{side_with_register, side_with_operands, state_on_side, with_lowered_counter, refine_of}
+use Rattle.vd_transfer.specs.EffectsOnStates.{state_with_increased_base, access_of, with_lower_unknown_from, transfer_of, address_of, state_after_lower_save, state_after_lower_restore}
+use Rattle.vd_transfer.specs.Branches.{side_with_register, side_with_operands, state_on_side, with_decremented_counter, refine_of}
 use Rattle.vd_transfer.specs.Soundness.{IsSoundSetting}
 use Rattle.vd_transfer.proofs.HoldLaws.{reg_value, arg_value}
 use Rattle.value_domain.proofs.MeetLaws.{filter_has, among_any, among_filter, any_among}
@@ -37,7 +37,7 @@ pub word_value : (b : Limits) (w : ℕ) → AreLimits b → w < 2 ^ 32 → IsVal
 word_value b w limits small = one_value b w limits small
 
 -- values that are forgotten in both
-forgotten_below : (vs ws : List Val) → length vs ≡ length ws → AreBelow vs ws → AreBelow (forgotten_from 0 vs) (forgotten_from 0 ws)
+forgotten_below : (vs ws : List Val) → length vs ≡ length ws → AreBelow vs ws → AreBelow (with_lower_unknown_from 0 vs) (with_lower_unknown_from 0 ws)
 forgotten_below vs ws same below r lt =
     let within : r < length vs = omega (arith, length-forgotten 0 vs) in
     rw (get_or-forgotten 0 vs r any_val within, get_or-forgotten 0 ws r any_val (omega arith))
@@ -62,7 +62,7 @@ module _ (b : Limits) (p : PlanData) (s t : State) (low : IsSoundSetting b p s) 
       (reg_value b p s base low) vs (reg_value b p t base high) vt (reg_grows p s t low.regs high.regs c.regs base) inner
 
   -- ---- accesses
-  pub base_covers : (base : Arg) (offset : ℕ) (after : Bool) → IsArg base → offset < 2 ^ 32 → Covers (state_with_base b p t base offset after) (state_with_base b p s base offset after)
+  pub base_covers : (base : Arg) (offset : ℕ) (after : Bool) → IsArg base → offset < 2 ^ 32 → Covers (state_with_increased_base b p t base offset after) (state_with_increased_base b p s base offset after)
   base_covers (Word w) offset after is small = c
   base_covers (Reg r) offset false is small = c
   base_covers (Reg r) offset true is small = write_covers s t r _ _ low.regs high.regs c (op_grows Add (Reg r) (Word offset) is small)
@@ -72,7 +72,7 @@ module _ (b : Limits) (p : PlanData) (s t : State) (low : IsSoundSetting b p s) 
   access_grows base offset false is small = op_grows Add base (Word offset) is small
 
 -- the base register that is increased leaves a setting
-pub base_setting : (b : Limits) (p : PlanData) (s : State) (base : Arg) (offset : ℕ) (after : Bool) → IsSoundSetting b p s → IsArg base → offset < 2 ^ 32 → IsSoundSetting b p (state_with_base b p s base offset after)
+pub base_setting : (b : Limits) (p : PlanData) (s : State) (base : Arg) (offset : ℕ) (after : Bool) → IsSoundSetting b p s → IsArg base → offset < 2 ^ 32 → IsSoundSetting b p (state_with_increased_base b p s base offset after)
 base_setting b p s (Word w) offset after h is small = h
 base_setting b p s (Reg r) offset false h is small = h
 base_setting b p s (Reg r) offset true h is small = setting_write b p s r _ h (value_of_value b Add (reg_of p s r) (word_val offset) h.limits (reg_value b p s r h) (word_value b offset h.limits small))
@@ -83,13 +83,13 @@ access_value b p s base offset false h is small = value_of_value b Add (arg_of p
 
 -- ---- transfers
 module _ (b : Limits) (p : PlanData) (s t : State) (low : IsSoundSetting b p s) (high : IsSoundSetting b p t) (c : Covers t s) where
-  saved_covers : Covers (state_saved_lower t) (state_saved_lower s)
+  saved_covers : Covers (state_after_lower_save t) (state_after_lower_save s)
   saved_covers = record { regs = c.regs; context = c.context; locals = implied_last t.locals.items s.locals.items t.lower s.lower c.context.2 c.locals }
 
   last_flag : IsTrue (get_or t.locals.items (length t.locals.items - 1) false) → IsTrue (get_or s.locals.items (length s.locals.items - 1) false)
   last_flag e = implied_at t.locals.items s.locals.items (length s.locals.items - 1) c.locals (rw (← same_locals t s c) e)
 
-  restored_covers : Covers (state_restored_lower t) (state_restored_lower s)
+  restored_covers : Covers (state_after_lower_restore t) (state_after_lower_restore s)
   restored_covers = record {
     regs = forgotten_below s.regs t.regs (low.regs ∙ sym high.regs) c.regs;
     context = (c.context.0, c.context.1, last_flag);
@@ -101,7 +101,7 @@ module _ (b : Limits) (p : PlanData) (s t : State) (low : IsSoundSetting b p s) 
   transfer_covers (Compute op dst x y) v w is here = write_covers s t dst _ _ low.regs high.regs c (op_grows b p s t low high c op x y is.1 is.2)
   transfer_covers (Scaled dst base index n) v w is here = write_covers s t dst _ _ low.regs high.regs c (scaled_grows b p s t low high c base index n is.1 is.2 is.3)
   transfer_covers (Load dst base offset size signed after) v w is here =
-      write_covers (state_with_base b p s base offset after) (state_with_base b p t base offset after) dst v w (base_setting b p s base offset after low is.1 is.2).regs (base_setting b p t base offset after high is.1 is.2).regs
+      write_covers (state_with_increased_base b p s base offset after) (state_with_increased_base b p t base offset after) dst v w (base_setting b p s base offset after low is.1 is.2).regs (base_setting b p t base offset after high is.1 is.2).regs
       (base_covers b p s t low high c base offset after is.1 is.2) here
   transfer_covers (Store src base offset size after) v w is here = base_covers b p s t low high c base offset after is.1 is.2
   transfer_covers Svlcx v w is here = saved_covers
@@ -128,45 +128,45 @@ address_value b p _ s h is = any_value b h.limits
 
 -- ---- refinement
 -- the members that are kept of a larger set have a larger cover
-kept_more : (b : Limits) (xs ys : List ℕ) (v : Val) → Within xs ys → cover_of_meet b xs ≡ Some v → (w : Val) × (cover_of_meet b ys ≡ Some w) × IsBelow v w
+kept_more : (b : Limits) (xs ys : List ℕ) (v : Val) → Within xs ys → cover_if_any b xs ≡ Some v → (w : Val) × (cover_if_any b ys ≡ Some w) × IsBelow v w
 kept_more b [] ys v there e = absurd (let f : None ≡ Some v = e in cc)
 kept_more b (x ∷ xs) [] v there e = absurd (there x (inl refl))
 kept_more b (x ∷ xs) (y ∷ ys) v there e =
     (cover b (y ∷ ys), refl, subst (λ (u : Val). IsBelow u (cover b (y ∷ ys))) (let f : Some (cover b (x ∷ xs)) ≡ Some v = e in cc) (cover_mono b (x ∷ xs) (y ∷ ys) (omega arith) there))
 
-kept_value : (b : Limits) (xs : List ℕ) (v : Val) → AreLimits b → ((z : ℕ) → Among z xs → z < 2 ^ 32) → cover_of_meet b xs ≡ Some v → IsValue b v
+kept_value : (b : Limits) (xs : List ℕ) (v : Val) → AreLimits b → ((z : ℕ) → Among z xs → z < 2 ^ 32) → cover_if_any b xs ≡ Some v → IsValue b v
 kept_value b [] v limits below e = absurd (let f : None ≡ Some v = e in cc)
 kept_value b (x ∷ xs) v limits below e = subst (λ (u : Val). IsValue b u) (let f : Some (cover b (x ∷ xs)) ≡ Some v = e in cc) (cover_value b (x ∷ xs) x limits (inl refl) below)
 
 left_more : (cond : Cond) (side : Bool) (vs ws vs2 ws2 : List ℕ) → Within vs vs2 → Within ws ws2 → Within (kept_left cond side vs ws) (kept_left cond side vs2 ws2)
 unfolding kept_left
 left_more cond side vs ws vs2 ws2 there here z i =
-    let k = among_filter (λ x. list_any (λ y. refining_condition_holds cond side x y) ws) z vs i in
-    let a = any_among (λ y. refining_condition_holds cond side z y) ws k.1 in
-    filter_has (λ x. list_any (λ y. refining_condition_holds cond side x y) ws2) z vs2 (there z k.0) (among_any (λ y. refining_condition_holds cond side z y) a.0 ws2 (here a.0 a.1) a.2)
+    let k = among_filter (λ x. list_any (λ y. condition_goes_to_side cond side x y) ws) z vs i in
+    let a = any_among (λ y. condition_goes_to_side cond side z y) ws k.1 in
+    filter_has (λ x. list_any (λ y. condition_goes_to_side cond side x y) ws2) z vs2 (there z k.0) (among_any (λ y. condition_goes_to_side cond side z y) a.0 ws2 (here a.0 a.1) a.2)
 
 right_more : (cond : Cond) (side : Bool) (vs ws vs2 ws2 : List ℕ) → Within vs vs2 → Within ws ws2 → Within (kept_right cond side vs ws) (kept_right cond side vs2 ws2)
 unfolding kept_right
 right_more cond side vs ws vs2 ws2 there here z i =
-    let k = among_filter (λ y. list_any (λ x. refining_condition_holds cond side x y) vs) z ws i in
-    let a = any_among (λ x. refining_condition_holds cond side x z) vs k.1 in
-    filter_has (λ y. list_any (λ x. refining_condition_holds cond side x y) vs2) z ws2 (here z k.0) (among_any (λ x. refining_condition_holds cond side x z) a.0 vs2 (there a.0 a.1) a.2)
+    let k = among_filter (λ y. list_any (λ x. condition_goes_to_side cond side x y) vs) z ws i in
+    let a = any_among (λ x. condition_goes_to_side cond side x z) vs k.1 in
+    filter_has (λ y. list_any (λ x. condition_goes_to_side cond side x y) vs2) z ws2 (here z k.0) (among_any (λ x. condition_goes_to_side cond side x z) a.0 vs2 (there a.0 a.1) a.2)
 
-both_more : (cond : Cond) (side : Bool) (vs vs2 : List ℕ) → Within vs vs2 → Within (kept_both cond side vs) (kept_both cond side vs2)
-unfolding kept_both
-both_more cond side vs vs2 there z i = let k = among_filter (λ z. refining_condition_holds cond side z z) z vs i in filter_has (λ z. refining_condition_holds cond side z z) z vs2 (there z k.0) k.1
+both_more : (cond : Cond) (side : Bool) (vs vs2 : List ℕ) → Within vs vs2 → Within (kept_against_itself cond side vs) (kept_against_itself cond side vs2)
+unfolding kept_against_itself
+both_more cond side vs vs2 there z i = let k = among_filter (λ z. condition_goes_to_side cond side z z) z vs i in filter_has (λ z. condition_goes_to_side cond side z z) z vs2 (there z k.0) k.1
 
 left_of : (cond : Cond) (side : Bool) (vs ws : List ℕ) (z : ℕ) → Among z (kept_left cond side vs ws) → Among z vs
 unfolding kept_left
-left_of cond side vs ws z i = (among_filter (λ x. list_any (λ y. refining_condition_holds cond side x y) ws) z vs i).0
+left_of cond side vs ws z i = (among_filter (λ x. list_any (λ y. condition_goes_to_side cond side x y) ws) z vs i).0
 
 right_of : (cond : Cond) (side : Bool) (vs ws : List ℕ) (z : ℕ) → Among z (kept_right cond side vs ws) → Among z ws
 unfolding kept_right
-right_of cond side vs ws z i = (among_filter (λ y. list_any (λ x. refining_condition_holds cond side x y) vs) z ws i).0
+right_of cond side vs ws z i = (among_filter (λ y. list_any (λ x. condition_goes_to_side cond side x y) vs) z ws i).0
 
-both_of : (cond : Cond) (side : Bool) (vs : List ℕ) (z : ℕ) → Among z (kept_both cond side vs) → Among z vs
-unfolding kept_both
-both_of cond side vs z i = (among_filter (λ z. refining_condition_holds cond side z z) z vs i).0
+both_of : (cond : Cond) (side : Bool) (vs : List ℕ) (z : ℕ) → Among z (kept_against_itself cond side vs) → Among z vs
+unfolding kept_against_itself
+both_of cond side vs z i = (among_filter (λ z. condition_goes_to_side cond side z z) z vs i).0
 
 -- a possible state, and a possible one that covers it
 abbrev pub GrowsTo : Limits → PlanData → Option State → Option State → Type 0
@@ -242,12 +242,12 @@ module _ (b : Limits) (p : PlanData) (s t : State) (low : IsSoundSetting b p s) 
             )))
       ]
 
-lowered_grows : (b : Limits) (p : PlanData) (x : ℕ) (lowers : Bool) (o o2 : Option State) → x < 32 → GrowsTo b p o o2 → GrowsTo b p (with_lowered_counter b p x lowers o) (with_lowered_counter b p x lowers o2)
+lowered_grows : (b : Limits) (p : PlanData) (x : ℕ) (lowers : Bool) (o o2 : Option State) → x < 32 → GrowsTo b p o o2 → GrowsTo b p (with_decremented_counter b p x lowers o) (with_decremented_counter b p x lowers o2)
 lowered_grows b p x lowers None o2 small h u e = absurd (let f : None ≡ Some u = e in cc)
 lowered_grows b p x false (Some s) o2 small h u e =
     let k = h s refl in
     let f : s ≡ u = (let g : Some s ≡ Some u = e in cc) in
-    (subst (λ (u : State). IsSoundSetting b p u) f k.0, (k.1.0, ap (with_lowered_counter b p x false) k.1.1, k.1.2, subst (λ (u : State). Covers k.1.0 u) f k.1.3))
+    (subst (λ (u : State). IsSoundSetting b p u) f k.0, (k.1.0, ap (with_decremented_counter b p x false) k.1.1, k.1.2, subst (λ (u : State). Covers k.1.0 u) f k.1.3))
 lowered_grows b p x true (Some s) o2 small h u e =
     let k = h s refl in
     let t = k.1.0 in
@@ -257,7 +257,7 @@ lowered_grows b p x true (Some s) o2 small h u e =
       subst (λ (u : State). IsSoundSetting b p u) f (setting_write b p s x _ k.0 vs),
       (
         write_reg t x (value_of b Sub (reg_of p t x) (word_val 1)),
-        ap (with_lowered_counter b p x true) k.1.1,
+        ap (with_decremented_counter b p x true) k.1.1,
         setting_write b p t x _ k.1.2 vt,
         subst (λ (u : State). Covers (write_reg t x (value_of b Sub (reg_of p t x) (word_val 1))) u) f
             (write_covers s t x _ _ (k.0).regs (k.1.2).regs k.1.3 (op_grows b p s t k.0 k.1.2 k.1.3 Sub (Reg x) (Word 1) small (omega arith))),

@@ -7,11 +7,11 @@ use Rattle.std.proofs.lemmas.List.Elements.{Contains-append_right, Contains-push
 use Rattle.tcd_plan.specs.PlanData.{PlanData}
 use Rattle.value_domain.specs.declared.states.State.{State}
 use Rattle.depth_cert.specs.declared.keys.Key.{Key}
-use Rattle.cfg_recover.specs.Duties.{interrupts_of, entered_in}
+use Rattle.cfg_recover.specs.Duties.{interrupt_duties_of, entered_keys}
 use Rattle.cfg_recover.specs.Entries.{irqs_of, irq_key}
 use Rattle.cfg_recover.proofs.Members.{contains_first, contains_map}
 use Rattle.frame_places.specs.Numbers.{frame_number_in}
-use Rattle.depth_maker.specs.InterruptHandlers.{AreHandlers, nodes_above, nodes_taken}
+use Rattle.depth_maker.specs.InterruptHandlers.{AreHandlers, handler_nodes_above, taken_handlers}
 use Rattle.depth_maker.specs.declared.interrupt_handlers.Handler.{Handler}
 use Rattle.depth_maker.proofs.EnteredLemmas.{entered_irqs}
 use Rattle.depth_maker.proofs.InterruptLaws.{takes}
@@ -37,7 +37,7 @@ handlers_more plan frames irqs i hs new h lt more prio node are = record {
 }
 
 -- ---- what is added
-nodes_one : (m : ℕ) (hs : List Handler) (h : Handler) → nodes_above m (hs ++ h ∷ []) ≡ nodes_above m hs ++ nodes_above m (h ∷ [])
+nodes_one : (m : ℕ) (hs : List Handler) (h : Handler) → handler_nodes_above m (hs ++ h ∷ []) ≡ handler_nodes_above m hs ++ handler_nodes_above m (h ∷ [])
 nodes_one m [] h = refl
 nodes_one m (x ∷ xs) h =
     elim (cases_Bool (nat_lt m x.prio)) [
@@ -45,25 +45,25 @@ nodes_one m (x ∷ xs) h =
       | inr f ↦ rw f (nodes_one m xs h)
     ]
 
-pub above_more : (m : ℕ) (from into new : List ℕ) (hs : List Handler) (i : ℕ) (d : Handler) → i < length hs → into ≡ from ++ nodes_above m (take i hs) → new ≡ into ++ nodes_above m (get_or hs i d ∷ [])
-    → new ≡ from ++ nodes_above m (take (i + 1) hs)
+pub above_more : (m : ℕ) (from into new : List ℕ) (hs : List Handler) (i : ℕ) (d : Handler) → i < length hs → into ≡ from ++ handler_nodes_above m (take i hs) → new ≡ into ++ handler_nodes_above m (get_or hs i d ∷ [])
+    → new ≡ from ++ handler_nodes_above m (take (i + 1) hs)
 above_more m from into new hs i d lt so more =
-    more ∙ ap (λ (l : List ℕ). l ++ nodes_above m (get_or hs i d ∷ [])) so ∙ append_assoc from (nodes_above m (take i hs)) (nodes_above m (get_or hs i d ∷ []))
-    ∙ ap (λ (l : List ℕ). from ++ l) (sym (nodes_one m (take i hs) (get_or hs i d)) ∙ ap (nodes_above m) (sym (take_more hs i d lt)))
+    more ∙ ap (λ (l : List ℕ). l ++ handler_nodes_above m (get_or hs i d ∷ [])) so ∙ append_assoc from (handler_nodes_above m (take i hs)) (handler_nodes_above m (get_or hs i d ∷ []))
+    ∙ ap (λ (l : List ℕ). from ++ l) (sym (nodes_one m (take i hs) (get_or hs i d)) ∙ ap (handler_nodes_above m) (sym (take_more hs i d lt)))
 
-pub above_one : (m : ℕ) (from new : List ℕ) (h : Handler) → m < h.prio → new ≡ from ++ h.node ∷ [] → new ≡ from ++ nodes_above m (h ∷ [])
+pub above_one : (m : ℕ) (from new : List ℕ) (h : Handler) → m < h.prio → new ≡ from ++ h.node ∷ [] → new ≡ from ++ handler_nodes_above m (h ∷ [])
 above_one m from new h lt more =
-    let one : nodes_above m (h ∷ []) ≡ h.node ∷ [] = rw (lt-ltb m h.prio lt) refl in
+    let one : handler_nodes_above m (h ∷ []) ≡ h.node ∷ [] = rw (lt-ltb m h.prio lt) refl in
     more ∙ ap (λ (l : List ℕ). from ++ l) (sym one)
 
 -- ---- what it is
 numbers_above : (m : ℕ) (number : ℕ → ℕ) (hs : List Handler) → ((h : Handler) → Contains hs h → nat_lt m h.prio ≡ true → h.node ≡ number h.prio)
-    → nodes_above m hs ≡ map number (filter (λ p. nat_lt m p) (map (λ (h : Handler). h.prio) hs))
+    → handler_nodes_above m hs ≡ map number (filter (λ p. nat_lt m p) (map (λ (h : Handler). h.prio) hs))
 numbers_above m number [] agree = refl
 numbers_above m number (h ∷ hs) agree =
     let rest = numbers_above m number hs (λ x c lt. agree x (Contains-append_right (h ∷ []) hs x c) lt) in
     elim (cases_Bool (nat_lt m h.prio)) [
-      | inl t ↦ rw t (ap (λ (n : ℕ). n ∷ nodes_above m hs) (agree h (contains_first h hs) t) ∙ ap (λ (l : List ℕ). number h.prio ∷ l) rest)
+      | inl t ↦ rw t (ap (λ (n : ℕ). n ∷ handler_nodes_above m hs) (agree h (contains_first h hs) t) ∙ ap (λ (l : List ℕ). number h.prio ∷ l) rest)
       | inr f ↦ rw f rest
     ]
 
@@ -72,12 +72,12 @@ mapped_twice f g [] = refl
 mapped_twice f g (p ∷ ps) = ap (λ (l : List ℕ). f (g p) ∷ l) (mapped_twice f g ps)
 
 taken_by : (on : Bool) (m : ℕ) (number : ℕ → ℕ) (hs : List Handler) (irqs : List ℕ) → map (λ (h : Handler). h.prio) hs ≡ irqs → ((h : Handler) → Contains hs h → IsTrue on → nat_lt m h.prio ≡ true → h.node ≡ number h.prio)
-    → (if on then nodes_above m hs else []) ≡ map number (if on then filter (λ p. nat_lt m p) irqs else [])
+    → (if on then handler_nodes_above m hs else []) ≡ map number (if on then filter (λ p. nat_lt m p) irqs else [])
 taken_by true m number hs irqs is agree = numbers_above m number hs (λ h c lt. agree h c refl lt) ∙ ap (λ (l : List ℕ). map number (filter (λ p. nat_lt m p) l)) is
 taken_by false m number hs irqs is agree = refl
 
-pub nodes_taken-is : (plan : PlanData) (frames : List Key) (key : Key) (s : State) (hs : List Handler) → AreHandlers plan frames plan.irqs hs → ((k : Key) → Contains (entered_in (interrupts_of plan key s)) k → Contains frames k)
-    → nodes_taken s.ie s.ccpn hs ≡ map (frame_number_in frames) (entered_in (interrupts_of plan key s))
+pub nodes_taken-is : (plan : PlanData) (frames : List Key) (key : Key) (s : State) (hs : List Handler) → AreHandlers plan frames plan.irqs hs → ((k : Key) → Contains (entered_keys (interrupt_duties_of plan key s)) k → Contains frames k)
+    → taken_handlers s.ie s.ccpn hs ≡ map (frame_number_in frames) (entered_keys (interrupt_duties_of plan key s))
 nodes_taken-is plan frames key s hs are known =
     let keys = entered_irqs plan key s (irqs_of plan s) in
     let member : (h : Handler) → Contains hs h → IsTrue s.ie → nat_lt s.ccpn h.prio ≡ true → Contains frames (irq_key plan h.prio) =

@@ -15,15 +15,15 @@ use Rattle.depth_cert.specs.declared.keys.Key.{Key}
 use Rattle.depth_cert.specs.Known.{CoversKnown, Known, leaving, state}
 use Rattle.depth_cert.specs.WellFormed.{IsWellFormedState}
 use Rattle.cfg_recover.specs.Assignments.{Assignment, CoversAt, Joins, Place, point}
-use Rattle.cfg_recover.specs.Duties.{Owed, enter, interrupts_of, owed}
+use Rattle.cfg_recover.specs.Duties.{Owed, enter, interrupt_duties_of, owed}
 use Rattle.cfg_recover.specs.Entries.{irqs_of, entry_state_with, irq_entry, irq_key, entry_stack_of}
 use Rattle.cfg_recover.proofs.EntryLaws.{entry_length}
 use Rattle.cfg_recover.proofs.Members.{contains_filter, contains_map}
 use Rattle.depth_maker.specs.WellFormedAssignments.{IsWellFormedDuty, AllWellFormed}
 use Rattle.depth_maker.specs.MakerLaws.{AreMakerLaws}
-use Rattle.depth_maker.specs.InterruptHandlers.{AreHandlersEntered, IsWithinContext, ContextsEntered, IsContextOf, IsContextEntered, context_stack}
+use Rattle.depth_maker.specs.InterruptHandlers.{AreHandlersCovered, IsWithinContext, AreContextsCovered, IsContextOf, IsContextCovered, context_stack}
 use Rattle.depth_maker.specs.TableView.{TableView}
-use Rattle.depth_maker.specs.TableInvariant.{Settled}
+use Rattle.depth_maker.specs.TableInvariant.{IsDutySettled}
 use Rattle.depth_maker.specs.declared.interrupt_contexts.InterruptContext.{InterruptContext}
 use Rattle.depth_maker.specs.declared.interrupt_contexts.LastInterrupts.{LastInterrupts}
 use Rattle.depth_maker.proofs.DutyGrowth.{contained_filter, contained_map, entry_covers}
@@ -33,7 +33,7 @@ use Rattle.depth_maker.proofs.TableLaws.{covers_stays}
 -- ---- as the table rises
 -- values only grow
 one_stays : (b : Limits) (image : ImageData) (plan : PlanData) (laws : AreMakerLaws b image plan) (a after : Assignment) (y : Place) (well_formed : AllWellFormed b a) (j : Joins b image plan a after y) (interrupts : Option InterruptContext)
-    → IsContextEntered b plan a interrupts → IsContextEntered b plan after interrupts
+    → IsContextCovered b plan a interrupts → IsContextCovered b plan after interrupts
 one_stays b image plan laws a after y well_formed j None h = tt
 one_stays b image plan laws a after y well_formed j (Some x) h = record {
   stack = h.stack;
@@ -46,11 +46,11 @@ one_stays b image plan laws a after y well_formed j (Some x) h = record {
 }
 
 pub interrupts_stay : (b : Limits) (image : ImageData) (plan : PlanData) (laws : AreMakerLaws b image plan) (a after : Assignment) (y : Place) (well_formed : AllWellFormed b a) (j : Joins b image plan a after y) (interrupts : LastInterrupts)
-    → ContextsEntered b plan a interrupts → ContextsEntered b plan after interrupts
+    → AreContextsCovered b plan a interrupts → AreContextsCovered b plan after interrupts
 interrupts_stay b image plan laws a after y well_formed j interrupts h = (one_stays b image plan laws a after y well_formed j interrupts.last h.0, one_stays b image plan laws a after y well_formed j interrupts.before h.1)
 
 -- the same values
-one_again : (b : Limits) (plan : PlanData) (a after : Assignment) → ((q : Place) → after q ≡ a q) → (interrupts : Option InterruptContext) → IsContextEntered b plan a interrupts → IsContextEntered b plan after interrupts
+one_again : (b : Limits) (plan : PlanData) (a after : Assignment) → ((q : Place) → after q ≡ a q) → (interrupts : Option InterruptContext) → IsContextCovered b plan a interrupts → IsContextCovered b plan after interrupts
 one_again b plan a after same None h = tt
 one_again b plan a after same (Some x) h = record {
   stack = h.stack;
@@ -62,7 +62,7 @@ one_again b plan a after same (Some x) h = record {
       };
 }
 
-pub interrupts_again : (b : Limits) (plan : PlanData) (a after : Assignment) → ((q : Place) → after q ≡ a q) → (interrupts : LastInterrupts) → ContextsEntered b plan a interrupts → ContextsEntered b plan after interrupts
+pub interrupts_again : (b : Limits) (plan : PlanData) (a after : Assignment) → ((q : Place) → after q ≡ a q) → (interrupts : LastInterrupts) → AreContextsCovered b plan a interrupts → AreContextsCovered b plan after interrupts
 interrupts_again b plan a after same interrupts h = (one_again b plan a after same interrupts.last h.0, one_again b plan a after same interrupts.before h.1)
 
 -- ---- points within a context
@@ -97,8 +97,8 @@ covers_less (state x) v u same h c = covers_through x v u same h c
 covers_less (leaving x) v u same h c = absurd h
 
 -- the entries that a point asks for are covered
-pub interrupts_settle : (b : Limits) (plan : PlanData) (t : TableView) (k : Key) (p : ℕ) (s : State) (h : InterruptContext) → AreHandlersEntered b plan t.cells h → IsWithinContext h k.is s → (d : Owed) → Contains (interrupts_of plan k s) d
-    → Settled t k p s d.duty
+pub interrupts_settle : (b : Limits) (plan : PlanData) (t : TableView) (k : Key) (p : ℕ) (s : State) (h : InterruptContext) → AreHandlersCovered b plan t.cells h → IsWithinContext h k.is s → (d : Owed) → Contains (interrupt_duties_of plan k s) d
+    → IsDutySettled t k p s d.duty
 interrupts_settle b plan t k p s h entered asks d c =
     let r = contained_map (λ (q : ℕ). owed 11 (enter (irq_key plan q) (irq_entry plan k s q))) (irqs_of plan s) d c in
     let q = r.0 in
@@ -113,11 +113,11 @@ interrupts_settle b plan t k p s h entered asks d c =
       at = (e.covers).at;
       covers = covers_less (e.covers).known (entry_state_with v false q true) (entry_state_with w false q true) (entry_length w false q true ∙ sym (entry_length v false q true)) (e.covers).covers less;
     } in
-    subst (λ (o : Owed). Settled t k p s o.duty) r.2 covered
+    subst (λ (o : Owed). IsDutySettled t k p s o.duty) r.2 covered
 
 -- the context of a point whose entries are covered
 pub interrupts_new : (b : Limits) (plan : PlanData) (t : TableView) (k : Key) (p : ℕ) (s : State) (h : InterruptContext) → IsContextOf h k.is s → IsWellFormedState b s → IsTrue s.ie
-    → ((d : Owed) → Contains (interrupts_of plan k s) d → IsWellFormedDuty b d.duty) → ((d : Owed) → Contains (interrupts_of plan k s) d → Settled t k p s d.duty) → AreHandlersEntered b plan t.cells h
+    → ((d : Owed) → Contains (interrupt_duties_of plan k s) d → IsWellFormedDuty b d.duty) → ((d : Owed) → Contains (interrupt_duties_of plan k s) d → IsDutySettled t k p s d.duty) → AreHandlersCovered b plan t.cells h
 interrupts_new b plan t k p s h from ps on well_formed settled = record {
   stack = subst (IsValue b) (sym from.sp) (ps.values 22 (omega (arith, ps.regs)));
   each = λ q c lt.

@@ -7,14 +7,14 @@ use Rattle.std.specs.declared.alloc.Global.{Global}
 use Rattle.elf_image.specs.Images.{ImageData}
 use Rattle.tcd_plan.specs.PlanData.{PlanData}
 use Rattle.value_domain.specs.Limits.{Limits}
-use Rattle.cfg_recover.specs.Assignments.{Place, same_place, CoversAt, Asks, raised_at_place, Joins}
+use Rattle.cfg_recover.specs.Assignments.{Place, is_same_place, CoversAt, AsksFor, raised_at_place, Joins}
 use Rattle.depth_cert.specs.declared.keys.Key.{Key}
 use Rattle.depth_cert.specs.Known.{Known, known_priority, joined_known}
 use Rattle.cfg_recover.specs.CertRefusals.{derived}
 use Rattle.depth_maker.specs.MakerLaws.{AreMakerLaws}
-use Rattle.depth_maker.specs.TableView.{seen}
-use Rattle.depth_maker.specs.Joins.{Marks, JoinKeeps, Joined, JoinedAlone}
-use Rattle.depth_maker.specs.TableInvariant.{IsTable, IsFine, TableReadsExits, CellsWellFormed}
+use Rattle.depth_maker.specs.TableView.{view_of_table}
+use Rattle.depth_maker.specs.Joins.{QueuesPlaceAndReaders, JoinKeeps, IsJoinedAt, IsJoinedAlone}
+use Rattle.depth_maker.specs.TableInvariant.{ViewInvariantHolds, TableInvariantHolds, TableReadsExits, CellsWellFormed}
 use Rattle.depth_maker.proofs.TableLaws.{table_rises, settled_stays, joined_covers, derived_well_formed}
 use Rattle.depth_maker.proofs.PlaceKinds.{unjoined_fault}
 use Rattle.frame_places.specs.declared.places.Spot.{Spot}
@@ -29,14 +29,14 @@ use Rattle.depth_maker.proofs.Below.{asks_well_formed}
 use Rattle.depth_maker.proofs.CountedLemmas.{counted_after}
 use Rattle.depth_maker.proofs.LevelLaws.{rank_rises}
 use Rattle.depth_maker.proofs.LevelSteps.{level_rises}
-use Rattle.depth_maker.specs.Covered.{EntriesCovered}
+use Rattle.depth_maker.specs.Covered.{AreNotedEntriesCovered}
 use Rattle.depth_maker.specs.TableLevels.{level_of_place}
 use Rattle.depth_maker.proofs.CoveredLaws.{covered_stay}
-use Rattle.frame_places.proofs.SpotLemmas.{spot_tells}
+use Rattle.frame_places.proofs.SpotLemmas.{equal_spots_are_same}
 use Rattle.depth_maker.proofs.SpotLemmas.{forth, agrees}
 use Rattle.frame_places.specs.Marks.{AllListed, is_idle, is_queued, mark_for, value_for, AreKnown, ForgetsReaders, IsAmongReaders, Requeues}
-use Rattle.depth_maker.specs.AssignmentCounts.{AreFew, IsCountedIn}
-use Rattle.depth_maker.specs.Answers.{Answered}
+use Rattle.depth_maker.specs.AssignmentCounts.{AreFewEnough, IsCountedIn}
+use Rattle.depth_maker.specs.Answers.{RefusalNamesFault}
 use Rattle.frame_places.proofs.MarkLemmas.{sides}
 use Rattle.frame_places.specs.Work.{all_work}
 
@@ -45,16 +45,16 @@ idle_not_queued (Some Queued) e = cc
 idle_not_queued _ e = refl
 
 -- ---- the values of a table
-pub cells_well_formed : (b : Limits) (image : ImageData) (plan : PlanData) (laws : AreMakerLaws b image plan) (t : made.Table) → IsFine b image plan t → CellsWellFormed b t.places
-unfolding seen
+pub cells_well_formed : (b : Limits) (image : ImageData) (plan : PlanData) (laws : AreMakerLaws b image plan) (t : made.Table) → TableInvariantHolds b image plan t → CellsWellFormed b t.places
+unfolding view_of_table
 cells_well_formed b image plan laws t fine q v at =
-    derived_well_formed b image plan laws (seen t).cells (fine.table).derived (place_of_spot q) v (ap (value_for t.places) (forth q) ∙ at)
+    derived_well_formed b image plan laws (view_of_table t).cells (fine.table).derived (place_of_spot q) v (ap (value_for t.places) (forth q) ∙ at)
 
 -- v was joined at y alone, and then the readers of y were queued
 module _ (b : Limits) (image : ImageData) (plan : PlanData) (laws : AreMakerLaws b image plan) (s m t : made.Table) (y : Spot) (v : Known)
-    (asks : Asks b image plan (seen s).cells (place_of_spot y) v) (rose : JoinedAlone b s m y v) (tells : Requeues m.places t.places (IsAmongReaders (get spot_eq s.readers y)))
+    (asks : AsksFor b image plan (view_of_table s).cells (place_of_spot y) v) (rose : IsJoinedAlone b s m y v) (tells : Requeues m.places t.places (IsAmongReaders (get spot_eq s.readers y)))
     (listed : AllListed t.places (all_work t.work)) (near : t.near ≡ m.near) (readers : ForgetsReaders m.readers t.readers y) (covered : t.covered ≡ m.covered) (points : t.points.items ≡ m.points.items)
-    (frames : t.frames.items ≡ m.frames.items) (fine : IsFine b image plan s) (small : known_priority v < 256) where
+    (frames : t.frames.items ≡ m.frames.items) (fine : TableInvariantHolds b image plan s) (small : known_priority v < 256) where
   abbrev u : Known
   u = rose.known
 
@@ -81,11 +81,11 @@ module _ (b : Limits) (image : ImageData) (plan : PlanData) (laws : AreMakerLaws
       ]
 
   -- the map's test at a place
-  test : (q : Place) → spot_eq y (spot_of q) ≡ same_place q (place_of_spot y)
+  test : (q : Place) → spot_eq y (spot_of q) ≡ is_same_place q (place_of_spot y)
   test q = ap (λ (z : Spot). spot_eq z (spot_of q)) (sym (forth y)) ∙ agrees q (place_of_spot y)
 
-  the_joining : Joins b image plan (seen s).cells (seen t).cells (place_of_spot y)
-  unfolding seen
+  the_joining : Joins b image plan (view_of_table s).cells (view_of_table t).cells (place_of_spot y)
+  unfolding view_of_table
   the_joining = record {
     value = v;
     asks = asks;
@@ -94,8 +94,8 @@ module _ (b : Limits) (image : ImageData) (plan : PlanData) (laws : AreMakerLaws
     is = λ q. after (spot_of q) ∙ ap (λ x. if x then Some u else value_for s.places (spot_of q)) (test q);
   }
 
-  the_marks : Marks (seen s) (seen t) (place_of_spot y)
-  unfolding seen
+  the_marks : QueuesPlaceAndReaders (view_of_table s) (view_of_table t) (place_of_spot y)
+  unfolding view_of_table
   the_marks = record {
     each = λ q.
         elim (marks_by (spot_of q)) [
@@ -115,28 +115,28 @@ module _ (b : Limits) (image : ImageData) (plan : PlanData) (laws : AreMakerLaws
         | inr r ↦ subst (λ (o : Option Known). IsSome o) (sym r.1) h
       ]
 
-  the_table : IsTable b image plan (seen t)
-  unfolding seen
-  the_table = table_rises b image plan laws (seen s) (seen t) (place_of_spot y) fine.table the_joining the_marks (λ x e. idle_not_queued (mark_for t.places (spot_of x)) e)
+  the_table : ViewInvariantHolds b image plan (view_of_table t)
+  unfolding view_of_table
+  the_table = table_rises b image plan laws (view_of_table s) (view_of_table t) (place_of_spot y) fine.table the_joining the_marks (λ x e. idle_not_queued (mark_for t.places (spot_of x)) e)
 
   read_case : (z x : Spot) → IsAmongReaders (get spot_eq s.readers z) x → (IsAmongReaders (get spot_eq s.readers y) x → ⊥) → (e : Bool) → spot_eq y z ≡ e → value_for t.places z ≡ value_for s.places z
-  read_case z x h none true e = absurd (none (subst (λ (k : Spot). IsAmongReaders (get spot_eq s.readers k) x) (sym (spot_tells y z e)) h))
+  read_case z x h none true e = absurd (none (subst (λ (k : Spot). IsAmongReaders (get spot_eq s.readers k) x) (sym (equal_spots_are_same y z e)) h))
   read_case z x h none false e = not_same z e
 
-  few : AreFew (map place_of_spot t.points.items) t.frames.items
-  few = subst (λ (l : List Spot). AreFew (map place_of_spot l) t.frames.items) (sym points) (subst (λ (l : List Key). AreFew (map place_of_spot m.points.items) l) (sym frames) rose.few)
+  few : AreFewEnough (map place_of_spot t.points.items) t.frames.items
+  few = subst (λ (l : List Spot). AreFewEnough (map place_of_spot l) t.frames.items) (sym points) (subst (λ (l : List Key). AreFewEnough (map place_of_spot m.points.items) l) (sym frames) rose.few)
 
   the_counted : IsCountedIn t.places t.points.items t.frames.items
-  unfolding seen the_joining
+  unfolding view_of_table the_joining
   the_counted = counted_after b image plan s.places t.places s.points.items t.points.items s.frames.items t.frames.items y the_joining (points ∙ rose.points) (frames ∙ rose.frames) few fine.counted
 
   higher : level_of_place (value_for s.places y) < level_of_place (Some u)
   higher =
       rank_rises b image plan laws (value_for s.places y) v u (cells_well_formed b image plan laws s fine y)
-      (asks_well_formed b image plan laws (seen s).cells (place_of_spot y) v (derived_well_formed b image plan laws (seen s).cells (fine.table).derived) asks) rose.raises rose.new small
+      (asks_well_formed b image plan laws (view_of_table s).cells (place_of_spot y) v (derived_well_formed b image plan laws (view_of_table s).cells (fine.table).derived) asks) rose.raises rose.new small
 
   the_keeping : JoinKeeps b image plan s t
-  unfolding seen
+  unfolding view_of_table
   the_keeping = record {
     each = λ x free.
         elim (marks_by x) [
@@ -153,19 +153,19 @@ module _ (b : Limits) (image : ImageData) (plan : PlanData) (laws : AreMakerLaws
           | inl l ↦ (let no : true ≡ false = sym (ap is_queued l.0) ∙ free in cc)
           | inr r ↦ read_case z x h r.2 (spot_eq y z) refl
         ];
-    settled = λ k p w d free ps pd h. settled_stays b image plan laws (seen s) (seen t) (place_of_spot y) fine.table the_joining the_marks k p w d free ps pd h;
+    settled = λ k p w d free ps pd h. settled_stays b image plan laws (view_of_table s) (view_of_table t) (place_of_spot y) fine.table the_joining the_marks k p w d free ps pd h;
     rises = inl (level_rises s t y u (is_some (value_for s.places y)) after (points ∙ rose.points) (frames ∙ rose.frames) the_counted higher);
     near = near ∙ rose.near;
     numbers = λ n q h. tells.numbers n q ((rose.puts).numbers n q h);
   }
 
-  the_covered : EntriesCovered b plan (seen t).cells t.covered
+  the_covered : AreNotedEntriesCovered b plan (view_of_table t).cells t.covered
   the_covered =
-      covered_stay b image plan laws (seen s).cells (seen t).cells (place_of_spot y) (derived_well_formed b image plan laws (seen s).cells (fine.table).derived) the_joining t.covered
-      (subst (EntriesCovered b plan (seen s).cells) (sym (covered ∙ rose.covered)) fine.covered)
+      covered_stay b image plan laws (view_of_table s).cells (view_of_table t).cells (place_of_spot y) (derived_well_formed b image plan laws (view_of_table s).cells (fine.table).derived) the_joining t.covered
+      (subst (AreNotedEntriesCovered b plan (view_of_table s).cells) (sym (covered ∙ rose.covered)) fine.covered)
 
-  pub the_joined : Joined b image plan s t y v
-  unfolding seen the_joining
+  pub the_joined : IsJoinedAt b image plan s t y v
+  unfolding view_of_table the_joining
   the_joined = record {
     fine = record {
       table = the_table;
@@ -180,12 +180,12 @@ module _ (b : Limits) (image : ImageData) (plan : PlanData) (laws : AreMakerLaws
             | inr r ↦ fine.plain q (sym r.0 ∙ at)
           ];
     };
-    covers = joined_covers b image plan laws (seen s).cells (seen t).cells (place_of_spot y) (derived_well_formed b image plan laws (seen s).cells (fine.table).derived) the_joining;
+    covers = joined_covers b image plan laws (view_of_table s).cells (view_of_table t).cells (place_of_spot y) (derived_well_formed b image plan laws (view_of_table s).cells (fine.table).derived) the_joining;
     keeps = the_keeping;
   }
 
 -- the readers of y are known still, and only exits are read
-pub told_known : (b : Limits) (image : ImageData) (plan : PlanData) (s m : made.Table) (y : Spot) (v : Known) → IsFine b image plan s → JoinedAlone b s m y v → AreKnown m.places (IsAmongReaders (get spot_eq m.readers y))
+pub told_known : (b : Limits) (image : ImageData) (plan : PlanData) (s m : made.Table) (y : Spot) (v : Known) → TableInvariantHolds b image plan s → IsJoinedAlone b s m y v → AreKnown m.places (IsAmongReaders (get spot_eq m.readers y))
 told_known b image plan s m y v fine rose q h =
     let before : IsSome (value_for s.places q) = fine.readers y q (subst (λ r. IsAmongReaders (get spot_eq r y) q) rose.readers h) in
     elim (sides (spot_eq y q) (Some rose.known) (value_for s.places q) (value_for m.places q) ((rose.puts).values q)) [
@@ -193,12 +193,12 @@ told_known b image plan s m y v fine rose q h =
       | inr r ↦ subst (λ (o : Option Known). IsSome o) (sym r.1) before
     ]
 
-pub exits_after : (b : Limits) (image : ImageData) (plan : PlanData) (s m : made.Table) (y : Spot) (v : Known) → IsFine b image plan s → JoinedAlone b s m y v → TableReadsExits m.readers
+pub exits_after : (b : Limits) (image : ImageData) (plan : PlanData) (s m : made.Table) (y : Spot) (v : Known) → TableInvariantHolds b image plan s → IsJoinedAlone b s m y v → TableReadsExits m.readers
 exits_after b image plan s m y v fine rose k p q h = fine.exits k p q (subst (λ r. IsAmongReaders (get spot_eq r (Point k p)) q) rose.readers h)
 
 -- nothing had to be done
-pub stays_joined : (b : Limits) (image : ImageData) (plan : PlanData) (s : made.Table) (y : Spot) (v : Known) → IsFine b image plan s → CoversAt (λ q. value_for s.places (spot_of q)) (place_of_spot y) v → Joined b image plan s s y v
-unfolding seen
+pub stays_joined : (b : Limits) (image : ImageData) (plan : PlanData) (s : made.Table) (y : Spot) (v : Known) → TableInvariantHolds b image plan s → CoversAt (λ q. value_for s.places (spot_of q)) (place_of_spot y) v → IsJoinedAt b image plan s s y v
+unfolding view_of_table
 stays_joined b image plan s y v fine covers = record {
   fine = fine;
   covers = covers;
@@ -206,9 +206,9 @@ stays_joined b image plan s y v fine covers = record {
 }
 
 -- a join that fails is a fault
-pub the_answer : (b : Limits) (image : ImageData) (plan : PlanData) (s : made.Table) (y : Spot) (w v : Known) → IsFine b image plan s → Asks b image plan (seen s).cells (place_of_spot y) v → value_for s.places y ≡ Some w
-    → joined_known b w v ≡ None → Answered b image plan (Fault 8 y)
-unfolding seen
+pub the_answer : (b : Limits) (image : ImageData) (plan : PlanData) (s : made.Table) (y : Spot) (w v : Known) → TableInvariantHolds b image plan s → AsksFor b image plan (view_of_table s).cells (place_of_spot y) v → value_for s.places y ≡ Some w
+    → joined_known b w v ≡ None → RefusalNamesFault b image plan (Fault 8 y)
+unfolding view_of_table
 the_answer b image plan s y w v fine asks at none =
-    let f = unjoined_fault b image plan (seen s).cells (fine.table).derived (place_of_spot y) v w asks (ap (value_for s.places) (forth y) ∙ at) none in
-    (f.0, f.1, f.2, derived (seen s).cells 8 f.0 f.1 (fine.table).derived f.3)
+    let f = unjoined_fault b image plan (view_of_table s).cells (fine.table).derived (place_of_spot y) v w asks (ap (value_for s.places) (forth y) ∙ at) none in
+    (f.0, f.1, f.2, derived (view_of_table s).cells 8 f.0 f.1 (fine.table).derived f.3)

@@ -19,7 +19,7 @@ use Rattle.cfg_recover.specs.Assignments.{Assignment, CoversAt, Place, point}
 use Rattle.cfg_recover.specs.Entries.{entry_state_with, irq_key}
 use Rattle.cfg_recover.proofs.EntryLaws.{entry_length}
 use Rattle.cfg_recover.proofs.FlowStates.{entry_values}
-use Rattle.depth_maker.specs.InterruptHandlers.{AreHandlersEntered, joined_context}
+use Rattle.depth_maker.specs.InterruptHandlers.{AreHandlersCovered, joined_context}
 use Rattle.depth_maker.specs.WellFormedAssignments.{AllWellFormed}
 use Rattle.depth_maker.specs.declared.interrupt_contexts.InterruptContext.{InterruptContext}
 
@@ -81,7 +81,7 @@ module _ (b : Limits) (a : Assignment) (limits : AreLimits b) (well_formed : All
     stack_well_formed false x c = c
 
   -- ---- two contexts
-  pub contexts_join : (plan : PlanData) (h g : InterruptContext) → g.is ≡ h.is → g.ccpn ≡ h.ccpn → AreHandlersEntered b plan a h → AreHandlersEntered b plan a g → AreHandlersEntered b plan a (joined_context b h g.sp)
+  pub contexts_join : (plan : PlanData) (h g : InterruptContext) → g.is ≡ h.is → g.ccpn ≡ h.ccpn → AreHandlersCovered b plan a h → AreHandlersCovered b plan a g → AreHandlersCovered b plan a (joined_context b h g.sp)
   contexts_join plan h g same level eh eg = record {
     stack = (join_least b h.sp g.sp limits eh.stack eg.stack).value;
     each = λ p c lt.

@@ -16,7 +16,7 @@ use Rattle.value_domain.specs.declared.values.Val.TheVariants.{Set, Span}
 use Rattle.value_domain.specs.declared.states.State.{State}
 use Rattle.value_domain.specs.Limits.{Limits}
 use Rattle.value_domain.specs.Sets.{Among}
-use Rattle.value_domain.specs.Values.{IsWell}
+use Rattle.value_domain.specs.Values.{IsWellFormed}
 use Rattle.value_domain.proofs.SetLaws.{among_distinct}
 use Rattle.vd_transfer.specs.Registers.{reg_of}
 use Rattle.vd_transfer.specs.Soundness.{IsSoundSetting}
@@ -38,7 +38,7 @@ HasKey (resume k q) = IsKey k
 HasKey _ = Unit {0}
 
 -- ---- addresses
-named_small : (v : Val) → IsWell v → (x : ℕ) → Among x (unwrap_or (targets_named_by v) []) → x < 2 ^ 32
+named_small : (v : Val) → IsWellFormed v → (x : ℕ) → Among x (unwrap_or (targets_named_by v) []) → x < 2 ^ 32
 named_small (Set ws) well x i =
     let m = among_map (λ w. w / 2 * 2) x ws (among_distinct x (map (λ w. w / 2 * 2) ws) i) in
     let lt = well.below m.0 m.1 in

@@ -8,7 +8,7 @@ use Rattle.value_domain.specs.declared.values.Val.{Val}
 use Rattle.value_domain.specs.declared.states.State.{State}
 use Rattle.value_domain.specs.Limits.{Limits, AreLimits}
 use Rattle.value_domain.specs.Values.{any_val, word_val, join_of}
-use Rattle.value_domain.specs.State.{Covers, joined_states, joined_of, joined_regs}
+use Rattle.value_domain.specs.State.{Covers, joined_states, state_join_of, joined_regs}
 use Rattle.value_domain.proofs.JoinLaws.{join_least, joined_least}
 use Rattle.value_domain.proofs.RegLaws.{get_or-joined, length-joined, length-and}
 use Rattle.depth_cert.specs.declared.points.Exit.{Exit}
@@ -44,15 +44,15 @@ known_through b (leaving x) (state t) u ps pt h k = absurd k
 known_through b (leaving x) (leaving y) (state u) ps pt h k = absurd h
 
 -- ---- states
-joined_parts : (b : Limits) (s t u : State) → joined_states b s t ≡ Some u → (length s.locals.items ≡ length t.locals.items) × (joined_of b s t ≡ u)
+joined_parts : (b : Limits) (s t u : State) → joined_states b s t ≡ Some u → (length s.locals.items ≡ length t.locals.items) × (state_join_of b s t ≡ u)
 joined_parts b s t u e =
     elim (cases_Bool (eqb (length s.locals.items) (length t.locals.items))) [
-      | inl same ↦ (eqb-true _ _ same, (let f : Some (joined_of b s t) ≡ Some u = rw same at e in cc))
+      | inl same ↦ (eqb-true _ _ same, (let f : Some (state_join_of b s t) ≡ Some u = rw same at e in cc))
       | inr other ↦ absurd (let f : None ≡ Some u = rw other at e in cc)
     ]
 
 module _ (b : Limits) (limits : AreLimits b) where
-  state_join : (s t : State) → IsWellFormedState b s → IsWellFormedState b t → length s.locals.items ≡ length t.locals.items → IsWellFormedState b (joined_of b s t) × Covers (joined_of b s t) s × Covers (joined_of b s t) t
+  state_join : (s t : State) → IsWellFormedState b s → IsWellFormedState b t → length s.locals.items ≡ length t.locals.items → IsWellFormedState b (state_join_of b s t) × Covers (state_join_of b s t) s × Covers (state_join_of b s t) t
   state_join s t ps pt same =
       let j = joined_least b s t limits (ps.regs ∙ sym pt.regs) same ps.values pt.values in (
         record {
@@ -68,7 +68,7 @@ module _ (b : Limits) (limits : AreLimits b) where
   state_least s t d ps pt pd h k =
       let same : length s.locals.items ≡ length t.locals.items = sym (same_locals d s h) ∙ same_locals d t k in
       let j = joined_least b s t limits (ps.regs ∙ sym pt.regs) same ps.values pt.values in
-      (state (joined_of b s t), rw (eq-eqb (length s.locals.items) (length t.locals.items) same) refl, j.least d (pd.regs ∙ sym ps.regs) pd.values h k)
+      (state (state_join_of b s t), rw (eq-eqb (length s.locals.items) (length t.locals.items) same) refl, j.least d (pd.regs ∙ sym ps.regs) pd.values h k)
 
   -- ---- exits
   exit_at : (xs ys : List Val) (r : ℕ) → r < length xs → length xs ≡ length ys → get_or (joined_regs b xs ys) r any_val ≡ join_of b (get_or xs r any_val) (get_or ys r any_val)
@@ -123,7 +123,7 @@ module _ (b : Limits) (limits : AreLimits b) where
     at (Some j) f g =
         let k = joined_parts b s t j f in
         let h = state_join s t pv pw k.0 in
-        let is : state (joined_of b s t) ≡ u = ap state k.1 ∙ (let i : Some (state j) ≡ Some u = g in cc) in
+        let is : state (state_join_of b s t) ≡ u = ap state k.1 ∙ (let i : Some (state j) ≡ Some u = g in cc) in
         subst (λ (z : Known). IsWellFormedKnown b z × CoversKnown z (state s) × CoversKnown z (state t)) is h
   known_join (leaving x) (leaving y) u pv pw e =
       let f : leaving (joined_exit b x y) ≡ u = (let g : Some (leaving (joined_exit b x y)) ≡ Some u = e in cc) in

@@ -9,9 +9,9 @@ use Rattle.value_domain.specs.declared.values.Val.{Val}
 use Rattle.value_domain.specs.declared.values.Val.TheVariants.{Set, Span}
 use Rattle.value_domain.specs.declared.states.State.{State}
 use Rattle.value_domain.specs.Limits.{Limits, AreLimits}
-use Rattle.value_domain.specs.Sets.{Among, Within, Rising}
-use Rattle.value_domain.specs.Values.{IsBelow, IsWell, count_in, first_in_span, members}
-use Rattle.value_domain.specs.State.{AreBelow, AreWell, Covers, FlagsImpliedBy}
+use Rattle.value_domain.specs.Sets.{Among, Within, IsAscending}
+use Rattle.value_domain.specs.Values.{IsBelow, IsWellFormed, span_len, first_in_span, members}
+use Rattle.value_domain.specs.State.{AreBelow, AreWellFormed, Covers, FlagsImpliedBy}
 use Rattle.value_domain.proofs.CoverLaws.{among_member, has_step, length-multiples, member_among, step_cases}
 use Rattle.value_domain.proofs.SetLaws.{length_within}
 use Rattle.depth_cert.specs.Keys.{cert_flag_byte}
@@ -26,7 +26,7 @@ use Rattle.small_states.proofs.IncomingLemmas.{values_well}
 
 -- ---- values
 -- an ascending list within another that is no longer has all that the other has
-within_back : (xs ys : List ℕ) → Rising xs → Rising ys → Within xs ys → length ys ≤ length xs → Within ys xs
+within_back : (xs ys : List ℕ) → IsAscending xs → IsAscending ys → Within xs ys → length ys ≤ length xs → Within ys xs
 within_back xs [] rx ry w le z i = absurd i
 within_back [] (y ∷ ys) rx ry w le z i = absurd (omega arith)
 within_back (x ∷ xs) (y ∷ ys) rx ry w le z i =
@@ -44,33 +44,33 @@ within_back (x ∷ xs) (y ∷ ys) rx ry w le z i =
             | inr k ↦ elim (w u (inr k)) [ inl f ↦ absurd (let a = rx.0 u k in let c = ry.0 x j in omega arith) | inr m ↦ m ]
           ]
 
-members_within : (v w : Val) → IsWell v → IsWell w → IsBelow v w → Within (members v) (members w)
+members_within : (v w : Val) → IsWellFormed v → IsWellFormed w → IsBelow v w → Within (members v) (members w)
 members_within v w wv ww h z i = among_member w z (has_step w ww) (h z (member_among v z (has_step v wv) i))
 
-size_below : (v w : Val) → IsWell v → IsWell w → IsBelow v w → length (members v) ≤ length (members w)
+size_below : (v w : Val) → IsWellFormed v → IsWellFormed w → IsBelow v w → length (members v) ≤ length (members w)
 size_below v w wv ww h = length_within (members v) (members w) (rising_members v wv) (rising_members w ww) (members_within v w wv ww h)
 
-size_back : (v w : Val) → IsWell v → IsWell w → IsBelow v w → length (members w) ≤ length (members v) → IsBelow w v
+size_back : (v w : Val) → IsWellFormed v → IsWellFormed w → IsBelow v w → length (members w) ≤ length (members v) → IsBelow w v
 size_back v w wv ww h le z m =
     member_among v z (has_step v wv)
     (within_back (members v) (members w) (rising_members v wv) (rising_members w ww) (members_within v w wv ww h) le z (among_member w z (has_step w ww) m))
 
-count_most : (s : ℕ) → s ≤ 2 → (lo last : ℕ) → last < 2 ^ 32 → count_in lo last s ≤ 2 ^ 32
+count_most : (s : ℕ) → s ≤ 2 → (lo last : ℕ) → last < 2 ^ 32 → span_len lo last s ≤ 2 ^ 32
 count_most =
-    step_cases (λ s. (lo last : ℕ) → last < 2 ^ 32 → count_in lo last s ≤ 2 ^ 32)
+    step_cases (λ s. (lo last : ℕ) → last < 2 ^ 32 → span_len lo last s ≤ 2 ^ 32)
     (λ lo last h. omega arith)
     (λ lo last h. omega arith)
     (λ lo last h. omega arith)
 
-size_most : (v : Val) → IsWell v → length (members v) ≤ 2 ^ 32
+size_most : (v : Val) → IsWellFormed v → length (members v) ≤ 2 ^ 32
 size_most (Set ws) w = omega (arith, w.few)
-size_most (Span lo last step) w = omega (arith, length-multiples (count_in lo last step) (first_in_span lo step) (2 ^ step), count_most step w.0 lo last w.2)
+size_most (Span lo last step) w = omega (arith, length-multiples (span_len lo last step) (first_in_span lo step) (2 ^ step), count_most step w.0 lo last w.2)
 
 -- ---- registers
-head : (v : Val) (vs : List Val) → AreWell (v ∷ vs) → IsWell v
+head : (v : Val) (vs : List Val) → AreWellFormed (v ∷ vs) → IsWellFormed v
 head v vs h = h 0 (omega arith)
 
-tail : (v : Val) (vs : List Val) → AreWell (v ∷ vs) → AreWell vs
+tail : (v : Val) (vs : List Val) → AreWellFormed (v ∷ vs) → AreWellFormed vs
 tail v vs h r lt = h (suc r) (omega arith)
 
 below_tail : (v w : Val) (vs ws : List Val) → AreBelow (v ∷ vs) (w ∷ ws) → AreBelow vs ws
@@ -79,7 +79,7 @@ below_tail v w vs ws h r lt = h (suc r) (omega arith)
 size_cons : (v : Val) (vs : List Val) → level_of_values (v ∷ vs) ≡ length (members v) + level_of_values vs
 size_cons v vs = sum_by-cons (λ (x : Val). length (members x)) v vs
 
-regs_below : (vs ws : List Val) → length vs ≡ length ws → AreWell vs → AreWell ws → AreBelow vs ws → level_of_values vs ≤ level_of_values ws
+regs_below : (vs ws : List Val) → length vs ≡ length ws → AreWellFormed vs → AreWellFormed ws → AreBelow vs ws → level_of_values vs ≤ level_of_values ws
 regs_below [] [] e wv ww h = omega arith
 regs_below [] (w ∷ ws) e wv ww h = absurd (omega arith)
 regs_below (v ∷ vs) [] e wv ww h = absurd (omega arith)
@@ -88,7 +88,7 @@ regs_below (v ∷ vs) (w ∷ ws) e wv ww h =
     let rest = regs_below vs ws (omega arith) (tail v vs wv) (tail w ws ww) (below_tail v w vs ws h) in
     omega (arith, size_cons v vs, size_cons w ws, first, rest)
 
-regs_back : (vs ws : List Val) → length vs ≡ length ws → AreWell vs → AreWell ws → AreBelow vs ws → level_of_values ws ≤ level_of_values vs → AreBelow ws vs
+regs_back : (vs ws : List Val) → length vs ≡ length ws → AreWellFormed vs → AreWellFormed ws → AreBelow vs ws → level_of_values ws ≤ level_of_values vs → AreBelow ws vs
 regs_back [] [] e wv ww h le r lt = absurd (omega arith)
 regs_back [] (w ∷ ws) e wv ww h le r lt = absurd (omega arith)
 regs_back (v ∷ vs) [] e wv ww h le r lt = absurd (omega arith)
@@ -99,9 +99,9 @@ regs_back (v ∷ vs) (w ∷ ws) e wv ww h le (suc r) lt =
     let first = size_below v w (head v vs wv) (head w ws ww) (h 0 (omega arith)) in
     regs_back vs ws (omega arith) (tail v vs wv) (tail w ws ww) (below_tail v w vs ws h) (omega (arith, le, size_cons v vs, size_cons w ws, first)) r (omega arith)
 
-regs_most : (vs : List Val) → AreWell vs → level_of_values vs ≤ length vs * 2 ^ 32
+regs_most : (vs : List Val) → AreWellFormed vs → level_of_values vs ≤ length vs * 2 ^ 32
 regs_most vs w = sum_by-le (λ (x : Val). length (members x)) (2 ^ 32) vs (λ k d lt. at vs w k d lt) where
-  at : (us : List Val) → AreWell us → (k : ℕ) (d : Val) → k < length us → length (members (get_or us k d)) ≤ 2 ^ 32
+  at : (us : List Val) → AreWellFormed us → (k : ℕ) (d : Val) → k < length us → length (members (get_or us k d)) ≤ 2 ^ 32
   at [] h k d lt = absurd (omega arith)
   at (u ∷ us) h zero d lt = size_most u (head u us h)
   at (u ∷ us) h (suc k) d lt = at us (tail u us h) k d (omega arith)

@@ -16,7 +16,7 @@ use Rattle.frame_places.specs.declared.places.Marked.{Marked}
 use Rattle.frame_places.specs.declared.places.Mark.TheVariants.{Queued}
 use Rattle.depth_maker.specs.declared.table.Table as made
 use Rattle.frame_places.specs.Marks.{AllListed, mark_for, value_for}
-use Rattle.depth_maker.specs.TableLevels.{level, level_of_place, LevelRises, LevelAdvances}
+use Rattle.depth_maker.specs.TableLevels.{level_of_table, level_of_place, LevelRises, LevelAdvances}
 use Rattle.frame_places.specs.Spots.{spot_eq}
 use Rattle.depth_maker.specs.TableInvariant.{CellsWellFormed}
 use Rattle.depth_maker.specs.AssignmentCounts.{IsCountedIn}
@@ -26,8 +26,8 @@ use Rattle.depth_maker.proofs.LevelLaws.{at_most, most_rank}
 use Rattle.frame_places.proofs.MarkLemmas.{sides}
 use Rattle.depth_maker.proofs.PointEntries.{placed}
 use Rattle.depth_maker.proofs.SpotLemmas.{front_cases}
-use Rattle.frame_places.proofs.SpotLemmas.{spot_refl, spot_tells}
-use Rattle.frame_places.specs.Work.{WorkLists, Takes, all_work}
+use Rattle.frame_places.proofs.SpotLemmas.{spot_refl, equal_spots_are_same}
+use Rattle.frame_places.specs.Work.{WorkLists, TakesPlace, all_work}
 
 -- ---- sums
 -- no term is lower, and one is higher
@@ -71,7 +71,7 @@ module _ (s t : made.Table) (y : Spot) (u : Known) (known : Bool) (after : (q : 
   each : (q : Spot) → old q ≤ new q
   each q =
       elim (sides (spot_eq y q) (Some u) (value_for s.places q) (value_for t.places q) (after q)) [
-        | inl l ↦ subst (λ (z : Spot). old z ≤ new z) (spot_tells y q l.0) (omega (arith, at_y))
+        | inl l ↦ subst (λ (z : Spot). old z ≤ new z) (equal_spots_are_same y q l.0) (omega (arith, at_y))
         | inr r ↦ subst (λ (o : Option Known). old q ≤ level_of_place o) (sym r.1) (omega arith)
       ]
 
@@ -100,13 +100,13 @@ module _ (s t : made.Table) (y : Spot) (u : Known) (known : Bool) (after : (q : 
       let h = sum_higher old_exit new_exit t.frames.items k (λ j. each (Exit j)) i (subst (λ (z : Spot). old z < new z) e at_y) in
       omega (arith, h, sum_by-le-sum_by old new t.points.items each)
 
-  pub level_rises : level s < level t
-  unfolding level
+  pub level_rises : level_of_table s < level_of_table t
+  unfolding level_of_table
   level_rises = omega (arith, no_point_lost, no_frame_lost, higher_at y refl)
 
 -- the same values
-pub same_level : (s t : made.Table) → ((q : Spot) → value_for t.places q ≡ value_for s.places q) → t.points.items ≡ s.points.items → t.frames.items ≡ s.frames.items → level t ≡ level s
-unfolding level
+pub same_level : (s t : made.Table) → ((q : Spot) → value_for t.places q ≡ value_for s.places q) → t.points.items ≡ s.points.items → t.frames.items ≡ s.frames.items → level_of_table t ≡ level_of_table s
+unfolding level_of_table
 same_level s t cells points frames =
     λ i. sum_by (λ q. level_of_place (cells q i)) (points i) + sum_by (λ k. level_of_place (cells (Exit k) i)) (frames i)
 
@@ -120,8 +120,8 @@ rises_then s m t (inr a) (inr b) = inr (b.0 ∙ a.0, b.1 ∙ a.1)
 abbrev pub most_level : ℕ
 most_level = 2 ^ 55
 
-pub level_most : (b : Limits) (t : made.Table) → AreLimits b → CellsWellFormed b t.places → IsCountedIn t.places t.points.items t.frames.items → level t ≤ most_level
-unfolding level
+pub level_most : (b : Limits) (t : made.Table) → AreLimits b → CellsWellFormed b t.places → IsCountedIn t.places t.points.items t.frames.items → level_of_table t ≤ most_level
+unfolding level_of_table
 level_most b t limits well_formed counted =
     let few = few_spots t.points.items t.frames.items counted.few in
     let ps = sum_by-le (λ (q : Spot). level_of_place (value_for t.places q)) (1 + most_rank) t.points.items (λ k d lt. at_most b (value_for t.places _) limits (well_formed _)) in
@@ -130,15 +130,15 @@ level_most b t limits well_formed counted =
 
 -- ---- turns
 -- the list without one place
-pub shorter : (old new : WorkLists) (number : ℕ) → Takes old new number → length (all_work old) ≡ length (all_work new) + 1
+pub shorter : (old new : WorkLists) (number : ℕ) → TakesPlace old new number → length (all_work old) ≡ length (all_work new) + 1
 shorter old new number takes = let e = length_permutation (all_work old) (number ∷ all_work new) takes in omega (arith, e)
 
 -- a visit of one place that was taken off the list
-pub visited_one : (s m t : made.Table) → level m ≡ level s → length (all_work s.work) ≡ length (all_work m.work) + 1 → LevelRises m t → LevelAdvances s t
+pub visited_one : (s m t : made.Table) → level_of_table m ≡ level_of_table s → length (all_work s.work) ≡ length (all_work m.work) + 1 → LevelRises m t → LevelAdvances s t
 visited_one s m t e len (inl b) = inl (omega (arith, e, b))
 visited_one s m t e len (inr b) = inr (b.0 ∙ e, (let l = ap (λ (w : List ℕ). length w) b.1 in omega (arith, len, l)))
 
-pub turns_more : (s m t : made.Table) (i : ℕ) (n : ℕ) → (level s < level m) ⊎ ((level m ≡ level s) × (length (all_work m.work) + i ≤ n)) → LevelAdvances m t → (level s < level t) ⊎ ((level t ≡ level s) × (length (all_work t.work) + (i + 1) ≤ n))
+pub turns_more : (s m t : made.Table) (i : ℕ) (n : ℕ) → (level_of_table s < level_of_table m) ⊎ ((level_of_table m ≡ level_of_table s) × (length (all_work m.work) + i ≤ n)) → LevelAdvances m t → (level_of_table s < level_of_table t) ⊎ ((level_of_table t ≡ level_of_table s) × (length (all_work t.work) + (i + 1) ≤ n))
 turns_more s m t i n (inl a) (inl b) = inl (omega (arith, a, b))
 turns_more s m t i n (inl a) (inr b) = inl (omega (arith, a, b.0))
 turns_more s m t i n (inr a) (inl b) = inl (omega (arith, a.0, b))
@@ -148,8 +148,8 @@ pub empty_list : {X : Type 0} (xs : List X) → length xs ≡ 0 → xs ≡ []
 empty_list [] e = refl
 empty_list (x ∷ xs) e = absurd (omega arith)
 
-pub left_over : (s t : made.Table) (i n : ℕ) (empty : Bool) → n ≤ i → (level s < level t) ⊎ ((level t ≡ level s) × (length (all_work t.work) + i ≤ n)) → empty ≡ (length (all_work t.work) == 0)
-    → (not empty ≡ true → level s < level t) × (not empty ≡ false → all_work t.work ≡ [])
+pub left_over : (s t : made.Table) (i n : ℕ) (empty : Bool) → n ≤ i → (level_of_table s < level_of_table t) ⊎ ((level_of_table t ≡ level_of_table s) × (length (all_work t.work) + i ≤ n)) → empty ≡ (length (all_work t.work) == 0)
+    → (not empty ≡ true → level_of_table s < level_of_table t) × (not empty ≡ false → all_work t.work ≡ [])
 left_over s t i n true le so is = ((λ e. absurd (let no : false ≡ true = e in cc)), (λ e. empty_list (all_work t.work) (eqb-true (length (all_work t.work)) 0 (sym is))))
 left_over s t i n false le (inl lt) is = ((λ e. lt), (λ e. absurd (let no : true ≡ false = e in cc)))
 left_over s t i n false le (inr a) is = absurd (let no : false ≡ true = is ∙ eq-eqb (length (all_work t.work)) 0 (omega (arith, a.1)) in cc)

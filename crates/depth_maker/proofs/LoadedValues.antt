@@ -6,7 +6,7 @@ use Rattle.std.proofs.lemmas.Bool.{cases_Bool, and_parts, ltb-true}
 use Rattle.std.proofs.lemmas.Nat.{pow-add}
 use Rattle.elf_image.specs.Images.{ImageData, image_byte}
 use Rattle.tcd_plan.specs.declared.plans.Device.{Device}
-use Rattle.tcd_plan.specs.PlanData.{PlanData, IsPlan, is_device}
+use Rattle.tcd_plan.specs.PlanData.{PlanData, IsPlan, is_plan_device}
 use Rattle.csa_chain.specs.MemoryBytes.{extend_loaded_bytes}
 use Rattle.tc_machine.proofs.ShapeWords.{extended_lt}
 use Rattle.value_domain.specs.declared.values.Val.{Val}
@@ -18,7 +18,7 @@ use Rattle.value_domain.proofs.CoverLaws.{cover_least, range_among}
 use Rattle.value_domain.proofs.ExtentLaws.{among_append}
 use Rattle.store_ranges.specs.Accesses.{IsAccessSize}
 use Rattle.tcd_base.specs.Ranges.{is_within_range}
-use Rattle.store_ranges.specs.Loads.{all_extended, loaded_answers, device_of_loads, loaded_words_at, held_number, loaded_of, loaded_number_or, rom_number}
+use Rattle.store_ranges.specs.Loads.{all_loaded_words, answers_to_load, device_of_loads, loaded_words_at, number_in_image, load_value_of, loaded_word_or_answers, rom_number}
 use Rattle.store_ranges.proofs.Covers.{among_map}
 use Rattle.store_ranges.proofs.Finds.{found_all}
 use Rattle.store_ranges.proofs.LoadLaws.{answers_some, device_bounds}
@@ -38,7 +38,7 @@ extended_small size signed x (inr (inr e)) lt = subst (λ n. extend_loaded_bytes
   at true lt = extended_lt x (2 ^ 32) (nat_lt x (2 ^ 31)) lt (omega arith)
   at false lt = lt
 
-all_below : (size : ℕ) (signed : Bool) (z : ℕ) → IsAccessSize size → Among z (all_extended size signed) → z < 2 ^ 32
+all_below : (size : ℕ) (signed : Bool) (z : ℕ) → IsAccessSize size → Among z (all_loaded_words size signed) → z < 2 ^ 32
 all_below size signed z is i =
     let m = among_map (extend_loaded_bytes signed size) z (range 0 (2 ^ (8 * size) - 1) 0) i in
     let r = range_among m.0 0 (2 ^ (8 * size) - 1) 0 (omega arith) m.1 in
@@ -55,11 +55,11 @@ all_below size signed z is i =
 abbrev pub HasImageBytes : ImageData → Type 0
 HasImageBytes image = (x b : ℕ) → image_byte image x ≡ Some b → b < 2 ^ 8
 
-held_lt : (image : ImageData) → HasImageBytes image → (x n w : ℕ) → held_number image x n ≡ Some w → w < 2 ^ (8 * n)
-unfolding held_number
+held_lt : (image : ImageData) → HasImageBytes image → (x n w : ℕ) → number_in_image image x n ≡ Some w → w < 2 ^ (8 * n)
+unfolding number_in_image
 held_lt image bytes x zero w e = let f : 0 ≡ w = let g : Some 0 ≡ Some w = e in cc in omega arith
 held_lt image bytes x (suc n) w e =
-    let h = held_parts (image_byte image x) (held_number image (x + 1) n) w e in
+    let h = held_parts (image_byte image x) (number_in_image image (x + 1) n) w e in
     let rest = held_lt image bytes (x + 1) n h.1 h.3 in
     let s : 8 * suc n ≡ 8 + 8 * n = omega arith in
     let p : 2 ^ (8 * suc n) ≡ 2 ^ 8 * 2 ^ (8 * n) = ap (λ k. 2 ^ k) s ∙ pow-add 2 8 (8 * n) in
@@ -75,14 +75,14 @@ module _ (image : ImageData) (plan : PlanData) (size : ℕ) (signed : Bool) (ok 
       ]
 
   -- the peripheral that is found is one of the plan's
-  device_is : (xs : List ℕ) (d : Device) → device_of_loads plan size xs ≡ Some d → is_device d ≡ true
+  device_is : (xs : List ℕ) (d : Device) → device_of_loads plan size xs ≡ Some d → is_plan_device d ≡ true
   device_is xs d e =
       elim (cases_Bool (eqb size 4)) [
-        | inl four ↦ found_all (λ d. list_all (λ x. is_within_range x 4 d.range) xs) is_device plan.devices d ok.ranges.devices (rw four at e)
+        | inl four ↦ found_all (λ d. list_all (λ x. is_within_range x 4 d.range) xs) is_plan_device plan.devices d ok.ranges.devices (rw four at e)
         | inr other ↦ absurd (let f : None ≡ Some d = rw other at e in cc)
       ]
 
-  answers_below : (xs : List ℕ) (o : Option Device) → device_of_loads plan size xs ≡ o → (z : ℕ) → Among z (loaded_answers size signed o) → z < 2 ^ 32
+  answers_below : (xs : List ℕ) (o : Option Device) → device_of_loads plan size xs ≡ o → (z : ℕ) → Among z (answers_to_load size signed o) → z < 2 ^ 32
   answers_below xs None e z i = all_below size signed z is i
   answers_below xs (Some d) e z i =
       let below : d.hi < 2 ^ 32 = ltb-true d.hi (2 ^ 32) (and_parts _ _ (device_is xs d e)).1 in
@@ -90,14 +90,14 @@ module _ (image : ImageData) (plan : PlanData) (size : ℕ) (signed : Bool) (ok 
       let le : z ≤ d.hi = m.1 in
       omega arith
 
-  answers_more : (xs : List ℕ) → 1 ≤ length (loaded_answers size signed (device_of_loads plan size xs))
+  answers_more : (xs : List ℕ) → 1 ≤ length (answers_to_load size signed (device_of_loads plan size xs))
   answers_more xs =
       elim (cases_Bool (eqb size 4)) [
         | inl four ↦ rw four (answers_some size signed (find (λ d. list_all (λ x. is_within_range x 4 d.range) xs) plan.devices) (device_bounds plan _ _ ok refl))
         | inr other ↦ rw other (answers_some size signed None tt)
       ]
 
-  given_below : (x : ℕ) (o : Option ℕ) → rom_number image plan x size ≡ o → (z : ℕ) → Among z (loaded_number_or size signed (device_of_loads plan size (x ∷ [])) o) → z < 2 ^ 32
+  given_below : (x : ℕ) (o : Option ℕ) → rom_number image plan x size ≡ o → (z : ℕ) → Among z (loaded_word_or_answers size signed (device_of_loads plan size (x ∷ [])) o) → z < 2 ^ 32
   given_below x None e z i = answers_below (x ∷ []) (device_of_loads plan size (x ∷ [])) refl z i
   given_below x (Some w) e z i =
       elim i [
@@ -105,7 +105,7 @@ module _ (image : ImageData) (plan : PlanData) (size : ℕ) (signed : Bool) (ok 
         | inr none ↦ absurd none
       ]
 
-  given_more : (x : ℕ) (o : Option ℕ) → 1 ≤ length (loaded_number_or size signed (device_of_loads plan size (x ∷ [])) o)
+  given_more : (x : ℕ) (o : Option ℕ) → 1 ≤ length (loaded_word_or_answers size signed (device_of_loads plan size (x ∷ [])) o)
   given_more x None = answers_more (x ∷ [])
   given_more x (Some w) = omega arith
 
@@ -122,7 +122,7 @@ module _ (image : ImageData) (plan : PlanData) (size : ℕ) (signed : Bool) (ok 
   flat_more (w ∷ ws) some =
       omega (arith, length-append (loaded_words_at image plan size signed w) (flat_map (loaded_words_at image plan size signed) ws), given_more w (rom_number image plan w size))
 
-  pub loaded_value : (b : Limits) (v : Val) → AreLimits b → IsValue b v → IsValue b (loaded_of b image plan v size signed)
+  pub loaded_value : (b : Limits) (v : Val) → AreLimits b → IsValue b v → IsValue b (load_value_of b image plan v size signed)
   loaded_value b (Set ws) limits vv = (cover_least b _ limits (record { some = flat_more ws vv.well.some; below = flat_words ws })).value
   loaded_value b (Span lo last step) limits vv =
       (cover_least b _ limits (record { some = answers_more (range lo last step); below = answers_below (range lo last step) (device_of_loads plan size (range lo last step)) refl })).value

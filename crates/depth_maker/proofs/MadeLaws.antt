@@ -15,8 +15,8 @@ use Rattle.cfg_recover.specs.Assignments.{Place, point, exit, Assignment, frame_
 use Rattle.depth_cert.specs.Known.{Known, state, leaving, CoversKnown}
 use Rattle.cfg_recover.specs.CertRefusals.{MeetsNeeds, IsRefusal}
 use Rattle.depth_maker.specs.DutiesMonotone.{IsGround}
-use Rattle.depth_maker.specs.MakerLaws.{IsMakerSolution, RefusalsHold, WrittenIsMade, RefusedIsNone, MadeIsLeast}
-use Rattle.depth_maker.specs.LeastCertMade.{needs_in, IsNoWorse, IsMade, IsWritten}
+use Rattle.depth_maker.specs.MakerLaws.{IsMakerSolution, RefusalsHold, LeastClosedCertIsMade, RefusalMeansNoneAccepted, MadeIsLeast}
+use Rattle.depth_maker.specs.LeastCertMade.{needs_in, IsNoWorse, IsMade, IsLeastClosedCert}
 use Rattle.depth_maker.proofs.Lawful.{lawful}
 use Rattle.depth_maker.proofs.Below.{derived_below}
 use Rattle.depth_maker.proofs.TableLaws.{derived_well_formed}
@@ -46,7 +46,7 @@ meets_alike b image plan a f g closed same m = record {
 numbers_agree : (cert : CertData) → IsCert cert → (k : Key) → IsKey k → need_of (find_node k cert.nodes) ≡ needs_in cert k
 numbers_agree cert is_cert k key = ap need_of (sym (find_agrees cert.version k cert.nodes key is_cert.nodes))
 
-module _ (image : ImageData) (plan : PlanData) (cert : CertData) (ground : IsGround (limits_in plan cert) image plan) (entry : image.entry < 2 ^ 32) (w : IsWritten image plan cert.version cert) where
+module _ (image : ImageData) (plan : PlanData) (cert : CertData) (ground : IsGround (limits_in plan cert) image plan) (entry : image.entry < 2 ^ 32) (w : IsLeastClosedCert image plan cert.version cert) where
   -- needs of any certificate, by numbers and by keys
   by_keys : (other : CertData) → IsCert other → MeetsNeeds (limits_in plan cert) image plan (known_in cert) (λ k. need_of (find_node k other.nodes)) → MeetsNeeds (limits_in plan cert) image plan (known_in cert) (needs_in other)
   by_keys other is_other m =
@@ -122,13 +122,13 @@ made_is_least image plan version cert m = record {
 pub none_accepted : RefusalsHold
 none_accepted image plan version rule key addr cert r is v a = r.1 cert is v a
 
-pub made : WrittenIsMade
+pub made : LeastClosedCertIsMade
 made image plan version cert ground entry w =
     subst (λ n. IsMade image plan n cert) w.of_version
     (written_made image plan cert (subst (λ n. IsGround (limits_for plan n) image plan) (sym w.of_version) ground) entry
-    (subst (λ n. IsWritten image plan n cert) (sym w.of_version) w))
+    (subst (λ n. IsLeastClosedCert image plan n cert) (sym w.of_version) w))
 
-pub refused : RefusedIsNone
+pub refused : RefusalMeansNoneAccepted
 refused image plan version r k p ground entry refusal cert is_cert same accepted =
     refusal_refuted image plan cert (subst (λ n. IsGround (limits_for plan n) image plan) (sym same) ground) entry is_cert accepted r k p
     (subst (λ n. IsRefusal image plan n r k p) (sym same) refusal)

@@ -16,14 +16,14 @@ use Rattle.cfg_recover.specs.Entries.{start_key}
 use Rattle.cfg_recover.specs.Assignments.{point, exit}
 use Rattle.cfg_recover.specs.CertRefusals.{IsRefusalFault, IsLeastAssignment, IsRefusal, IsRefusalWith, fault, recursion, need}
 use Rattle.depth_maker.specs.DutiesMonotone.{IsGround}
-use Rattle.depth_maker.specs.Answers.{IsGroundOf, IsRefused, Refuses, RefusalIsRight}
-use Rattle.depth_maker.specs.LeastCertMade.{AreMade, IsMade}
-use Rattle.depth_maker.specs.SpelledCert.{AreSpelledBytes}
-use Rattle.depth_maker.specs.Needs.{NeedsOn, NeedsAre}
-use Rattle.depth_maker.specs.Recursing.{IsRecursion}
+use Rattle.depth_maker.specs.Answers.{HasLimitsOfFormat, IsRightMakeErr, MakeErrHolds, RefusalIsRight}
+use Rattle.depth_maker.specs.LeastCertMade.{AreLeastCertBytes, IsMade}
+use Rattle.depth_maker.specs.SpelledCert.{AreClosedCertBytesOn}
+use Rattle.depth_maker.specs.Needs.{AreLeastNeedsOrTooMany, AreLeastTableNeeds}
+use Rattle.depth_maker.specs.Recursing.{IsFirstRecursion}
 use Rattle.depth_maker.specs.Rows.{IsRowSource}
 use Rattle.depth_maker.specs.SpotsAsPlaces.{place_of_spot}
-use Rattle.depth_maker.specs.TableView.{seen}
+use Rattle.depth_maker.specs.TableView.{view_of_table}
 use Rattle.depth_maker.specs.declared.inputs_and_limits.Ground.{Ground}
 use Rattle.depth_maker.specs.declared.answering.MakeErr.{MakeErr}
 use Rattle.depth_maker.specs.declared.answering.MakeErr.TheVariants.{Refused, NoMemory}
@@ -36,7 +36,7 @@ use Rattle.depth_maker.proofs.LeastStands.{least_stands}
 use Rattle.depth_maker.proofs.MadeLaws.{made, refused}
 
 -- ---- refusals
-pub fault_refuses : (g : Ground) (rule : ℕ) (k : Key) (p : ℕ) → RefusalIsRight g (Fault rule (Point k p)) → Refuses g (Refused rule k p)
+pub fault_refuses : (g : Ground) (rule : ℕ) (k : Key) (p : ℕ) → RefusalIsRight g (Fault rule (Point k p)) → MakeErrHolds g (Refused rule k p)
 fault_refuses g rule k p a =
     let e : point k p ≡ point a.0 a.1 = a.2 in
     let key : a.0 ≡ k = cc in
@@ -47,22 +47,22 @@ pub no_exit_refuses : (g : Ground) (rule : ℕ) (k : Key) → RefusalIsRight g (
 no_exit_refuses g rule k a = absurd (let e : exit k ≡ point a.0 a.1 = a.2 in cc)
 
 -- the table's assignment is the least
-pub least_of : (s : Source) → IsRowSource s → IsLeastAssignment (s.ground.now).bounds.now (s.ground.now).image.now (s.ground.now).plan.now (seen s.table.now).cells
-unfolding seen
+pub least_of : (s : Source) → IsRowSource s → IsLeastAssignment (s.ground.now).bounds.now (s.ground.now).image.now (s.ground.now).plan.now (view_of_table s.table.now).cells
+unfolding view_of_table
 least_of s source =
     let done = source.done in
-    least_stands _ _ _ (lawful _ _ _ (s.ground.now).sound) (seen s.table.now).cells done.derived done.closed done.faultless
-    (counted_within (seen s.table.now).cells (map place_of_spot (s.table.now).points.items) (s.table.now).frames.items (done.counted).each (done.counted).few)
+    least_stands _ _ _ (lawful _ _ _ (s.ground.now).sound) (view_of_table s.table.now).cells done.derived done.closed done.faultless
+    (counted_within (view_of_table s.table.now).cells (map place_of_spot (s.table.now).points.items) (s.table.now).frames.items (done.counted).each (done.counted).few)
 
-pub recursion_refuses : (s : Source) (k : Key) (p : ℕ) → IsRowSource s → IsRecursion s (Some (k, p)) → Refuses s.ground.now (Refused 14 k p)
-recursion_refuses s k p source first = recursion (seen s.table.now).cells k p (least_of s source) first
+pub recursion_refuses : (s : Source) (k : Key) (p : ℕ) → IsRowSource s → IsFirstRecursion s (Some (k, p)) → MakeErrHolds s.ground.now (Refused 14 k p)
+recursion_refuses s k p source first = recursion (view_of_table s.table.now).cells k p (least_of s source) first
 
-pub need_refuses : (s : Source) (k : Key) → k ≡ start_key (s.ground.now).image.now (s.ground.now).plan.now → IsRowSource s → IsRecursion s None → NeedsOn s None → Refuses s.ground.now (Refused 14 k k.entry)
+pub need_refuses : (s : Source) (k : Key) → k ≡ start_key (s.ground.now).image.now (s.ground.now).plan.now → IsRowSource s → IsFirstRecursion s None → AreLeastNeedsOrTooMany s None → MakeErrHolds s.ground.now (Refused 14 k k.entry)
 need_refuses s k is source ends above =
-    subst (λ (z : Key). Refuses s.ground.now (Refused 14 z z.entry)) (sym is) (need (seen s.table.now).cells (least_of s source) (record { ends = ends; above = above }))
+    subst (λ (z : Key). MakeErrHolds s.ground.now (Refused 14 z z.entry)) (sym is) (need (view_of_table s.table.now).cells (least_of s source) (record { ends = ends; above = above }))
 
 -- ---- what is made
-pub are_made : (g : Ground) (version : ℕ) (bytes : List ℕ) → IsGroundOf g version → AreSpelledBytes g version bytes → AreMade g.image.now g.plan.now version bytes
+pub are_made : (g : Ground) (version : ℕ) (bytes : List ℕ) → HasLimitsOfFormat g version → AreClosedCertBytesOn g version bytes → AreLeastCertBytes g.image.now g.plan.now version bytes
 are_made g version bytes limits w = record {
   cert = w.0;
   spell = w.1;
@@ -70,21 +70,21 @@ are_made g version bytes limits w = record {
   made = made g.image.now g.plan.now version w.0 (subst (λ (b : Limits). IsGround b g.image.now g.plan.now) limits g.sound) ((g.sound).is_image).entry w.2;
 }
 
-pub is_refused : (g : Ground) (version : ℕ) (e : MakeErr) → IsGroundOf g version → Refuses g e → IsRefused g.image.now g.plan.now version e
+pub is_refused : (g : Ground) (version : ℕ) (e : MakeErr) → HasLimitsOfFormat g version → MakeErrHolds g e → IsRightMakeErr g.image.now g.plan.now version e
 is_refused g version (Refused rule key addr) limits r =
     let is : IsRefusal g.image.now g.plan.now version rule key addr = subst (λ (b : Limits). IsRefusalWith b g.image.now g.plan.now rule key addr) limits r in
     (is, refused g.image.now g.plan.now version rule key addr (subst (λ (b : Limits). IsGround b g.image.now g.plan.now) limits g.sound) ((g.sound).is_image).entry is)
 is_refused g version NoMemory limits r = tt
 
 -- ---- the certificate that the bytes spell
-pub made_small : (image : ImageData) (plan : PlanData) (version : ℕ) (bytes : List ℕ) → AreMade image plan version bytes → length bytes ≤ 2 ^ 30
+pub made_small : (image : ImageData) (plan : PlanData) (version : ℕ) (bytes : List ℕ) → AreLeastCertBytes image plan version bytes → length bytes ≤ 2 ^ 30
 made_small image plan version bytes m = subst (λ (l : List ℕ). length l ≤ 2 ^ 30) (sym m.spell) (cert_most m.cert m.is_cert)
 
 ok_or_err : (r : Result CertData FormErr) (c : CertData) (f : FormErr) → r ≡ Ok c → r ≡ Err f → ⊥
 ok_or_err r c f e g = cc
 
 -- the bytes are read
-pub made_is_read : (image : ImageData) (plan : PlanData) (version : ℕ) (bytes : List ℕ) (f : FormErr) → AreMade image plan version bytes → certificate_of bytes ≡ Err f → ⊥
+pub made_is_read : (image : ImageData) (plan : PlanData) (version : ℕ) (bytes : List ℕ) (f : FormErr) → AreLeastCertBytes image plan version bytes → certificate_of bytes ≡ Err f → ⊥
 made_is_read image plan version bytes f m bad = ok_or_err (certificate_of bytes) m.cert f (ap certificate_of m.spell ∙ written_is_read m.cert m.is_cert) bad
 
 -- the certificate that is read
@@ -92,11 +92,11 @@ abbrev value_or : CertData → Result CertData FormErr → CertData
 value_or c (Ok x) = x
 value_or c (Err e) = c
 
-pub made_read : (image : ImageData) (plan : PlanData) (version : ℕ) (bytes : List ℕ) (c : CertData) → AreMade image plan version bytes → certificate_of bytes ≡ Ok c → IsMade image plan version c
+pub made_read : (image : ImageData) (plan : PlanData) (version : ℕ) (bytes : List ℕ) (c : CertData) → AreLeastCertBytes image plan version bytes → certificate_of bytes ≡ Ok c → IsMade image plan version c
 made_read image plan version bytes c m read =
     let same : m.cert ≡ c = ap (value_or m.cert) (sym (written_is_read m.cert m.is_cert) ∙ ap certificate_of (sym m.spell) ∙ read) in
     subst (IsMade image plan version) same m.made
 
 -- ---- parts of the code
-pub needs_are : (s : Source) (v : Vec ℕ Global) → NeedsOn s (Some v) → NeedsAre s v.items
+pub needs_are : (s : Source) (v : Vec ℕ Global) → AreLeastNeedsOrTooMany s (Some v) → AreLeastTableNeeds s v.items
 needs_are s v h = record { least = h.0; few = h.1 }

@@ -8,15 +8,15 @@ use Rattle.value_domain.specs.Limits.{AreLimits, Limits}
 use Rattle.depth_cert.specs.declared.keys.Key.{Key}
 use Rattle.depth_cert.specs.WellFormed.{IsWellFormedState}
 use Rattle.cfg_recover.specs.Assignments.{point}
-use Rattle.cfg_recover.specs.Duties.{Owed, interrupts_of}
+use Rattle.cfg_recover.specs.Duties.{Owed, interrupt_duties_of}
 use Rattle.frame_places.specs.Marks.{is_queued, mark_for}
-use Rattle.depth_maker.specs.InterruptHandlers.{AreHandlersEntered, ContextsEntered, IsAlike, IsContextEntered, IsContextOf, IsWithinContext, joined_context}
+use Rattle.depth_maker.specs.InterruptHandlers.{AreHandlersCovered, AreContextsCovered, IsEqualExceptStack, IsContextCovered, IsContextOf, IsWithinContext, joined_context}
 use Rattle.vd_transfer.specs.Registers.{a10_of}
-use Rattle.depth_maker.specs.TableLevels.{level}
+use Rattle.depth_maker.specs.TableLevels.{level_of_table}
 use Rattle.depth_maker.specs.MakerLaws.{AreMakerLaws}
 use Rattle.depth_maker.specs.SpotsAsPlaces.{spot_of}
-use Rattle.depth_maker.specs.TableInvariant.{IsFine}
-use Rattle.depth_maker.specs.TableView.{seen}
+use Rattle.depth_maker.specs.TableInvariant.{TableInvariantHolds}
+use Rattle.depth_maker.specs.TableView.{view_of_table}
 use Rattle.depth_maker.specs.VisitDuties.{VisitedPointOwes, DutiesJoined}
 use Rattle.depth_maker.specs.declared.interrupt_contexts.InterruptContext.{InterruptContext}
 use Rattle.depth_maker.specs.declared.interrupt_contexts.LastInterrupts.{LastInterrupts}
@@ -28,17 +28,17 @@ use Rattle.depth_maker.proofs.TableLaws.{derived_well_formed}
 
 module _ (b : Limits) (image : ImageData) (plan : PlanData) (k : Key) (p : ℕ) (u : State) where
   -- nothing has to be joined
-  pub duties_already : (s : made.Table) (h : InterruptContext) → IsFine b image plan s → AreHandlersEntered b plan (seen s).cells h → IsWithinContext h k.is u → DutiesJoined b image plan s s k p u (interrupts_of plan k u)
+  pub duties_already : (s : made.Table) (h : InterruptContext) → TableInvariantHolds b image plan s → AreHandlersCovered b plan (view_of_table s).cells h → IsWithinContext h k.is u → DutiesJoined b image plan s s k p u (interrupt_duties_of plan k u)
   duties_already s h fine entered asks = record {
     fine = fine;
     keeps = keeps_all b image plan s;
-    settled = λ free d c. interrupts_settle b plan (seen s) k p u h entered asks d c;
+    settled = λ free d c. interrupts_settle b plan (view_of_table s) k p u h entered asks d c;
   }
 
   -- other contexts are noted
-  contexts_noted : (s m : made.Table) (interrupts : LastInterrupts) → ContextsEntered b plan (seen m).cells interrupts
-      → DutiesJoined b image plan s m k p u (interrupts_of plan k u) → DutiesJoined b image plan s (record m { covered = record { interrupts = interrupts; calls = (m.covered).calls } }) k p u (interrupts_of plan k u)
-  unfolding seen level
+  contexts_noted : (s m : made.Table) (interrupts : LastInterrupts) → AreContextsCovered b plan (view_of_table m).cells interrupts
+      → DutiesJoined b image plan s m k p u (interrupt_duties_of plan k u) → DutiesJoined b image plan s (record m { covered = record { interrupts = interrupts; calls = (m.covered).calls } }) k p u (interrupt_duties_of plan k u)
+  unfolding view_of_table level_of_table
   contexts_noted s m interrupts entered paid = record {
     fine = record {
       table = (paid.fine).table;
@@ -61,24 +61,24 @@ module _ (b : Limits) (image : ImageData) (plan : PlanData) (k : Key) (p : ℕ) 
     settled = paid.settled;
   }
 
-  module _ (laws : AreMakerLaws b image plan) (s m : made.Table) (pu : IsWellFormedState b u) (on : IsTrue u.ie) (owes : (d : Owed) → Contains (interrupts_of plan k u) d → VisitedPointOwes b image plan k p u d.duty)
-      (free : is_queued (mark_for m.places (spot_of (point k p))) ≡ false) (paid : DutiesJoined b image plan s m k p u (interrupts_of plan k u)) where
+  module _ (laws : AreMakerLaws b image plan) (s m : made.Table) (pu : IsWellFormedState b u) (on : IsTrue u.ie) (owes : (d : Owed) → Contains (interrupt_duties_of plan k u) d → VisitedPointOwes b image plan k p u d.duty)
+      (free : is_queued (mark_for m.places (spot_of (point k p))) ≡ false) (paid : DutiesJoined b image plan s m k p u (interrupt_duties_of plan k u)) where
     -- the entries of the point are covered
-    point_entered : (h : InterruptContext) → IsContextOf h k.is u → AreHandlersEntered b plan (seen m).cells h
-    point_entered h from = interrupts_new b plan (seen m) k p u h from pu on (λ d c. owed_well_formed b image plan k p u laws d.duty pu (owes d c)) (λ d c. paid.settled free d c)
+    point_entered : (h : InterruptContext) → IsContextOf h k.is u → AreHandlersCovered b plan (view_of_table m).cells h
+    point_entered h from = interrupts_new b plan (view_of_table m) k p u h from pu on (λ d c. owed_well_formed b image plan k p u laws d.duty pu (owes d c)) (λ d c. paid.settled free d c)
 
     -- the context of the point is noted
     pub joined_and_noted : (h : InterruptContext) → IsContextOf h k.is u
-        → DutiesJoined b image plan s (record m { covered = record { interrupts = record { last = Some h; before = (m.covered).interrupts.last }; calls = (m.covered).calls } }) k p u (interrupts_of plan k u)
+        → DutiesJoined b image plan s (record m { covered = record { interrupts = record { last = Some h; before = (m.covered).interrupts.last }; calls = (m.covered).calls } }) k p u (interrupt_duties_of plan k u)
     joined_and_noted h from = contexts_noted s m (record { last = Some h; before = (m.covered).interrupts.last }) (point_entered h from, (paid.fine).covered.0.0) paid
 
     -- it is joined with the last one
-    pub joined_with_last : (h : InterruptContext) → AreLimits b → IsAlike h k.is u → (m.covered).interrupts.last ≡ Some h
-        → DutiesJoined b image plan s (record m { covered = record { interrupts = record { last = Some (joined_context b h (a10_of u)); before = (m.covered).interrupts.before }; calls = (m.covered).calls } }) k p u (interrupts_of plan k u)
+    pub joined_with_last : (h : InterruptContext) → AreLimits b → IsEqualExceptStack h k.is u → (m.covered).interrupts.last ≡ Some h
+        → DutiesJoined b image plan s (record m { covered = record { interrupts = record { last = Some (joined_context b h (a10_of u)); before = (m.covered).interrupts.before }; calls = (m.covered).calls } }) k p u (interrupt_duties_of plan k u)
     joined_with_last h limits alike last =
         let g : InterruptContext = record { is = k.is; sp = a10_of u; ccpn = u.ccpn } in
-        let cells = (seen m).cells in
-        let entered : AreHandlersEntered b plan cells h = subst (IsContextEntered b plan cells) last (paid.fine).covered.0.0 in
+        let cells = (view_of_table m).cells in
+        let entered : AreHandlersCovered b plan cells h = subst (IsContextCovered b plan cells) last (paid.fine).covered.0.0 in
         let well_formed = derived_well_formed b image plan laws cells ((paid.fine).table).derived in
         let both = contexts_join b cells limits well_formed plan h g (sym alike.same) (sym alike.ccpn) entered (point_entered g (record { same = refl; sp = refl; ccpn = refl })) in
         contexts_noted s m (record { last = Some (joined_context b h (a10_of u)); before = (m.covered).interrupts.before }) (both, (paid.fine).covered.0.1) paid

@@ -23,12 +23,12 @@ use Rattle.vd_transfer.proofs.HoldLaws.{reg_value}
 use Rattle.vd_transfer.proofs.OpLaws.{span_not_below}
 use Rattle.store_ranges.proofs.Covers.{map_has, among_map}
 use Rattle.depth_cert.specs.declared.keys.Key.{Key}
-use Rattle.cfg_recover.specs.LocalRules.{targets_named_by, targets_of, KnowsTargets, MayReturn, MayReturnFromException, StoresInRange, MayAccess, LocalRule}
+use Rattle.cfg_recover.specs.LocalRules.{targets_named_by, targets_of, HasKnownTargets, MayReturn, MayReturnFromException, StoresInRange, MayAccess, LocalRule}
 use Rattle.store_ranges.specs.Accesses.{are_aligned}
 use Rattle.cfg_recover.proofs.CodeLaws.{IsCode-bounded}
 use Rattle.cfg_recover.proofs.Members.{contains_among}
 use Rattle.cfg_recover.proofs.LocalLaws.{are_aligned-is}
-use Rattle.depth_maker.specs.DutiesMonotone.{IsGround, FaultsFall}
+use Rattle.depth_maker.specs.DutiesMonotone.{IsGround, FaultsMonotone}
 use Rattle.depth_cert.specs.WellFormed.{IsWellFormedState}
 use Rattle.depth_maker.proofs.StateGrowth.{same_locals, reg_grows}
 use Rattle.depth_maker.proofs.EffectGrowth.{address_grows, address_value}
@@ -79,7 +79,7 @@ module _ (b : Limits) (plan : PlanData) (s t : State) (low : IsSoundSetting b pl
   may_access v w size stated vv vw below h = elim h [ inl e ↦ inl (aligned_falls v w size vv vw below e) | inr e ↦ inr e ]
 
   -- ---- the rules
-  targets_known : (p : ℕ) (shape : Shape) → KnowsTargets plan t p shape → KnowsTargets plan s p shape
+  targets_known : (p : ℕ) (shape : Shape) → HasKnownTargets plan t p shape → HasKnownTargets plan s p shape
   targets_known p (Jump to) h = targets_fall p to h
   targets_known p (Call to) h = targets_fall p to h
   targets_known p _ h = h
@@ -122,7 +122,7 @@ module _ (b : Limits) (plan : PlanData) (s t : State) (low : IsSoundSetting b pl
 pub setting_of : (b : Limits) (image : ImageData) (plan : PlanData) (s : State) → IsGround b image plan → IsWellFormedState b s → IsSoundSetting b plan s
 setting_of b image plan s ground well_formed = record { limits = ground.limits; plan = ground.is_plan; regs = well_formed.regs; values = well_formed.values }
 
-pub faults_fall : FaultsFall
+pub faults_fall : FaultsMonotone
 faults_fall b image plan key p s t ground ps pt c h r = record {
   code = (h r).code;
   own = λ shape n code.

@@ -18,8 +18,8 @@ use Rattle.depth_cert.specs.WellFormed.{IsWellFormedState}
 use Rattle.cfg_recover.specs.Code.{IsCode}
 use Rattle.cfg_recover.specs.LocalRules.{targets_of}
 use Rattle.cfg_recover.specs.LocalFaults.{IsFaultless}
-use Rattle.cfg_recover.specs.Duties.{Owed, owed, jump, jumps_to, interrupts_of, duties_of}
-use Rattle.cfg_recover.specs.Assignments.{Asks, point}
+use Rattle.cfg_recover.specs.Duties.{Owed, owed, jump, jumps_to, interrupt_duties_of, duties_of}
+use Rattle.cfg_recover.specs.Assignments.{AsksFor, point}
 use Rattle.cfg_recover.proofs.LocalLaws.{LocalHolds-found}
 use Rattle.frame_places.specs.declared.places.Spot.{Spot}
 use Rattle.frame_places.specs.declared.places.Spot.TheVariants.{Point}
@@ -28,15 +28,15 @@ use Rattle.frame_places.specs.Marks.{IsAmongReaders}
 use Rattle.frame_places.specs.Spots.{spot_eq}
 use Rattle.frame_places.proofs.MarkLemmas.{Requeues-none, same_value}
 use Rattle.indexmap.specs.IndexMap.{get}
-use Rattle.depth_maker.specs.InterruptHandlers.{IsContextEntered, HasNotedInterrupts}
+use Rattle.depth_maker.specs.InterruptHandlers.{IsContextCovered, AreInterruptsCoveredAt}
 use Rattle.depth_maker.specs.MakerLaws.{AreMakerLaws}
-use Rattle.depth_maker.specs.SharedStates.{SharesState}
+use Rattle.depth_maker.specs.SharedStates.{PassesStateTo}
 use Rattle.depth_maker.specs.SpotsAsPlaces.{place_of_spot, spot_of}
-use Rattle.depth_maker.specs.TableView.{seen}
-use Rattle.depth_maker.specs.TableInvariant.{IsFine}
-use Rattle.depth_maker.specs.Joins.{Joined, JoinedAlone, JoinKeeps}
+use Rattle.depth_maker.specs.TableView.{view_of_table}
+use Rattle.depth_maker.specs.TableInvariant.{TableInvariantHolds}
+use Rattle.depth_maker.specs.Joins.{IsJoinedAt, IsJoinedAlone, JoinKeeps}
 use Rattle.depth_maker.specs.VisitDuties.{DutiesJoined, VisitedPointOwes}
-use Rattle.depth_maker.specs.Visits.{VisitJoinsPoint, VisitJoinsPointOn}
+use Rattle.depth_maker.specs.Visits.{VisitJoinsDuties, VisitJoinsDutiesOn}
 use Rattle.depth_maker.specs.declared.inputs_and_limits.Ground.{Ground}
 use Rattle.depth_maker.specs.declared.table.Table as made
 use Rattle.depth_maker.proofs.DutyParts.{interrupts_off}
@@ -46,11 +46,11 @@ use Rattle.depth_maker.proofs.NotedInterrupts.{duties_already}
 use Rattle.depth_maker.proofs.PartLemmas.{Keeps-trans, duties_all, duties_jump, duties_none, duties_then, has_duty_at, jump_asks, owed_well_formed}
 
 -- ---- the instructions
-nothing_duties : (b : Limits) (image : ImageData) (plan : PlanData) (p n : ℕ) (k : Key) (u : State) → duties_of b image plan k p u Nothing n ≡ owed 4 (jump (machine_address_ahead p n) u) ∷ interrupts_of plan k u
+nothing_duties : (b : Limits) (image : ImageData) (plan : PlanData) (p n : ℕ) (k : Key) (u : State) → duties_of b image plan k p u Nothing n ≡ owed 4 (jump (machine_address_ahead p n) u) ∷ interrupt_duties_of plan k u
 unfolding duties_of transfer_of
-nothing_duties b image plan p n k u = append-nil (owed 4 (jump (machine_address_ahead p n) u) ∷ interrupts_of plan k u)
+nothing_duties b image plan p n k u = append-nil (owed 4 (jump (machine_address_ahead p n) u) ∷ interrupt_duties_of plan k u)
 
-pub nothing_passes : (image : ImageData) (plan : PlanData) (p n : ℕ) → IsCode image plan p Nothing n → IsShape Nothing → SharesState image plan p (machine_address_ahead p n)
+pub nothing_passes : (image : ImageData) (plan : PlanData) (p n : ℕ) → IsCode image plan p Nothing n → IsShape Nothing → PassesStateTo image plan p (machine_address_ahead p n)
 nothing_passes image plan p n code shaped = record {
   shape = Nothing;
   size = n;
@@ -62,13 +62,13 @@ nothing_passes image plan p n code shaped = record {
 }
 
 jump_duties : (b : Limits) (image : ImageData) (plan : PlanData) (p n : ℕ) (to : Target) (next : ℕ) (k : Key) (u : State) → targets_of plan u p to ≡ Some (next ∷ [])
-    → duties_of b image plan k p u (Jump to) n ≡ owed 4 (jump next u) ∷ interrupts_of plan k u
+    → duties_of b image plan k p u (Jump to) n ≡ owed 4 (jump next u) ∷ interrupt_duties_of plan k u
 unfolding duties_of
 jump_duties b image plan p n to next k u known =
-    ap (λ (o : Option (List ℕ)). (((jumps_to u (unwrap_or o []) ++ []) ++ []) ++ interrupts_of plan k u) ++ []) known ∙ append-nil (owed 4 (jump next u) ∷ interrupts_of plan k u)
+    ap (λ (o : Option (List ℕ)). (((jumps_to u (unwrap_or o []) ++ []) ++ []) ++ interrupt_duties_of plan k u) ++ []) known ∙ append-nil (owed 4 (jump next u) ∷ interrupt_duties_of plan k u)
 
 pub jump_passes : (image : ImageData) (plan : PlanData) (p n : ℕ) (to : Target) (o : Option ℕ) → IsCode image plan p (Jump to) n → IsShape (Jump to)
-    → IfSome o (λ next. (plan : PlanData) (s : State) → targets_of plan s p to ≡ Some (next ∷ [])) → IfSome o (SharesState image plan p)
+    → IfSome o (λ next. (plan : PlanData) (s : State) → targets_of plan s p to ≡ Some (next ∷ [])) → IfSome o (PassesStateTo image plan p)
 jump_passes image plan p n to None code shaped known = tt
 jump_passes image plan p n to (Some next) code shaped known = record {
   shape = Jump to;
@@ -92,12 +92,12 @@ jump_passes image plan p n to (Some next) code shaped known = record {
 -- ---- interrupts
 module _ (b : Limits) (image : ImageData) (plan : PlanData) (k : Key) (p : ℕ) (u : State) where
   -- they are off
-  pub quiet_off : (s : made.Table) → IsFine b image plan s → u.ie ≡ false → DutiesJoined b image plan s s k p u (interrupts_of plan k u)
+  pub quiet_off : (s : made.Table) → TableInvariantHolds b image plan s → u.ie ≡ false → DutiesJoined b image plan s s k p u (interrupt_duties_of plan k u)
   quiet_off s fine off = subst (λ (ds : List Owed). DutiesJoined b image plan s s k p u ds) (interrupts_off plan k u off) (duties_none b image plan k p u s fine)
 
   -- the last context shows that their entries are covered
-  pub quiet_noted : (s : made.Table) → IsFine b image plan s → HasNotedInterrupts s k.is u.ccpn → DutiesJoined b image plan s s k p u (interrupts_of plan k u)
-  quiet_noted s fine h = duties_already b image plan k p u s h.context fine (subst (IsContextEntered b plan (seen s).cells) h.last fine.covered.0.0) (h.within u refl)
+  pub quiet_noted : (s : made.Table) → TableInvariantHolds b image plan s → AreInterruptsCoveredAt s k.is u.ccpn → DutiesJoined b image plan s s k p u (interrupt_duties_of plan k u)
+  quiet_noted s fine h = duties_already b image plan k p u s h.context fine (subst (IsContextCovered b plan (view_of_table s).cells) h.last fine.covered.0.0) (h.within u refl)
 
   -- the order in which parts are joined
   turned : (s t : made.Table) (ds es : List Owed) → DutiesJoined b image plan s t k p u (ds ++ es) → DutiesJoined b image plan s t k p u (es ++ ds)
@@ -111,12 +111,12 @@ module _ (b : Limits) (image : ImageData) (plan : PlanData) (k : Key) (p : ℕ) 
         ];
   }
 
-  module _ (s : made.Table) (next : ℕ) (at : (seen s).cells (point k p) ≡ Some (state u)) (passes : SharesState image plan p next) where
+  module _ (s : made.Table) (next : ℕ) (at : (view_of_table s).cells (point k p) ≡ Some (state u)) (passes : PassesStateTo image plan p next) where
     -- ---- a visit
     faultless : IsFaultless b image plan k p u
     faultless r = LocalHolds-found b image plan k p u passes.shape passes.size r passes.code (passes.local b k u r)
 
-    owes : (d : Owed) → Contains ((owed 4 (jump next u) ∷ []) ++ interrupts_of plan k u) d → VisitedPointOwes b image plan k p u d.duty
+    owes : (d : Owed) → Contains ((owed 4 (jump next u) ∷ []) ++ interrupt_duties_of plan k u) d → VisitedPointOwes b image plan k p u d.duty
     owes d c = record {
       faultless = faultless;
       shape = passes.shape;
@@ -128,26 +128,26 @@ module _ (b : Limits) (image : ImageData) (plan : PlanData) (k : Key) (p : ℕ) 
     }
 
     -- the state flows into the successor
-    pub passing_asks : Asks b image plan (seen s).cells (place_of_spot (Point k next)) (state u)
+    pub passing_asks : AsksFor b image plan (view_of_table s).cells (place_of_spot (Point k next)) (state u)
     passing_asks =
         jump_asks b image plan k p u s next u
         (has_duty_at b image plan k p u s (jump next u) at
-        (owes (owed 4 (jump next u)) (Contains-append_left (owed 4 (jump next u) ∷ []) (interrupts_of plan k u) (owed 4 (jump next u)) (Contains-push [] (owed 4 (jump next u))))))
+        (owes (owed 4 (jump next u)) (Contains-append_left (owed 4 (jump next u) ∷ []) (interrupt_duties_of plan k u) (owed 4 (jump next u)) (Contains-push [] (owed 4 (jump next u))))))
 
     -- the successor was unknown, and has the state of the point now
-    pub passed_on : (laws : AreMakerLaws b image plan) (t : made.Table) → IsFine b image plan s → IsWellFormedState b u → DutiesJoined b image plan s s k p u (interrupts_of plan k u) → u.ccpn < 256
-        → JoinedAlone b s t (Point k next) (state u) → VisitJoinsPoint b image plan s t (Point k p)
+    pub passed_on : (laws : AreMakerLaws b image plan) (t : made.Table) → TableInvariantHolds b image plan s → IsWellFormedState b u → DutiesJoined b image plan s s k p u (interrupt_duties_of plan k u) → u.ccpn < 256
+        → IsJoinedAlone b s t (Point k next) (state u) → VisitJoinsDuties b image plan s t (Point k p)
     passed_on laws t fine well_formed irqs small rose =
-        let joined : Joined b image plan s t (Point k next) (state u) =
+        let joined : IsJoinedAt b image plan s t (Point k next) (state u) =
         the_joined b image plan laws s t t (Point k next) (state u) passing_asks rose (Requeues-none t.places (IsAmongReaders (get spot_eq s.readers (Point k next))) (λ q h. fine.exits k next q h)) rose.listed refl (none_forgotten t.readers (Point k next)) refl refl refl fine small in
-        let both = duties_then b image plan k p u s s t (interrupts_of plan k u) (owed 4 (jump next u) ∷ []) well_formed
-        (λ d c. owed_well_formed b image plan k p u laws d.duty well_formed (owes d (Contains-append_right (owed 4 (jump next u) ∷ []) (interrupts_of plan k u) d c))) irqs (duties_jump b image plan k p u s t 4 next u joined) in
+        let both = duties_then b image plan k p u s s t (interrupt_duties_of plan k u) (owed 4 (jump next u) ∷ []) well_formed
+        (λ d c. owed_well_formed b image plan k p u laws d.duty well_formed (owes d (Contains-append_right (owed 4 (jump next u) ∷ []) (interrupt_duties_of plan k u) d c))) irqs (duties_jump b image plan k p u s t 4 next u joined) in
         duties_all b image plan k p u s t passes.shape passes.size at faultless passes.code
-        (subst (λ (ds : List Owed). DutiesJoined b image plan s t k p u ds) (sym (passes.duties b k u)) (turned s t (interrupts_of plan k u) (owed 4 (jump next u) ∷ []) both))
+        (subst (λ (ds : List Owed). DutiesJoined b image plan s t k p u ds) (sym (passes.duties b k u)) (turned s t (interrupt_duties_of plan k u) (owed 4 (jump next u) ∷ []) both))
 
 -- a visit of the same places and values
-again : (b : Limits) (image : ImageData) (plan : PlanData) (s m t : made.Table) (x : Spot) → m.places.entries ≡ s.places.entries → JoinKeeps b image plan s m → VisitJoinsPoint b image plan m t x → VisitJoinsPoint b image plan s t x
-unfolding seen
+again : (b : Limits) (image : ImageData) (plan : PlanData) (s m t : made.Table) (x : Spot) → m.places.entries ≡ s.places.entries → JoinKeeps b image plan s m → VisitJoinsDuties b image plan m t x → VisitJoinsDuties b image plan s t x
+unfolding view_of_table
 again b image plan s m t x places keeps h = record {
   fine = h.fine;
   keeps = Keeps-trans b image plan s m t keeps h.keeps;
@@ -155,6 +155,6 @@ again b image plan s m t x places keeps h = record {
   settled = λ k p u e at. h.settled k p u e (same_value s.places m.places places (spot_of (point k p)) ∙ at);
 }
 
-pub visited_again : (g : Ground) (s m t : made.Table) (x : Spot) (r : Result Bool Refusal) → m.places.entries ≡ s.places.entries → JoinKeeps g.bounds.now g.image.now g.plan.now s m → OnOk r (VisitJoinsPointOn g m t x) → OnOk r (VisitJoinsPointOn g s t x)
+pub visited_again : (g : Ground) (s m t : made.Table) (x : Spot) (r : Result Bool Refusal) → m.places.entries ≡ s.places.entries → JoinKeeps g.bounds.now g.image.now g.plan.now s m → OnOk r (VisitJoinsDutiesOn g m t x) → OnOk r (VisitJoinsDutiesOn g s t x)
 visited_again g s m t x (Ok plain) places keeps h = again g.bounds.now g.image.now g.plan.now s m t x places keeps h
 visited_again g s m t x (Err e) places keeps h = tt

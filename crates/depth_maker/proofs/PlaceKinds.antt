@@ -10,9 +10,9 @@ use Rattle.depth_cert.specs.declared.keys.Key.{Key}
 use Rattle.cfg_recover.specs.Entries.{start_state}
 use Rattle.depth_cert.specs.Exits.{state_after_exit, joined_exit}
 use Rattle.cfg_recover.specs.Duties.{Duty, jump, enter, resume, leave}
-use Rattle.cfg_recover.specs.Assignments.{Place, point, exit, Assignment, same_place, raised_at_place, asked_by_duty, Asks, Derived, begins, joins, first_place}
+use Rattle.cfg_recover.specs.Assignments.{Place, point, exit, Assignment, is_same_place, raised_at_place, asked_by_duty, AsksFor, Derived, begins, joins, first_place}
 use Rattle.depth_cert.specs.Known.{Known, state, leaving, joined_known}
-use Rattle.cfg_recover.specs.CertRefusals.{HasRefusalFault, locals}
+use Rattle.cfg_recover.specs.CertRefusals.{IsFaultInAssignment, locals}
 use Rattle.depth_maker.proofs.PlaceLaws.{place_tells, from_if, resumed_some}
 
 -- what is known fits the place
@@ -49,12 +49,12 @@ raised_kind b y (Some w) v u old h e = joined_kind b y w v u (old w refl) h e
 
 pub derived_kinds : (b : Limits) (image : ImageData) (plan : PlanData) (a : Assignment) → Derived b image plan a → (y : Place) (v : Known) → a y ≡ Some v → IsOfKind y v
 derived_kinds b image plan _ (begins a is) y v at =
-    elim (from_if (same_place y (first_place image plan)) (state (start_state plan)) None (a y) v (is y) at) [
+    elim (from_if (is_same_place y (first_place image plan)) (state (start_state plan)) None (a y) v (is y) at) [
       | inl h ↦ subst (λ (z : Place). IsOfKind z v) (sym (place_tells y (first_place image plan) h.0)) (subst (IsOfKind (first_place image plan)) h.1 tt)
       | inr h ↦ (let q : None ≡ Some v = h.1 in cc)
     ]
 derived_kinds b image plan _ (joins a after z d j) y v at =
-    elim (from_if (same_place y z) j.known (a y) (after y) v (j.is y) at) [
+    elim (from_if (is_same_place y z) j.known (a y) (after y) v (j.is y) at) [
       | inl h ↦
           (let k = j.asks in
           let new = raised_kind b z (a z) j.value j.known (derived_kinds b image plan a d z) (asked_kind a k.key k.before k.duty z j.value k.asks) j.raises in
@@ -85,8 +85,8 @@ unjoined b (exit k) (leaving x) (state s) h g e = absurd g
 unjoined b (exit k) (leaving x) (leaving z) h g e = absurd (let q : Some (leaving (joined_exit b x z)) ≡ None = e in cc)
 
 -- so it is a fault of K8
-pub unjoined_fault : (b : Limits) (image : ImageData) (plan : PlanData) (a : Assignment) → Derived b image plan a → (y : Place) (v w : Known) → Asks b image plan a y v → a y ≡ Some w → joined_known b w v ≡ None
-    → (k : Key) × (p : ℕ) × (y ≡ point k p) × HasRefusalFault b image plan a 8 k p
+pub unjoined_fault : (b : Limits) (image : ImageData) (plan : PlanData) (a : Assignment) → Derived b image plan a → (y : Place) (v w : Known) → AsksFor b image plan a y v → a y ≡ Some w → joined_known b w v ≡ None
+    → (k : Key) × (p : ℕ) × (y ≡ point k p) × IsFaultInAssignment b image plan a 8 k p
 unjoined_fault b image plan a d y v w k at none =
     let u = unjoined b y w v (derived_kinds b image plan a d y w at) (asked_kind a k.key k.before k.duty y v k.asks) none in (
       u.key,
@@ -94,6 +94,6 @@ unjoined_fault b image plan a d y v w k at none =
       u.place,
       locals u.key u.addr u.left u.right
           (sym (ap a u.place) ∙ at ∙ ap (λ (z : Known). Some z) u.is_left)
-          (subst (λ (z : Place). Asks b image plan a z (state u.right)) u.place (subst (Asks b image plan a y) u.is_right k))
+          (subst (λ (z : Place). AsksFor b image plan a z (state u.right)) u.place (subst (AsksFor b image plan a y) u.is_right k))
           u.none,
     )

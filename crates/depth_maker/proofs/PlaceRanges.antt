@@ -12,7 +12,7 @@ use Rattle.depth_cert.specs.Keys.{IsKey}
 use Rattle.cfg_recover.specs.Entries.{start_state}
 use Rattle.cfg_recover.specs.LocalRules.{LocalRule}
 use Rattle.cfg_recover.specs.Duties.{Duty, jump, enter, resume, leave, Owed, duties_of}
-use Rattle.cfg_recover.specs.Assignments.{Place, point, exit, Assignment, same_place, asked_by_duty, Asks, Derived, begins, joins, first_place}
+use Rattle.cfg_recover.specs.Assignments.{Place, point, exit, Assignment, is_same_place, asked_by_duty, AsksFor, Derived, begins, joins, first_place}
 use Rattle.depth_cert.specs.Known.{Known, state, leaving}
 use Rattle.depth_cert.specs.WellFormed.{IsWellFormedState}
 use Rattle.cfg_recover.proofs.DutyView.{DutyAt, next, straight, taken, target, called_back, system_back, returns, resumes, duty_at}
@@ -67,7 +67,7 @@ asked_in_range a key s (resume k q) y v is has stays e = subst IsInRange (resume
 asked_in_range a key s (leave x) y v is has stays e = let f : (exit key, leaving x) ≡ (y, v) = cc in subst (λ (w : Place × Known). IsInRange w.0) f (is, stays)
 
 module _ (b : Limits) (image : ImageData) (plan : PlanData) (ground : IsGround b image plan) where
-  asks_in_range : (a : Assignment) → AllWellFormed b a → ((x : Place) (v : Known) → a x ≡ Some v → IsInRange x) → (y : Place) (v : Known) → Asks b image plan a y v → IsInRange y
+  asks_in_range : (a : Assignment) → AllWellFormed b a → ((x : Place) (v : Known) → a x ≡ Some v → IsInRange x) → (y : Place) (v : Known) → AsksFor b image plan a y v → IsInRange y
   asks_in_range a well_formed old y v k =
       let h = k.has in
       let s = well_formed (point k.key k.addr) (state k.before) h.at in
@@ -83,12 +83,12 @@ module _ (b : Limits) (image : ImageData) (plan : PlanData) (ground : IsGround b
   -- each place of a derived assignment is in range
   pub derived_in_range : (a : Assignment) → Derived b image plan a → (y : Place) (v : Known) → a y ≡ Some v → IsInRange y
   derived_in_range _ (begins a is) y v at =
-      elim (from_if (same_place y (first_place image plan)) (state (start_state plan)) None (a y) v (is y) at) [
+      elim (from_if (is_same_place y (first_place image plan)) (state (start_state plan)) None (a y) v (is y) at) [
         | inl h ↦ subst IsInRange (sym (place_tells y (first_place image plan) h.0)) start_in_range
         | inr h ↦ (let q : None ≡ Some v = h.1 in cc)
       ]
   derived_in_range _ (joins a after z d j) y v at =
-      elim (from_if (same_place y z) j.known (a y) (after y) v (j.is y) at) [
+      elim (from_if (is_same_place y z) j.known (a y) (after y) v (j.is y) at) [
         | inl h ↦ subst IsInRange (sym (place_tells y z h.0)) (asks_in_range a (derived_well_formed b image plan (lawful b image plan ground) a d) (derived_in_range a d) z j.value j.asks)
         | inr h ↦ derived_in_range a d y v h.1
       ]

@@ -12,8 +12,8 @@ use Rattle.value_domain.specs.Limits.{Limits}
 use Rattle.value_domain.specs.declared.states.State.{State}
 use Rattle.depth_cert.specs.declared.keys.Key.{Key}
 use Rattle.depth_cert.specs.Known.{Known, state}
-use Rattle.cfg_recover.specs.Duties.{duties_of, interrupts_of, misaligned_of, entered_in}
-use Rattle.cfg_recover.specs.LocalFaults.{StandsFaultless, IsFaultless}
+use Rattle.cfg_recover.specs.Duties.{duties_of, interrupt_duties_of, misaligned_duties_of, entered_keys}
+use Rattle.cfg_recover.specs.LocalFaults.{IsFaultlessShape, IsFaultless}
 use Rattle.cfg_recover.specs.declared.local_rules.Located.{Located}
 use Rattle.frame_places.specs.Marks.{value_for}
 use Rattle.frame_places.specs.Numbers.{frame_number_in}
@@ -25,12 +25,12 @@ use Rattle.frame_places.specs.declared.places.Spot.TheVariants.{Point}
 use Rattle.small_states.specs.CompactForms.{IsOutline}
 use Rattle.small_states.specs.declared.known.Outline.{Outline}
 use Rattle.frame_places.specs.declared.needs.row.NeedRow.{NeedRow}
-use Rattle.depth_maker.specs.EnteredFrames.{EntersNoFrame, IsPlainAt}
-use Rattle.depth_maker.specs.InterruptHandlers.{nodes_taken}
+use Rattle.depth_maker.specs.EnteredFrames.{EntersNoFrame, EntersNoFrameAt}
+use Rattle.depth_maker.specs.InterruptHandlers.{taken_handlers}
 use Rattle.depth_maker.proofs.HandlerLaws.{nodes_taken-is}
 use Rattle.depth_maker.specs.SpotsAsPlaces.{place_of_spot}
 use Rattle.depth_maker.specs.Rows.{IsPlainRow, IsPointRow, IsRowSource}
-use Rattle.depth_maker.specs.TableView.{seen}
+use Rattle.depth_maker.specs.TableView.{view_of_table}
 use Rattle.depth_maker.specs.declared.inputs_and_limits.Ground.{Ground}
 use Rattle.depth_maker.specs.declared.rows.Source.{Source}
 use Rattle.cfg_recover.proofs.AccessDuties.{owes_no_access}
@@ -45,46 +45,46 @@ off_of false e = refl
 pub load_enters_none : (plan : PlanData) (shape : Shape) → plan.aln ≡ false → (dst : ℕ) (base : Arg) (offset size : ℕ) (signed after : Bool) → shape ≡ Load dst base offset size signed after → EntersNoFrame plan shape
 load_enters_none plan shape off dst base offset size signed after is = subst (EntersNoFrame plan) (sym is) at where
   at : EntersNoFrame plan (Load dst base offset size signed after)
-  at b k p u n rule = (refl, ap entered_in (owes_no_access b plan k u (Load dst base offset size signed after) (rule.accesses refl) off))
+  at b k p u n rule = (refl, ap entered_keys (owes_no_access b plan k u (Load dst base offset size signed after) (rule.accesses refl) off))
 
 pub store_enters_none : (plan : PlanData) (shape : Shape) → plan.aln ≡ false → (src : ℕ) (base : Arg) (offset size : ℕ) (after : Bool) → shape ≡ Store src base offset size after → EntersNoFrame plan shape
 store_enters_none plan shape off src base offset size after is = subst (EntersNoFrame plan) (sym is) at where
   at : EntersNoFrame plan (Store src base offset size after)
-  at b k p u n rule = (refl, ap entered_in (owes_no_access b plan k u (Store src base offset size after) (rule.accesses refl) off))
+  at b k p u n rule = (refl, ap entered_keys (owes_no_access b plan k u (Store src base offset size after) (rule.accesses refl) off))
 
 -- only interrupts enter a frame if the instruction enters none
-pub entered_plain : (b : Limits) (image : ImageData) (plan : PlanData) (k : Key) (p : ℕ) (u : State) → IsFaultless b image plan k p u → (at : IsPlainAt image plan p)
-    → entered_in (duties_of b image plan k p u at.shape at.size) ≡ entered_in (interrupts_of plan k u)
+pub entered_plain : (b : Limits) (image : ImageData) (plan : PlanData) (k : Key) (p : ℕ) (u : State) → IsFaultless b image plan k p u → (at : EntersNoFrameAt image plan p)
+    → entered_keys (duties_of b image plan k p u at.shape at.size) ≡ entered_keys (interrupt_duties_of plan k u)
 entered_plain b image plan k p u faultless at =
     let shape = at.shape in
     let n = at.size in
     let entered = at.enters b k p u n ((faultless 10).own shape n at.code) in
-    let ds = entered_in (misaligned_of b plan k u shape) in
-    let es = entered_in (interrupts_of plan k u) in
+    let ds = entered_keys (misaligned_duties_of b plan k u shape) in
+    let es = entered_keys (interrupt_duties_of plan k u) in
     entered_whole b image plan k p u shape n
     ∙ ap (λ (l : List Key). (l ++ ds) ++ es) entered.0
     ∙ ap (λ (l : List Key). l ++ es) entered.1
 
 -- the instruction of a plain place
-pub plain_found : (image : ImageData) (plan : PlanData) (p : ℕ) → IsPlainAt image plan p → Located
+pub plain_found : (image : ImageData) (plan : PlanData) (p : ℕ) → EntersNoFrameAt image plan p → Located
 plain_found image plan p at = record { shape = at.shape; size = at.size }
 
-pub plain_stands : (g : Ground) (k : Key) (p : ℕ) (u : State) → IsFaultless g.bounds.now g.image.now g.plan.now k p u → (at : IsPlainAt g.image.now g.plan.now p)
-    → StandsFaultless g.bounds.now g.image.now g.plan.now k p u (plain_found g.image.now g.plan.now p at)
+pub plain_stands : (g : Ground) (k : Key) (p : ℕ) (u : State) → IsFaultless g.bounds.now g.image.now g.plan.now k p u → (at : EntersNoFrameAt g.image.now g.plan.now p)
+    → IsFaultlessShape g.bounds.now g.image.now g.plan.now k p u (plain_found g.image.now g.plan.now p at)
 unfolding plain_found
 plain_stands g k p u faultless at = record { faultless = faultless; code = at.code; shape = at.shaped }
 
 -- the row of a plain point has the handlers of the interrupts that may be taken
 pub plain_point : (s : Source) → IsRowSource s → (k : Key) (p : ℕ) (m : Marked Known) (o : Outline) (row : NeedRow) → get spot_eq (s.table.now).places (Point k p) ≡ Some m → m.mark ≡ Plain → IsOutline m.value o
     → IsPlainRow s (frame_number_in (s.table.now).frames.items k) o row → IsPointRow s k p row
-unfolding seen plain_found
+unfolding view_of_table plain_found
 plain_point s source k p m o row at mark is plain =
     let g = s.ground.now in
     let t = s.table.now in
     let done = source.done in
     let frames = t.frames.items in
     let value : value_for t.places (Point k p) ≡ Some m.value = ap (option_map (λ (m : Marked Known). m.value)) at in
-    let plain_at : IsPlainAt g.image.now g.plan.now p = done.plain (Point k p) (ap (option_map (λ (m : Marked Known). m.mark)) at ∙ ap (λ (z : Mark). Some z) mark) in
+    let plain_at : EntersNoFrameAt g.image.now g.plan.now p = done.plain (Point k p) (ap (option_map (λ (m : Marked Known). m.mark)) at ∙ ap (λ (z : Mark). Some z) mark) in
     let e = done_state g t done k p m.value value in
     let u = e.0 in
     let there : value_for t.places (Point k p) ≡ Some (state u) = value ∙ ap (λ (z : Known). Some z) e.1 in
@@ -94,9 +94,9 @@ plain_point s source k p m o row at mark is plain =
     let stands = plain_stands g k p u faultless plain_at in
     let parts = entered_plain g.bounds.now g.image.now g.plan.now k p u faultless plain_at in
     let counted = (done.counted).each in
-    let known = λ (l : Key) (i : Contains (entered_in (interrupts_of g.plan.now k u)) l).
-    entered_frame _ _ _ (seen t).cells done.closed (map place_of_spot t.points.items) frames counted k p u l
-    (enters_of _ _ _ (seen t).cells done.closed (map place_of_spot t.points.items) frames counted k p u found l there stands (subst (λ (z : List Key). Contains z l) (sym parts) i)) in (
+    let known = λ (l : Key) (i : Contains (entered_keys (interrupt_duties_of g.plan.now k u)) l).
+    entered_frame _ _ _ (view_of_table t).cells done.closed (map place_of_spot t.points.items) frames counted k p u l
+    (enters_of _ _ _ (view_of_table t).cells done.closed (map place_of_spot t.points.items) frames counted k p u found l there stands (subst (λ (z : List Key). Contains z l) (sym parts) i)) in (
       u,
       there,
       record {
@@ -105,7 +105,7 @@ plain_point s source k p m o row at mark is plain =
         node = plain.node;
         held = plain.held ∙ sym own.2;
         into =
-            plain.into ∙ sym (λ i. nodes_taken (own.0 i) (own.1 i) s.handlers.now)
+            plain.into ∙ sym (λ i. taken_handlers (own.0 i) (own.1 i) s.handlers.now)
             ∙ nodes_taken-is g.plan.now frames k u s.handlers.now source.handlers known
             ∙ sym (ap (λ (l : List Key). map (frame_number_in frames) l) parts);
       },

@@ -14,7 +14,7 @@ use Rattle.std.proofs.lemmas.Map.Views.{Contains-from_any, Contains-keys_from_lo
 use Rattle.indexmap.specs.IndexMap.{IndexMap, IsUnique, get, keys}
 use Rattle.depth_cert.specs.declared.keys.Key.{Key}
 use Rattle.depth_cert.specs.Known.{Known}
-use Rattle.cfg_recover.specs.Assignments.{Place, point, exit, same_place}
+use Rattle.cfg_recover.specs.Assignments.{Place, point, exit, is_same_place}
 use Rattle.cfg_recover.proofs.Members.{contains_map}
 use Rattle.frame_places.specs.PointEntries.{AreEntries, place_at, places_at, points_in}
 use Rattle.frame_places.specs.Spots.{is_point, spot_eq, spot_number, nowhere}
@@ -23,8 +23,8 @@ use Rattle.frame_places.specs.declared.ordering.PointEntry.{PointEntry}
 use Rattle.frame_places.specs.declared.places.Marked.{Marked}
 use Rattle.frame_places.specs.declared.places.Spot.{Spot}
 use Rattle.frame_places.specs.declared.places.Spot.TheVariants.{Point, Exit}
-use Rattle.frame_places.proofs.SpotLemmas.{spot_refl, spot_tells}
-use Rattle.depth_maker.specs.AssignmentCounts.{AreCounted, IsCountedIn}
+use Rattle.frame_places.proofs.SpotLemmas.{spot_refl, equal_spots_are_same}
+use Rattle.depth_maker.specs.AssignmentCounts.{ListsPointsAndFrames, IsCountedIn}
 use Rattle.depth_maker.specs.SpotsAsPlaces.{place_of_spot, spot_of}
 use Rattle.depth_maker.proofs.CountedLemmas.{few_spots}
 use Rattle.depth_maker.proofs.DutyGrowth.{contained_map}
@@ -46,13 +46,13 @@ placed (x ∷ xs) k p c = at (λ h. placed xs k p h) c.0 c.1 c.2 where
 
 -- ---- entries
 turned : (x y : Spot) → spot_eq x y ≡ true → spot_eq y x ≡ true
-turned x y e = subst (λ (k : Spot). spot_eq k x ≡ true) (spot_tells x y e) (spot_refl x)
+turned x y e = subst (λ (k : Spot). spot_eq k x ≡ true) (equal_spots_are_same x y e) (spot_refl x)
 
 spot_equiv : IsEquivalence spot_eq
 spot_equiv = record {
   refl = spot_refl;
   symm = λ x y. both_ways (spot_eq x y) (spot_eq y x) (turned x y) (turned y x);
-  congr = λ x y z e. ap (λ (k : Spot). spot_eq k z) (spot_tells x y e);
+  congr = λ x y z e. ap (λ (k : Spot). spot_eq k z) (equal_spots_are_same x y e);
 }
 
 -- known places have entries, and places with entries are known
@@ -65,7 +65,7 @@ mapped_some None h = h
 mapped_some (Some m) h = refl
 
 pub has_entry : {V S : Type 0} (m : IndexMap Spot (Marked V) S) (q : Spot) → IsSome (value_for m q) → Contains (keys m) q
-has_entry m q h = Contains-keys_from_lookup spot_tells q m.entries (some_mapped (get spot_eq m q) h)
+has_entry m q h = Contains-keys_from_lookup equal_spots_are_same q m.entries (some_mapped (get spot_eq m q) h)
 
 pub entry_known : {V S : Type 0} (m : IndexMap Spot (Marked V) S) (q : Spot) → Contains (keys m) q → IsSome (value_for m q)
 entry_known m q c = mapped_some (get spot_eq m q) (IsSome-lookup_from_Contains spot_equiv q m.entries c)
@@ -96,7 +96,7 @@ module _ {S : Type 0} (m : IndexMap Spot (Marked Known) S) (ps : List Spot) (ks 
   apart_spots : (i j : ℕ) (d : Spot) → i < j → j < length (points_in m) → spot_eq (get_or (points_in m) i d) (get_or (points_in m) j d) ≡ false
   apart_spots i j d lt le = AllPairs-filter (λ x y. spot_eq x y ≡ false) is_point (keys m) (λ i j d lt le. apart_from_distinct spot_eq (keys m) i j d unique lt le) i j d lt le
 
-  apart : (i j : ℕ) (d : Place) → i < j → j < length (map place_of_spot (points_in m)) → same_place (get_or (map place_of_spot (points_in m)) i d) (get_or (map place_of_spot (points_in m)) j d) ≡ false
+  apart : (i j : ℕ) (d : Place) → i < j → j < length (map place_of_spot (points_in m)) → is_same_place (get_or (map place_of_spot (points_in m)) i d) (get_or (map place_of_spot (points_in m)) j d) ≡ false
   apart i j d lt le =
       let inside : j < length (points_in m) = omega (arith, le, length-map (points_in m) place_of_spot) in
       let two = apart_spots i j nowhere lt inside in
@@ -105,9 +105,9 @@ module _ {S : Type 0} (m : IndexMap Spot (Marked Known) S) (ps : List Spot) (ks 
       let one : get_or (map place_of_spot (points_in m)) i d ≡ place_of_spot x = get_or-map place_of_spot (points_in m) i nowhere d (omega (arith, lt, inside)) in
       let other : get_or (map place_of_spot (points_in m)) j d ≡ place_of_spot y = get_or-map place_of_spot (points_in m) j nowhere d inside in
       let turned : spot_eq (spot_of (place_of_spot y)) (spot_of (place_of_spot x)) ≡ spot_eq y x = λ t. spot_eq (forth y t) (forth x t) in
-      (λ t. same_place (one t) (other t)) ∙ sym (agrees (place_of_spot x) (place_of_spot y)) ∙ turned ∙ spot_equiv.symm y x ∙ two
+      (λ t. is_same_place (one t) (other t)) ∙ sym (agrees (place_of_spot x) (place_of_spot y)) ∙ turned ∙ spot_equiv.symm y x ∙ two
 
-  pub entries_counted : AreCounted (λ q. value_for m (spot_of q)) (map place_of_spot (points_in m)) ks
+  pub entries_counted : ListsPointsAndFrames (λ q. value_for m (spot_of q)) (map place_of_spot (points_in m)) ks
   entries_counted = record {
     points = λ k p h. contains_map place_of_spot (points_in m) (Point k p) (filter_has is_point (keys m) (Point k p) (has_entry m (Point k p) h) refl);
     known = λ y h.
@@ -116,7 +116,7 @@ module _ {S : Type 0} (m : IndexMap Spot (Marked Known) S) (ps : List Spot) (ks 
         let kind = point_kind q.0 f.1 in
         let at : place_of_spot q.0 ≡ point kind.0 kind.1 = ap place_of_spot kind.2 in
         (subst (λ (z : Place). IsSome (value_for m (spot_of z))) (sym at ∙ q.2) (subst (λ (z : Spot). IsSome (value_for m z)) kind.2 (entry_known m q.0 f.0)), (kind.0, kind.1, sym q.2 ∙ at));
-    once = IsDistinct-from_apart same_place (map place_of_spot (points_in m)) apart;
+    once = IsDistinct-from_apart is_same_place (map place_of_spot (points_in m)) apart;
     frames = (c.each).frames;
     entered = (c.each).entered;
     once_each = (c.each).once_each;
@@ -132,5 +132,5 @@ module _ {S : Type 0} (m : IndexMap Spot (Marked Known) S) (ps : List Spot) (ks 
   pub entries_few : length (points_in m) ≤ 2 ^ 16
   entries_few =
       let few = few_spots ps ks c.few in
-      let le = length-le_from_is_member spot_equiv (points_in m) ps (IsDistinct-from_apart spot_eq (points_in m) apart_spots) (λ q h. among q (Contains-from_any spot_tells q (points_in m) h)) in
+      let le = length-le_from_is_member spot_equiv (points_in m) ps (IsDistinct-from_apart spot_eq (points_in m) apart_spots) (λ q h. among q (Contains-from_any equal_spots_are_same q (points_in m) h)) in
       omega (arith, le, few.0)

@@ -7,7 +7,7 @@ use Rattle.value_domain.specs.Limits.{Limits}
 use Rattle.depth_cert.specs.declared.keys.Key.{Key}
 use Rattle.cfg_recover.specs.Entries.{start_key, start_state}
 use Rattle.cfg_recover.specs.Duties.{Duty, jump, enter, resume, leave}
-use Rattle.cfg_recover.specs.Assignments.{Place, point, exit, Assignment, same_place, frame_of_place, asked_by_duty, HasDuty, Joins, Derived, begins, joins, Closed, first_place, AllFaultless, EntersInAssignment}
+use Rattle.cfg_recover.specs.Assignments.{Place, point, exit, Assignment, is_same_place, frame_of_place, asked_by_duty, HasDuty, Joins, Derived, begins, joins, Closed, first_place, AllFaultless, EntersInAssignment}
 use Rattle.depth_cert.specs.Known.{Known, state, leaving}
 use Rattle.cfg_recover.specs.CertRefusals.{MeetsNeeds, Reaches, here, by_entry}
 use Rattle.depth_maker.specs.WellFormedAssignments.{AllWellFormed}
@@ -54,12 +54,12 @@ module _ (b : Limits) (image : ImageData) (plan : PlanData) where
     -- each frame of a derived assignment is entered from the start in the closed one
     pub derived_reached : (a : Assignment) → Derived b image plan a → (y : Place) (v : Known) → a y ≡ Some v → Reaches b image plan c (frame_of_place y) (start_key image plan)
     derived_reached _ (begins a is) y v at =
-        elim (from_if (same_place y (first_place image plan)) (state (start_state plan)) None (a y) v (is y) at) [
+        elim (from_if (is_same_place y (first_place image plan)) (state (start_state plan)) None (a y) v (is y) at) [
           | inl h ↦ subst (λ (z : Place). Reaches b image plan c (frame_of_place z) (start_key image plan)) (sym (place_tells y (first_place image plan) h.0)) here
           | inr h ↦ (let q : None ≡ Some v = h.1 in cc)
         ]
     derived_reached _ (joins a after z d j) y v at =
-        elim (from_if (same_place y z) j.known (a y) (after y) v (j.is y) at) [
+        elim (from_if (is_same_place y z) j.known (a y) (after y) v (j.is y) at) [
           | inl h ↦ subst (λ (x : Place). Reaches b image plan c (frame_of_place x) (start_key image plan)) (sym (place_tells y z h.0)) (joined_reached a after z d j (derived_reached a d))
           | inr h ↦ derived_reached a d y v h.1
         ]

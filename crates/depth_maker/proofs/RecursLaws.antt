@@ -11,17 +11,17 @@ use Rattle.value_domain.specs.Limits.{Limits}
 use Rattle.depth_cert.specs.declared.keys.Key.{Key}
 use Rattle.depth_cert.specs.Keys.{IsKey, number_of_key}
 use Rattle.depth_cert.proofs.KeyLaws.{one_number}
-use Rattle.cfg_recover.specs.Duties.{duties_of, entered_in}
+use Rattle.cfg_recover.specs.Duties.{duties_of, entered_keys}
 use Rattle.cfg_recover.specs.Entries.{start_key}
 use Rattle.cfg_recover.specs.Assignments.{Place, point, Assignment, Closed, EntersInAssignment}
 use Rattle.depth_cert.specs.Known.{state}
 use Rattle.cfg_recover.specs.CertRefusals.{Reaches, here, by_entry, Recurs, refused_point_number}
 use Rattle.cfg_recover.proofs.CodeLaws.{IsCode-one}
 use Rattle.cfg_recover.proofs.Members.{contains_map}
-use Rattle.depth_maker.specs.AssignmentCounts.{AreCounted}
+use Rattle.depth_maker.specs.AssignmentCounts.{ListsPointsAndFrames}
 use Rattle.frame_places.specs.Numbers.{frame_number_in}
 use Rattle.frame_places.specs.NodeGraph as graph
-use Rattle.frame_places.specs.NodeGraph.{edge_to, AreEdges, LeadsAlongEdges, along, IsRecurring, AreReaching, AreEdgesBetween, IsNodeMarked}
+use Rattle.frame_places.specs.NodeGraph.{edge_to, AreEdges, LeadsAlongEdges, along, IsRecursiveNode, AreReachingMarks, AreEdgesBetween, IsNodeMarked}
 use Rattle.depth_maker.specs.Rows.{IsRowAt, AreRows}
 use Rattle.frame_places.specs.declared.needs.reach.FrameEdge.{FrameEdge}
 use Rattle.frame_places.specs.declared.needs.row.NeedRow.{NeedRow}
@@ -38,7 +38,7 @@ point_below n m p q small lt = omega arith
 pub point_at : (n p q : ℕ) → p ≤ q → n * 2 ^ 32 + p ≤ n * 2 ^ 32 + q
 point_at n p q le = omega arith
 
-module _ (b : Limits) (image : ImageData) (plan : PlanData) (a : Assignment) (closed : Closed b image plan a) (ps : List Place) (ks : List Key) (counted : AreCounted a ps ks) where
+module _ (b : Limits) (image : ImageData) (plan : PlanData) (a : Assignment) (closed : Closed b image plan a) (ps : List Place) (ks : List Key) (counted : ListsPointsAndFrames a ps ks) where
   any : Key
   any = start_key image plan
 
@@ -51,12 +51,12 @@ module _ (b : Limits) (image : ImageData) (plan : PlanData) (a : Assignment) (cl
       let first = subst (λ (z : State). Contains (duties_of b image plan k p z (e.has).shape (e.has).size) (e.has).owed) same (e.has).listed in
       let listed = subst (λ (z : Shape). Contains (duties_of b image plan k p u z (r.found).size) (e.has).owed) one.0 (subst (λ (z : ℕ). Contains (duties_of b image plan k p u (e.has).shape z) (e.has).owed) one.1 first) in
       let there = owed_entered (duties_of b image plan k p u (r.found).shape (r.found).size) (e.has).owed t e.entered listed (e.has).is in
-      subst (λ (z : List ℕ). Contains z (frame_number_in ks t)) (sym r.into) (contains_map (frame_number_in ks) (entered_in (duties_of b image plan k p u (r.found).shape (r.found).size)) t there)
+      subst (λ (z : List ℕ). Contains z (frame_number_in ks t)) (sym r.into) (contains_map (frame_number_in ks) (entered_keys (duties_of b image plan k p u (r.found).shape (r.found).size)) t there)
 
   pub row_entered : (k : Key) (p : ℕ) (u : State) (row : NeedRow) → a (point k p) ≡ Some (state u) → IsRowAt b image plan ks k p u row → (j : ℕ) → Contains row.into.items j
       → (t : Key) × EntersInAssignment b image plan a k p u t × (frame_number_in ks t ≡ j)
   row_entered k p u row at r j c =
-      let x = contained_map (frame_number_in ks) (entered_in (duties_of b image plan k p u (r.found).shape (r.found).size)) j (subst (λ (l : List ℕ). Contains l j) r.into c) in
+      let x = contained_map (frame_number_in ks) (entered_keys (duties_of b image plan k p u (r.found).shape (r.found).size)) j (subst (λ (l : List ℕ). Contains l j) r.into c) in
       (x.0, enters_of b image plan a closed ps ks counted k p u r.found x.0 at r.stands x.1, x.2)
 
   -- known frames have different numbers
@@ -102,10 +102,10 @@ module _ (b : Limits) (image : ImageData) (plan : PlanData) (a : Assignment) (cl
         by_entry k x.1 x.2 x.3 (subst (λ (z : Key). EntersInAssignment b image plan a z x.1 x.2 x.3) own x.4) (leads_reaches i t l j x.3 hj (entered x.0 x.1 x.2 x.3 x.4) ej x.6)
 
     -- ---- recursive points and recursive nodes
-    pub recurs_ring : (k : Key) (p : ℕ) → Recurs b image plan a k p → IsRecurring edges (frame_number_in ks k)
+    pub recurs_ring : (k : Key) (p : ℕ) → Recurs b image plan a k p → IsRecursiveNode edges (frame_number_in ks k)
     recurs_ring k p r = record { next = frame_number_in ks r.into; enters = entry_edge k p r.before r.into r.enters; back = reaches_leads k r.into r.back }
 
-    pub ring_recurs : (k : Key) → Contains ks k → IsRecurring edges (frame_number_in ks k) → (p : ℕ) × Recurs b image plan a k p
+    pub ring_recurs : (k : Key) → Contains ks k → IsRecursiveNode edges (frame_number_in ks k) → (p : ℕ) × Recurs b image plan a k p
     ring_recurs k hk r =
         let x = edge_entry (frame_number_in ks k) r.next r.enters in
         let own : x.0 ≡ k = one_frame x.0 k (owner x.0 x.1 x.2 x.3 x.4) hk x.5 in (
@@ -118,7 +118,7 @@ module _ (b : Limits) (image : ImageData) (plan : PlanData) (a : Assignment) (cl
           },
         )
 
-    module _ (k : Key) (hk : Contains ks k) (nodes : ℕ) (marks : List Bool) (reaching : AreReaching edges nodes (frame_number_in ks k) marks) where
+    module _ (k : Key) (hk : Contains ks k) (nodes : ℕ) (marks : List Bool) (reaching : AreReachingMarks edges nodes (frame_number_in ks k) marks) where
       pub marked_recurs : (p : ℕ) (s : State) (t : Key) → EntersInAssignment b image plan a k p s t → IsNodeMarked marks (frame_number_in ks t) → Recurs b image plan a k p
       marked_recurs p s t e m = record {
         before = s;

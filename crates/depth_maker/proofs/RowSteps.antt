@@ -19,9 +19,9 @@ use Rattle.value_domain.specs.declared.states.State.{State}
 use Rattle.depth_cert.specs.declared.keys.Key.{Key}
 use Rattle.cfg_recover.specs.Assignments.{point, exit}
 use Rattle.depth_cert.specs.WellFormed.{IsWellFormedKnown}
-use Rattle.depth_maker.specs.Rows.{IsRowAt, AddsPointRow, RowFramesKnownBy, HaveRows, IsDraft, IsKnownRowPoint, IsPlainRow, IsPointRow, IsRowSource, RowsOn}
-use Rattle.depth_maker.specs.TableInvariant.{IsDone}
-use Rattle.depth_maker.specs.TableView.{seen}
+use Rattle.depth_maker.specs.Rows.{IsRowAt, AddsPointRow, AreRowFramesAmong, OutlinesHaveRows, HasFirstRows, IsKnownRowPoint, IsPlainRow, IsPointRow, IsRowSource, RowsOn}
+use Rattle.depth_maker.specs.TableInvariant.{IsLeastClosedTable}
+use Rattle.depth_maker.specs.TableView.{view_of_table}
 use Rattle.frame_places.specs.Spots.{spot_eq}
 use Rattle.depth_maker.specs.SpotsAsPlaces.{place_of_spot}
 use Rattle.depth_maker.proofs.Lawful.{lawful}
@@ -41,35 +41,35 @@ use Rattle.depth_maker.specs.declared.rows.Source.{Source}
 use Rattle.depth_maker.specs.declared.table.Table as made
 
 -- what is known in a table without work is at the limits, and at a point it is a state
-pub done_well_formed : (g : Ground) (t : made.Table) → IsDone g t → (q : Spot) (v : Known) → value_for t.places q ≡ Some v → IsWellFormedKnown g.bounds.now v
-unfolding seen
-done_well_formed g t done (Point k p) v at = derived_well_formed _ _ _ (lawful _ _ _ g.sound) (seen t).cells done.derived (point k p) v at
-done_well_formed g t done (Exit k) v at = derived_well_formed _ _ _ (lawful _ _ _ g.sound) (seen t).cells done.derived (exit k) v at
+pub done_well_formed : (g : Ground) (t : made.Table) → IsLeastClosedTable g t → (q : Spot) (v : Known) → value_for t.places q ≡ Some v → IsWellFormedKnown g.bounds.now v
+unfolding view_of_table
+done_well_formed g t done (Point k p) v at = derived_well_formed _ _ _ (lawful _ _ _ g.sound) (view_of_table t).cells done.derived (point k p) v at
+done_well_formed g t done (Exit k) v at = derived_well_formed _ _ _ (lawful _ _ _ g.sound) (view_of_table t).cells done.derived (exit k) v at
 
-pub done_state : (g : Ground) (t : made.Table) → IsDone g t → (k : Key) (p : ℕ) (w : Known) → value_for t.places (Point k p) ≡ Some w → (u : State) × (w ≡ state u)
-unfolding seen
-done_state g t done k p w at = of_kind w (derived_kinds _ _ _ (seen t).cells done.derived (point k p) w at) where
+pub done_state : (g : Ground) (t : made.Table) → IsLeastClosedTable g t → (k : Key) (p : ℕ) (w : Known) → value_for t.places (Point k p) ≡ Some w → (u : State) × (w ≡ state u)
+unfolding view_of_table
+done_state g t done k p w at = of_kind w (derived_kinds _ _ _ (view_of_table t).cells done.derived (point k p) w at) where
   of_kind : (v : Known) → IsOfKind (point k p) v → (u : State) × (v ≡ state u)
   of_kind (state s) h = (s, refl)
   of_kind (leaving x) h = absurd h
 
 -- a state that was read is the known one
-pub read_there : (g : Ground) (t : made.Table) → IsDone g t → (k : Key) (p : ℕ) (w : Known) (u : State) → value_for t.places (Point k p) ≡ Some w → IsKnownState w u → value_for t.places (Point k p) ≡ Some (state u)
+pub read_there : (g : Ground) (t : made.Table) → IsLeastClosedTable g t → (k : Key) (p : ℕ) (w : Known) (u : State) → value_for t.places (Point k p) ≡ Some w → IsKnownState w u → value_for t.places (Point k p) ≡ Some (state u)
 read_there g t done k p w u at is =
     let e = done_state g t done k p w at in
     let same : u ≡ e.0 = subst (λ (v : Known). IsKnownState v u) e.1 is in
     at ∙ ap (λ (v : Known). Some v) (e.1 ∙ ap state (sym same))
 
 -- the frames of a point, and those that it enters, are known
-pub all_known : (v : Visit) (t : made.Table) → IsDone v.ground.now t → (seen t).cells (point v.key v.addr) ≡ Some (state v.state.now) → RowFramesKnownBy v t.frames.items
-unfolding seen
+pub all_known : (v : Visit) (t : made.Table) → IsLeastClosedTable v.ground.now t → (view_of_table t).cells (point v.key v.addr) ≡ Some (state v.state.now) → AreRowFramesAmong v t.frames.items
+unfolding view_of_table
 all_known v t done at =
     let c = (done.counted).each in
     record {
-      own = known_frame _ _ _ (seen t).cells done.closed (map place_of_spot t.points.items) t.frames.items c (point v.key v.addr) (state v.state.now) at;
+      own = known_frame _ _ _ (view_of_table t).cells done.closed (map place_of_spot t.points.items) t.frames.items c (point v.key v.addr) (state v.state.now) at;
       entered = λ found stands k i.
-          entered_frame _ _ _ (seen t).cells done.closed (map place_of_spot t.points.items) t.frames.items c v.key v.addr v.state.now k
-          (enters_of _ _ _ (seen t).cells done.closed (map place_of_spot t.points.items) t.frames.items c v.key v.addr v.state.now found k at stands i);
+          entered_frame _ _ _ (view_of_table t).cells done.closed (map place_of_spot t.points.items) t.frames.items c v.key v.addr v.state.now k
+          (enters_of _ _ _ (view_of_table t).cells done.closed (map place_of_spot t.points.items) t.frames.items c v.key v.addr v.state.now found k at stands i);
     }
 
 -- ---- one point
@@ -78,7 +78,7 @@ pub known_there : (s : Source) (at : KnownPoint) → IsKnownRowPoint s at → va
 known_there s at is = ap (option_map (λ (m : Marked Known). m.value)) is.known
 
 -- equal places have the same state, so a row of one is a row of the other
-pub row_of_state : (s : Source) (row : NeedRow) (k : Key) (p : ℕ) (w : State) → IsPointRow s k p row → (seen s.table.now).cells (point k p) ≡ Some (state w)
+pub row_of_state : (s : Source) (row : NeedRow) (k : Key) (p : ℕ) (w : State) → IsPointRow s k p row → (view_of_table s.table.now).cells (point k p) ≡ Some (state w)
     → IsRowAt (s.ground.now).bounds.now (s.ground.now).image.now (s.ground.now).plan.now (s.table.now).frames.items k p w row
 row_of_state s row k p w r there =
     let same : r.0 ≡ w = one_state r.0 w (let f : Some (state r.0) ≡ Some (state w) = sym r.1 ∙ there in cc) in
@@ -95,19 +95,19 @@ index_there {X} m i q v at = slice_get-map (λ (e : Spot × X). e.0) m.entries i
 -- the number of a frame that was looked up
 pub number_there : (s : Source) → IsRowSource s → (k : Key) (p : ℕ) (m : Marked Known) (n : ℕ) → get spot_eq (s.table.now).places (Point k p) ≡ Some m
     → ((frames : List Key) → AreFrameNumbers s.numbers.now frames frames → Contains frames k → n ≡ frame_number_in frames k) → n ≡ frame_number_in (s.table.now).frames.items k
-unfolding seen
+unfolding view_of_table
 number_there s source k p m n at is =
     let done = source.done in
     let t = s.table.now in
     is t.frames.items source.numbers
-    (known_frame _ _ _ (seen t).cells done.closed (map place_of_spot t.points.items) t.frames.items (done.counted).each (point k p) m.value (ap (option_map (λ (m : Marked Known). m.value)) at))
+    (known_frame _ _ _ (view_of_table t).cells done.closed (map place_of_spot t.points.items) t.frames.items (done.counted).each (point k p) m.value (ap (option_map (λ (m : Marked Known). m.value)) at))
 
 no_outline : (n i : ℕ) (o : Outline) → slice_get (replicate n None) i ≡ Some (Some o) → ⊥
 no_outline zero i o e = let f : None ≡ Some (Some o) = e in cc
 no_outline (suc n) zero o e = let f : Some None ≡ Some (Some o) = e in cc
 no_outline (suc n) (suc i) o e = no_outline n i o e
 
-pub draft_none : (s : Source) (d : RowsDraft) (n : ℕ) → d.rows.items ≡ [] → d.outlines.items ≡ replicate n None → IsDraft s 0 d
+pub draft_none : (s : Source) (d : RowsDraft) (n : ℕ) → d.rows.items ≡ [] → d.outlines.items ≡ replicate n None → HasFirstRows s 0 d
 draft_none s d n empty none = record {
   sound = λ row c. absurd (let n = ap (λ (l : List NeedRow). length l) empty in omega (arith, c.1, n));
   complete = λ k p c. absurd (omega (arith, c.1));
@@ -115,9 +115,9 @@ draft_none s d n empty none = record {
 }
 
 -- one more entry
-pub draft_step : (s : Source) (i : ℕ) (q : Spot) (old new : RowsDraft) → slice_get (keys (s.table.now).places) i ≡ Some q → IsDraft s i old → ((row : NeedRow) → Contains old.rows.items row → Contains new.rows.items row)
+pub draft_step : (s : Source) (i : ℕ) (q : Spot) (old new : RowsDraft) → slice_get (keys (s.table.now).places) i ≡ Some q → HasFirstRows s i old → ((row : NeedRow) → Contains old.rows.items row → Contains new.rows.items row)
     → ((row : NeedRow) → Contains new.rows.items row → Contains old.rows.items row ⊎ ((k : Key) × (p : ℕ) × IsPointRow s k p row))
-    → ((k : Key) (p : ℕ) → q ≡ Point k p → (row : NeedRow) × Contains new.rows.items row × IsPointRow s k p row) → HaveRows s new.rows.items new.outlines.items → IsDraft s (i + 1) new
+    → ((k : Key) (p : ℕ) → q ≡ Point k p → (row : NeedRow) × Contains new.rows.items row × IsPointRow s k p row) → OutlinesHaveRows s new.rows.items new.outlines.items → HasFirstRows s (i + 1) new
 draft_step s i q old new there so keeps only here outlines = record {
   sound = λ row c. elim (only row c) [ inl before ↦ so.sound row before | inr now ↦ now ];
   complete = λ k p c.
@@ -131,16 +131,16 @@ draft_step s i q old new there so keeps only here outlines = record {
 }
 
 -- for an exit, or a point with an equal row, nothing is added
-pub draft_same : (s : Source) (i : ℕ) (q : Spot) (old new : RowsDraft) → slice_get (keys (s.table.now).places) i ≡ Some q → IsDraft s i old → new.rows ≡ old.rows → new.outlines ≡ old.outlines
-    → ((k : Key) (p : ℕ) → q ≡ Point k p → (row : NeedRow) × Contains old.rows.items row × IsPointRow s k p row) → IsDraft s (i + 1) new
+pub draft_same : (s : Source) (i : ℕ) (q : Spot) (old new : RowsDraft) → slice_get (keys (s.table.now).places) i ≡ Some q → HasFirstRows s i old → new.rows ≡ old.rows → new.outlines ≡ old.outlines
+    → ((k : Key) (p : ℕ) → q ≡ Point k p → (row : NeedRow) × Contains old.rows.items row × IsPointRow s k p row) → HasFirstRows s (i + 1) new
 draft_same s i q old new there so rows outlines here =
     draft_step s i q old new there so (λ row c. subst (λ (v : Vec NeedRow Global). Contains v.items row) (sym rows) c) (λ row c. inl (subst (λ (v : Vec NeedRow Global). Contains v.items row) rows c))
     (λ k p e. let r = here k p e in (r.0, subst (λ (v : Vec NeedRow Global). Contains v.items r.0) (sym rows) r.1, r.2))
-    (subst (λ (v : Vec (Option Outline) Global). HaveRows s new.rows.items v.items) (sym outlines) (subst (λ (v : Vec NeedRow Global). HaveRows s v.items old.outlines.items) (sym rows) so.outlines))
+    (subst (λ (v : Vec (Option Outline) Global). OutlinesHaveRows s new.rows.items v.items) (sym outlines) (subst (λ (v : Vec NeedRow Global). OutlinesHaveRows s v.items old.outlines.items) (sym rows) so.outlines))
 
 -- the row of a point is added
-pub draft_more : (s : Source) (i : ℕ) (q : Spot) (old mid new : RowsDraft) (at : KnownPoint) → slice_get (keys (s.table.now).places) i ≡ Some q → IsDraft s i old → mid.rows ≡ old.rows → mid.outlines ≡ old.outlines
-    → q ≡ Point at.key at.addr → AddsPointRow s mid new at → IsDraft s (i + 1) new
+pub draft_more : (s : Source) (i : ℕ) (q : Spot) (old mid new : RowsDraft) (at : KnownPoint) → slice_get (keys (s.table.now).places) i ≡ Some q → HasFirstRows s i old → mid.rows ≡ old.rows → mid.outlines ≡ old.outlines
+    → q ≡ Point at.key at.addr → AddsPointRow s mid new at → HasFirstRows s (i + 1) new
 draft_more s i q old mid new at there so rows outlines is add =
     let row = add.0 in
     let r = add.1 in
@@ -151,14 +151,14 @@ draft_more s i q old mid new at there so rows outlines is add =
       | inr e ↦ inr (at.key, at.addr, subst (IsPointRow s at.key at.addr) e r)
     ])
     (λ k p e. (row, subst (λ (l : List NeedRow). Contains l row) (sym more) (Contains-push old.rows.items row), row_moves s row at.key k at.addr p (sym is ∙ e) r))
-    ((add.2).outlines (subst (λ (v : Vec (Option Outline) Global). HaveRows s mid.rows.items v.items) (sym outlines) (subst (λ (v : Vec NeedRow Global). HaveRows s v.items old.outlines.items) (sym rows) so.outlines)))
+    ((add.2).outlines (subst (λ (v : Vec (Option Outline) Global). OutlinesHaveRows s mid.rows.items v.items) (sym outlines) (subst (λ (v : Vec NeedRow Global). OutlinesHaveRows s v.items old.outlines.items) (sym rows) so.outlines)))
 
 -- the outlines keep their rows
-pub have_rows_still : (s : Source) (rows : List NeedRow) (row : NeedRow) (outlines : List (Option Outline)) → HaveRows s rows outlines → HaveRows s (rows ++ row ∷ []) outlines
+pub have_rows_still : (s : Source) (rows : List NeedRow) (row : NeedRow) (outlines : List (Option Outline)) → OutlinesHaveRows s rows outlines → OutlinesHaveRows s (rows ++ row ∷ []) outlines
 have_rows_still s rows row outlines so node o e = let r = so node o e in (r.0, Contains-append_left rows (row ∷ []) r.0 r.1, r.2)
 
 -- the outline of a new row
-pub have_rows_more : (s : Source) (rows : List NeedRow) (row : NeedRow) (outlines : List (Option Outline)) (node : ℕ) (o : Outline) → IsPlainRow s node o row → node < length outlines → HaveRows s rows outlines → HaveRows s (rows ++ row ∷ []) (set outlines node (Some o))
+pub have_rows_more : (s : Source) (rows : List NeedRow) (row : NeedRow) (outlines : List (Option Outline)) (node : ℕ) (o : Outline) → IsPlainRow s node o row → node < length outlines → OutlinesHaveRows s rows outlines → OutlinesHaveRows s (rows ++ row ∷ []) (set outlines node (Some o))
 have_rows_more s rows row outlines node o plain lt so i x e =
     elim (cases_eq i node) [
       | inl same ↦
@@ -174,8 +174,8 @@ have_rows_more s rows row outlines node o plain lt so i x e =
     ]
 
 -- all points have rows
-pub rows_done : (s : Source) (d : RowsDraft) (i : ℕ) → length (keys (s.table.now).places) ≤ i → IsDraft s i d → RowsOn s.ground.now s.table.now d.rows.items
-unfolding seen
+pub rows_done : (s : Source) (d : RowsDraft) (i : ℕ) → length (keys (s.table.now).places) ≤ i → HasFirstRows s i d → RowsOn s.ground.now s.table.now d.rows.items
+unfolding view_of_table
 rows_done s d i le so = record {
   sound = λ row c. let r = so.sound row c in (r.0, r.1, (r.2).0, (r.2).1, (r.2).2);
   complete = λ k p u at.

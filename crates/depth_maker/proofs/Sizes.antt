@@ -13,8 +13,8 @@ use Rattle.depth_cert.specs.declared.points.Point.{Point}
 use Rattle.depth_cert.specs.Nodes.{NodeData, count_points}
 use Rattle.depth_cert.specs.Certs.{CertData, IsCert}
 use Rattle.cfg_recover.specs.RulesHoldOrFail.{limits_in, Accepts}
-use Rattle.depth_cert.specs.Keys.{same_key}
-use Rattle.cfg_recover.specs.Assignments.{Place, point, exit, same_place, known_in}
+use Rattle.depth_cert.specs.Keys.{is_same_key}
+use Rattle.cfg_recover.specs.Assignments.{Place, point, exit, is_same_place, known_in}
 use Rattle.depth_cert.specs.Known.{Known}
 use Rattle.cfg_recover.specs.CertRefusals.{HasManyNodes, HasManyPoints, IsPastCertLimits}
 use Rattle.cfg_recover.proofs.Members.{contains_map, contains_flat}
@@ -96,7 +96,7 @@ module _ (cert : CertData) (is_cert : IsCert cert) where
 
   few_nodes : HasManyNodes (known_in cert) → ⊥
   few_nodes h =
-      let le = no_more same_key key_tells key_same h.keys (map (λ (n : NodeData). n.key) cert.nodes) h.distinct
+      let le = no_more is_same_key key_tells key_same h.keys (map (λ (n : NodeData). n.key) cert.nodes) h.distinct
       (λ k c.
       let s = h.stand k c in
       elim s.2 [
@@ -107,7 +107,7 @@ module _ (cert : CertData) (is_cert : IsCert cert) where
 
   few_points : HasManyPoints (known_in cert) → ⊥
   few_points h =
-      let le = no_more same_place place_tells place_same h.places (places_of cert.nodes) h.distinct
+      let le = no_more is_same_place place_tells place_same h.places (places_of cert.nodes) h.distinct
       (λ y c.
       let s = h.stand y c in
       subst (Contains (places_of cert.nodes)) (sym (s.1).2) (node_of_point (s.1).0 (s.1).1 (subst (λ (y : Place). IsSome (known_in cert y)) (s.1).2 s.0)).1) in

@@ -7,13 +7,13 @@ use Rattle.elf_image.specs.Images.{ImageData}
 use Rattle.tcd_plan.specs.PlanData.{PlanData}
 use Rattle.tc_isa.specs.declared.shapes.Shape.{Shape}
 use Rattle.value_domain.specs.declared.states.State.{State}
-use Rattle.value_domain.specs.Sets.{Among, Rising}
+use Rattle.value_domain.specs.Sets.{Among, IsAscending}
 use Rattle.value_domain.specs.State.{Covers, AreValues}
 use Rattle.value_domain.proofs.WordLaws.{rising_from}
 use Rattle.depth_cert.specs.declared.keys.Key.{Key}
 use Rattle.depth_cert.specs.declared.points.Exit.{Exit}
 use Rattle.depth_cert.specs.declared.points.Point.{Point}
-use Rattle.depth_cert.specs.Keys.{number_of_key, IsKey, same_key}
+use Rattle.depth_cert.specs.Keys.{number_of_key, IsKey, is_same_key}
 use Rattle.depth_cert.specs.Points.{find_point}
 use Rattle.depth_cert.specs.Nodes.{NodeData, IsNode, need_of, find_node}
 use Rattle.depth_cert.specs.Certs.{CertData, IsCert}
@@ -22,7 +22,7 @@ use Rattle.cfg_recover.specs.Entries.{start_key, start_state}
 use Rattle.depth_cert.specs.Exits.{state_after_exit, ExitCovers}
 use Rattle.cfg_recover.specs.LocalFaults.{IsFaultless}
 use Rattle.cfg_recover.specs.Duties.{Duty, jump, enter, resume, leave, Owed, duties_of}
-use Rattle.cfg_recover.specs.RulesHoldOrFail.{limits_in, HasCoveringPoint, IsMet, EntryNeedRuleHolds, NeedRuleHolds, RuleHolds, HoldsAtNode, Accepts}
+use Rattle.cfg_recover.specs.RulesHoldOrFail.{limits_in, HasCoveringPoint, IsDutyMet, EntryNeedRuleHolds, NeedRuleHolds, RuleHolds, HoldsAtNode, Accepts}
 use Rattle.cfg_recover.specs.Assignments.{Place, point, exit, known_at, known_in, CoversAt, asked_by_duty, asked_by_resume, HasDuty}
 use Rattle.depth_cert.specs.Known.{Known, state, leaving, CoversKnown}
 use Rattle.depth_cert.specs.WellFormed.{IsWellFormedState}
@@ -38,7 +38,7 @@ among_place f x [] k lt e = absurd (omega arith)
 among_place f x (y ∷ ys) zero lt e = inl (ap f (sym e))
 among_place f x (y ∷ ys) (suc k) lt e = inr (among_place f x ys k (omega arith) e)
 
-find_place : {A : Type 0} (f : A → ℕ) (x : A) (xs : List A) (k : ℕ) → Rising (map f xs) → k < length xs → get_or xs k x ≡ x → find (λ y. eqb (f y) (f x)) xs ≡ Some x
+find_place : {A : Type 0} (f : A → ℕ) (x : A) (xs : List A) (k : ℕ) → IsAscending (map f xs) → k < length xs → get_or xs k x ≡ x → find (λ y. eqb (f y) (f x)) xs ≡ Some x
 find_place f x [] k rising lt e = absurd (omega arith)
 find_place f x (y ∷ ys) zero rising lt e = ap (λ t. cond t (Some y) (find (λ y. eqb (f y) (f x)) ys)) (eq-eqb (f y) (f x) (ap f e)) ∙ ap (λ u. Some u) e
 find_place f x (y ∷ ys) (suc k) rising lt e =
@@ -46,7 +46,7 @@ find_place f x (y ∷ ys) (suc k) rising lt e =
     ap (λ t. cond t (Some y) (find (λ y. eqb (f y) (f x)) ys)) (ne_eqb (f y) (f x) (λ same. let s : f y ≡ f x = same in omega arith)) ∙ find_place f x ys k rising.1 (omega arith) e
 
 -- an element of a list that rises by a number is found by its number
-pub find_member : {A : Type 0} (f : A → ℕ) (xs : List A) (x : A) → Rising (map f xs) → Contains xs x → find (λ y. eqb (f y) (f x)) xs ≡ Some x
+pub find_member : {A : Type 0} (f : A → ℕ) (xs : List A) (x : A) → IsAscending (map f xs) → Contains xs x → find (λ y. eqb (f y) (f x)) xs ≡ Some x
 find_member f xs x rising c = find_place f x xs c.0 rising c.1 c.2
 
 one_of : {A : Type 0} (o : Option A) (x y : A) → o ≡ Some x → o ≡ Some y → x ≡ y
@@ -61,7 +61,7 @@ module _ (image : ImageData) (plan : PlanData) (cert : CertData) (ground : IsGro
   node_found : (n : NodeData) → Contains cert.nodes n → find_node n.key cert.nodes ≡ Some n
   node_found n c = find_member (λ (m : NodeData). number_of_key m.key) cert.nodes n (rising_from _ is_cert.rising) c
 
-  agrees : (k : Key) → IsKey k → find (λ n. same_key n.key k) cert.nodes ≡ find_node k cert.nodes
+  agrees : (k : Key) → IsKey k → find (λ n. is_same_key n.key k) cert.nodes ≡ find_node k cert.nodes
   agrees k key = find_agrees cert.version k cert.nodes key is_cert.nodes
 
   -- a node and a point of a known state
@@ -78,7 +78,7 @@ module _ (image : ImageData) (plan : PlanData) (cert : CertData) (ground : IsGro
     key : IsKey n.key
     key = (node_is n member).key
 
-    found : find (λ m. same_key m.key n.key) cert.nodes ≡ Some n
+    found : find (λ m. is_same_key m.key n.key) cert.nodes ≡ Some n
     found = agrees n.key key ∙ node_found n member
 
     known : known_in cert (point n.key q.addr) ≡ Some (state q.state)
@@ -120,7 +120,7 @@ module _ (image : ImageData) (plan : PlanData) (cert : CertData) (ground : IsGro
             let c = covered (resume j p) h (point n.key p) (state (state_after_exit q.state x j.kind)) (ap (asked_by_resume n.key q.state j p) there) in
             here p c.known (state_after_exit q.state x j.kind) c.at c.covers
 
-      met : (d : Duty) → HasKey d → HasDuty (limits_in plan cert) image plan (known_in cert) n.key q.addr q.state d → IsMet cert n q.state d
+      met : (d : Duty) → HasKey d → HasDuty (limits_in plan cert) image plan (known_in cert) n.key q.addr q.state d → IsDutyMet cert n q.state d
       met (jump p t) is h = let c = covered (jump p t) h (point n.key p) (state t) refl in here p c.known t c.at c.covers
       met (enter j t) is h = let c = covered (enter j t) h (point j j.entry) (state t) refl in stands j j.entry c.known t is c.at c.covers
       met (resume j p) is h = resumed_met j p is h (find_node j cert.nodes) refl

@@ -21,18 +21,18 @@ use Rattle.value_domain.specs.State.{AreValues}
 use Rattle.value_domain.proofs.RangeLaws.{span_count, set_value}
 use Rattle.depth_cert.specs.declared.keys.Key.{Key}
 use Rattle.depth_cert.specs.declared.points.Point as located
-use Rattle.depth_cert.specs.Keys.{IsKey, number_of_key, same_key}
-use Rattle.depth_cert.specs.Points.{IsWellCertValue, IsState, IsPoint, find_point}
+use Rattle.depth_cert.specs.Keys.{IsKey, number_of_key, is_same_key}
+use Rattle.depth_cert.specs.Points.{IsWellFormedCertValue, IsState, IsPoint, find_point}
 use Rattle.depth_cert.specs.Exits.{IsExit}
 use Rattle.depth_cert.specs.Nodes.{NodeData, IsNode, need_of, count_points}
 use Rattle.depth_cert.specs.Certs.{CertData, IsCert}
 use Rattle.cfg_recover.specs.Entries.{start_key}
-use Rattle.cfg_recover.specs.Assignments.{Place, point, exit, Assignment, same_place, frame_of_place, known_at, known_in, Closed, Derived, AllFaultless}
+use Rattle.cfg_recover.specs.Assignments.{Place, point, exit, Assignment, is_same_place, frame_of_place, known_at, known_in, Closed, Derived, AllFaultless}
 use Rattle.depth_cert.specs.Known.{Known, state, leaving, exit_if_known}
 use Rattle.depth_cert.specs.WellFormed.{IsWellFormedState, IsWellFormedExit, IsWellFormedKnown}
-use Rattle.depth_maker.specs.LeastCertMade.{AreLeastNeeds, IsWritten, needs_in}
+use Rattle.depth_maker.specs.LeastCertMade.{AreLeastNeeds, IsLeastClosedCert, needs_in}
 use Rattle.cfg_recover.proofs.Members.{contains_map}
-use Rattle.depth_maker.specs.AssignmentCounts.{AreCounted}
+use Rattle.depth_maker.specs.AssignmentCounts.{ListsPointsAndFrames}
 use Rattle.depth_maker.specs.DutiesMonotone.{IsGround}
 use Rattle.frame_places.specs.Spots.{AreRangedSpots, is_point_of, spot_address, spot_number}
 use Rattle.depth_maker.specs.SpelledCert.{HasSpelledCcpns, spelled_addresses_in, spelled_cert_with, spelled_node_at, spelled_point_at, spelled_state_at}
@@ -54,12 +54,12 @@ use Rattle.depth_cert.proofs.KeyLaws.{one_number}
 
 -- ---- values
 -- a value at the limits is one that certificates of the format may have
-pub well_of : (plan : PlanData) (version : ℕ) (v : Val) → IsValue (limits_for plan version) v → IsWellCertValue version v
+pub well_of : (plan : PlanData) (version : ℕ) (v : Val) → IsValue (limits_for plan version) v → IsWellFormedCertValue version v
 well_of plan version (Set ws) is = let well = is.well in (well, (set_value (limits_for plan version) ws well).1 is)
 well_of plan version (Span lo last step) is = let well = is.well in (well.0, span_count (limits_for plan version) lo last step is, well.2)
 
-values_well : (plan : PlanData) (version : ℕ) (vs : List Val) → AreValues (limits_for plan version) vs → All (IsWellCertValue version) vs
-values_well plan version vs are k d lt = subst (IsWellCertValue version) (sym (get_or_default vs k d any_val lt)) (well_of plan version (get_or vs k any_val) (are k lt))
+values_well : (plan : PlanData) (version : ℕ) (vs : List Val) → AreValues (limits_for plan version) vs → All (IsWellFormedCertValue version) vs
+values_well plan version vs are k d lt = subst (IsWellFormedCertValue version) (sym (get_or_default vs k d any_val lt)) (well_of plan version (get_or vs k any_val) (are k lt))
 
 -- what is there
 pub value_in : (o : Option Known) → IsSome o → (v : Known) × (o ≡ Some v)
@@ -77,8 +77,8 @@ pub point_here : (k : Key) (q : Spot) → is_point_of k q ≡ true → q ≡ Poi
 point_here k (Point j p) e = ap (λ (z : Key). Point z p) (key_tells j k e)
 point_here k (Exit j) e = cc
 
-at_most_one : (ks : List Key) → IsDistinct same_key ks → (q : Spot) → sum_by (λ k. one_if (is_point_of k q)) ks ≤ 1
-at_most_one ks distinct (Point j p) = one_at_most same_key key_tells j ks distinct
+at_most_one : (ks : List Key) → IsDistinct is_same_key ks → (q : Spot) → sum_by (λ k. one_if (is_point_of k q)) ks ≤ 1
+at_most_one ks distinct (Point j p) = one_at_most is_same_key key_tells j ks distinct
 at_most_one ks distinct (Exit j) = none ks where
   none : (ks : List Key) → sum_by (λ k. one_if (is_point_of k (Exit j))) ks ≤ 1
   none ks = let z = zero_sum ks in omega (arith, z) where
@@ -88,7 +88,7 @@ at_most_one ks distinct (Exit j) = none ks where
 
 module _ (b : Limits) (image : ImageData) (plan : PlanData) (ground : IsGround b image plan) (a : Assignment)
     (derived : Derived b image plan a) (closed : Closed b image plan a) (faultless : AllFaultless b image plan a)
-    (fs : List Key) (qs : List Spot) (counted : AreCounted a (map place_of_spot qs) fs) (few_points : length qs ≤ 2 ^ 16) (few_frames : length fs ≤ 2048)
+    (fs : List Key) (qs : List Spot) (counted : ListsPointsAndFrames a (map place_of_spot qs) fs) (few_points : length qs ≤ 2 ^ 16) (few_frames : length fs ≤ 2048)
     (ks : List Key) (ps : List Spot) (frames : IsPermutation fs ks) (points : IsPermutation qs ps) (rising_points : IsNonDecreasingBy spot_number ps) where
   -- ---- frames and points
   kind : (y : Place) (v : Known) → a y ≡ Some v → IsOfKind y v
@@ -109,28 +109,28 @@ module _ (b : Limits) (image : ImageData) (plan : PlanData) (ground : IsGround b
   pub frame_key : (k : Key) → Contains ks k → IsKey k
   frame_key k c = let v = value_in (a (point k k.entry)) (entered k c) in (in_range (point k k.entry) v.0 v.1).0
 
-  distinct_frames : IsDistinct same_key ks
-  distinct_frames = IsDistinct-IsPermutation same_key ((decides same_key key_tells key_same).symm) fs ks frames counted.once_each
+  distinct_frames : IsDistinct is_same_key ks
+  distinct_frames = IsDistinct-IsPermutation is_same_key ((decides is_same_key key_tells key_same).symm) fs ks frames counted.once_each
 
-  distinct_points : IsDistinct same_place (map place_of_spot ps)
-  distinct_points = IsDistinct-IsPermutation same_place ((decides same_place place_tells place_same).symm) (map place_of_spot qs) (map place_of_spot ps) (IsPermutation-map place_of_spot qs ps points) counted.once
+  distinct_points : IsDistinct is_same_place (map place_of_spot ps)
+  distinct_points = IsDistinct-IsPermutation is_same_place ((decides is_same_place place_tells place_same).symm) (map place_of_spot qs) (map place_of_spot ps) (IsPermutation-map place_of_spot qs ps points) counted.once
 
   rising_keys : IsNonDecreasingBy (λ (k : Key). number_of_key k) ks → IsStrictlyIncreasing (map (λ (k : Key). number_of_key k) ks)
   rising_keys rising_frames = strict (λ (k : Key). number_of_key k) ks no_key rising_frames (λ i lt e.
       let one = frame_key (get_or ks i no_key) (Contains-get_or ks i no_key (omega (arith, lt))) in
       let two = frame_key (get_or ks (i + 1) no_key) (Contains-get_or ks (i + 1) no_key lt) in
       let same = one_number (get_or ks i no_key) (get_or ks (i + 1) no_key) one two e in
-      let apart = apart_from_distinct same_key ks i (i + 1) no_key distinct_frames (omega arith) lt in
-      let f : true ≡ false = sym (key_same (get_or ks i no_key)) ∙ ap (same_key (get_or ks i no_key)) same ∙ apart in
+      let apart = apart_from_distinct is_same_key ks i (i + 1) no_key distinct_frames (omega arith) lt in
+      let f : true ≡ false = sym (key_same (get_or ks i no_key)) ∙ ap (is_same_key (get_or ks i no_key)) same ∙ apart in
       cc)
 
   -- each point is there once
-  apart_points : AllPairs (λ x y. same_place (place_of_spot x) (place_of_spot y) ≡ false) ps
+  apart_points : AllPairs (λ x y. is_same_place (place_of_spot x) (place_of_spot y) ≡ false) ps
   apart_points i j d lt l =
-      let h = apart_from_distinct same_place (map place_of_spot ps) i j (place_of_spot d) distinct_points lt (omega (arith, l, length-map ps place_of_spot)) in
+      let h = apart_from_distinct is_same_place (map place_of_spot ps) i j (place_of_spot d) distinct_points lt (omega (arith, l, length-map ps place_of_spot)) in
       let one = get_or-map place_of_spot ps i d (place_of_spot d) (omega (arith, lt, l)) in
       let two = get_or-map place_of_spot ps j d (place_of_spot d) l in
-      sym (λ t. same_place (one t) (two t)) ∙ h
+      sym (λ t. is_same_place (one t) (two t)) ∙ h
 
   module _ (k : Key) where
     abbrev kept : List Spot
@@ -154,8 +154,8 @@ module _ (b : Limits) (image : ImageData) (plan : PlanData) (ground : IsGround b
         let x = get_or kept i (Exit no_key) in
         let y = get_or kept (i + 1) (Exit no_key) in
         let same : x ≡ y = of_frame i (Exit no_key) (omega (arith, lt)) ∙ ap (λ (n : ℕ). Point k n) e ∙ sym (of_frame (i + 1) (Exit no_key) lt) in
-        let apart = AllPairs-filter (λ x y. same_place (place_of_spot x) (place_of_spot y) ≡ false) (is_point_of k) ps apart_points i (i + 1) (Exit no_key) (omega arith) lt in
-        let f : true ≡ false = sym (place_same (place_of_spot x)) ∙ ap (λ (z : Spot). same_place (place_of_spot x) (place_of_spot z)) same ∙ apart in
+        let apart = AllPairs-filter (λ x y. is_same_place (place_of_spot x) (place_of_spot y) ≡ false) (is_point_of k) ps apart_points i (i + 1) (Exit no_key) (omega arith) lt in
+        let f : true ≡ false = sym (place_same (place_of_spot x)) ∙ ap (λ (z : Spot). is_same_place (place_of_spot x) (place_of_spot z)) same ∙ apart in
         cc)
 
     -- the addresses are those of the known points
@@ -193,13 +193,13 @@ module _ (b : Limits) (image : ImageData) (plan : PlanData) (ground : IsGround b
     abbrev cert : CertData
     cert = spelled_cert_with version a need (spelled_addresses_in ps) ks
 
-    found : (k : Key) → Contains ks k → find (λ n. same_key n.key k) cert.nodes ≡ Some (node k)
-    found k c = find_mapped (λ n. same_key n.key k) (spelled_node_at a need (spelled_addresses_in ps)) k (key_same k) (λ z e. ap (spelled_node_at a need (spelled_addresses_in ps)) (key_tells z k e)) ks c
+    found : (k : Key) → Contains ks k → find (λ n. is_same_key n.key k) cert.nodes ≡ Some (node k)
+    found k c = find_mapped (λ n. is_same_key n.key k) (spelled_node_at a need (spelled_addresses_in ps)) k (key_same k) (λ z e. ap (spelled_node_at a need (spelled_addresses_in ps)) (key_tells z k e)) ks c
 
-    not_found : (k : Key) → (Contains ks k → ⊥) → find (λ n. same_key n.key k) cert.nodes ≡ None
+    not_found : (k : Key) → (Contains ks k → ⊥) → find (λ n. is_same_key n.key k) cert.nodes ≡ None
     not_found k absent =
-        find_unmapped (λ n. same_key n.key k) (spelled_node_at a need (spelled_addresses_in ps)) ks
-        (λ z c. elim (cases_Bool (same_key z k)) [ inl e ↦ absurd (absent (subst (Contains ks) (key_tells z k e) c)) | inr e ↦ e ])
+        find_unmapped (λ n. is_same_key n.key k) (spelled_node_at a need (spelled_addresses_in ps)) ks
+        (λ z c. elim (cases_Bool (is_same_key z k)) [ inl e ↦ absurd (absent (subst (Contains ks) (key_tells z k e) c)) | inr e ↦ e ])
 
     point_found : (k : Key) (p : ℕ) → Contains (spelled_addresses_in ps k) p → find_point p (node k).points ≡ Some (spelled_point_at a k p)
     point_found k p c = find_mapped (λ (q : located.Point). eqb q.addr p) (spelled_point_at a k) p (eq-eqb p p refl) (λ z e. ap (spelled_point_at a k) (eqb-true z p e)) (spelled_addresses_in ps k) c
@@ -248,7 +248,7 @@ module _ (b : Limits) (image : ImageData) (plan : PlanData) (ground : IsGround b
 
     pub known_same : (y : Place) → known_in cert y ≡ a y
     known_same y =
-        elim (has_or_not same_key key_tells key_same ks (frame_of_place y)) [
+        elim (has_or_not is_same_key key_tells key_same ks (frame_of_place y)) [
           | inl c ↦ ap (option_and_then (known_at y)) (found (frame_of_place y) c) ∙ known_node y
           | inr n ↦ ap (option_and_then (known_at y)) (not_found (frame_of_place y) n) ∙ unknown y n
         ]
@@ -324,7 +324,7 @@ module _ (b : Limits) (image : ImageData) (plan : PlanData) (ground : IsGround b
     least_needs = record {
       meets = meets_alike b image plan a need (needs_in cert) closed need_agrees needs.meets;
       least = λ other m k.
-          elim (has_or_not same_key key_tells key_same ks k) [
+          elim (has_or_not is_same_key key_tells key_same ks k) [
             | inl c ↦ (let le = needs.least other m k in omega (arith, le, need_here k c))
             | inr n ↦ (let e : needs_in cert k ≡ 0 = ap need_of (not_found k n) in omega (arith, e))
           ];
@@ -337,7 +337,7 @@ module _ (b : Limits) (image : ImageData) (plan : PlanData) (ground : IsGround b
         let le = few (start_key image plan) in
         omega (arith, le, need_here (start_key image plan) c)
 
-    pub is_written : IsWritten image plan version (spelled_cert_with version a need (spelled_addresses_in ps) ks)
+    pub is_written : IsLeastClosedCert image plan version (spelled_cert_with version a need (spelled_addresses_in ps) ks)
     is_written =
         let same : known_in cert ≡ a = λ i y. known_same y i in
         record {

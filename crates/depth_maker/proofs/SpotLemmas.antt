@@ -3,8 +3,8 @@ use Rattle.std.specs.Prelude.{◌≡◌, ◌⊎◌, refl, true, false, List, [],
 use Rattle.std.proofs.Common.{ap, sym, subst, ◌∙◌, inl, inr, arith, Contains}
 use Rattle.std.proofs.lemmas.List.Elements.{Contains-append_cases, Contains-push_cases}
 use Rattle.std.proofs.lemmas.Bool.{cases_Bool}
-use Rattle.cfg_recover.specs.Assignments.{Place, point, exit, same_place}
-use Rattle.frame_places.proofs.SpotLemmas.{spot_tells, spot_refl}
+use Rattle.cfg_recover.specs.Assignments.{Place, point, exit, is_same_place}
+use Rattle.frame_places.proofs.SpotLemmas.{equal_spots_are_same, spot_refl}
 use Rattle.depth_maker.proofs.PlaceLaws.{place_tells, place_same}
 use Rattle.frame_places.specs.declared.places.Spot.{Spot}
 use Rattle.frame_places.specs.declared.places.Spot.TheVariants.{Point, Exit}
@@ -21,14 +21,14 @@ forth (Point f p) = refl
 forth (Exit f) = refl
 
 -- both equality tests agree
-pub agrees : (x y : Place) → spot_eq (spot_of y) (spot_of x) ≡ same_place x y
+pub agrees : (x y : Place) → spot_eq (spot_of y) (spot_of x) ≡ is_same_place x y
 agrees x y =
-    elim (cases_Bool (same_place x y)) [
+    elim (cases_Bool (is_same_place x y)) [
       | inl e ↦ subst (λ (z : Place). spot_eq (spot_of z) (spot_of x) ≡ true) (place_tells x y e) (spot_refl (spot_of x)) ∙ sym e
       | inr e ↦ elim (cases_Bool (spot_eq (spot_of y) (spot_of x))) [
         | inl t ↦
-            let one : y ≡ x = sym (back y) ∙ ap place_of_spot (spot_tells (spot_of y) (spot_of x) t) ∙ back x in
-            let no : true ≡ false = sym (place_same x) ∙ ap (same_place x) (sym one) ∙ e in
+            let one : y ≡ x = sym (back y) ∙ ap place_of_spot (equal_spots_are_same (spot_of y) (spot_of x) t) ∙ back x in
+            let no : true ≡ false = sym (place_same x) ∙ ap (is_same_place x) (sym one) ∙ e in
             cc
         | inr f ↦ f ∙ sym e
       ]

@@ -10,14 +10,14 @@ use Rattle.depth_cert.specs.declared.keys.Key.{Key}
 use Rattle.cfg_recover.specs.Entries.{start_state}
 use Rattle.depth_cert.specs.Exits.{state_after_exit}
 use Rattle.cfg_recover.specs.Duties.{Duty, jump, enter, resume, leave}
-use Rattle.cfg_recover.specs.Assignments.{Place, point, exit, Assignment, same_place, CoversAt, raised_at_place, asked_by_duty, Joins, Derived, begins, joins, Closed, first_place, AllFaultless}
+use Rattle.cfg_recover.specs.Assignments.{Place, point, exit, Assignment, is_same_place, CoversAt, raised_at_place, asked_by_duty, Joins, Derived, begins, joins, Closed, first_place, AllFaultless}
 use Rattle.depth_cert.specs.Known.{Known, state, leaving, CoversKnown}
 use Rattle.depth_cert.specs.WellFormed.{IsWellFormedState, IsWellFormedKnown}
 use Rattle.depth_maker.specs.WellFormedAssignments.{IsWellFormedDuty, AllWellFormed}
 use Rattle.depth_maker.specs.MakerLaws.{AreMakerLaws}
 use Rattle.depth_maker.specs.TableView.{TableView}
-use Rattle.depth_maker.specs.Joins.{Marks}
-use Rattle.depth_maker.specs.TableInvariant.{IsTable, Settled, IsResumed}
+use Rattle.depth_maker.specs.Joins.{QueuesPlaceAndReaders}
+use Rattle.depth_maker.specs.TableInvariant.{ViewInvariantHolds, IsDutySettled, IsReturnCovered}
 use Rattle.depth_maker.proofs.PlaceLaws.{place_tells, place_same, from_if, resumed_some}
 use Rattle.depth_maker.proofs.Below.{asks_well_formed}
 
@@ -33,14 +33,14 @@ module _ (b : Limits) (image : ImageData) (plan : PlanData) (laws : AreMakerLaws
 
   pub joined_well_formed : (a after : Assignment) (y : Place) → AllWellFormed b a → Joins b image plan a after y → AllWellFormed b after
   joined_well_formed a after y well_formed j x s at =
-      elim (from_if (same_place x y) j.known (a x) (after x) s (j.is x) at) [
+      elim (from_if (is_same_place x y) j.known (a x) (after x) s (j.is x) at) [
         | inl h ↦ subst (IsWellFormedKnown b) h.1 (raised_well_formed (a y) j.value j.known (well_formed y) (asks_well_formed b image plan laws a y j.value well_formed j.asks) j.raises)
         | inr h ↦ well_formed x s h.1
       ]
 
-  begun_well_formed : (a : Assignment) → ((x : Place) → a x ≡ (if same_place x (first_place image plan) then Some (state (start_state plan)) else None)) → AllWellFormed b a
+  begun_well_formed : (a : Assignment) → ((x : Place) → a x ≡ (if is_same_place x (first_place image plan) then Some (state (start_state plan)) else None)) → AllWellFormed b a
   begun_well_formed a is x s at =
-      elim (from_if (same_place x (first_place image plan)) (state (start_state plan)) None (a x) s (is x) at) [
+      elim (from_if (is_same_place x (first_place image plan)) (state (start_state plan)) None (a x) s (is x) at) [
         | inl h ↦ subst (IsWellFormedKnown b) h.1 laws.start_well_formed
         | inr h ↦ (let q : None ≡ Some s = h.1 in cc)
       ]
@@ -65,13 +65,13 @@ module _ (b : Limits) (image : ImageData) (plan : PlanData) (laws : AreMakerLaws
     pub joined_at : after y ≡ Some j.known
     joined_at = j.is y ∙ ap (λ t. if t then Some j.known else a y) (place_same y)
 
-    pub joined_other : (x : Place) → same_place x y ≡ false → after x ≡ a x
+    pub joined_other : (x : Place) → is_same_place x y ≡ false → after x ≡ a x
     joined_other x apart = j.is x ∙ ap (λ t. if t then Some j.known else a x) apart
 
     pub joined_covers : CoversAt after y j.value
     joined_covers = record { known = j.known; at = joined_at; covers = raised_covers (a y) j.value j.known (well_formed y) value_well_formed j.raises }
 
-    covers_case : (t : Bool) (z : Place) (v : Known) → same_place z y ≡ t → IsWellFormedKnown b v → CoversAt a z v → CoversAt after z v
+    covers_case : (t : Bool) (z : Place) (v : Known) → is_same_place z y ≡ t → IsWellFormedKnown b v → CoversAt a z v → CoversAt after z v
     covers_case false z v apart pv h = record { known = h.known; at = joined_other z apart ∙ h.at; covers = h.covers }
     covers_case true z v eq pv h =
         let e = place_tells z y eq in
@@ -84,7 +84,7 @@ module _ (b : Limits) (image : ImageData) (plan : PlanData) (laws : AreMakerLaws
 
     -- what was covered is covered still
     pub covers_stays : (z : Place) (v : Known) → IsWellFormedKnown b v → CoversAt a z v → CoversAt after z v
-    covers_stays z v pv h = covers_case (same_place z y) z v refl pv h
+    covers_stays z v pv h = covers_case (is_same_place z y) z v refl pv h
 
   -- a derived assignment covers the start
   pub derived_start : (a : Assignment) → Derived b image plan a → CoversAt a (first_place image plan) (state (start_state plan))
@@ -96,12 +96,12 @@ module _ (b : Limits) (image : ImageData) (plan : PlanData) (laws : AreMakerLaws
   derived_start _ (joins a after y d j) = covers_stays a after y (derived_well_formed a d) j (first_place image plan) (state (start_state plan)) laws.start_well_formed (derived_start a d)
 
   -- ---- tables
-  module _ (t u : TableView) (y : Place) (is : IsTable b image plan t) (j : Joins b image plan t.cells u.cells y) (m : Marks t u y) where
+  module _ (t u : TableView) (y : Place) (is : ViewInvariantHolds b image plan t) (j : Joins b image plan t.cells u.cells y) (m : QueuesPlaceAndReaders t u y) where
     well_formed : AllWellFormed b t.cells
     well_formed = derived_well_formed t.cells is.derived
 
     -- if a point has no new work, its duties are settled still
-    pub settled_stays : (k : Key) (p : ℕ) (s : State) (d : Duty) → u.queued (point k p) ≡ false → IsWellFormedState b s → IsWellFormedDuty b d → Settled t k p s d → Settled u k p s d
+    pub settled_stays : (k : Key) (p : ℕ) (s : State) (d : Duty) → u.queued (point k p) ≡ false → IsWellFormedState b s → IsWellFormedDuty b d → IsDutySettled t k p s d → IsDutySettled u k p s d
     settled_stays k p s (jump q v) free ps pd h = covers_stays t.cells u.cells y well_formed j (point k q) (state v) pd h
     settled_stays k p s (enter l v) free ps pd h = covers_stays t.cells u.cells y well_formed j (point l l.entry) (state v) pd h
     settled_stays k p s (leave x) free ps pd h = covers_stays t.cells u.cells y well_formed j (exit k) (leaving x) pd h
@@ -115,7 +115,7 @@ module _ (b : Limits) (image : ImageData) (plan : PlanData) (laws : AreMakerLaws
         let apart : same_place (exit l) y ≡ false = elim (same_or_not (same_place (exit l) y)) [ inl n ↦ absurd (told n) | inr n ↦ n ] in
         ((λ x at. let old : t.cells (exit l) ≡ Some x = sym (joined_other t.cells u.cells y well_formed j (exit l) apart) ∙ at in back x old (h.0 x old)), m.reads (exit l) (point k p) h.1 none)
       where
-        back : (x : Known) → t.cells (exit l) ≡ Some x → IsResumed t k s l q x → IsResumed u k s l q x
+        back : (x : Known) → t.cells (exit l) ≡ Some x → IsReturnCovered t k s l q x → IsReturnCovered u k s l q x
         back (state v) at h = tt
         back (leaving x) at h = covers_stays t.cells u.cells y well_formed j (point k q) (state (state_after_exit s x l.kind)) (laws.after_well_formed s x l.kind ps (well_formed (exit l) (leaving x) at)) h
 
@@ -128,7 +128,7 @@ module _ (b : Limits) (image : ImageData) (plan : PlanData) (laws : AreMakerLaws
         ]
 
   -- a join leaves a table
-  pub table_rises : (t u : TableView) (y : Place) → IsTable b image plan t → Joins b image plan t.cells u.cells y → Marks t u y → ((x : Place) → u.idle x ≡ true → u.queued x ≡ false) → IsTable b image plan u
+  pub table_rises : (t u : TableView) (y : Place) → ViewInvariantHolds b image plan t → Joins b image plan t.cells u.cells y → QueuesPlaceAndReaders t u y → ((x : Place) → u.idle x ≡ true → u.queued x ≡ false) → ViewInvariantHolds b image plan u
   table_rises t u y is j m apart = record {
     derived = joins t.cells u.cells y is.derived j;
     own = λ k p s at idle. let o = idle_before t u y is j m (point k p) idle in is.own k p s (sym o.1 ∙ at) o.0;
@@ -145,17 +145,17 @@ module _ (b : Limits) (image : ImageData) (plan : PlanData) (laws : AreMakerLaws
     covers_again : (z : Place) (v : Known) → CoversAt t.cells z v → CoversAt u.cells z v
     covers_again z v h = record { known = h.known; at = cells z ∙ h.at; covers = h.covers }
 
-    pub settled_again : (k : Key) (p : ℕ) (s : State) (d : Duty) → Settled t k p s d → Settled u k p s d
+    pub settled_again : (k : Key) (p : ℕ) (s : State) (d : Duty) → IsDutySettled t k p s d → IsDutySettled u k p s d
     settled_again k p s (jump q v) h = covers_again (point k q) (state v) h
     settled_again k p s (enter l v) h = covers_again (point l l.entry) (state v) h
     settled_again k p s (leave x) h = covers_again (exit k) (leaving x) h
     settled_again k p s (resume l q) h = ((λ x at. back x (h.0 x (sym (cells (exit l)) ∙ at))), reads (exit l) (point k p) h.1) where
-      back : (x : Known) → IsResumed t k s l q x → IsResumed u k s l q x
+      back : (x : Known) → IsReturnCovered t k s l q x → IsReturnCovered u k s l q x
       back (state v) h = tt
       back (leaving x) h = covers_again (point k q) (state (state_after_exit s x l.kind)) h
 
     -- other marks: with more work and more readers, it is a table still
-    pub table_marked : IsTable b image plan t → ((x : Place) → u.idle x ≡ true → t.idle x ≡ true) → Derived b image plan u.cells → IsTable b image plan u
+    pub table_marked : ViewInvariantHolds b image plan t → ((x : Place) → u.idle x ≡ true → t.idle x ≡ true) → Derived b image plan u.cells → ViewInvariantHolds b image plan u
     table_marked is idle derived = record {
       derived = derived;
       own = λ k p s at now. is.own k p s (sym (cells (point k p)) ∙ at) (idle (point k p) now);
@@ -163,7 +163,7 @@ module _ (b : Limits) (image : ImageData) (plan : PlanData) (laws : AreMakerLaws
     }
 
   -- a settled duty is covered
-  pub settled_covers : (t : TableView) (k : Key) (p : ℕ) (s : State) (d : Duty) (y : Place) (v : Known) → Settled t k p s d → asked_by_duty t.cells k s d ≡ Some (y, v) → CoversAt t.cells y v
+  pub settled_covers : (t : TableView) (k : Key) (p : ℕ) (s : State) (d : Duty) (y : Place) (v : Known) → IsDutySettled t k p s d → asked_by_duty t.cells k s d ≡ Some (y, v) → CoversAt t.cells y v
   settled_covers t k p s (jump q u) y v h is = let f : (point k q, state u) ≡ (y, v) = cc in subst (λ (w : Place × Known). CoversAt t.cells w.0 w.1) f h
   settled_covers t k p s (enter l u) y v h is = let f : (point l l.entry, state u) ≡ (y, v) = cc in subst (λ (w : Place × Known). CoversAt t.cells w.0 w.1) f h
   settled_covers t k p s (leave x) y v h is = let f : (exit k, leaving x) ≡ (y, v) = cc in subst (λ (w : Place × Known). CoversAt t.cells w.0 w.1) f h
@@ -173,7 +173,7 @@ module _ (b : Limits) (image : ImageData) (plan : PlanData) (laws : AreMakerLaws
       subst (λ (w : Place × Known). CoversAt t.cells w.0 w.1) f (h.0 (leaving r.0) r.1)
 
   -- with no work left
-  pub table_closed : (t : TableView) → IsTable b image plan t → ((k : Key) (p : ℕ) (s : State) → t.cells (point k p) ≡ Some (state s) → t.idle (point k p) ≡ true)
+  pub table_closed : (t : TableView) → ViewInvariantHolds b image plan t → ((k : Key) (p : ℕ) (s : State) → t.cells (point k p) ≡ Some (state s) → t.idle (point k p) ≡ true)
       → Closed b image plan t.cells × AllFaultless b image plan t.cells
   table_closed t is idle = (
     record {
@@ -181,7 +181,7 @@ module _ (b : Limits) (image : ImageData) (plan : PlanData) (laws : AreMakerLaws
       duties = λ y v k.
           let h = k.has in
           let done = is.settled k.key k.addr k.before h.shape h.size h.owed h.at (idle k.key k.addr k.before h.at) h.code h.listed in
-          settled_covers t k.key k.addr k.before k.duty y v (subst (λ (d : Duty). Settled t k.key k.addr k.before d) h.is done) k.asks;
+          settled_covers t k.key k.addr k.before k.duty y v (subst (λ (d : Duty). IsDutySettled t k.key k.addr k.before d) h.is done) k.asks;
     },
     (λ k p s at. is.own k p s at (idle k p s at)),
   )

@@ -11,10 +11,10 @@ use Rattle.value_domain.specs.Limits.{Limits}
 use Rattle.depth_cert.specs.declared.keys.Key.{Key}
 use Rattle.cfg_recover.specs.Entries.{start_key, start_state}
 use Rattle.cfg_recover.specs.LocalFaults.{IsFaultless}
-use Rattle.cfg_recover.specs.Assignments.{Assignment, Place, point, exit, same_place, Derived, begins, Closed, first_place, AllFaultless}
+use Rattle.cfg_recover.specs.Assignments.{Assignment, Place, point, exit, is_same_place, Derived, begins, Closed, first_place, AllFaultless}
 use Rattle.depth_cert.specs.Known.{IsKnownState, Known, state, leaving}
-use Rattle.depth_maker.specs.Covered.{AreLastCallsCovered, EntriesCovered}
-use Rattle.depth_maker.specs.InterruptHandlers.{ContextsEntered}
+use Rattle.depth_maker.specs.Covered.{AreLastCallsCovered, AreNotedEntriesCovered}
+use Rattle.depth_maker.specs.InterruptHandlers.{AreContextsCovered}
 use Rattle.depth_maker.specs.MakerLaws.{AreMakerLaws}
 use Rattle.depth_maker.proofs.TableLaws.{derived_well_formed, table_closed, table_marked, settled_again}
 use Rattle.depth_maker.proofs.PlaceKinds.{IsOfKind, derived_kinds}
@@ -32,21 +32,21 @@ use Rattle.std.specs.Option.{option_map}
 use Rattle.frame_places.specs.declared.places.Mark.TheVariants.{Idle, Plain, Queued, Open}
 use Rattle.std.specs.declared.vec.Vec.{Vec}
 use Rattle.std.specs.declared.alloc.Global.{Global}
-use Rattle.depth_maker.specs.EnteredFrames.{IsPlainIn}
+use Rattle.depth_maker.specs.EnteredFrames.{EntersNoFrameIn}
 use Rattle.depth_maker.specs.declared.table.Table as made
 use Rattle.frame_places.specs.Spots.{spot_eq}
 use Rattle.depth_maker.specs.SpotsAsPlaces.{spot_of, place_of_spot}
 use Rattle.depth_maker.proofs.SpotLemmas.{back, forth, agrees}
-use Rattle.frame_places.proofs.SpotLemmas.{spot_tells, spot_refl}
+use Rattle.frame_places.proofs.SpotLemmas.{equal_spots_are_same, spot_refl}
 use Rattle.frame_places.specs.Marks.{idle_mark, is_idle, is_queued, settled_mark, IsAmongReaders, mark_for, value_for, AllListed, AreKnown, MarksAs}
-use Rattle.depth_maker.specs.TableInvariant.{TableReadsExits, IsFine}
-use Rattle.depth_maker.specs.TableView.{seen}
-use Rattle.depth_maker.specs.Visits.{IsVisited, IsVisitOpenAt, NoVisitOpen, VisitJoinsPoint}
-use Rattle.depth_maker.specs.VisitDuties.{AllSettledByVisit}
+use Rattle.depth_maker.specs.TableInvariant.{TableReadsExits, TableInvariantHolds}
+use Rattle.depth_maker.specs.TableView.{view_of_table}
+use Rattle.depth_maker.specs.Visits.{IsVisitedWithState, IsVisitOpenAt, NoVisitOpen, VisitJoinsDuties}
+use Rattle.depth_maker.specs.VisitDuties.{AllDutiesSettled}
 use Rattle.depth_maker.specs.AssignmentCounts.{IsCountedIn}
 use Rattle.frame_places.proofs.MarkLemmas.{sides}
 use Rattle.frame_places.proofs.NearbyLemmas.{had_at, queued_mark}
-use Rattle.frame_places.specs.Work.{Takes, all_work}
+use Rattle.frame_places.specs.Work.{TakesPlace, all_work}
 use Rattle.frame_places.proofs.WorkLemmas.{takes_left, takes_only}
 use Rattle.depth_maker.proofs.CountedLemmas.{counted_again, counted_start}
 
@@ -56,8 +56,8 @@ module _ (b : Limits) (image : ImageData) (plan : PlanData) (laws : AreMakerLaws
   the_cells : (q : Spot) → value_for t.places q ≡ value_for s.places q
   the_cells q = marks_as.values q
 
-  the_derived : Derived b image plan (seen s).cells → Derived b image plan (seen t).cells
-  unfolding seen
+  the_derived : Derived b image plan (view_of_table s).cells → Derived b image plan (view_of_table t).cells
+  unfolding view_of_table
   the_derived d = subst (λ (a : Assignment). Derived b image plan a) (λ i q. sym (the_cells (spot_of q)) i) d
 
   the_readers : (z q : Spot) → IsAmongReaders (get spot_eq s.readers z) q → IsAmongReaders (get spot_eq t.readers z) q
@@ -66,9 +66,9 @@ module _ (b : Limits) (image : ImageData) (plan : PlanData) (laws : AreMakerLaws
   the_counts : IsCountedIn s.places s.points.items s.frames.items → IsCountedIn t.places t.points.items t.frames.items
   the_counts c = counted_again s.places t.places s.points.items t.points.items s.frames.items t.frames.items (λ q. the_cells (spot_of q)) points frames c
 
-  the_covered : EntriesCovered b plan (seen s).cells s.covered → EntriesCovered b plan (seen t).cells t.covered
-  unfolding seen
-  the_covered h = covered_again b plan (seen s).cells (seen t).cells (λ q. the_cells (spot_of q)) t.covered (subst (EntriesCovered b plan (seen s).cells) (sym covered) h)
+  the_covered : AreNotedEntriesCovered b plan (view_of_table s).cells s.covered → AreNotedEntriesCovered b plan (view_of_table t).cells t.covered
+  unfolding view_of_table
+  the_covered h = covered_again b plan (view_of_table s).cells (view_of_table t).cells (λ q. the_cells (spot_of q)) t.covered (subst (AreNotedEntriesCovered b plan (view_of_table s).cells) (sym covered) h)
 
   the_exits : TableReadsExits s.readers → TableReadsExits t.readers
   the_exits h k p q reads = h k p q (subst (λ m. IsAmongReaders (get spot_eq m (Point k p)) q) readers reads)
@@ -80,8 +80,8 @@ module _ (b : Limits) (image : ImageData) (plan : PlanData) (laws : AreMakerLaws
   side q = sides (spot_eq x q) (Some w) (mark_for s.places q) (mark_for t.places q) (marks_as.marks q)
 
   -- a place taken off the list
-  pub opened : w ≡ Open → IsFine b image plan s → NoVisitOpen s → Takes s.work t.work t.near → PlaceHasNumber s.places t.near x → IsFine b image plan t × IsVisitOpenAt t x
-  unfolding seen
+  pub opened : w ≡ Open → TableInvariantHolds b image plan s → NoVisitOpen s → TakesPlace s.work t.work t.near → PlaceHasNumber s.places t.near x → TableInvariantHolds b image plan t × IsVisitOpenAt t x
+  unfolding view_of_table
   opened open_ fine none takes stands =
       let here : (q : Spot) → ((spot_eq x q ≡ true) × (mark_for t.places q ≡ Some Open)) ⊎ ((spot_eq x q ≡ false) × (mark_for t.places q ≡ mark_for s.places q)) =
       λ q. subst (λ (m : Mark). ((spot_eq x q ≡ true) × (mark_for t.places q ≡ Some m)) ⊎ ((spot_eq x q ≡ false) × (mark_for t.places q ≡ mark_for s.places q))) open_ (side q) in
@@ -91,7 +91,7 @@ module _ (b : Limits) (image : ImageData) (plan : PlanData) (laws : AreMakerLaws
         | inr r ↦ sym (ap is_idle r.1) ∙ h
       ] in (
         record {
-          table = table_marked b image plan laws (seen s) (seen t) (λ q. the_cells (spot_of q)) (λ z q h. the_readers (spot_of z) (spot_of q) h) fine.table idle (the_derived (fine.table).derived);
+          table = table_marked b image plan laws (view_of_table s) (view_of_table t) (λ q. the_cells (spot_of q)) (λ z q h. the_readers (spot_of z) (spot_of q) h) fine.table idle (the_derived (fine.table).derived);
           listed = record {
             listed = λ q at.
                 elim (here q) [
@@ -121,7 +121,7 @@ module _ (b : Limits) (image : ImageData) (plan : PlanData) (laws : AreMakerLaws
           at = marks_as.marks x ∙ ap (λ e. if e then Some w else mark_for s.places x) (spot_refl x) ∙ ap (λ (m : Mark). Some m) open_;
           only = λ q at.
               elim (here q) [
-                | inl l ↦ sym (spot_tells x q l.0)
+                | inl l ↦ sym (equal_spots_are_same x q l.0)
                 | inr r ↦ absurd (none q (sym r.1 ∙ at))
               ];
           stands = marks_as.numbers t.near x stands;
@@ -129,11 +129,11 @@ module _ (b : Limits) (image : ImageData) (plan : PlanData) (laws : AreMakerLaws
       )
 
   -- the same marks
-  pub again_fine : ((q : Spot) → mark_for t.places q ≡ mark_for s.places q) → all_work t.work ≡ all_work s.work → IsFine b image plan s → IsFine b image plan t
-  unfolding seen
+  pub again_fine : ((q : Spot) → mark_for t.places q ≡ mark_for s.places q) → all_work t.work ≡ all_work s.work → TableInvariantHolds b image plan s → TableInvariantHolds b image plan t
+  unfolding view_of_table
   again_fine marked work fine =
       record {
-        table = table_marked b image plan laws (seen s) (seen t) (λ q. the_cells (spot_of q)) (λ z q h. the_readers (spot_of z) (spot_of q) h) fine.table
+        table = table_marked b image plan laws (view_of_table s) (view_of_table t) (λ q. the_cells (spot_of q)) (λ z q h. the_readers (spot_of z) (spot_of q) h) fine.table
             (λ q h. sym (ap is_idle (marked (spot_of q))) ∙ h) (the_derived (fine.table).derived);
         listed = the_list marked work fine.listed;
         counted = the_counts fine.counted;
@@ -150,13 +150,13 @@ module _ (b : Limits) (image : ImageData) (plan : PlanData) (laws : AreMakerLaws
       }
 
   -- the end of a visit: the point is idle now, and all that it owes is settled
-  pub finished : is_idle (Some w) ≡ true → (Some w ≡ Some Plain → IsPlainIn image plan x) → IsFine b image plan s → IsVisitOpenAt s x → all_work t.work ≡ all_work s.work
-      → ((k : Key) (p : ℕ) (u : State) → place_of_spot x ≡ point k p → (seen s).cells (point k p) ≡ Some (state u) → IsFaultless b image plan k p u × AllSettledByVisit b image plan s k p u) → IsFine b image plan t × NoVisitOpen t
-  unfolding seen
+  pub finished : is_idle (Some w) ≡ true → (Some w ≡ Some Plain → EntersNoFrameIn image plan x) → TableInvariantHolds b image plan s → IsVisitOpenAt s x → all_work t.work ≡ all_work s.work
+      → ((k : Key) (p : ℕ) (u : State) → place_of_spot x ≡ point k p → (view_of_table s).cells (point k p) ≡ Some (state u) → IsFaultless b image plan k p u × AllDutiesSettled b image plan s k p u) → TableInvariantHolds b image plan t × NoVisitOpen t
+  unfolding view_of_table
   finished idles told fine opening work paid =
       let idle : (q : Place) → is_idle (mark_for t.places (spot_of q)) ≡ true → (is_idle (mark_for s.places (spot_of q)) ≡ true) ⊎ (place_of_spot x ≡ q) =
       λ q h. elim (side (spot_of q)) [
-        | inl l ↦ inr (ap place_of_spot (spot_tells x (spot_of q) l.0) ∙ back q)
+        | inl l ↦ inr (ap place_of_spot (equal_spots_are_same x (spot_of q) l.0) ∙ back q)
         | inr r ↦ inl (sym (ap is_idle r.1) ∙ h)
       ] in (
         record {
@@ -168,7 +168,7 @@ module _ (b : Limits) (image : ImageData) (plan : PlanData) (laws : AreMakerLaws
                   | inr e ↦ (paid k p u e (sym (the_cells (spot_of (point k p))) ∙ at)).0
                 ];
             settled = λ k p u shape n d at now code c.
-                settled_again b image plan laws (seen s) (seen t) (λ q. the_cells (spot_of q)) (λ z q h. the_readers (spot_of z) (spot_of q) h) k p u d.duty
+                settled_again b image plan laws (view_of_table s) (view_of_table t) (λ q. the_cells (spot_of q)) (λ z q h. the_readers (spot_of z) (spot_of q) h) k p u d.duty
                 (elim (idle (point k p) now) [
                   | inl before ↦ (fine.table).settled k p u shape n d (sym (the_cells (spot_of (point k p))) ∙ at) before code c
                   | inr e ↦ (paid k p u e (sym (the_cells (spot_of (point k p))) ∙ at)).1.each shape n d code c
@@ -188,7 +188,7 @@ module _ (b : Limits) (image : ImageData) (plan : PlanData) (laws : AreMakerLaws
           readers = the_known fine.readers;
           plain = λ q at.
               elim (side q) [
-                | inl l ↦ subst (λ (k : Spot). IsPlainIn image plan k) (spot_tells x q l.0) (told (sym l.1 ∙ at))
+                | inl l ↦ subst (λ (k : Spot). EntersNoFrameIn image plan k) (equal_spots_are_same x q l.0) (told (sym l.1 ∙ at))
                 | inr r ↦ fine.plain q (sym r.1 ∙ at)
               ];
         },
@@ -200,20 +200,20 @@ module _ (b : Limits) (image : ImageData) (plan : PlanData) (laws : AreMakerLaws
 
 -- ---- what was joined
 -- the point has its state still, and is the visited one
-pub duties_open : (b : Limits) (image : ImageData) (plan : PlanData) (s t : made.Table) (x : Spot) → IsVisitOpenAt s x → VisitJoinsPoint b image plan s t x → mark_for t.places x ≡ Some Open → IsVisitOpenAt t x
+pub duties_open : (b : Limits) (image : ImageData) (plan : PlanData) (s t : made.Table) (x : Spot) → IsVisitOpenAt s x → VisitJoinsDuties b image plan s t x → mark_for t.places x ≡ Some Open → IsVisitOpenAt t x
 duties_open b image plan s t x opening paid at = record {
   at = at;
   only = λ q here. opening.only q (sym ((paid.keeps).each q (ap is_queued here)).0 ∙ here);
   stands = subst (λ (n : ℕ). PlaceHasNumber t.places n x) (sym (paid.keeps).near) ((paid.keeps).numbers s.near x opening.stands);
 }
 
-pub duties_closed : (b : Limits) (image : ImageData) (plan : PlanData) (s t : made.Table) (x : Spot) → IsVisitOpenAt s x → VisitJoinsPoint b image plan s t x → (mark_for t.places x ≡ Some Open → ⊥) → NoVisitOpen t
+pub duties_closed : (b : Limits) (image : ImageData) (plan : PlanData) (s t : made.Table) (x : Spot) → IsVisitOpenAt s x → VisitJoinsDuties b image plan s t x → (mark_for t.places x ≡ Some Open → ⊥) → NoVisitOpen t
 duties_closed b image plan s t x opening paid not q at =
     not (subst (λ (k : Spot). mark_for t.places k ≡ Some Open) (opening.only q (sym ((paid.keeps).each q (ap is_queued at)).0 ∙ at)) at)
 
-pub duties_settled : (b : Limits) (image : ImageData) (plan : PlanData) (s t : made.Table) (x : Spot) → VisitJoinsPoint b image plan s t x → mark_for t.places x ≡ Some Open
-    → (k : Key) (p : ℕ) (u : State) → place_of_spot x ≡ point k p → (seen t).cells (point k p) ≡ Some (state u) → IsFaultless b image plan k p u × AllSettledByVisit b image plan t k p u
-unfolding seen
+pub duties_settled : (b : Limits) (image : ImageData) (plan : PlanData) (s t : made.Table) (x : Spot) → VisitJoinsDuties b image plan s t x → mark_for t.places x ≡ Some Open
+    → (k : Key) (p : ℕ) (u : State) → place_of_spot x ≡ point k p → (view_of_table t).cells (point k p) ≡ Some (state u) → IsFaultless b image plan k p u × AllDutiesSettled b image plan t k p u
+unfolding view_of_table
 duties_settled b image plan s t x paid opening k p u e at =
     let is : spot_of (point k p) ≡ x = sym (ap spot_of e) ∙ forth x in
     let free : is_queued (mark_for t.places x) ≡ false = ap is_queued opening in
@@ -224,8 +224,8 @@ duties_settled b image plan s t x paid opening k p u e at =
 -- ---- the start, and the end
 pub begun_table : (b : Limits) (image : ImageData) (plan : PlanData) (t : made.Table) (x : Spot) (v : Known) → x ≡ spot_of (first_place image plan) → v ≡ state (start_state plan)
     → ((q : Spot) → value_for t.places q ≡ (if spot_eq x q then Some v else None)) → ((q : Spot) → mark_for t.places q ≡ (if spot_eq x q then Some Queued else None)) → AllListed t.places (all_work t.work)
-    → t.points.items ≡ x ∷ [] → t.frames.items ≡ start_key image plan ∷ [] → (t.covered).interrupts ≡ record { last = None; before = None } → (t.covered).calls.items ≡ [] → ((z : Spot) → get spot_eq t.readers z ≡ None) → IsFine b image plan t × NoVisitOpen t
-unfolding seen
+    → t.points.items ≡ x ∷ [] → t.frames.items ≡ start_key image plan ∷ [] → (t.covered).interrupts ≡ record { last = None; before = None } → (t.covered).calls.items ≡ [] → ((z : Spot) → get spot_eq t.readers z ≡ None) → TableInvariantHolds b image plan t × NoVisitOpen t
+unfolding view_of_table
 begun_table b image plan t x v place known cells marks listed points frames none uncalled unread =
     let side : (q : Spot) → ((spot_eq x q ≡ true) × (mark_for t.places q ≡ Some Queued)) ⊎ ((spot_eq x q ≡ false) × (mark_for t.places q ≡ None)) =
     λ q. sides (spot_eq x q) (Some Queued) None (mark_for t.places q) (marks q) in
@@ -234,12 +234,12 @@ begun_table b image plan t x v place known cells marks listed points frames none
       | inl l ↦ (let no : true ≡ false = sym h ∙ ap is_idle l.1 in cc)
       | inr r ↦ (let no : true ≡ false = sym h ∙ ap is_idle r.1 in cc)
     ] in
-    let test : (q : Place) → spot_eq x (spot_of q) ≡ same_place q (first_place image plan) = λ q. ap (λ (z : Spot). spot_eq z (spot_of q)) place ∙ agrees q (first_place image plan) in
+    let test : (q : Place) → spot_eq x (spot_of q) ≡ is_same_place q (first_place image plan) = λ q. ap (λ (z : Spot). spot_eq z (spot_of q)) place ∙ agrees q (first_place image plan) in
     let unread_by : (z q : Spot) → IsAmongReaders (get spot_eq t.readers z) q → ⊥ = λ z q h. subst (λ (o : Option (Vec Spot Global)). IsAmongReaders o q) (unread z) h in (
       record {
         table = record {
-          derived = begins (seen t).cells
-              (λ q. cells (spot_of q) ∙ ap (λ e. if e then Some v else None) (test q) ∙ ap (λ (w : Known). if same_place q (first_place image plan) then Some w else None) known);
+          derived = begins (view_of_table t).cells
+              (λ q. cells (spot_of q) ∙ ap (λ e. if e then Some v else None) (test q) ∙ ap (λ (w : Known). if is_same_place q (first_place image plan) then Some w else None) known);
           own = λ k p u at h. absurd (never (spot_of (point k p)) h);
           settled = λ k p u shape n d at h code c. absurd (never (spot_of (point k p)) h);
         };
@@ -247,8 +247,8 @@ begun_table b image plan t x v place known cells marks listed points frames none
         counted = counted_start t.places t.points.items t.frames.items (start_key image plan) v
             (λ q. cells (spot_of q) ∙ ap (λ e. if e then Some v else None) (test q)) (points ∙ ap (λ (z : Spot). z ∷ []) place) frames;
         covered = (
-          subst (ContextsEntered b plan (seen t).cells) (sym none) (tt, tt),
-          subst (AreLastCallsCovered b (seen t).cells) (sym uncalled) (λ h c. absurd (omega (arith, c.1))),
+          subst (AreContextsCovered b plan (view_of_table t).cells) (sym none) (tt, tt),
+          subst (AreLastCallsCovered b (view_of_table t).cells) (sym uncalled) (λ h c. absurd (omega (arith, c.1))),
         );
         exits = λ k p q h. unread_by (Point k p) q h;
         readers = λ z q h. absurd (unread_by z q h);
@@ -276,32 +276,32 @@ marked_known : (o : Option (Marked Known)) (v : Known) → option_map (λ m. m.v
 marked_known None v e = (let no : None ≡ Some v = e in cc)
 marked_known (Some m) v e = refl
 
-pub closed_table : (b : Limits) (image : ImageData) (plan : PlanData) (laws : AreMakerLaws b image plan) (t : made.Table) → IsFine b image plan t → NoVisitOpen t → ((q : Spot) → mark_for t.places q ≡ Some Queued → ⊥)
-    → Derived b image plan (seen t).cells × Closed b image plan (seen t).cells × AllFaultless b image plan (seen t).cells
-unfolding seen
+pub closed_table : (b : Limits) (image : ImageData) (plan : PlanData) (laws : AreMakerLaws b image plan) (t : made.Table) → TableInvariantHolds b image plan t → NoVisitOpen t → ((q : Spot) → mark_for t.places q ≡ Some Queued → ⊥)
+    → Derived b image plan (view_of_table t).cells × Closed b image plan (view_of_table t).cells × AllFaultless b image plan (view_of_table t).cells
+unfolding view_of_table
 closed_table b image plan laws t fine none left =
-    let h = table_closed b image plan laws (seen t) fine.table
+    let h = table_closed b image plan laws (view_of_table t) fine.table
     (λ k p u at. all_idle (mark_for t.places (spot_of (point k p))) (marked_known (get spot_eq t.places (spot_of (point k p))) (state u) at) (left (spot_of (point k p))) (none (spot_of (point k p)))) in
     ((fine.table).derived, h.0, h.1)
 
 -- ---- the values of places
 -- a state at a point, an exit at an exit
-pub point_state : (b : Limits) (image : ImageData) (plan : PlanData) (t : made.Table) (k : Key) (p : ℕ) (w : Known) → IsFine b image plan t → value_for t.places (Point k p) ≡ Some w → (u : State) × (w ≡ state u)
-unfolding seen
-point_state b image plan t k p w fine at = of_kind w (derived_kinds b image plan (seen t).cells (fine.table).derived (point k p) w at) where
+pub point_state : (b : Limits) (image : ImageData) (plan : PlanData) (t : made.Table) (k : Key) (p : ℕ) (w : Known) → TableInvariantHolds b image plan t → value_for t.places (Point k p) ≡ Some w → (u : State) × (w ≡ state u)
+unfolding view_of_table
+point_state b image plan t k p w fine at = of_kind w (derived_kinds b image plan (view_of_table t).cells (fine.table).derived (point k p) w at) where
   of_kind : (v : Known) → IsOfKind (point k p) v → (u : State) × (v ≡ state u)
   of_kind (state s) h = (s, refl)
   of_kind (leaving x) h = absurd h
 
-pub exit_known : (b : Limits) (image : ImageData) (plan : PlanData) (t : made.Table) (k : Key) (w : Known) → IsFine b image plan t → value_for t.places (Exit k) ≡ Some w → (x : exits.Exit) × (w ≡ leaving x)
-unfolding seen
-exit_known b image plan t k w fine at = of_kind w (derived_kinds b image plan (seen t).cells (fine.table).derived (exit k) w at) where
+pub exit_known : (b : Limits) (image : ImageData) (plan : PlanData) (t : made.Table) (k : Key) (w : Known) → TableInvariantHolds b image plan t → value_for t.places (Exit k) ≡ Some w → (x : exits.Exit) × (w ≡ leaving x)
+unfolding view_of_table
+exit_known b image plan t k w fine at = of_kind w (derived_kinds b image plan (view_of_table t).cells (fine.table).derived (exit k) w at) where
   of_kind : (v : Known) → IsOfKind (exit k) v → (x : exits.Exit) × (v ≡ leaving x)
   of_kind (state s) h = absurd h
   of_kind (leaving x) h = (x, refl)
 
 -- the value at the visited point is a state
-pub own_state : (b : Limits) (image : ImageData) (plan : PlanData) (t : made.Table) (k : Key) (p : ℕ) (y : Spot) (old : Marked Known) → IsFine b image plan t → slice_get t.places.entries t.near ≡ Some (y, old)
+pub own_state : (b : Limits) (image : ImageData) (plan : PlanData) (t : made.Table) (k : Key) (p : ℕ) (y : Spot) (old : Marked Known) → TableInvariantHolds b image plan t → slice_get t.places.entries t.near ≡ Some (y, old)
     → get spot_eq t.places y ≡ Some old → PlaceHasNumber t.places t.near (Point k p) → (u : State) × (old.value ≡ state u) × (value_for t.places (Point k p) ≡ Some (state u))
 own_state b image plan t k p y old fine entry value stands =
     let at : value_for t.places (Point k p) ≡ Some old.value = ap (option_map (λ (m : Marked Known). m.value)) (had_at t.places t.near (Point k p) y old entry value stands) in
@@ -309,15 +309,15 @@ own_state b image plan t k p y old fine entry value stands =
     (e.0, e.1, at ∙ ap (λ (w : Known). Some w) e.1)
 
 -- the state of the visited point
-pub visited_at : (b : Limits) (image : ImageData) (plan : PlanData) (laws : AreMakerLaws b image plan) (t : made.Table) (k : Key) (p : ℕ) (u : State) → IsFine b image plan t → PlaceHasNumber t.places t.near (Point k p)
-    → value_for t.places (Point k p) ≡ Some (state u) → IsVisited b image plan t k p u
-unfolding seen
-visited_at b image plan laws t k p u fine stands at = record { fine = fine; well_formed = derived_well_formed b image plan laws (seen t).cells (fine.table).derived (point k p) (state u) at; at = λ free. at; stands = stands }
+pub visited_at : (b : Limits) (image : ImageData) (plan : PlanData) (laws : AreMakerLaws b image plan) (t : made.Table) (k : Key) (p : ℕ) (u : State) → TableInvariantHolds b image plan t → PlaceHasNumber t.places t.near (Point k p)
+    → value_for t.places (Point k p) ≡ Some (state u) → IsVisitedWithState b image plan t k p u
+unfolding view_of_table
+visited_at b image plan laws t k p u fine stands at = record { fine = fine; well_formed = derived_well_formed b image plan laws (view_of_table t).cells (fine.table).derived (point k p) (state u) at; at = λ free. at; stands = stands }
 
 -- the state that was read there
-pub state_read : (b : Limits) (image : ImageData) (plan : PlanData) (laws : AreMakerLaws b image plan) (t : made.Table) (k : Key) (p : ℕ) (y : Spot) (old : Marked Known) (read u : State) → IsFine b image plan t
+pub state_read : (b : Limits) (image : ImageData) (plan : PlanData) (laws : AreMakerLaws b image plan) (t : made.Table) (k : Key) (p : ℕ) (y : Spot) (old : Marked Known) (read u : State) → TableInvariantHolds b image plan t
     → slice_get t.places.entries t.near ≡ Some (y, old) → get spot_eq t.places y ≡ Some old → PlaceHasNumber t.places t.near (Point k p) → IsKnownState old.value read → u ≡ read
-    → IsVisited b image plan t k p u × (value_for t.places (Point k p) ≡ Some (state u))
+    → IsVisitedWithState b image plan t k p u × (value_for t.places (Point k p) ≡ Some (state u))
 state_read b image plan laws t k p y old read u fine entry value stands known same =
     let e = own_state b image plan t k p y old fine entry value stands in
     let is : read ≡ e.0 = subst (λ (w : Known). IsKnownState w read) e.1 known in
@@ -325,7 +325,7 @@ state_read b image plan laws t k p y old read u fine entry value stands known sa
     (visited_at b image plan laws t k p u fine stands at, at)
 
 -- an exit owes nothing
-pub duties_exit : (b : Limits) (image : ImageData) (plan : PlanData) (s : made.Table) (k : Key) → IsFine b image plan s → VisitJoinsPoint b image plan s s (Exit k)
+pub duties_exit : (b : Limits) (image : ImageData) (plan : PlanData) (s : made.Table) (k : Key) → TableInvariantHolds b image plan s → VisitJoinsDuties b image plan s s (Exit k)
 duties_exit b image plan s k fine = record {
   fine = fine;
   keeps = keeps_all b image plan s;
@@ -334,9 +334,9 @@ duties_exit b image plan s k fine = record {
 }
 
 -- no work is left: the list is as it was
-pub same_fine : (b : Limits) (image : ImageData) (plan : PlanData) (s t : made.Table) → t ≡ (record s { work = t.work }) → all_work t.work ≡ all_work s.work → IsFine b image plan s → IsFine b image plan t
-unfolding seen
-same_fine b image plan s t is work fine = subst (IsFine b image plan) (sym is) (record {
+pub same_fine : (b : Limits) (image : ImageData) (plan : PlanData) (s t : made.Table) → t ≡ (record s { work = t.work }) → all_work t.work ≡ all_work s.work → TableInvariantHolds b image plan s → TableInvariantHolds b image plan t
+unfolding view_of_table
+same_fine b image plan s t is work fine = subst (TableInvariantHolds b image plan) (sym is) (record {
   table = fine.table;
   listed = subst (λ (l : List ℕ). AllListed s.places l) (sym work) fine.listed;
   counted = fine.counted;
@@ -347,10 +347,10 @@ same_fine b image plan s t is work fine = subst (IsFine b image plan) (sym is) (
 })
 
 -- a place without work was taken off the list
-pub passed_over : (b : Limits) (image : ImageData) (plan : PlanData) (s t : made.Table) (x : Spot) (number : ℕ) → t ≡ (record s { work = t.work }) → Takes s.work t.work number → PlaceHasNumber s.places number x
-    → is_queued (mark_for s.places x) ≡ false → IsFine b image plan s → IsFine b image plan t
-unfolding seen
-passed_over b image plan s t x number is takes stands idle fine = subst (IsFine b image plan) (sym is) (record {
+pub passed_over : (b : Limits) (image : ImageData) (plan : PlanData) (s t : made.Table) (x : Spot) (number : ℕ) → t ≡ (record s { work = t.work }) → TakesPlace s.work t.work number → PlaceHasNumber s.places number x
+    → is_queued (mark_for s.places x) ≡ false → TableInvariantHolds b image plan s → TableInvariantHolds b image plan t
+unfolding view_of_table
+passed_over b image plan s t x number is takes stands idle fine = subst (TableInvariantHolds b image plan) (sym is) (record {
   table = fine.table;
   listed = record {
     listed = λ q at.
@@ -380,19 +380,19 @@ plain_marked true told e = told refl
 plain_marked false told e = (let no : Some Idle ≡ Some Plain = e in cc)
 
 -- what the point owes was joined, and it is idle now, unless it has new work
-pub ended : (b : Limits) (image : ImageData) (plan : PlanData) (laws : AreMakerLaws b image plan) (s m t : made.Table) (x : Spot) (plain : Bool) → (plain ≡ true → IsPlainIn image plan x) → t.readers ≡ m.readers
+pub ended : (b : Limits) (image : ImageData) (plan : PlanData) (laws : AreMakerLaws b image plan) (s m t : made.Table) (x : Spot) (plain : Bool) → (plain ≡ true → EntersNoFrameIn image plan x) → t.readers ≡ m.readers
     → t.points.items ≡ m.points.items → t.frames.items ≡ m.frames.items → t.covered ≡ m.covered → all_work t.work ≡ all_work m.work → MarksAs m.places t.places x (settled_mark plain (mark_for m.places x)) → IsVisitOpenAt s x
-    → VisitJoinsPoint b image plan s m x → IsFine b image plan t × NoVisitOpen t × LevelRises s t
+    → VisitJoinsDuties b image plan s m x → TableInvariantHolds b image plan t × NoVisitOpen t × LevelRises s t
 ended b image plan laws s m t x plain told readers points frames covered work marks opening paid = by_mark (is_queued (mark_for m.places x)) refl where
   higher : LevelRises s t
   higher = rises_then s m t (paid.keeps).rises (inr (same_level m t marks.values points frames, work))
 
-  by_mark : (e : Bool) → is_queued (mark_for m.places x) ≡ e → IsFine b image plan t × NoVisitOpen t × LevelRises s t
+  by_mark : (e : Bool) → is_queued (mark_for m.places x) ≡ e → TableInvariantHolds b image plan t × NoVisitOpen t × LevelRises s t
   by_mark true e =
       let at : mark_for m.places x ≡ Some Queued = queued_mark (mark_for m.places x) e in
       let same : (q : Spot) → mark_for t.places q ≡ mark_for m.places q =
       λ q. elim (sides (spot_eq x q) (Some (settled_mark plain (mark_for m.places x))) (mark_for m.places q) (mark_for t.places q) (marks.marks q)) [
-        | inl l ↦ l.1 ∙ ap (λ (o : Option Mark). Some (settled_mark plain o)) at ∙ sym at ∙ ap (mark_for m.places) (spot_tells x q l.0)
+        | inl l ↦ l.1 ∙ ap (λ (o : Option Mark). Some (settled_mark plain o)) at ∙ sym at ∙ ap (mark_for m.places) (equal_spots_are_same x q l.0)
         | inr r ↦ r.1
       ] in (
         again_fine b image plan laws m t x (settled_mark plain (mark_for m.places x)) marks readers points frames covered same work paid.fine,

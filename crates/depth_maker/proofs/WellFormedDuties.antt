@@ -18,8 +18,8 @@ use Rattle.value_domain.specs.Values.{IsValue, any_val, word_val}
 use Rattle.value_domain.specs.State.{AreValues, is_lower_slot}
 use Rattle.value_domain.proofs.RangeLaws.{any_value}
 use Rattle.vd_transfer.specs.Operations.{value_of}
-use Rattle.vd_transfer.specs.EffectsOnStates.{address_of, transfer_of, state_with_base, EffectHasRoom}
-use Rattle.vd_transfer.specs.Branches.{side_with_register, side_with_operands, state_on_side, with_lowered_counter, refine_of}
+use Rattle.vd_transfer.specs.EffectsOnStates.{address_of, transfer_of, state_with_increased_base, EffectHasRoom}
+use Rattle.vd_transfer.specs.Branches.{side_with_register, side_with_operands, state_on_side, with_decremented_counter, refine_of}
 use Rattle.vd_transfer.specs.Registers.{is_operand_register, set_arg, reg_of, arg_of, set_reg, slot}
 use Rattle.vd_transfer.specs.Soundness.{IsSoundSetting}
 use Rattle.vd_transfer.proofs.HoldLaws.{reg_value, arg_value, same_length, set_values_at}
@@ -35,7 +35,7 @@ use Rattle.cfg_recover.proofs.EntryLaws.{lower_length, entry_length, sys_length}
 use Rattle.depth_cert.proofs.ExitValues.{after-at, with_lower_length}
 use Rattle.cfg_recover.proofs.FlowStates.{entry_values}
 use Rattle.depth_maker.specs.DutiesMonotone.{IsGround}
-use Rattle.depth_maker.specs.WellFormedAssignments.{IsWellFormedDuty, DutiesAreWellFormed, AfterIsWellFormed}
+use Rattle.depth_maker.specs.WellFormedAssignments.{IsWellFormedDuty, DutiesAreWellFormed, ReturnStatesAreWellFormed}
 use Rattle.depth_cert.specs.WellFormed.{IsWellFormedState, IsWellFormedExit}
 use Rattle.depth_maker.proofs.StateGrowth.{covers_same, setting_write, set_locals}
 use Rattle.depth_maker.proofs.EffectGrowth.{base_setting, address_value, branch_grows, word_value}
@@ -53,13 +53,13 @@ module _ (b : Limits) (p : PlanData) (s : State) (h : IsSoundSetting b p s) wher
   unfolding transfer_of
   transfer_setting (Compute op dst x y) v is vv = setting_write b p s dst _ h (value_of_value b op (arg_of p s x) (arg_of p s y) h.limits (arg_value b p s x h is.1) (arg_value b p s y h is.2))
   transfer_setting (Scaled dst base index k) v is vv = setting_write b p s dst _ h (value_of_value b Add (reg_of p s base) (value_of b Sh (reg_of p s index) (word_val k)) h.limits (reg_value b p s base h) (value_of_value b Sh (reg_of p s index) (word_val k) h.limits (reg_value b p s index h) (word_value b k h.limits (omega (arith, is.3)))))
-  transfer_setting (Load dst base offset size signed after) v is vv = setting_write b p (state_with_base b p s base offset after) dst v (base_setting b p s base offset after h is.1 is.2) vv
+  transfer_setting (Load dst base offset size signed after) v is vv = setting_write b p (state_with_increased_base b p s base offset after) dst v (base_setting b p s base offset after h is.1 is.2) vv
   transfer_setting (Store src base offset size after) v is vv = base_setting b p s base offset after h is.1 is.2
   transfer_setting Rslcx v is vv = record { limits = h.limits; plan = h.plan; regs = length-forgotten 0 s.regs ∙ h.regs; values = forgotten_values b s.regs h.limits h.values }
   transfer_setting (Mfcr dst number) v is vv = setting_write b p s dst any_val h (any_value b h.limits)
   transfer_setting _ v is vv = same_setting _ refl
 
-  base_locals : (base : Arg) (offset : ℕ) (after : Bool) → (state_with_base b p s base offset after).locals.items ≡ s.locals.items
+  base_locals : (base : Arg) (offset : ℕ) (after : Bool) → (state_with_increased_base b p s base offset after).locals.items ≡ s.locals.items
   base_locals (Word w) offset after = refl
   base_locals (Reg r) offset false = refl
   base_locals (Reg r) offset true = set_locals s r _
@@ -68,7 +68,7 @@ module _ (b : Limits) (p : PlanData) (s : State) (h : IsSoundSetting b p s) wher
   unfolding transfer_of
   transfer_locals (Compute op dst x y) v room few = omega (arith, ap length (set_locals s dst (value_of b op (arg_of p s x) (arg_of p s y))), few)
   transfer_locals (Scaled dst base index k) v room few = omega (arith, ap length (set_locals s dst (value_of b Add (reg_of p s base) (value_of b Sh (reg_of p s index) (word_val k)))), few)
-  transfer_locals (Load dst base offset size signed after) v room few = omega (arith, ap length (set_locals (state_with_base b p s base offset after) dst v), ap length (base_locals base offset after), few)
+  transfer_locals (Load dst base offset size signed after) v room few = omega (arith, ap length (set_locals (state_with_increased_base b p s base offset after) dst v), ap length (base_locals base offset after), few)
   transfer_locals (Store src base offset size after) v room few = omega (arith, ap length (base_locals base offset after), few)
   transfer_locals Svlcx v room few = omega (arith, length-append s.locals.items (s.lower ∷ []), room)
   transfer_locals Rslcx v room few = omega (arith, length-take-le (length s.locals.items - 1) s.locals.items (omega arith), few)
@@ -94,7 +94,7 @@ two_locals s x y None w = tt
 two_locals s x y (Some v) None = tt
 two_locals s x y (Some v) (Some w) = arg_locals (set_reg s x v) y w ∙ set_locals s x v
 
-lowered_locals : (b : Limits) (p : PlanData) (s : State) (x : ℕ) (lowers : Bool) (o : Option State) → KeepsLocals s o → KeepsLocals s (with_lowered_counter b p x lowers o)
+lowered_locals : (b : Limits) (p : PlanData) (s : State) (x : ℕ) (lowers : Bool) (o : Option State) → KeepsLocals s o → KeepsLocals s (with_decremented_counter b p x lowers o)
 lowered_locals b p s x lowers None h = tt
 lowered_locals b p s x false (Some t) h = h
 lowered_locals b p s x true (Some t) h = set_locals t x _ ∙ h
@@ -120,7 +120,7 @@ lower_values_are b vs len values r lt =
 pub exit_well_formed : (b : Limits) (s : State) → IsWellFormedState b s → IsWellFormedExit b (exit_of s)
 exit_well_formed b s h = record { regs = lower_length s.regs h.regs; values = lower_values_are b s.regs h.regs h.values }
 
-pub after_well_formed : AfterIsWellFormed
+pub after_well_formed : ReturnStatesAreWellFormed
 after_well_formed b s x kind ps px = record {
   regs = with_lower_length x.lower s.regs ∙ ps.regs;
   values = λ r lt.

@@ -4,7 +4,7 @@ use Rattle.elf_image.specs.Images.{ImageData}
 use Rattle.tcd_plan.specs.PlanData.{PlanData}
 use Rattle.value_domain.specs.VersionLimits.{limits_for}
 use Rattle.cfg_recover.specs.CertRefusals.{IsRefusal, IsRefusalWith, IsRefusalFault}
-use Rattle.depth_maker.specs.LeastCertMade.{AreMade}
+use Rattle.depth_maker.specs.LeastCertMade.{AreLeastCertBytes}
 use Rattle.depth_maker.specs.declared.inputs_and_limits.Ground.{Ground}
 use Rattle.depth_maker.specs.declared.answering.MakeErr.{MakeErr}
 use Rattle.depth_maker.specs.declared.answering.MakeErr.TheVariants.{Refused, NoMemory}
@@ -23,34 +23,34 @@ NoneAccepted image plan version = (cert : CertData) → IsCert cert → cert.ver
 
 -- a refusal by the maker: it names a fault, or that too many areas are needed, and no certificate
 -- of the format is accepted
-abbrev pub IsRefused : ImageData → PlanData → ℕ → MakeErr → Type 0
-IsRefused image plan version (Refused rule key addr) = IsRefusal image plan version rule key addr × NoneAccepted image plan version
-IsRefused image plan version NoMemory = Unit {0}
+abbrev pub IsRightMakeErr : ImageData → PlanData → ℕ → MakeErr → Type 0
+IsRightMakeErr image plan version (Refused rule key addr) = IsRefusal image plan version rule key addr × NoneAccepted image plan version
+IsRightMakeErr image plan version NoMemory = Unit {0}
 
 -- ---- by the types of the code
 -- the ground of the maker's answer has the limits of this certificate format
-abbrev pub IsGroundOf : Ground → ℕ → Type 0
-IsGroundOf g version = g.bounds.now ≡ limits_for g.plan.now version
+abbrev pub HasLimitsOfFormat : Ground → ℕ → Type 0
+HasLimitsOfFormat g version = g.bounds.now ≡ limits_for g.plan.now version
 
 -- the refusal holds
-abbrev pub Refuses : Ground → MakeErr → Type 0
-Refuses g (Refused rule key addr) = IsRefusalWith g.bounds.now g.image.now g.plan.now rule key addr
-Refuses g NoMemory = Unit {0}
+abbrev pub MakeErrHolds : Ground → MakeErr → Type 0
+MakeErrHolds g (Refused rule key addr) = IsRefusalWith g.bounds.now g.image.now g.plan.now rule key addr
+MakeErrHolds g NoMemory = Unit {0}
 
 -- what the maker returns for its image and plan is right: the bytes spell the least certificate of
 -- this format
-abbrev pub AreMadeOn : Ground → ℕ → List ℕ → Type 0
-AreMadeOn g version bytes = AreMade g.image.now g.plan.now version bytes
+abbrev pub AreLeastCertBytesOn : Ground → ℕ → List ℕ → Type 0
+AreLeastCertBytesOn g version bytes = AreLeastCertBytes g.image.now g.plan.now version bytes
 
 -- the refusal holds, and no certificate of the format is accepted
-abbrev pub IsRefusedOn : Ground → ℕ → MakeErr → Type 0
-IsRefusedOn g version e = IsRefused g.image.now g.plan.now version e
+abbrev pub IsRightMakeErrOn : Ground → ℕ → MakeErr → Type 0
+IsRightMakeErrOn g version e = IsRightMakeErr g.image.now g.plan.now version e
 
 -- the fault holds
-abbrev pub Answered : Limits → ImageData → PlanData → Refusal → Type 0
-Answered b image plan (refusal.Fault rule x) = (k : Key) × (p : ℕ) × (place_of_spot x ≡ point k p) × IsRefusalFault b image plan rule k p
-Answered b image plan refusal.NoMemory = Unit {0}
+abbrev pub RefusalNamesFault : Limits → ImageData → PlanData → Refusal → Type 0
+RefusalNamesFault b image plan (refusal.Fault rule x) = (k : Key) × (p : ℕ) × (place_of_spot x ≡ point k p) × IsRefusalFault b image plan rule k p
+RefusalNamesFault b image plan refusal.NoMemory = Unit {0}
 
 -- the fault holds
 abbrev pub RefusalIsRight : Ground → Refusal → Type 0
-RefusalIsRight g e = Answered g.bounds.now g.image.now g.plan.now e
+RefusalIsRight g e = RefusalNamesFault g.bounds.now g.image.now g.plan.now e

@@ -6,7 +6,7 @@ use Rattle.depth_cert.specs.declared.keys.Key.{Key}
 use Rattle.depth_cert.specs.Known.{Known}
 use Rattle.depth_cert.specs.WellFormed.{IsWellFormedKnown}
 use Rattle.cfg_recover.specs.Assignments.{Assignment, CoversAt, point}
-use Rattle.depth_maker.specs.InterruptHandlers.{ContextsEntered}
+use Rattle.depth_maker.specs.InterruptHandlers.{AreContextsCovered}
 use Rattle.depth_maker.specs.declared.covered.CoveredEntries.{CoveredEntries}
 use Rattle.depth_maker.specs.declared.last_call.LastCall.{LastCall}
 use Rattle.depth_cert.specs.Keys.{call_kind}
@@ -32,5 +32,5 @@ abbrev pub AreLastCallsCovered : Limits → Assignment → List LastCall → Typ
 AreLastCallsCovered b a calls = (h : LastCall) → Contains calls h → AreCallsCovered b a h
 
 -- what was asked for last is covered
-abbrev pub EntriesCovered : Limits → PlanData → Assignment → CoveredEntries → Type 0
-EntriesCovered b plan a covered = ContextsEntered b plan a covered.interrupts × AreLastCallsCovered b a covered.calls.items
+abbrev pub AreNotedEntriesCovered : Limits → PlanData → Assignment → CoveredEntries → Type 0
+AreNotedEntriesCovered b plan a covered = AreContextsCovered b plan a covered.interrupts × AreLastCallsCovered b a covered.calls.items

@@ -54,8 +54,8 @@ pub record IsGround (b : Limits) (image : ImageData) (plan : PlanData) : Type 0 
   pub is_image : IsImage image
 
 -- a point without a fault of its own has none with a smaller state
-abbrev pub FaultsFall : Type 0
-FaultsFall =
+abbrev pub FaultsMonotone : Type 0
+FaultsMonotone =
     (b : Limits) (image : ImageData) (plan : PlanData) (key : Key) (p : ℕ) (s t : State) → IsGround b image plan → IsWellFormedState b s → IsWellFormedState b t → Covers t s
     → IsFaultless b image plan key p t → IsFaultless b image plan key p s
 
@@ -67,8 +67,8 @@ DutiesMonotone =
     → Contains (duties_of b image plan key p s shape n) d → (e : Owed) × Contains (duties_of b image plan key p t shape n) e × IsOwedBelow d e
 
 -- the state after a return grows with the caller's and the exit
-abbrev pub AfterMonotone : Type 0
-AfterMonotone =
+abbrev pub ReturnStatesMonotone : Type 0
+ReturnStatesMonotone =
     (b : Limits) (s t : State) (x y : Exit) (kind : ℕ) → IsWellFormedState b s → IsWellFormedState b t → IsWellFormedExit b x → IsWellFormedExit b y → Covers t s → ExitCovers y x
     → Covers (state_after_exit t y kind) (state_after_exit s x kind)
 

@@ -11,16 +11,16 @@ use Rattle.elf_image.specs.Images.{ImageData}
 use Rattle.tc_isa.specs.InBounds.{IsShape}
 use Rattle.frame_places.specs.declared.places.Spot.{Spot}
 use Rattle.frame_places.specs.declared.places.Spot.TheVariants.{Point, Exit}
-use Rattle.cfg_recover.specs.Duties.{entries_of, misaligned_of, entered_in}
+use Rattle.cfg_recover.specs.Duties.{entry_duties_of, misaligned_duties_of, entered_keys}
 
 -- an instruction of this shape enters no frame by itself if none of its accesses breaks K10;
 -- interrupts may be taken
 abbrev pub EntersNoFrame : PlanData → Shape → Type 0
 EntersNoFrame plan shape =
-    (b : Limits) (k : Key) (p : ℕ) (u : State) (n : ℕ) → LocalRule b plan k p u shape 10 → (entered_in (entries_of plan k p u shape n) ≡ []) × (entered_in (misaligned_of b plan k u shape) ≡ [])
+    (b : Limits) (k : Key) (p : ℕ) (u : State) (n : ℕ) → LocalRule b plan k p u shape 10 → (entered_keys (entry_duties_of plan k p u shape n) ≡ []) × (entered_keys (misaligned_duties_of b plan k u shape) ≡ [])
 
 -- the duties of the instruction at this address enter no frames, except by interrupts
-pub record IsPlainAt (image : ImageData) (plan : PlanData) (p : ℕ) : Type 0 where
+pub record EntersNoFrameAt (image : ImageData) (plan : PlanData) (p : ℕ) : Type 0 where
   pub shape : Shape
   pub size : ℕ
   pub code : IsCode image plan p shape size
@@ -29,6 +29,6 @@ pub record IsPlainAt (image : ImageData) (plan : PlanData) (p : ℕ) : Type 0 wh
 
 -- the instruction at a place enters no frame, except by interrupts; a frame's exit has no
 -- instruction
-abbrev pub IsPlainIn : ImageData → PlanData → Spot → Type 0
-IsPlainIn image plan (Point k p) = IsPlainAt image plan p
-IsPlainIn image plan (Exit k) = Unit {0}
+abbrev pub EntersNoFrameIn : ImageData → PlanData → Spot → Type 0
+EntersNoFrameIn image plan (Point k p) = EntersNoFrameAt image plan p
+EntersNoFrameIn image plan (Exit k) = Unit {0}

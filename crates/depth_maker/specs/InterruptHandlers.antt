@@ -25,24 +25,24 @@ context_stack plan h = if h.is then h.sp else word_val plan.isp
 
 -- the interrupt handler of priority p has its entry covered in the assignment, as it is entered
 -- from the noted context
-pub record IsHandlerEntered (b : Limits) (plan : PlanData) (a : Assignment) (h : InterruptContext) (p : ℕ) : Type 0 where
+pub record IsHandlerCovered (b : Limits) (plan : PlanData) (a : Assignment) (h : InterruptContext) (p : ℕ) : Type 0 where
   pub well_formed : IsWellFormedState b (entry_state_with (context_stack plan h) false p true)
   pub covers : CoversAt a (point (irq_key plan p) (irq_key plan p).entry) (state (entry_state_with (context_stack plan h) false p true))
 
 -- all interrupt handlers above the noted context's priority have their entries covered in the
 -- assignment
-pub record AreHandlersEntered (b : Limits) (plan : PlanData) (a : Assignment) (h : InterruptContext) : Type 0 where
+pub record AreHandlersCovered (b : Limits) (plan : PlanData) (a : Assignment) (h : InterruptContext) : Type 0 where
   pub stack : IsValue b h.sp
-  pub each : (p : ℕ) → Contains plan.irqs p → h.ccpn < p → IsHandlerEntered b plan a h p
+  pub each : (p : ℕ) → Contains plan.irqs p → h.ccpn < p → IsHandlerCovered b plan a h p
 
 -- the entries are covered in a context, if there is one
-abbrev pub IsContextEntered : Limits → PlanData → Assignment → Option InterruptContext → Type 0
-IsContextEntered b plan a interrupts = IfSome interrupts (AreHandlersEntered b plan a)
+abbrev pub IsContextCovered : Limits → PlanData → Assignment → Option InterruptContext → Type 0
+IsContextCovered b plan a interrupts = IfSome interrupts (AreHandlersCovered b plan a)
 
 -- the entries of the interrupt handlers are covered in the last two contexts that the maker's table
 -- notes
-abbrev pub ContextsEntered : Limits → PlanData → Assignment → LastInterrupts → Type 0
-ContextsEntered b plan a interrupts = IsContextEntered b plan a interrupts.last × IsContextEntered b plan a interrupts.before
+abbrev pub AreContextsCovered : Limits → PlanData → Assignment → LastInterrupts → Type 0
+AreContextsCovered b plan a interrupts = IsContextCovered b plan a interrupts.last × IsContextCovered b plan a interrupts.before
 
 -- the context of a frame with this state, which runs on the interrupt stack or on another
 pub record IsContextOf (h : InterruptContext) (inner : Bool) (s : State) : Type 0 where
@@ -51,7 +51,7 @@ pub record IsContextOf (h : InterruptContext) (inner : Bool) (s : State) : Type 
   pub ccpn : h.ccpn ≡ s.ccpn
 
 -- the context of a frame with this state differs from another at most in A10
-pub record IsAlike (h : InterruptContext) (inner : Bool) (s : State) : Type 0 where
+pub record IsEqualExceptStack (h : InterruptContext) (inner : Bool) (s : State) : Type 0 where
   pub same : h.is ≡ inner
   pub ccpn : h.ccpn ≡ s.ccpn
 
@@ -74,13 +74,13 @@ pub record AreHandlers (plan : PlanData) (frames : List Key) (irqs : List ℕ) (
 
 -- the numbers of the frames of interrupt handlers in the maker's list whose priority is above this
 -- one
-abbrev pub nodes_above : ℕ → List Handler → List ℕ
-nodes_above m handlers = map (λ h. h.node) (filter (λ h. nat_lt m h.prio) handlers)
+abbrev pub handler_nodes_above : ℕ → List Handler → List ℕ
+handler_nodes_above m handlers = map (λ h. h.node) (filter (λ h. nat_lt m h.prio) handlers)
 
 -- the numbers of the frames of the interrupt handlers that may be entered: those above a priority,
 -- or none if IE is off
-abbrev pub nodes_taken : Bool → ℕ → List Handler → List ℕ
-nodes_taken ie m handlers = if ie then nodes_above m handlers else []
+abbrev pub taken_handlers : Bool → ℕ → List Handler → List ℕ
+taken_handlers ie m handlers = if ie then handler_nodes_above m handlers else []
 
 -- frames by their numbers, and the handlers of all stated interrupts with theirs
 pub record AreNumberedHandlers {S : Type 0} (plan : PlanData) (numbers : IndexMap Key ℕ S) (handlers : List Handler) (frames : List Key) : Type 0 where
@@ -89,7 +89,7 @@ pub record AreNumberedHandlers {S : Type 0} (plan : PlanData) (numbers : IndexMa
 
 -- the last context of interrupts in the table covers the entries of the interrupt handlers for each
 -- frame with this CCPN, on this stack
-pub record HasNotedInterrupts (t : made.Table) (is : Bool) (ccpn : ℕ) : Type 0 where
+pub record AreInterruptsCoveredAt (t : made.Table) (is : Bool) (ccpn : ℕ) : Type 0 where
   pub context : InterruptContext
   pub last : (t.covered).interrupts.last ≡ Some context
   pub within : (s : State) → s.ccpn ≡ ccpn → IsWithinContext context is s

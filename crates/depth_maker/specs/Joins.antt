@@ -7,12 +7,12 @@ use Rattle.value_domain.specs.declared.states.State.{State}
 use Rattle.value_domain.specs.Limits.{Limits}
 use Rattle.depth_cert.specs.declared.keys.Key.{Key}
 use Rattle.cfg_recover.specs.Duties.{Duty}
-use Rattle.cfg_recover.specs.Assignments.{point, CoversAt, Asks, raised_at_place, Place, same_place}
+use Rattle.cfg_recover.specs.Assignments.{point, CoversAt, AsksFor, raised_at_place, Place, is_same_place}
 use Rattle.depth_cert.specs.Known.{Known, CoversKnown}
 use Rattle.depth_cert.specs.WellFormed.{IsWellFormedState}
 use Rattle.depth_maker.specs.WellFormedAssignments.{IsWellFormedDuty}
-use Rattle.depth_maker.specs.TableView.{seen, TableView}
-use Rattle.depth_maker.specs.TableInvariant.{Settled, TableHolds, IsFine}
+use Rattle.depth_maker.specs.TableView.{view_of_table, TableView}
+use Rattle.depth_maker.specs.TableInvariant.{IsDutySettled, TableInvariantHoldsOn, TableInvariantHolds}
 use Rattle.frame_places.specs.declared.places.Spot.{Spot}
 use Rattle.frame_places.specs.declared.refusals.Refusal.{Refusal}
 use Rattle.frame_places.specs.Spots.{spot_eq}
@@ -21,14 +21,14 @@ use Rattle.frame_places.specs.Counting.{counted_frames_after, counted_points_aft
 use Rattle.frame_places.specs.Marks.{is_queued, mark_for, value_for, AllListed, PutsPlaceValue, IsAmongReaders}
 use Rattle.frame_places.specs.Numbers.{KeepsNumbers, PlaceHasNumber}
 use Rattle.frame_places.specs.Work.{all_work}
-use Rattle.depth_maker.specs.AssignmentCounts.{AreFew}
+use Rattle.depth_maker.specs.AssignmentCounts.{AreFewEnough}
 use Rattle.depth_maker.specs.TableLevels.{LevelRises}
 use Rattle.depth_maker.specs.declared.inputs_and_limits.Ground.{Ground}
 use Rattle.depth_maker.specs.declared.table.Table as made
 use Rattle.depth_maker.specs.Answers.{RefusalIsRight}
 
 -- v, which wasn't covered, was joined at y alone: y is queued now, and counted
-pub record JoinedAlone (b : Limits) (s t : made.Table) (y : Spot) (v : Known) : Type 0 where
+pub record IsJoinedAlone (b : Limits) (s t : made.Table) (y : Spot) (v : Known) : Type 0 where
   pub known : Known
   pub raises : raised_at_place b (value_for s.places y) v ≡ Some known
   pub new : (w : Known) → value_for s.places y ≡ Some w → CoversKnown w v → ⊥
@@ -39,7 +39,7 @@ pub record JoinedAlone (b : Limits) (s t : made.Table) (y : Spot) (v : Known) : 
   pub covered : t.covered ≡ s.covered
   pub points : t.points.items ≡ counted_points_after (is_some (value_for s.places y)) s.points.items y
   pub frames : t.frames.items ≡ counted_frames_after (is_some (value_for s.places y)) s.frames.items y
-  pub few : AreFew (map place_of_spot t.points.items) t.frames.items
+  pub few : AreFewEnough (map place_of_spot t.points.items) t.frames.items
 
 -- a join keeps places without new work as they are
 pub record JoinKeeps (b : Limits) (image : ImageData) (plan : PlanData) (s t : made.Table) : Type 0 where
@@ -51,54 +51,54 @@ pub record JoinKeeps (b : Limits) (image : ImageData) (plan : PlanData) (s t : m
       (z x : Spot) → IsAmongReaders (get spot_eq s.readers z) x → is_queued (mark_for t.places x) ≡ false → value_for t.places z ≡ value_for s.places z
   pub settled :
       (k : Key) (p : ℕ) (u : State) (d : Duty) → is_queued (mark_for t.places (spot_of (point k p))) ≡ false → IsWellFormedState b u → IsWellFormedDuty b d
-      → Settled (seen s) k p u d → Settled (seen t) k p u d
+      → IsDutySettled (view_of_table s) k p u d → IsDutySettled (view_of_table t) k p u d
   pub rises : LevelRises s t
   pub near : t.near ≡ s.near
   pub numbers : KeepsNumbers s.places t.places
 
 -- v was joined at y
-pub record Joined (b : Limits) (image : ImageData) (plan : PlanData) (s t : made.Table) (y : Spot) (v : Known) : Type 0 where
-  pub fine : IsFine b image plan t
-  pub covers : CoversAt (seen t).cells (place_of_spot y) v
+pub record IsJoinedAt (b : Limits) (image : ImageData) (plan : PlanData) (s t : made.Table) (y : Spot) (v : Known) : Type 0 where
+  pub fine : TableInvariantHolds b image plan t
+  pub covers : CoversAt (view_of_table t).cells (place_of_spot y) v
   pub keeps : JoinKeeps b image plan s t
 
 -- nothing was joined: at most there is more room for places
-pub record IsLeft (g : Ground) (s t : made.Table) : Type 0 where
-  pub fine : TableHolds g t
+pub record JoinsNothing (g : Ground) (s t : made.Table) : Type 0 where
+  pub fine : TableInvariantHoldsOn g t
   pub keeps : JoinKeeps g.bounds.now g.image.now g.plan.now s t
   pub entries : t.places.entries ≡ s.places.entries
   pub rest : t ≡ record s { places = t.places }
 
 -- what a join is asked for: v flows into y from some point of the maker's table
-abbrev pub AsksOn : Ground → made.Table → Spot → Known → Type 0
-AsksOn g t y v = Asks g.bounds.now g.image.now g.plan.now (seen t).cells (place_of_spot y) v
+abbrev pub FlowsInto : Ground → made.Table → Spot → Known → Type 0
+FlowsInto g t y v = AsksFor g.bounds.now g.image.now g.plan.now (view_of_table t).cells (place_of_spot y) v
 
 -- v was joined at y alone
-abbrev pub JoinedAloneOn : Ground → made.Table → made.Table → Spot → Known → Type 0
-JoinedAloneOn g s t y v = JoinedAlone g.bounds.now s t y v
+abbrev pub IsJoinedAloneOn : Ground → made.Table → made.Table → Spot → Known → Type 0
+IsJoinedAloneOn g s t y v = IsJoinedAlone g.bounds.now s t y v
 
 -- v was joined at y alone; or y has this number already, and nothing was joined; or the refusal
 -- holds
-abbrev pub AddsOn : Ground → made.Table → made.Table → Spot → Known → Result (Option ℕ) Refusal → Type 0
-AddsOn g s t y v (Ok None) = JoinedAloneOn g s t y v
-AddsOn g s t y v (Ok (Some number)) = PlaceHasNumber t.places number y × IsLeft g s t
-AddsOn g s t y v (Err e) = RefusalIsRight g e
+abbrev pub AddsJoinedPlace : Ground → made.Table → made.Table → Spot → Known → Result (Option ℕ) Refusal → Type 0
+AddsJoinedPlace g s t y v (Ok None) = IsJoinedAloneOn g s t y v
+AddsJoinedPlace g s t y v (Ok (Some number)) = PlaceHasNumber t.places number y × JoinsNothing g s t
+AddsJoinedPlace g s t y v (Err e) = RefusalIsRight g e
 
 -- v was joined at y: alone if the result is true; otherwise it was covered already, or more places
 -- rose
-abbrev pub JoinsOn : Ground → made.Table → made.Table → Spot → Known → Result Bool Refusal → Type 0
-JoinsOn g s t y v (Ok true) = JoinedAloneOn g s t y v
-JoinsOn g s t y v (Ok false) = Joined g.bounds.now g.image.now g.plan.now s t y v
-JoinsOn g s t y v (Err e) = RefusalIsRight g e
+abbrev pub JoinsWithoutReaders : Ground → made.Table → made.Table → Spot → Known → Result Bool Refusal → Type 0
+JoinsWithoutReaders g s t y v (Ok true) = IsJoinedAloneOn g s t y v
+JoinsWithoutReaders g s t y v (Ok false) = IsJoinedAt g.bounds.now g.image.now g.plan.now s t y v
+JoinsWithoutReaders g s t y v (Err e) = RefusalIsRight g e
 
 -- v was joined at y
-abbrev pub JoinedOn : Ground → made.Table → made.Table → Spot → Known → Type 0
-JoinedOn g s t y v = Joined g.bounds.now g.image.now g.plan.now s t y v
+abbrev pub JoinsAtPlace : Ground → made.Table → made.Table → Spot → Known → Type 0
+JoinsAtPlace g s t y v = IsJoinedAt g.bounds.now g.image.now g.plan.now s t y v
 
 -- what a join at y does to the maker's marks: y and its readers are queued, each other place is
 -- queued or keeps its marks, and all but the readers of y stay readers
-pub record Marks (a b : TableView) (y : Place) : Type 0 where
+pub record QueuesPlaceAndReaders (a b : TableView) (y : Place) : Type 0 where
   pub each :
       (q : Place) → ((b.queued q ≡ true) × (b.idle q ≡ false))
-      ⊎ ((b.idle q ≡ a.idle q) × (b.queued q ≡ a.queued q) × (same_place q y ≡ false) × (a.reads y q → ⊥))
+      ⊎ ((b.idle q ≡ a.idle q) × (b.queued q ≡ a.queued q) × (is_same_place q y ≡ false) × (a.reads y q → ⊥))
   pub reads : (z x : Place) → a.reads z x → (a.reads y x → ⊥) → b.reads z x

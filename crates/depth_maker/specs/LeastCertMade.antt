@@ -15,7 +15,7 @@ use Rattle.depth_cert.specs.Nodes.{NodeData, need_of}
 use Rattle.depth_cert.specs.Certs.{CertData, IsCert}
 use Rattle.cfg_recover.specs.Entries.{start_key}
 use Rattle.cfg_recover.specs.RulesHoldOrFail.{Accepts}
-use Rattle.depth_cert.specs.Keys.{same_key}
+use Rattle.depth_cert.specs.Keys.{is_same_key}
 use Rattle.cfg_recover.specs.Assignments.{Derived, Closed, IsBelowAt, known_in, point, exit, AllFaultless, Assignment}
 use Rattle.cfg_recover.specs.CertRefusals.{IsLeastAssignment, MeetsNeeds}
 use Rattle.depth_cert.specs.Spelling.{bytes_of_cert}
@@ -24,7 +24,7 @@ use Rattle.value_domain.specs.Limits.{Limits}
 -- the needs that a certificate states for its frames, which are the least in the least certificate;
 -- a frame without a node needs nothing
 abbrev pub needs_in : CertData → Key → ℕ
-needs_in cert k = need_of (find (λ n. same_key n.key k) cert.nodes)
+needs_in cert k = need_of (find (λ n. is_same_key n.key k) cert.nodes)
 
 -- the least certificate is no worse than another one: the other covers what it says, and has no
 -- lesser need of a frame
@@ -54,7 +54,7 @@ pub record IsLeastAccepted (image : ImageData) (plan : PlanData) (version : ℕ)
   pub accepts : Accepts image plan cert
   pub frames :
       (other : CertData) (k : Key) → IsCert other → other.version ≡ version → Accepts image plan other
-      → need_of (find (λ n. same_key n.key k) cert.nodes) ≤ need_of (find (λ n. same_key n.key k) other.nodes)
+      → need_of (find (λ n. is_same_key n.key k) cert.nodes) ≤ need_of (find (λ n. is_same_key n.key k) other.nodes)
   pub points :
       (other : CertData) (k : Key) (p : ℕ) (s : State) → IsCert other → other.version ≡ version → Accepts image plan other
       → known_in cert (point k p) ≡ Some (state s) → (t : State) × (known_in other (point k p) ≡ Some (state t)) × Covers t s
@@ -63,7 +63,7 @@ pub record IsLeastAccepted (image : ImageData) (plan : PlanData) (version : ℕ)
       → known_in cert (exit k) ≡ Some (leaving x) → (y : Exit) × (known_in other (exit k) ≡ Some (leaving y)) × ExitCovers y x
 
 -- what the maker shows of the certificate that it writes
-pub record IsWritten (image : ImageData) (plan : PlanData) (version : ℕ) (cert : CertData) : Type 0 where
+pub record IsLeastClosedCert (image : ImageData) (plan : PlanData) (version : ℕ) (cert : CertData) : Type 0 where
   pub is_cert : IsCert cert
   pub of_version : cert.version ≡ version
   pub entries : (n : NodeData) → Contains cert.nodes n → IsSome (find_point (n.key).entry n.points)
@@ -74,7 +74,7 @@ pub record IsWritten (image : ImageData) (plan : PlanData) (version : ℕ) (cert
   pub start : needs_in cert (start_key image plan) ≤ plan.areas - plan.reserve
 
 -- the bytes spell the least certificate, which is to be made
-pub record AreMade (image : ImageData) (plan : PlanData) (version : ℕ) (bytes : List ℕ) : Type 0 where
+pub record AreLeastCertBytes (image : ImageData) (plan : PlanData) (version : ℕ) (bytes : List ℕ) : Type 0 where
   pub cert : CertData
   pub spell : bytes ≡ bytes_of_cert cert
   pub is_cert : IsCert cert

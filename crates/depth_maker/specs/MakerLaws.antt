@@ -24,9 +24,9 @@ use Rattle.cfg_recover.specs.Duties.{Owed, duties_of}
 use Rattle.depth_cert.specs.Known.{Known, CoversKnown, joined_known}
 use Rattle.depth_cert.specs.WellFormed.{IsWellFormedState, IsWellFormedExit, IsWellFormedKnown}
 use Rattle.depth_maker.specs.declared.answering.MakeErr.TheVariants.{Refused}
-use Rattle.depth_maker.specs.Answers.{IsRefused, NoneAccepted}
+use Rattle.depth_maker.specs.Answers.{IsRightMakeErr, NoneAccepted}
 use Rattle.value_domain.specs.VersionLimits.{limits_for}
-use Rattle.depth_maker.specs.LeastCertMade.{IsMade, IsWritten, IsLeastAccepted}
+use Rattle.depth_maker.specs.LeastCertMade.{IsMade, IsLeastClosedCert, IsLeastAccepted}
 
 -- law of the maker: every derived assignment is below every closed one without faults of its own
 abbrev pub DerivedIsBelow : Type 0
@@ -98,18 +98,18 @@ pub record AreMakerLaws (b : Limits) (image : ImageData) (plan : PlanData) : Typ
 -- law of the maker: if it refuses at a place, each certificate of the format is refused
 abbrev pub RefusalsHold : Type 0
 RefusalsHold =
-    (image : ImageData) (plan : PlanData) (version rule : ℕ) (key : Key) (addr : ℕ) (cert : CertData) → IsRefused image plan version (Refused rule key addr)
+    (image : ImageData) (plan : PlanData) (version rule : ℕ) (key : Key) (addr : ℕ) (cert : CertData) → IsRightMakeErr image plan version (Refused rule key addr)
     → IsCert cert → cert.version ≡ version → Accepts image plan cert → ⊥
 
 -- law of the maker: the certificate that it writes is the one that is to be made
-abbrev pub WrittenIsMade : Type 0
-WrittenIsMade =
+abbrev pub LeastClosedCertIsMade : Type 0
+LeastClosedCertIsMade =
     (image : ImageData) (plan : PlanData) (version : ℕ) (cert : CertData) → IsGround (limits_for plan version) image plan → image.entry < 2 ^ 32
-    → IsWritten image plan version cert → IsMade image plan version cert
+    → IsLeastClosedCert image plan version cert → IsMade image plan version cert
 
 -- law of the maker: if one of its refusals holds, no certificate of the format is accepted
-abbrev pub RefusedIsNone : Type 0
-RefusedIsNone =
+abbrev pub RefusalMeansNoneAccepted : Type 0
+RefusalMeansNoneAccepted =
     (image : ImageData) (plan : PlanData) (version r : ℕ) (k : Key) (p : ℕ) → IsGround (limits_for plan version) image plan → image.entry < 2 ^ 32
     → IsRefusal image plan version r k p → NoneAccepted image plan version
 

@@ -8,7 +8,7 @@ use Rattle.cfg_recover.specs.Assignments.{EntersInAssignment}
 use Rattle.frame_places.specs.Numbers.{frame_number_in}
 use Rattle.frame_places.specs.NodeGraph.{AreEdges, IsNodeMarked}
 use Rattle.depth_maker.specs.Rows.{RowsOn}
-use Rattle.depth_maker.specs.TableView.{seen}
+use Rattle.depth_maker.specs.TableView.{view_of_table}
 use Rattle.frame_places.specs.declared.places.Spot.{Spot}
 use Rattle.frame_places.specs.declared.places.Spot.TheVariants.{Point}
 use Rattle.frame_places.specs.declared.needs.reach.FrameEdge.{FrameEdge}
@@ -17,42 +17,42 @@ use Rattle.depth_maker.specs.declared.rows.Source.{Source}
 
 -- the point p of the frame k enters t
 abbrev pub RecursionEnters : Source → Key → ℕ → State → Key → Type 0
-RecursionEnters s k p u t = EntersInAssignment (s.ground.now).bounds.now (s.ground.now).image.now (s.ground.now).plan.now (seen s.table.now).cells k p u t
+RecursionEnters s k p u t = EntersInAssignment (s.ground.now).bounds.now (s.ground.now).image.now (s.ground.now).plan.now (view_of_table s.table.now).cells k p u t
 
 -- it enters a frame from which its own is reached
-abbrev pub RecursBy : Source → Key → ℕ → Type 0
-RecursBy s k p = Recurs (s.ground.now).bounds.now (s.ground.now).image.now (s.ground.now).plan.now (seen s.table.now).cells k p
+abbrev pub RecursAt : Source → Key → ℕ → Type 0
+RecursAt s k p = Recurs (s.ground.now).bounds.now (s.ground.now).image.now (s.ground.now).plan.now (view_of_table s.table.now).cells k p
 
 -- it is the first point that does
-abbrev pub RecursFirstBy : Source → Key → ℕ → Type 0
-RecursFirstBy s k p = IsRefusedRecursion (s.ground.now).bounds.now (s.ground.now).image.now (s.ground.now).plan.now (seen s.table.now).cells k p
+abbrev pub RecursFirstAt : Source → Key → ℕ → Type 0
+RecursFirstAt s k p = IsRefusedRecursion (s.ground.now).bounds.now (s.ground.now).image.now (s.ground.now).plan.now (view_of_table s.table.now).cells k p
 
 -- the first recursive point, or that there is none
-abbrev pub IsRecursion : Source → Option (Key × ℕ) → Type 0
-IsRecursion s None = (k : Key) (p : ℕ) → RecursBy s k p → ⊥
-IsRecursion s (Some x) = RecursFirstBy s x.0 x.1
+abbrev pub IsFirstRecursion : Source → Option (Key × ℕ) → Type 0
+IsFirstRecursion s None = (k : Key) (p : ℕ) → RecursAt s k p → ⊥
+IsFirstRecursion s (Some x) = RecursFirstAt s x.0 x.1
 
 -- the edges of the frames, by their numbers
-abbrev pub RecursionEdgesOn : Source → List FrameEdge → Type 0
-RecursionEdgesOn s edges = (rows : List NeedRow) × RowsOn s.ground.now s.table.now rows × AreEdges rows edges
+abbrev pub AreTableEdges : Source → List FrameEdge → Type 0
+AreTableEdges s edges = (rows : List NeedRow) × RowsOn s.ground.now s.table.now rows × AreEdges rows edges
 
 -- the numbers that order the frames
 abbrev pub recursion_orders_in : Source → List ℕ
 recursion_orders_in s = map number_of_key (s.table.now).frames.items
 
 -- the point p of the frame k enters a marked frame
-pub record IsRecursiveByMarks (s : Source) (marks : List Bool) (k : Key) (p : ℕ) : Type 0 where
+pub record EntersMarkedFrame (s : Source) (marks : List Bool) (k : Key) (p : ℕ) : Type 0 where
   pub before : State
   pub next : Key
   pub enters : RecursionEnters s k p before next
   pub marked : IsNodeMarked marks (frame_number_in (s.table.now).frames.items next)
 
 -- the first address of the frame k among these places at which a marked frame is entered
-abbrev pub IsFirstRecursive : Source → List Bool → Key → List Spot → Option ℕ → Type 0
-IsFirstRecursive s marks k ys None = (p : ℕ) → Contains ys (Point k p) → IsRecursiveByMarks s marks k p → ⊥
-IsFirstRecursive s marks k ys (Some p) = IsRecursiveByMarks s marks k p × ((q : ℕ) → Contains ys (Point k q) → IsRecursiveByMarks s marks k q → p ≤ q)
+abbrev pub IsFirstRecursiveAddress : Source → List Bool → Key → List Spot → Option ℕ → Type 0
+IsFirstRecursiveAddress s marks k ys None = (p : ℕ) → Contains ys (Point k p) → EntersMarkedFrame s marks k p → ⊥
+IsFirstRecursiveAddress s marks k ys (Some p) = EntersMarkedFrame s marks k p × ((q : ℕ) → Contains ys (Point k q) → EntersMarkedFrame s marks k q → p ≤ q)
 
 -- if `old` is the first among some places, `new` is it among these and one more
-abbrev pub IsFirstRecursiveWith : Source → List Bool → Key → Spot → Option ℕ → Option ℕ → Type 0
-IsFirstRecursiveWith s marks k y old new =
-    (ys : List Spot) → IsFirstRecursive s marks k ys old → IsFirstRecursive s marks k (ys ++ y ∷ []) new
+abbrev pub IsFirstRecursiveAddressWith : Source → List Bool → Key → Spot → Option ℕ → Option ℕ → Type 0
+IsFirstRecursiveAddressWith s marks k y old new =
+    (ys : List Spot) → IsFirstRecursiveAddress s marks k ys old → IsFirstRecursiveAddress s marks k (ys ++ y ∷ []) new

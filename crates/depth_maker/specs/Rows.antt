@@ -9,12 +9,12 @@ use Rattle.cfg_recover.specs.Assignments.{point, Assignment}
 use Rattle.depth_cert.specs.Known.{Known, state}
 use Rattle.small_states.specs.CompactForms.{IsOutline}
 use Rattle.small_states.specs.declared.known.Outline.{Outline}
-use Rattle.depth_maker.specs.InterruptHandlers.{AreHandlers, nodes_taken}
+use Rattle.depth_maker.specs.InterruptHandlers.{AreHandlers, taken_handlers}
 use Rattle.frame_places.specs.Numbers.{AreFrameNumbers, frame_number_in}
 use Rattle.frame_places.specs.Spots.{spot_eq}
-use Rattle.depth_maker.specs.TableInvariant.{IsDone}
-use Rattle.depth_maker.specs.TableView.{seen}
-use Rattle.depth_maker.specs.VisitDuties.{OwesDutiesOf, duties_by}
+use Rattle.depth_maker.specs.TableInvariant.{IsLeastClosedTable}
+use Rattle.depth_maker.specs.TableView.{view_of_table}
+use Rattle.depth_maker.specs.VisitDuties.{OwesDutiesOf, visit_duties}
 use Rattle.depth_maker.specs.declared.inputs_and_limits.Ground.{Ground}
 use Rattle.depth_maker.specs.declared.inputs_and_limits.Visit.{Visit}
 use Rattle.frame_places.specs.declared.places.Spot.TheVariants.{Point}
@@ -28,16 +28,16 @@ use Rattle.depth_maker.specs.declared.table.Table as made
 use Rattle.elf_image.specs.Images.{ImageData}
 use Rattle.tcd_plan.specs.PlanData.{PlanData}
 use Rattle.value_domain.specs.Limits.{Limits}
-use Rattle.cfg_recover.specs.LocalFaults.{StandsFaultless}
-use Rattle.cfg_recover.specs.Duties.{duties_of, entered_in}
+use Rattle.cfg_recover.specs.LocalFaults.{IsFaultlessShape}
+use Rattle.cfg_recover.specs.Duties.{duties_of, entered_keys}
 
 -- the row of the point p of frame k with the state u; frames go by their numbers
 pub record IsRowAt (b : Limits) (image : ImageData) (plan : PlanData) (frames : List Key) (k : Key) (p : ℕ) (u : State) (row : NeedRow) : Type 0 where
   pub found : Located
-  pub stands : StandsFaultless b image plan k p u found
+  pub stands : IsFaultlessShape b image plan k p u found
   pub node : row.node ≡ frame_number_in frames k
   pub held : row.held ≡ length u.locals.items
-  pub into : row.into.items ≡ map (frame_number_in frames) (entered_in (duties_of b image plan k p u found.shape found.size))
+  pub into : row.into.items ≡ map (frame_number_in frames) (entered_keys (duties_of b image plan k p u found.shape found.size))
 
 -- each row is that of a point, and each point has its row
 pub record AreRows (b : Limits) (image : ImageData) (plan : PlanData) (a : Assignment) (frames : List Key) (rows : List NeedRow) : Type 0 where
@@ -45,28 +45,28 @@ pub record AreRows (b : Limits) (image : ImageData) (plan : PlanData) (a : Assig
   pub complete : (k : Key) (p : ℕ) (u : State) → a (point k p) ≡ Some (state u) → (row : NeedRow) × Contains rows row × IsRowAt b image plan frames k p u row
 
 -- the point's row
-abbrev pub IsRowBy : Visit → List Key → NeedRow → Type 0
-IsRowBy v frames row = IsRowAt (v.ground.now).bounds.now (v.ground.now).image.now (v.ground.now).plan.now frames v.key v.addr v.state.now row
+abbrev pub IsVisitedPointRow : Visit → List Key → NeedRow → Type 0
+IsVisitedPointRow v frames row = IsRowAt (v.ground.now).bounds.now (v.ground.now).image.now (v.ground.now).plan.now frames v.key v.addr v.state.now row
 
 -- the point's frame and those that it enters are among these
-pub record RowFramesKnownBy (v : Visit) (frames : List Key) : Type 0 where
+pub record AreRowFramesAmong (v : Visit) (frames : List Key) : Type 0 where
   pub own : Contains frames v.key
-  pub entered : (found : Located) → OwesDutiesOf v found → (k : Key) → Contains (entered_in (duties_by v found)) k → Contains frames k
+  pub entered : (found : Located) → OwesDutiesOf v found → (k : Key) → Contains (entered_keys (visit_duties v found)) k → Contains frames k
 
 -- the rows of all points of a table
 abbrev pub RowsOn : Ground → made.Table → List NeedRow → Type 0
-RowsOn g t rows = AreRows g.bounds.now g.image.now g.plan.now (seen t).cells t.frames.items rows
+RowsOn g t rows = AreRows g.bounds.now g.image.now g.plan.now (view_of_table t).cells t.frames.items rows
 
 -- a table without work, the numbers of its frames, and its handlers
 pub record IsRowSource (s : Source) : Type 0 where
-  pub done : IsDone s.ground.now s.table.now
+  pub done : IsLeastClosedTable s.ground.now s.table.now
   pub numbers : AreFrameNumbers s.numbers.now (s.table.now).frames.items (s.table.now).frames.items
   pub handlers : AreHandlers (s.ground.now).plan.now (s.table.now).frames.items ((s.ground.now).plan.now).irqs s.handlers.now
 
 -- the row of a known point
 abbrev pub IsPointRow : Source → Key → ℕ → NeedRow → Type 0
 IsPointRow s k p row =
-    (u : State) × ((seen s.table.now).cells (point k p) ≡ Some (state u))
+    (u : State) × ((view_of_table s.table.now).cells (point k p) ≡ Some (state u))
     × IsRowAt (s.ground.now).bounds.now (s.ground.now).image.now (s.ground.now).plan.now (s.table.now).frames.items k p u row
 
 -- the value and the mark of a point, and the number of its frame
@@ -79,11 +79,11 @@ pub record IsKnownRowPoint (s : Source) (at : KnownPoint) : Type 0 where
 pub record IsPlainRow (s : Source) (number : ℕ) (o : Outline) (row : NeedRow) : Type 0 where
   pub node : row.node ≡ number
   pub held : row.held ≡ o.held
-  pub into : row.into.items ≡ nodes_taken o.ie o.ccpn s.handlers.now
+  pub into : row.into.items ≡ taken_handlers o.ie o.ccpn s.handlers.now
 
 -- each outline of the list, which is that of a frame, has its row among these
-abbrev pub HaveRows : Source → List NeedRow → List (Option Outline) → Type 0
-HaveRows s rows outlines = (number : ℕ) (o : Outline) → slice_get outlines number ≡ Some (Some o) → (row : NeedRow) × Contains rows row × IsPlainRow s number o row
+abbrev pub OutlinesHaveRows : Source → List NeedRow → List (Option Outline) → Type 0
+OutlinesHaveRows s rows outlines = (number : ℕ) (o : Outline) → slice_get outlines number ≡ Some (Some o) → (row : NeedRow) × Contains rows row × IsPlainRow s number o row
 
 -- a point is plain, and its outline is the list's for its frame
 pub record HasEqualRow (outlines : List (Option Outline)) (node : ℕ) (known : Marked Known) : Type 0 where
@@ -94,17 +94,17 @@ pub record HasEqualRow (outlines : List (Option Outline)) (node : ℕ) (known : 
 
 -- ---- one after another
 -- the rows of the first `count` entries of the table
-pub record IsDraft (s : Source) (count : ℕ) (draft : RowsDraft) : Type 0 where
+pub record HasFirstRows (s : Source) (count : ℕ) (draft : RowsDraft) : Type 0 where
   pub sound : (row : NeedRow) → Contains draft.rows.items row → (k : Key) × (p : ℕ) × IsPointRow s k p row
   pub complete :
       (k : Key) (p : ℕ) → Contains (take count (keys (s.table.now).places)) (Point k p)
       → (row : NeedRow) × Contains draft.rows.items row × IsPointRow s k p row
-  pub outlines : HaveRows s draft.rows.items draft.outlines.items
+  pub outlines : OutlinesHaveRows s draft.rows.items draft.outlines.items
 
 -- a row is appended
 pub record AddsRow (s : Source) (old new : RowsDraft) (row : NeedRow) : Type 0 where
   pub rows : new.rows.items ≡ old.rows.items ++ row ∷ []
-  pub outlines : HaveRows s old.rows.items old.outlines.items → HaveRows s new.rows.items new.outlines.items
+  pub outlines : OutlinesHaveRows s old.rows.items old.outlines.items → OutlinesHaveRows s new.rows.items new.outlines.items
 
 -- the row of a point is appended
 abbrev pub AddsPointRow : Source → RowsDraft → RowsDraft → KnownPoint → Type 0

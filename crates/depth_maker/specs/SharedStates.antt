@@ -10,38 +10,38 @@ use Rattle.depth_cert.specs.declared.keys.Key.{Key}
 use Rattle.depth_cert.specs.Known.{state}
 use Rattle.cfg_recover.specs.Code.{IsCode}
 use Rattle.cfg_recover.specs.LocalRules.{LocalRule}
-use Rattle.cfg_recover.specs.Duties.{duties_of, interrupts_of, jump, owed}
+use Rattle.cfg_recover.specs.Duties.{duties_of, interrupt_duties_of, jump, owed}
 use Rattle.frame_places.specs.declared.places.Spot.TheVariants.{Point}
 use Rattle.frame_places.specs.declared.refusals.Refusal.{Refusal}
 use Rattle.frame_places.specs.Marks.{value_for}
 use Rattle.depth_maker.specs.Answers.{RefusalIsRight}
-use Rattle.depth_maker.specs.EnteredFrames.{EntersNoFrame, IsPlainAt}
-use Rattle.depth_maker.specs.Joins.{IsLeft}
+use Rattle.depth_maker.specs.EnteredFrames.{EntersNoFrame, EntersNoFrameAt}
+use Rattle.depth_maker.specs.Joins.{JoinsNothing}
 use Rattle.depth_maker.specs.VisitDuties.{DutiesJoined}
-use Rattle.depth_maker.specs.Visits.{VisitJoinsPointOn}
+use Rattle.depth_maker.specs.Visits.{VisitJoinsDutiesOn}
 use Rattle.depth_maker.specs.declared.inputs_and_limits.Site.{Site}
 use Rattle.depth_maker.specs.declared.table.Table as made
 
 -- The instruction at p breaks no rule by itself, whatever the state. A point there owes this
 -- successor, with the same state, and the entries of interrupts.
-pub record SharesState (image : ImageData) (plan : PlanData) (p next : ℕ) : Type 0 where
+pub record PassesStateTo (image : ImageData) (plan : PlanData) (p next : ℕ) : Type 0 where
   pub shape : Shape
   pub size : ℕ
   pub code : IsCode image plan p shape size
   pub shaped : IsShape shape
   pub local : (b : Limits) (k : Key) (u : State) (r : ℕ) → LocalRule b plan k p u shape r
-  pub duties : (b : Limits) (k : Key) (u : State) → duties_of b image plan k p u shape size ≡ owed 4 (jump next u) ∷ interrupts_of plan k u
+  pub duties : (b : Limits) (k : Key) (u : State) → duties_of b image plan k p u shape size ≡ owed 4 (jump next u) ∷ interrupt_duties_of plan k u
   pub enters : EntersNoFrame plan shape
 
 -- the entries of all interrupts that may be taken at the point are covered; its CCPN is a byte
 abbrev pub MayShareState : Site → made.Table → Type 0
 MayShareState v t =
     (u : State) → value_for t.places (Point v.key v.addr) ≡ Some (state u)
-    → DutiesJoined (v.ground.now).bounds.now (v.ground.now).image.now (v.ground.now).plan.now t t v.key v.addr u (interrupts_of (v.ground.now).plan.now v.key u) × (u.ccpn < 256)
+    → DutiesJoined (v.ground.now).bounds.now (v.ground.now).image.now (v.ground.now).plan.now t t v.key v.addr u (interrupt_duties_of (v.ground.now).plan.now v.key u) × (u.ccpn < 256)
 
 -- what the point owes was joined, and its instruction enters no frame by itself; or nothing was
 -- joined; or the refusal holds
-abbrev pub StateSharedBy : Site → made.Table → made.Table → Result Bool Refusal → Type 0
-StateSharedBy v s t (Ok true) = VisitJoinsPointOn v.ground.now s t (Point v.key v.addr) × IsPlainAt (v.ground.now).image.now (v.ground.now).plan.now v.addr
-StateSharedBy v s t (Ok false) = IsLeft v.ground.now s t
-StateSharedBy v s t (Err e) = RefusalIsRight v.ground.now e
+abbrev pub JoinsBySharing : Site → made.Table → made.Table → Result Bool Refusal → Type 0
+JoinsBySharing v s t (Ok true) = VisitJoinsDutiesOn v.ground.now s t (Point v.key v.addr) × EntersNoFrameAt (v.ground.now).image.now (v.ground.now).plan.now v.addr
+JoinsBySharing v s t (Ok false) = JoinsNothing v.ground.now s t
+JoinsBySharing v s t (Err e) = RefusalIsRight v.ground.now e

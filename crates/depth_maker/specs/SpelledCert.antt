@@ -16,10 +16,10 @@ use Rattle.depth_cert.specs.Certs.{CertData}
 use Rattle.depth_cert.specs.Spelling.{bytes_of_cert, bytes_of_exit, bytes_of_node, bytes_of_point}
 use Rattle.cfg_recover.specs.Assignments.{Place, point, exit, Assignment}
 use Rattle.depth_cert.specs.Known.{Known, state, leaving, exit_if_known}
-use Rattle.depth_maker.specs.LeastCertMade.{IsWritten}
-use Rattle.depth_maker.specs.Needs.{need_by, NeedsAre}
+use Rattle.depth_maker.specs.LeastCertMade.{IsLeastClosedCert}
+use Rattle.depth_maker.specs.Needs.{need_of_frame, AreLeastTableNeeds}
 use Rattle.depth_maker.specs.Rows.{IsRowSource}
-use Rattle.depth_maker.specs.TableView.{seen}
+use Rattle.depth_maker.specs.TableView.{view_of_table}
 use Rattle.frame_places.specs.PointEntries.{AreEntries, place_at, points_in}
 use Rattle.frame_places.specs.Spots.{is_point_of, spot_address, spot_eq}
 use Rattle.frame_places.specs.declared.ordering.PointEntry.{PointEntry}
@@ -27,7 +27,7 @@ use Rattle.frame_places.specs.declared.places.Spot.{Spot}
 use Rattle.frame_places.specs.declared.places.Spot.TheVariants.{Point}
 use Rattle.depth_maker.specs.declared.rows.Source.{Source}
 use Rattle.depth_maker.specs.declared.spelling.Ordered.{Ordered}
-use Rattle.depth_maker.specs.SpotsAsPlaces.{spots_of}
+use Rattle.depth_maker.specs.SpotsAsPlaces.{spots_in_order}
 use Rattle.depth_maker.specs.declared.inputs_and_limits.Ground.{Ground}
 
 -- ---- places in order
@@ -66,35 +66,35 @@ pub record HasSpelledCcpns (n : NodeData) : Type 0 where
 -- ---- by the types of the code
 
 -- the limits are those of the format
-abbrev pub IsSpelledVersion : Source → ℕ → Type 0
-IsSpelledVersion s version = (s.ground.now).bounds.now ≡ limits_for (s.ground.now).plan.now version
+abbrev pub SourceHasLimitsOfFormat : Source → ℕ → Type 0
+SourceHasLimitsOfFormat s version = (s.ground.now).bounds.now ≡ limits_for (s.ground.now).plan.now version
 
 -- what is known at a place of the table
 abbrev pub known_from_table : Source → Place → Option Known
-known_from_table s y = (seen s.table.now).cells y
+known_from_table s y = (view_of_table s.table.now).cells y
 
 -- the exit of a frame, if it is known
 abbrev pub exit_from_table : Source → Key → Option exits.Exit
-exit_from_table s k = exit_if_known ((seen s.table.now).cells (exit k))
+exit_from_table s k = exit_if_known ((view_of_table s.table.now).cells (exit k))
 
 -- the point of a frame at an address, with its known state
 abbrev pub point_from_table : Source → Key → ℕ → points.Point
-point_from_table s k p = spelled_point_at (seen s.table.now).cells k p
+point_from_table s k p = spelled_point_at (view_of_table s.table.now).cells k p
 
 -- the node of a frame, with the points of a list
 abbrev pub node_from_table : Source → List ℕ → List Spot → Key → NodeData
-node_from_table s needs ps k = spelled_node_at (seen s.table.now).cells (need_by (s.table.now).frames.items needs) (spelled_addresses_in ps) k
+node_from_table s needs ps k = spelled_node_at (view_of_table s.table.now).cells (need_of_frame (s.table.now).frames.items needs) (spelled_addresses_in ps) k
 
 -- the certificate with the nodes of these frames
 abbrev pub cert_from_table : Source → ℕ → List ℕ → List Key → List Spot → CertData
-cert_from_table s version needs ks ps = spelled_cert_with version (seen s.table.now).cells (need_by (s.table.now).frames.items needs) (spelled_addresses_in ps) ks
+cert_from_table s version needs ks ps = spelled_cert_with version (view_of_table s.table.now).cells (need_of_frame (s.table.now).frames.items needs) (spelled_addresses_in ps) ks
 
 -- a table without work, the least needs of its frames, and its points in order
-pub record IsSpelledInOrder (o : Ordered) : Type 0 where
+pub record IsOrderedCertSource (o : Ordered) : Type 0 where
   pub source : IsRowSource o.source.now
-  pub needs : NeedsAre o.source.now o.needs.now
+  pub needs : AreLeastTableNeeds o.source.now o.needs.now
   pub unique : IsUnique spot_eq ((o.source.now).table.now).places
-  pub points : IsPermutation (points_in ((o.source.now).table.now).places) (spots_of o)
+  pub points : IsPermutation (points_in ((o.source.now).table.now).places) (spots_in_order o)
   pub rising : IsNonDecreasingBy (λ x. x.order) o.points.now
   pub entries : AreEntries ((o.source.now).table.now).places o.points.now
 
@@ -116,39 +116,39 @@ pub record SpellsTableExit (s : Source) (k : Key) (old new : List ℕ) : Type 0 
 
 -- the node of frame k
 pub record SpellsTableNode (o : Ordered) (k : Key) (old new : List ℕ) : Type 0 where
-  pub bytes : new ≡ old ++ bytes_of_node (node_from_table o.source.now o.needs.now (spots_of o) k)
-  pub ccpn : HasSpelledCcpns (node_from_table o.source.now o.needs.now (spots_of o) k)
+  pub bytes : new ≡ old ++ bytes_of_node (node_from_table o.source.now o.needs.now (spots_in_order o) k)
+  pub ccpn : HasSpelledCcpns (node_from_table o.source.now o.needs.now (spots_in_order o) k)
 
 -- the nodes of these frames
 pub record SpellsTableNodes (o : Ordered) (ks : List Key) (old new : List ℕ) : Type 0 where
-  pub bytes : new ≡ old ++ flat_map (λ k. bytes_of_node (node_from_table o.source.now o.needs.now (spots_of o) k)) ks
-  pub ccpn : All (λ k. HasSpelledCcpns (node_from_table o.source.now o.needs.now (spots_of o) k)) ks
+  pub bytes : new ≡ old ++ flat_map (λ k. bytes_of_node (node_from_table o.source.now o.needs.now (spots_in_order o) k)) ks
+  pub ccpn : All (λ k. HasSpelledCcpns (node_from_table o.source.now o.needs.now (spots_in_order o) k)) ks
 
 -- these frames are the table's
-abbrev pub AreSpelledFrames : Ordered → List Key → Type 0
-AreSpelledFrames o ks = IsPermutation ((o.source.now).table.now).frames.items ks
+abbrev pub AreTableFrames : Ordered → List Key → Type 0
+AreTableFrames o ks = IsPermutation ((o.source.now).table.now).frames.items ks
 
 -- the entry of a point of frame k
-pub record IsSpelledPointOf (s : Source) (k : Key) (x : PointEntry) : Type 0 where
+pub record IsTablePointEntry (s : Source) (k : Key) (x : PointEntry) : Type 0 where
   pub within : x.entry < length (keys (s.table.now).places)
   pub is : place_at (s.table.now).places x ≡ Point k (spot_address (place_at (s.table.now).places x))
 
 -- the entries of points of frame k
-abbrev pub AreSpelledPointsOf : Source → Key → List PointEntry → Type 0
-AreSpelledPointsOf s k xs = (x : PointEntry) → Contains xs x → IsSpelledPointOf s k x
+abbrev pub AreTablePointEntries : Source → Key → List PointEntry → Type 0
+AreTablePointEntries s k xs = (x : PointEntry) → Contains xs x → IsTablePointEntry s k x
 
 -- a frame of the table
-abbrev pub IsSpelledFrameOf : Source → Key → Type 0
-IsSpelledFrameOf s k = Contains (s.table.now).frames.items k
+abbrev pub IsTableFrame : Source → Key → Type 0
+IsTableFrame s k = Contains (s.table.now).frames.items k
 
 -- the bytes spell the certificate that is to be written
-abbrev pub IsSpelled : ImageData → PlanData → ℕ → List ℕ → Type 0
-IsSpelled image plan version bytes = (cert : CertData) × (bytes ≡ bytes_of_cert cert) × IsWritten image plan version cert
+abbrev pub AreClosedCertBytes : ImageData → PlanData → ℕ → List ℕ → Type 0
+AreClosedCertBytes image plan version bytes = (cert : CertData) × (bytes ≡ bytes_of_cert cert) × IsLeastClosedCert image plan version cert
 
 -- the same, by the types of the code
-abbrev pub IsSpelledOn : Source → ℕ → List ℕ → Type 0
-IsSpelledOn s version bytes = IsSpelled (s.ground.now).image.now (s.ground.now).plan.now version bytes
+abbrev pub AreClosedCertBytesOf : Source → ℕ → List ℕ → Type 0
+AreClosedCertBytesOf s version bytes = AreClosedCertBytes (s.ground.now).image.now (s.ground.now).plan.now version bytes
 
 -- the bytes spell the certificate that is to be written
-abbrev pub AreSpelledBytes : Ground → ℕ → List ℕ → Type 0
-AreSpelledBytes g version bytes = (cert : CertData) × (bytes ≡ bytes_of_cert cert) × IsWritten g.image.now g.plan.now version cert
+abbrev pub AreClosedCertBytesOn : Ground → ℕ → List ℕ → Type 0
+AreClosedCertBytesOn g version bytes = (cert : CertData) × (bytes ≡ bytes_of_cert cert) × IsLeastClosedCert g.image.now g.plan.now version cert

@@ -19,9 +19,9 @@ place_of_spot (Point k p) = point k p
 place_of_spot (Exit k) = exit k
 
 -- the places of these entries of the table
-abbrev pub spots_on : Source → List PointEntry → List Spot
-spots_on s xs = places_at (s.table.now).places xs
+abbrev pub spots_of_entries : Source → List PointEntry → List Spot
+spots_of_entries s xs = places_at (s.table.now).places xs
 
 -- by the types of the code, the places of all points that the maker has ordered
-abbrev pub spots_of : Ordered → List Spot
-spots_of o = spots_on o.source.now o.points.now
+abbrev pub spots_in_order : Ordered → List Spot
+spots_in_order o = spots_of_entries o.source.now o.points.now

@@ -8,7 +8,7 @@ use Rattle.tcd_plan.specs.PlanData.{PlanData}
 use Rattle.value_domain.specs.Limits.{Limits}
 use Rattle.depth_cert.specs.declared.keys.Key.{Key}
 use Rattle.cfg_recover.specs.Assignments.{Closed, Derived, AllFaultless, point, CoversAt, exit}
-use Rattle.depth_maker.specs.TableView.{seen, TableView}
+use Rattle.depth_maker.specs.TableView.{view_of_table, TableView}
 use Rattle.frame_places.specs.declared.places.Spot.{Spot}
 use Rattle.frame_places.specs.declared.places.Spot.TheVariants.{Point}
 use Rattle.depth_maker.specs.declared.table.Table as made
@@ -16,12 +16,12 @@ use Rattle.frame_places.specs.Spots.{spot_eq}
 use Rattle.frame_places.specs.Marks.{mark_for, AllListed, AreKnown, IsAmongReaders, value_for}
 use Rattle.frame_places.specs.Work.{all_work}
 use Rattle.depth_maker.specs.AssignmentCounts.{IsCountedIn}
-use Rattle.depth_maker.specs.Covered.{EntriesCovered}
+use Rattle.depth_maker.specs.Covered.{AreNotedEntriesCovered}
 use Rattle.depth_maker.specs.declared.inputs_and_limits.Ground.{Ground}
 use Rattle.depth_cert.specs.Known.{Known, state, leaving}
 use Rattle.frame_places.specs.declared.places.Marked.{Marked}
 use Rattle.frame_places.specs.declared.places.Mark.TheVariants.{Plain}
-use Rattle.depth_maker.specs.EnteredFrames.{IsPlainIn}
+use Rattle.depth_maker.specs.EnteredFrames.{EntersNoFrameIn}
 use Rattle.value_domain.specs.declared.states.State.{State}
 use Rattle.depth_cert.specs.Exits.{state_after_exit}
 use Rattle.cfg_recover.specs.Duties.{Duty, jump, enter, resume, leave, Owed, duties_of}
@@ -39,54 +39,54 @@ TableReadsExits readers = (k : Key) (p : ℕ) (q : Spot) → IsAmongReaders (get
 -- invariant of the maker's table: the instruction of a place that is marked as plain enters no
 -- frame by itself
 abbrev pub ArePlainInTable : {S : Type 0} → ImageData → PlanData → IndexMap Spot (Marked Known) S → Type 0
-ArePlainInTable image plan places = (q : Spot) → mark_for places q ≡ Some Plain → IsPlainIn image plan q
+ArePlainInTable image plan places = (q : Spot) → mark_for places q ≡ Some Plain → EntersNoFrameIn image plan q
 
 -- part of the invariant of the maker's table: the state after a return, by what is known of the
 -- exit, is covered at the point to return to
-abbrev pub IsResumed : TableView → Key → State → Key → ℕ → Known → Type 0
-IsResumed t key s k q (leaving x) = CoversAt t.cells (point key q) (state (state_after_exit s x k.kind))
-IsResumed t key s k q (state u) = Unit {0}
+abbrev pub IsReturnCovered : TableView → Key → State → Key → ℕ → Known → Type 0
+IsReturnCovered t key s k q (leaving x) = CoversAt t.cells (point key q) (state (state_after_exit s x k.kind))
+IsReturnCovered t key s k q (state u) = Unit {0}
 
 -- part of the invariant of the maker's table: a duty of a point is covered, and the point reads the
 -- exit, if any, that the duty depends on
-abbrev pub Settled : TableView → Key → ℕ → State → Duty → Type 0
-Settled t key p s (jump q u) = CoversAt t.cells (point key q) (state u)
-Settled t key p s (enter k u) = CoversAt t.cells (point k k.entry) (state u)
-Settled t key p s (resume k q) = ((x : Known) → t.cells (exit k) ≡ Some x → IsResumed t key s k q x) × t.reads (exit k) (point key p)
-Settled t key p s (leave x) = CoversAt t.cells (exit key) (leaving x)
+abbrev pub IsDutySettled : TableView → Key → ℕ → State → Duty → Type 0
+IsDutySettled t key p s (jump q u) = CoversAt t.cells (point key q) (state u)
+IsDutySettled t key p s (enter k u) = CoversAt t.cells (point k k.entry) (state u)
+IsDutySettled t key p s (resume k q) = ((x : Known) → t.cells (exit k) ≡ Some x → IsReturnCovered t key s k q x) × t.reads (exit k) (point key p)
+IsDutySettled t key p s (leave x) = CoversAt t.cells (exit key) (leaving x)
 
 -- the invariant of the table as seen: it is derived, and each duty of a point without work is
 -- covered
-pub record IsTable (b : Limits) (image : ImageData) (plan : PlanData) (t : TableView) : Type 0 where
+pub record ViewInvariantHolds (b : Limits) (image : ImageData) (plan : PlanData) (t : TableView) : Type 0 where
   pub derived : Derived b image plan t.cells
   pub own : (k : Key) (p : ℕ) (s : State) → t.cells (point k p) ≡ Some (state s) → t.idle (point k p) ≡ true → IsFaultless b image plan k p s
   pub settled :
       (k : Key) (p : ℕ) (s : State) (shape : Shape) (n : ℕ) (d : Owed) → t.cells (point k p) ≡ Some (state s) → t.idle (point k p) ≡ true
-      → IsCode image plan p shape n → Contains (duties_of b image plan k p s shape n) d → Settled t k p s d.duty
+      → IsCode image plan p shape n → Contains (duties_of b image plan k p s shape n) d → IsDutySettled t k p s d.duty
 
 -- the table between two steps
-pub record IsFine (b : Limits) (image : ImageData) (plan : PlanData) (t : made.Table) : Type 0 where
-  pub table : IsTable b image plan (seen t)
+pub record TableInvariantHolds (b : Limits) (image : ImageData) (plan : PlanData) (t : made.Table) : Type 0 where
+  pub table : ViewInvariantHolds b image plan (view_of_table t)
   pub listed : AllListed t.places (all_work t.work)
   pub counted : IsCountedIn t.places t.points.items t.frames.items
-  pub covered : EntriesCovered b plan (seen t).cells t.covered
+  pub covered : AreNotedEntriesCovered b plan (view_of_table t).cells t.covered
   pub exits : TableReadsExits t.readers
   pub readers : (z : Spot) → AreKnown t.places (IsAmongReaders (get spot_eq t.readers z))
   pub plain : ArePlainInTable image plan t.places
 
 -- the maker's table at the end: its assignment is derived, closed and without faults, so it is the
 -- least of the closed ones without faults
-pub record IsDone (g : Ground) (t : made.Table) : Type 0 where
-  pub derived : Derived g.bounds.now g.image.now g.plan.now (seen t).cells
-  pub closed : Closed g.bounds.now g.image.now g.plan.now (seen t).cells
-  pub faultless : AllFaultless g.bounds.now g.image.now g.plan.now (seen t).cells
+pub record IsLeastClosedTable (g : Ground) (t : made.Table) : Type 0 where
+  pub derived : Derived g.bounds.now g.image.now g.plan.now (view_of_table t).cells
+  pub closed : Closed g.bounds.now g.image.now g.plan.now (view_of_table t).cells
+  pub faultless : AllFaultless g.bounds.now g.image.now g.plan.now (view_of_table t).cells
   pub plain : ArePlainInTable g.image.now g.plan.now t.places
   pub counted : IsCountedIn t.places t.points.items t.frames.items
 
 -- ---- by the types of the code
 -- the table between two steps
-abbrev pub TableHolds : Ground → made.Table → Type 0
-TableHolds g t = IsFine g.bounds.now g.image.now g.plan.now t
+abbrev pub TableInvariantHoldsOn : Ground → made.Table → Type 0
+TableInvariantHoldsOn g t = TableInvariantHolds g.bounds.now g.image.now g.plan.now t
 
 -- what the invariant of the maker's table gives between two steps: each known state or exit is at
 -- the limits

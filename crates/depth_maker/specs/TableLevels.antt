@@ -25,13 +25,13 @@ level_of_place None = 0
 level_of_place (Some v) = 1 + level_of_known v
 
 -- the level of a table: the sum of the levels of all points and exits
-unfoldable pub level : made.Table → ℕ
-level t = sum_by (λ q. level_of_place (value_for t.places q)) t.points.items + sum_by (λ k. level_of_place (value_for t.places (spots.Exit k))) t.frames.items
+unfoldable pub level_of_table : made.Table → ℕ
+level_of_table t = sum_by (λ q. level_of_place (value_for t.places q)) t.points.items + sum_by (λ k. level_of_place (value_for t.places (spots.Exit k))) t.frames.items
 
 -- the level rose, or the work list is as it was
 abbrev pub LevelRises : made.Table → made.Table → Type 0
-LevelRises s t = (level s < level t) ⊎ ((level t ≡ level s) × (all_work t.work ≡ all_work s.work))
+LevelRises s t = (level_of_table s < level_of_table t) ⊎ ((level_of_table t ≡ level_of_table s) × (all_work t.work ≡ all_work s.work))
 
 -- the level rose, or the work list is shorter by one place
 abbrev pub LevelAdvances : made.Table → made.Table → Type 0
-LevelAdvances s t = (level s < level t) ⊎ ((level t ≡ level s) × (length (all_work s.work) ≡ length (all_work t.work) + 1))
+LevelAdvances s t = (level_of_table s < level_of_table t) ⊎ ((level_of_table t ≡ level_of_table s) × (length (all_work s.work) ≡ length (all_work t.work) + 1))

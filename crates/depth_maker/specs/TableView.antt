@@ -16,8 +16,8 @@ pub record TableView : Type 1 where
   pub reads : Place → Place → Type 0
 
 -- the table as an assignment and marks
-unfoldable pub seen : made.Table → TableView
-seen t = record {
+unfoldable pub view_of_table : made.Table → TableView
+view_of_table t = record {
   cells = λ q. value_for t.places (spot_of q);
   idle = λ q. is_idle (mark_for t.places (spot_of q));
   queued = λ q. is_queued (mark_for t.places (spot_of q));

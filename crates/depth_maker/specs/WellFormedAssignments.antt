@@ -34,5 +34,5 @@ DutiesAreWellFormed =
     → IsWellFormedState b s → IsFaultless b image plan key p s → IsCode image plan p shape n → Contains (duties_of b image plan key p s shape n) d → IsWellFormedDuty b d.duty
 
 -- law of assignments at the limits: the state after a return is at the limits too
-abbrev pub AfterIsWellFormed : Type 0
-AfterIsWellFormed = (b : Limits) (s : State) (x : Exit) (kind : ℕ) → IsWellFormedState b s → IsWellFormedExit b x → IsWellFormedState b (state_after_exit s x kind)
+abbrev pub ReturnStatesAreWellFormed : Type 0
+ReturnStatesAreWellFormed = (b : Limits) (s : State) (x : Exit) (kind : ℕ) → IsWellFormedState b s → IsWellFormedExit b x → IsWellFormedState b (state_after_exit s x kind)

@@ -1,10 +1,10 @@
 // The certificate of an image and a plan, or why there is none.
 ghost use Rattle.std.specs.Prelude.{◌≡◌, ◌⊎◌, IfErr, IfOk};
-ghost use Rattle.depth_maker.specs.Answers.{AreMadeOn, IsGroundOf, IsRefused, IsRefusedOn, Refuses, RefusalIsRight};
-ghost use Rattle.depth_maker.specs.LeastCertMade.{AreMade, IsMade};
-ghost use Rattle.depth_maker.specs.SpelledCert.{AreSpelledBytes};
+ghost use Rattle.depth_maker.specs.Answers.{AreLeastCertBytesOn, HasLimitsOfFormat, IsRightMakeErr, IsRightMakeErrOn, MakeErrHolds, RefusalIsRight};
+ghost use Rattle.depth_maker.specs.LeastCertMade.{AreLeastCertBytes, IsMade};
+ghost use Rattle.depth_maker.specs.SpelledCert.{AreClosedCertBytesOn};
 ghost use Rattle.depth_maker.specs.Rows.{IsRowSource};
-ghost use Rattle.depth_maker.specs.TableInvariant.{IsDone};
+ghost use Rattle.depth_maker.specs.TableInvariant.{IsLeastClosedTable};
 ghost use Rattle.depth_maker.specs.declared.answering.MakeErr.TheVariants.{NoMemory};
 
 use crate::fixpoint::least_fixpoint;
@@ -57,7 +57,7 @@ impl From<tcd_base::NoMemory> for MakeErr {
 pub fn make(alloc: Global, image: &Image, plan: &Plan, version: u8) -> Result<Cert, MakeErr>
     requires { (version ≡ 1) ⊎ (version ≡ 2) }
     ensures made { IfOk result (IsMade image.now plan.now version) }
-    ensures refused { IfErr result (IsRefused image.now plan.now version) }
+    ensures refused { IfErr result (IsRightMakeErr image.now plan.now version) }
 {
     let bytes = make_bytes(alloc, image, plan, version)?;
     match Cert::read(alloc, bytes) {
@@ -71,8 +71,8 @@ pub fn make(alloc: Global, image: &Image, plan: &Plan, version: u8) -> Result<Ce
 /// is accepted.
 fn make_bytes(alloc: Global, image: &Image, plan: &Plan, version: u8) -> Result<Vec<u8>, MakeErr>
     requires { (version ≡ 1) ⊎ (version ≡ 2) }
-    ensures made { IfOk result (λ out. AreMade image.now plan.now version out.items) }
-    ensures refused { IfErr result (IsRefused image.now plan.now version) }
+    ensures made { IfOk result (λ out. AreLeastCertBytes image.now plan.now version out.items) }
+    ensures refused { IfErr result (IsRightMakeErr image.now plan.now version) }
 {
     let bounds = Bounds::of(plan, version);
     let _entry = image.entry;
@@ -88,9 +88,9 @@ fn make_bytes(alloc: Global, image: &Image, plan: &Plan, version: u8) -> Result<
 /// Returns the bytes of the least certificate within these limits, or why there is none.
 fn make_bytes_within_limits(alloc: Global, ground: &Ground, version: u8) -> Result<Vec<u8>, MakeErr>
     requires version { (version ≡ 1) ⊎ (version ≡ 2) }
-    requires limits { IsGroundOf ground.now version }
-    ensures made { IfOk result (λ out. AreMadeOn ground.now version out.items) }
-    ensures refused { IfErr result (IsRefusedOn ground.now version) }
+    requires limits { HasLimitsOfFormat ground.now version }
+    ensures made { IfOk result (λ out. AreLeastCertBytesOn ground.now version out.items) }
+    ensures refused { IfErr result (IsRightMakeErrOn ground.now version) }
 {
     match least_fixpoint(alloc, ground) {
         Ok(table) => cert_bytes_from_table(alloc, ground, &table, version),
@@ -105,11 +105,11 @@ fn cert_bytes_from_table(
     table: &Table,
     version: u8,
 ) -> Result<Vec<u8>, MakeErr>
-    requires done { IsDone ground.now table.now }
+    requires done { IsLeastClosedTable ground.now table.now }
     requires version { (version ≡ 1) ⊎ (version ≡ 2) }
-    requires limits { IsGroundOf ground.now version }
-    ensures ok { IfOk result (λ out. AreSpelledBytes ground.now version out.items) }
-    ensures err { IfErr result (Refuses ground.now) }
+    requires limits { HasLimitsOfFormat ground.now version }
+    ensures ok { IfOk result (λ out. AreClosedCertBytesOn ground.now version out.items) }
+    ensures err { IfErr result (MakeErrHolds ground.now) }
 {
     let numbers = number_frames(alloc, table.frames.as_slice())?;
     let handlers = all_handler_frames(alloc, ground.plan, &numbers)?;
@@ -125,7 +125,7 @@ fn cert_bytes_from_table(
 /// Returns the refusal for a fault of a derived assignment.
 fn make_err_from_refusal(_ground: &Ground, refusal: Refusal) -> MakeErr
     requires { RefusalIsRight _ground.now refusal }
-    ensures { Refuses _ground.now result }
+    ensures { MakeErrHolds _ground.now result }
 {
     match refusal {
         Refusal::Fault(rule, place) => match place {
@@ -144,9 +144,9 @@ fn make_err_from_refusal(_ground: &Ground, refusal: Refusal) -> MakeErr
 fn cert_bytes_with_needs(alloc: Global, source: &Source, version: u8) -> Result<Vec<u8>, MakeErr>
     requires source { IsRowSource source.now }
     requires version { (version ≡ 1) ⊎ (version ≡ 2) }
-    requires limits { IsGroundOf source.now.ground.now version }
-    ensures ok { IfOk result (λ out. AreSpelledBytes source.now.ground.now version out.items) }
-    ensures err { IfErr result (Refuses source.now.ground.now) }
+    requires limits { HasLimitsOfFormat source.now.ground.now version }
+    ensures ok { IfOk result (λ out. AreClosedCertBytesOn source.now.ground.now version out.items) }
+    ensures err { IfErr result (MakeErrHolds source.now.ground.now) }
 {
     match least_frame_needs(alloc, source)? {
         Ok(needs) => Ok(spelled_cert_bytes(alloc, source, version, needs.as_slice())?),

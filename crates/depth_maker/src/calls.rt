@@ -5,8 +5,8 @@ ghost use Rattle.vd_transfer.specs.Changes.{state_after};
 ghost use Rattle.cfg_recover.specs.Entries as entries;
 ghost use Rattle.cfg_recover.specs.LocalRules.{targets_of};
 ghost use Rattle.depth_maker.specs.Answers.{RefusalIsRight};
-ghost use Rattle.depth_maker.specs.VisitDuties.{enters_by, resumes_by, OwesAll, JoinedBy, StayJoined, IsCoveredEntry, calls_by};
-ghost use Rattle.depth_maker.specs.Visits.{VisitedBy};
+ghost use Rattle.depth_maker.specs.VisitDuties.{enter_duties, resume_duties, OwesDuties, JoinedBy, KeepsDutiesJoined, IsCoveredEntry, call_duties};
+ghost use Rattle.depth_maker.specs.Visits.{VisitInvariantHolds};
 
 use crate::inputs_and_limits::Visit;
 use crate::join_entries::{join_call_entries, join_entry_and_return, join_return_after_entry};
@@ -32,11 +32,11 @@ pub(crate) fn join_call(
     back: u32,
     c: &mut Change,
 ) -> Result<(), Refusal>
-    requires visited { VisitedBy v.now table.old }
+    requires visited { VisitInvariantHolds v.now table.old }
     requires target { IsTarget to }
-    requires owes { OwesAll v.now (calls_by v.now back
+    requires owes { OwesDuties v.now (call_duties v.now back
         (unwrap_or (targets_of v.now.ground.now.plan.now v.now.state.now v.now.addr to) [])) }
-    ensures ok { OnOk result (JoinedBy v.now table.old table.new (calls_by v.now back
+    ensures ok { OnOk result (JoinedBy v.now table.old table.new (call_duties v.now back
         (unwrap_or (targets_of v.now.ground.now.plan.now v.now.state.now v.now.addr to) []))) }
     ensures err { IfErr result (RefusalIsRight v.now.ground.now) }
 {
@@ -71,12 +71,12 @@ fn join_listed_calls(
     to: Target,
     back: u32,
 ) -> Result<(), Refusal>
-    requires visited { VisitedBy v.now table.old }
+    requires visited { VisitInvariantHolds v.now table.old }
     requires target { IsTarget to }
     requires entry { state_after v.now.state.now entry.now ≡ entries.call_entry v.now.state.now }
-    requires owes { OwesAll v.now (calls_by v.now back
+    requires owes { OwesDuties v.now (call_duties v.now back
         (unwrap_or (targets_of v.now.ground.now.plan.now v.now.state.now v.now.addr to) [])) }
-    ensures ok { OnOk result (JoinedBy v.now table.old table.new (calls_by v.now back
+    ensures ok { OnOk result (JoinedBy v.now table.old table.new (call_duties v.now back
         (unwrap_or (targets_of v.now.ground.now.plan.now v.now.state.now v.now.addr to) []))) }
     ensures err { IfErr result (RefusalIsRight v.now.ground.now) }
 {
@@ -93,11 +93,11 @@ fn join_listed_call_entries(
     entry: &Change,
     targets: &ArrayVec<u32, 128>,
 ) -> Result<(), Refusal>
-    requires visited { VisitedBy v.now table.old }
+    requires visited { VisitInvariantHolds v.now table.old }
     requires entry { state_after v.now.state.now entry.now ≡ entries.call_entry v.now.state.now }
-    requires owes { OwesAll v.now (enters_by v.now targets.now.items) }
+    requires owes { OwesDuties v.now (enter_duties v.now targets.now.items) }
     ensures ok { OnOk result
-        (JoinedBy v.now table.old table.new (enters_by v.now targets.now.items)) }
+        (JoinedBy v.now table.old table.new (enter_duties v.now targets.now.items)) }
     ensures err { IfErr result (RefusalIsRight v.now.ground.now) }
 {
     if is_call_covered(&*table, v, entry, targets) {
@@ -116,10 +116,10 @@ fn join_call_returns(
     targets: &[u32],
     back: u32,
 ) -> Result<(), Refusal>
-    requires visited { VisitedBy v.now table.old }
-    requires owes { OwesAll v.now (resumes_by v.now back targets.now) }
+    requires visited { VisitInvariantHolds v.now table.old }
+    requires owes { OwesDuties v.now (resume_duties v.now back targets.now) }
     ensures ok { OnOk result
-        (JoinedBy v.now table.old table.new (resumes_by v.now back targets.now)) }
+        (JoinedBy v.now table.old table.new (resume_duties v.now back targets.now)) }
     ensures err { IfErr result (RefusalIsRight v.now.ground.now) }
 {
     for t in targets {
@@ -132,10 +132,10 @@ fn join_call_returns(
 /// Returns true only if the visited point's call joins no new entries: the last call of these
 /// functions shows that their entries are covered.
 fn is_call_covered(table: &Table, v: &Visit, entry: &Change, targets: &ArrayVec<u32, 128>) -> bool
-    requires visited { VisitedBy v.now table.now }
+    requires visited { VisitInvariantHolds v.now table.now }
     requires entry { state_after v.now.state.now entry.now ≡ entries.call_entry v.now.state.now }
     ensures { IsTrue result
-        → JoinedBy v.now table.now table.now (enters_by v.now targets.now.items) }
+        → JoinedBy v.now table.now table.now (enter_duties v.now targets.now.items) }
 {
     match find_call(table.covered.calls.as_slice(), &v.key, targets) {
         Some(last) => {
@@ -156,10 +156,10 @@ fn store_last_call(
     entry: &Change,
     targets: &ArrayVec<u32, 128>,
 ) -> Result<(), Refusal>
-    requires visited { VisitedBy v.now table.old }
+    requires visited { VisitInvariantHolds v.now table.old }
     requires entry { state_after v.now.state.now entry.now ≡ entries.call_entry v.now.state.now }
     ensures ok { OnOk result
-        (StayJoined v.now table.old table.new (enters_by v.now targets.now.items)) }
+        (KeepsDutiesJoined v.now table.old table.new (enter_duties v.now targets.now.items)) }
     ensures err { IfErr result (RefusalIsRight v.now.ground.now) }
 {
     if targets.len() < 2 {
@@ -184,7 +184,7 @@ fn covered_entry(
     entry: &Change,
     targets: &ArrayVec<u32, 128>,
 ) -> Result<SmallKnown, AllocError>
-    requires visited { VisitedBy v.now table.now }
+    requires visited { VisitInvariantHolds v.now table.now }
     requires entry { state_after v.now.state.now entry.now ≡ entries.call_entry v.now.state.now }
     ensures { IfOk result (IsCoveredEntry v.now table.now targets.now.items) }
 {

@@ -1,9 +1,9 @@
 // The frames that an instruction enters.
 ghost use Rattle.std.specs.Prelude.{◌≡◌, ◌++◌, IfOk, IsTrue, ◌∷◌, [], if◌then◌else◌};
 ghost use Rattle.depth_cert.specs.WellFormed.{IsWellFormedState};
-ghost use Rattle.cfg_recover.specs.Duties.{entered_in};
+ghost use Rattle.cfg_recover.specs.Duties.{entered_keys};
 ghost use Rattle.depth_maker.specs.EnteredFrames.{EntersNoFrame};
-ghost use Rattle.depth_maker.specs.VisitDuties.{OwesDutiesOf, access_by, entries_by, misaligned_by};
+ghost use Rattle.depth_maker.specs.VisitDuties.{OwesDutiesOf, access_duties, entry_duties, misaligned_duty};
 ghost use Rattle.depth_cert.specs.Known.{state};
 
 use crate::inputs_and_limits::Visit;
@@ -22,8 +22,8 @@ pub(crate) fn entered_frames(
     requires well_formed { IsWellFormedState v.now.ground.now.bounds.now v.now.state.now }
     requires stands { OwesDutiesOf v.now found.now }
     ensures { IfOk result (λ keys. keys.items
-        ≡ entered_in (entries_by v.now found.now.shape found.now.size)
-        ++ entered_in (access_by v.now found.now)) }
+        ≡ entered_keys (entry_duties v.now found.now.shape found.now.size)
+        ++ entered_keys (access_duties v.now found.now)) }
 {
     let mut keys = Vec::new(alloc);
     let plan = v.ground.plan;
@@ -54,7 +54,7 @@ pub(crate) fn enters_no_frame(plan: &Plan, shape: Shape) -> bool
 pub(crate) fn may_enter_misaligned_handler(v: &Visit, found: &Located) -> bool
     requires well_formed { IsWellFormedState v.now.ground.now.bounds.now v.now.state.now }
     requires stands { OwesDutiesOf v.now found.now }
-    ensures { access_by v.now found.now ≡ (if result then misaligned_by v.now ∷ [] else []) }
+    ensures { access_duties v.now found.now ≡ (if result then misaligned_duty v.now ∷ [] else []) }
 {
     let plan = v.ground.plan;
     plan.aln && may_be_misaligned(v.ground.bounds, plan, v.state, found.shape)

@@ -4,9 +4,9 @@ ghost use Rattle.indexmap.specs.IndexMap.{get};
 ghost use Rattle.frame_places.specs.declared.places.Spot as spots;
 ghost use Rattle.frame_places.specs.Spots.{spot_eq};
 ghost use Rattle.cfg_recover.specs.SetOperations.{HoldsCachedResults};
-ghost use Rattle.depth_maker.specs.TableInvariant.{TableHolds, IsDone};
+ghost use Rattle.depth_maker.specs.TableInvariant.{TableInvariantHoldsOn, IsLeastClosedTable};
 ghost use Rattle.depth_maker.specs.Answers.{RefusalIsRight};
-ghost use Rattle.depth_maker.specs.Visits.{NoVisitOpen, VisitStepsOn, VisitTurnsOn};
+ghost use Rattle.depth_maker.specs.Visits.{NoVisitOpen, VisitsNextPlace, VisitsListedPlaces};
 
 use crate::covered::CoveredEntries;
 use crate::inputs_and_limits::Ground;
@@ -33,7 +33,7 @@ pub(crate) struct VisitScratch {
 // It is a function of its own, so that its stack room is free before the rows are made.
 #[inline(never)]
 pub(crate) fn least_fixpoint(alloc: Global, ground: &Ground) -> Result<Table, Refusal>
-    ensures ok { IfOk result (IsDone ground.now) }
+    ensures ok { IfOk result (IsLeastClosedTable ground.now) }
     ensures err { IfErr result (RefusalIsRight ground.now) }
 {
     let mut table = begin_fixpoint(alloc, ground)?;
@@ -48,7 +48,7 @@ pub(crate) fn least_fixpoint(alloc: Global, ground: &Ground) -> Result<Table, Re
 /// Returns the table with only the start.
 #[inline(never)]
 fn begin_fixpoint(alloc: Global, ground: &Ground) -> Result<Table, Refusal>
-    ensures ok { IfOk result (λ t. TableHolds ground.now t × NoVisitOpen t) }
+    ensures ok { IfOk result (λ t. TableInvariantHoldsOn ground.now t × NoVisitOpen t) }
     ensures err { IfErr result (RefusalIsRight ground.now) }
 {
     let key = start_key(ground.image, ground.plan);
@@ -91,9 +91,9 @@ fn visit_listed_places(
     table: &mut Table,
     scratch: &mut VisitScratch,
 ) -> Result<bool, Refusal>
-    requires fine { TableHolds ground.now table.old }
+    requires fine { TableInvariantHoldsOn ground.now table.old }
     requires none { NoVisitOpen table.old }
-    ensures { VisitTurnsOn ground.now table.old table.new result }
+    ensures { VisitsListedPlaces ground.now table.old table.new result }
 {
     let mut change = identity_change(scratch.state.state());
     let mut cache = OperationCache::empty();
@@ -122,10 +122,10 @@ fn visit_next_place(
     change: &mut Change,
     cache: &mut OperationCache,
 ) -> Result<bool, Refusal>
-    requires fine { TableHolds ground.now table.old }
+    requires fine { TableInvariantHoldsOn ground.now table.old }
     requires none { NoVisitOpen table.old }
     requires results { HoldsCachedResults ground.now.bounds.now cache.old }
-    ensures steps { VisitStepsOn ground.now table.old table.new result }
+    ensures steps { VisitsNextPlace ground.now table.old table.new result }
     ensures results { HoldsCachedResults ground.now.bounds.now cache.new }
 {
     let Some(number) = table.work.pop()? else {

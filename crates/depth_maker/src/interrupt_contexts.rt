@@ -1,15 +1,15 @@
 // The last contexts in which interrupts were taken: their handlers' entries are covered.
 ghost use Rattle.std.specs.Prelude.{◌≡◌, IsTrue};
 ghost use Rattle.value_domain.specs.declared.states.State.{State};
-ghost use Rattle.value_domain.specs.Values.{IsBelow, IsValue, IsWell};
-ghost use Rattle.depth_maker.specs.InterruptHandlers.{IsAlike, IsContextOf, IsWithinContext, joined_context, HasNotedInterrupts};
+ghost use Rattle.value_domain.specs.Values.{IsBelow, IsValue, IsWellFormed};
+ghost use Rattle.depth_maker.specs.InterruptHandlers.{IsEqualExceptStack, IsContextOf, IsWithinContext, joined_context, AreInterruptsCoveredAt};
 ghost use Rattle.vd_transfer.specs.Registers.{a10_of};
 ghost use Rattle.depth_cert.specs.WellFormed.{IsWellFormedState};
 ghost use Rattle.frame_places.specs.declared.places.Spot.TheVariants.{Point};
 ghost use Rattle.frame_places.specs.Numbers.{PlaceHasNumber};
-ghost use Rattle.depth_maker.specs.TableInvariant.{TableHolds};
-ghost use Rattle.depth_maker.specs.VisitDuties.{OwesAll, JoinedBy, StayJoined, interrupts_by};
-ghost use Rattle.depth_maker.specs.Visits.{VisitedBy};
+ghost use Rattle.depth_maker.specs.TableInvariant.{TableInvariantHoldsOn};
+ghost use Rattle.depth_maker.specs.VisitDuties.{OwesDuties, JoinedBy, KeepsDutiesJoined, interrupt_duties};
+ghost use Rattle.depth_maker.specs.Visits.{VisitInvariantHolds};
 ghost use Rattle.depth_cert.specs.Known.{state};
 
 use crate::inputs_and_limits::Visit;
@@ -51,8 +51,8 @@ impl InterruptContext {
 
     /// Returns true only if its entries cover those of a frame with this state.
     pub(crate) fn covers(&self, is: bool, s: &State) -> bool
-        requires own { IsWell self.now.sp }
-        requires other { IsWell (a10_of s.now) }
+        requires own { IsWellFormed self.now.sp }
+        requires other { IsWellFormed (a10_of s.now) }
         ensures { IsTrue result → IsWithinContext self.now is s.now }
     {
         self.is == is && self.ccpn <= s.ccpn && self.covers_stack(s)
@@ -69,7 +69,7 @@ impl InterruptContext {
 
     /// Returns true only if the context of a frame with this state differs at most in A10.
     pub(crate) fn is_equal_except_stack(&self, is: bool, s: &State) -> bool
-        ensures { IsTrue result → IsAlike self.now is s.now }
+        ensures { IsTrue result → IsEqualExceptStack self.now is s.now }
     {
         self.is == is && self.ccpn == s.ccpn
     }
@@ -85,8 +85,8 @@ impl InterruptContext {
 
     /// Returns whether A10 of this state is covered. It matters only on the interrupt stack.
     fn covers_stack(&self, s: &State) -> bool
-        requires own { IsWell self.now.sp }
-        requires other { IsWell (a10_of s.now) }
+        requires own { IsWellFormed self.now.sp }
+        requires other { IsWellFormed (a10_of s.now) }
         ensures { IsTrue result → IsTrue self.now.is
             → IsBelow (a10_of s.now) self.now.sp }
     {
@@ -97,8 +97,8 @@ impl InterruptContext {
 /// Returns true only if the last contexts of interrupts show that the entries of all interrupts
 /// that may be taken are covered.
 pub(crate) fn are_interrupts_covered(table: &Table, v: &Visit) -> bool
-    requires { VisitedBy v.now table.now }
-    ensures { IsTrue result → JoinedBy v.now table.now table.now (interrupts_by v.now) }
+    requires { VisitInvariantHolds v.now table.now }
+    ensures { IsTrue result → JoinedBy v.now table.now table.now (interrupt_duties v.now) }
 {
     if let Some(last) = &table.covered.interrupts.last {
         if last.covers(v.key.is, v.state) {
@@ -115,7 +115,7 @@ pub(crate) fn are_interrupts_covered(table: &Table, v: &Visit) -> bool
 /// that may be taken are covered in each frame with this CCPN.
 #[inline(always)]
 pub(crate) fn are_interrupts_covered_at(table: &Table, is: bool, ccpn: u8) -> bool
-    ensures { IsTrue result → HasNotedInterrupts table.now is ccpn }
+    ensures { IsTrue result → AreInterruptsCoveredAt table.now is ccpn }
 {
     match &table.covered.interrupts.last {
         Some(last) => last.covers_any_stack(is, ccpn),
@@ -128,12 +128,12 @@ pub(crate) fn are_interrupts_covered_at(table: &Table, is: bool, ccpn: u8) -> bo
 /// It is a call of its own, since it has room for a value.
 #[inline(never)]
 pub(crate) fn store_last_interrupts(table: &mut Table, v: &Visit)
-    requires fine { TableHolds v.now.ground.now table.old }
+    requires fine { TableInvariantHoldsOn v.now.ground.now table.old }
     requires near { PlaceHasNumber table.old.places table.old.near (Point v.now.key v.now.addr) }
     requires well_formed { IsWellFormedState v.now.ground.now.bounds.now v.now.state.now }
     requires on { IsTrue v.now.state.now.ie }
-    requires owes { OwesAll v.now (interrupts_by v.now) }
-    ensures { StayJoined v.now table.old table.new (interrupts_by v.now) }
+    requires owes { OwesDuties v.now (interrupt_duties v.now) }
+    ensures { KeepsDutiesJoined v.now table.old table.new (interrupt_duties v.now) }
 {
     if has_queued_mark(&table.places, table.near) {
         return;

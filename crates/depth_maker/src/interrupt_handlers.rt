@@ -2,7 +2,7 @@
 ghost use Rattle.std.specs.Prelude.{◌≡◌, ◌≤◌, ◌<◌, ◌+◌, ◌++◌, ◌∷◌, [], List, IfOk, OnOk, length, vec_len, vec_capacity};
 ghost use Rattle.depth_cert.specs.declared.keys.Key as keys;
 ghost use Rattle.frame_places.specs.Numbers.{AreFrameNumbers};
-ghost use Rattle.depth_maker.specs.InterruptHandlers.{AreHandlers, nodes_above, nodes_taken};
+ghost use Rattle.depth_maker.specs.InterruptHandlers.{AreHandlers, handler_nodes_above, taken_handlers};
 
 use cfg_recover::irq_key;
 use depth_cert::Key;
@@ -44,7 +44,7 @@ pub(crate) fn add_taken_handlers(
     ccpn: u8,
     handlers: &[Handler],
 ) -> Result<(), AllocError>
-    ensures { OnOk result (into.new.items ≡ into.old.items ++ nodes_taken ie ccpn handlers.now) }
+    ensures { OnOk result (into.new.items ≡ into.old.items ++ taken_handlers ie ccpn handlers.now) }
 {
     if !ie {
         return Ok(());
@@ -59,7 +59,7 @@ pub(crate) fn add_taken_handlers(
 #[inline(always)]
 fn add_handlers_above(into: &mut Vec<usize>, ccpn: u8, handlers: &[Handler])
     requires { vec_len into.old + length handlers.now ≤ vec_capacity into.old }
-    ensures { into.new.items ≡ into.old.items ++ nodes_above ccpn handlers.now }
+    ensures { into.new.items ≡ into.old.items ++ handler_nodes_above ccpn handlers.now }
 {
     for h in handlers {
         add_handler_above(into, ccpn, h);
@@ -70,7 +70,7 @@ fn add_handlers_above(into: &mut Vec<usize>, ccpn: u8, handlers: &[Handler])
 #[inline(always)]
 fn add_handler_above(into: &mut Vec<usize>, ccpn: u8, handler: &Handler)
     requires { vec_len into.old < vec_capacity into.old }
-    ensures items { into.new.items ≡ into.old.items ++ nodes_above ccpn (handler.now ∷ []) }
+    ensures items { into.new.items ≡ into.old.items ++ handler_nodes_above ccpn (handler.now ∷ []) }
     ensures few { vec_len into.new ≤ vec_len into.old + 1 }
     ensures capacity { vec_capacity into.new ≡ vec_capacity into.old }
 {

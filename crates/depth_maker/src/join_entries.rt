@@ -6,10 +6,10 @@ ghost use Rattle.cfg_recover.specs.Entries.{irqs_of};
 ghost use Rattle.cfg_recover.specs.FlowDuties.{duties_of_irqs};
 ghost use Rattle.frame_places.specs.declared.places.Spot.TheVariants.{Point, Exit};
 ghost use Rattle.depth_maker.specs.Answers.{RefusalIsRight};
-ghost use Rattle.depth_maker.specs.VisitDuties.{OwesAll, JoinedBy, OwesDutiesOf, access_by, entries_by, interrupts_by, misaligned_by, system_by, enters_by, OwesDuty};
-ghost use Rattle.depth_maker.specs.Visits.{VisitedBy};
+ghost use Rattle.depth_maker.specs.VisitDuties.{OwesDuties, JoinedBy, OwesDutiesOf, access_duties, entry_duties, interrupt_duties, misaligned_duty, system_duties, enter_duties, OwesDuty};
+ghost use Rattle.depth_maker.specs.Visits.{VisitInvariantHolds};
 ghost use Rattle.cfg_recover.specs.Entries as entries;
-ghost use Rattle.cfg_recover.specs.Duties.{owed, enter, resume, entered_and_back};
+ghost use Rattle.cfg_recover.specs.Duties.{owed, enter, resume, entry_and_return};
 ghost use Rattle.depth_cert.specs.Known.{state};
 
 use crate::calls::join_call;
@@ -39,10 +39,10 @@ pub(crate) fn join_entries(
     size: u32,
     c: &mut Change,
 ) -> Result<(), Refusal>
-    requires visited { VisitedBy v.now table.old }
+    requires visited { VisitInvariantHolds v.now table.old }
     requires shape { IsShape shape }
-    requires owes { OwesAll v.now (entries_by v.now shape size) }
-    ensures ok { OnOk result (JoinedBy v.now table.old table.new (entries_by v.now shape size)) }
+    requires owes { OwesDuties v.now (entry_duties v.now shape size) }
+    ensures ok { OnOk result (JoinedBy v.now table.old table.new (entry_duties v.now shape size)) }
     ensures err { IfErr result (RefusalIsRight v.now.ground.now) }
 {
     let back = v.addr.wrapping_add(size);
@@ -61,10 +61,10 @@ pub(crate) fn join_access_entry(
     v: &Visit,
     found: &Located,
 ) -> Result<(), Refusal>
-    requires visited { VisitedBy v.now table.old }
+    requires visited { VisitInvariantHolds v.now table.old }
     requires found { OwesDutiesOf v.now found.now }
-    requires owes { OwesAll v.now (access_by v.now found.now) }
-    ensures ok { OnOk result (JoinedBy v.now table.old table.new (access_by v.now found.now)) }
+    requires owes { OwesDuties v.now (access_duties v.now found.now) }
+    ensures ok { OnOk result (JoinedBy v.now table.old table.new (access_duties v.now found.now)) }
     ensures err { IfErr result (RefusalIsRight v.now.ground.now) }
 {
     if !may_enter_misaligned_handler(v, found) {
@@ -76,9 +76,9 @@ pub(crate) fn join_access_entry(
 /// Joins the entries of frames that the visited point enters by interrupts: those that may be
 /// taken, none if IE is off.
 pub(crate) fn join_interrupts(alloc: Global, table: &mut Table, v: &Visit) -> Result<(), Refusal>
-    requires visited { VisitedBy v.now table.old }
-    requires owes { OwesAll v.now (interrupts_by v.now) }
-    ensures ok { OnOk result (JoinedBy v.now table.old table.new (interrupts_by v.now)) }
+    requires visited { VisitInvariantHolds v.now table.old }
+    requires owes { OwesDuties v.now (interrupt_duties v.now) }
+    ensures ok { OnOk result (JoinedBy v.now table.old table.new (interrupt_duties v.now)) }
     ensures err { IfErr result (RefusalIsRight v.now.ground.now) }
 {
     if !v.state.ie {
@@ -104,10 +104,10 @@ pub(crate) fn join_call_entries(
     entry: &Change,
     targets: &[u32],
 ) -> Result<(), Refusal>
-    requires visited { VisitedBy v.now table.old }
+    requires visited { VisitInvariantHolds v.now table.old }
     requires entry { state_after v.now.state.now entry.now ≡ entries.call_entry v.now.state.now }
-    requires owes { OwesAll v.now (enters_by v.now targets.now) }
-    ensures ok { OnOk result (JoinedBy v.now table.old table.new (enters_by v.now targets.now)) }
+    requires owes { OwesDuties v.now (enter_duties v.now targets.now) }
+    ensures ok { OnOk result (JoinedBy v.now table.old table.new (enter_duties v.now targets.now)) }
     ensures err { IfErr result (RefusalIsRight v.now.ground.now) }
 {
     for t in targets {
@@ -125,7 +125,7 @@ pub(crate) fn join_entry(
     key: Key,
     c: &Change,
 ) -> Result<(), Refusal>
-    requires visited { VisitedBy v.now table.old }
+    requires visited { VisitInvariantHolds v.now table.old }
     requires owes { OwesDuty v.now (enter key (state_after v.now.state.now c.now)) }
     ensures ok { (rule : ℕ)
         → OnOk result
@@ -149,7 +149,7 @@ pub(crate) fn join_return_after_entry(
     key: Key,
     back: u32,
 ) -> Result<(), Refusal>
-    requires visited { VisitedBy v.now table.old }
+    requires visited { VisitInvariantHolds v.now table.old }
     requires owes { OwesDuty v.now (resume key back) }
     ensures ok { OnOk result (JoinedBy v.now table.old table.new (owed 4 (resume key back) ∷ [])) }
     ensures err { IfErr result (RefusalIsRight v.now.ground.now) }
@@ -172,13 +172,13 @@ pub(crate) fn join_entry_and_return(
     c: &Change,
     back: u32,
 ) -> Result<(), Refusal>
-    requires visited { VisitedBy v.now table.old }
+    requires visited { VisitInvariantHolds v.now table.old }
     requires enters { OwesDuty v.now (enter key (state_after v.now.state.now c.now)) }
     requires resumes { OwesDuty v.now (resume key back) }
     ensures ok { (rule : ℕ)
         → OnOk result
         (JoinedBy v.now table.old table.new
-        (entered_and_back rule key (state_after v.now.state.now c.now) back)) }
+        (entry_and_return rule key (state_after v.now.state.now c.now) back)) }
     ensures err { IfErr result (RefusalIsRight v.now.ground.now) }
 {
     join_entry(alloc, table, v, key, c)?;
@@ -195,9 +195,9 @@ fn join_system_call_entry(
     tin: u8,
     back: u32,
 ) -> Result<(), Refusal>
-    requires visited { VisitedBy v.now table.old }
-    requires owes { OwesAll v.now (system_by v.now tin back) }
-    ensures ok { OnOk result (JoinedBy v.now table.old table.new (system_by v.now tin back)) }
+    requires visited { VisitInvariantHolds v.now table.old }
+    requires owes { OwesDuties v.now (system_duties v.now tin back) }
+    ensures ok { OnOk result (JoinedBy v.now table.old table.new (system_duties v.now tin back)) }
     ensures err { IfErr result (RefusalIsRight v.now.ground.now) }
 {
     let g = v.ground;
@@ -209,9 +209,9 @@ fn join_system_call_entry(
 /// point. It is a call of its own, since it has room for a change.
 #[inline(never)]
 fn join_misaligned_entry(alloc: Global, table: &mut Table, v: &Visit) -> Result<(), Refusal>
-    requires visited { VisitedBy v.now table.old }
-    requires owes { OwesAll v.now (misaligned_by v.now ∷ []) }
-    ensures ok { OnOk result (JoinedBy v.now table.old table.new (misaligned_by v.now ∷ [])) }
+    requires visited { VisitInvariantHolds v.now table.old }
+    requires owes { OwesDuties v.now (misaligned_duty v.now ∷ []) }
+    ensures ok { OnOk result (JoinedBy v.now table.old table.new (misaligned_duty v.now ∷ [])) }
     ensures err { IfErr result (RefusalIsRight v.now.ground.now) }
 {
     let g = v.ground;
@@ -228,10 +228,10 @@ fn join_interrupt_entries(
     v: &Visit,
     irqs: &[u8],
 ) -> Result<(), Refusal>
-    requires visited { VisitedBy v.now table.old }
+    requires visited { VisitInvariantHolds v.now table.old }
     requires irqs { irqs.now ≡ irqs_of v.now.ground.now.plan.now v.now.state.now }
-    requires owes { OwesAll v.now (interrupts_by v.now) }
-    ensures ok { OnOk result (JoinedBy v.now table.old table.new (interrupts_by v.now)) }
+    requires owes { OwesDuties v.now (interrupt_duties v.now) }
+    ensures ok { OnOk result (JoinedBy v.now table.old table.new (interrupt_duties v.now)) }
     ensures err { IfErr result (RefusalIsRight v.now.ground.now) }
 {
     let entry = handler_change(v.ground.bounds, v.ground.plan, &v.key, v.state, 0);
@@ -247,8 +247,8 @@ fn join_each_handler_entry(
     irqs: &[u8],
     entry: Change,
 ) -> Result<(), Refusal>
-    requires visited { VisitedBy v.now table.old }
-    requires owes { OwesAll v.now
+    requires visited { VisitInvariantHolds v.now table.old }
+    requires owes { OwesDuties v.now
         (duties_of_irqs v.now.ground.now.plan.now (state_after v.now.state.now entry) irqs.now) }
     ensures ok { OnOk result
         (JoinedBy v.now table.old table.new

@@ -9,12 +9,12 @@ ghost use Rattle.frame_places.specs.Marks.{AllListed, AreKnown, ForgetsReaders, 
 ghost use Rattle.frame_places.specs.Work.{all_work};
 ghost use Rattle.frame_places.specs.Numbers.{PlaceHasNumber};
 ghost use Rattle.frame_places.specs.Spots.{spot_eq};
-ghost use Rattle.depth_maker.specs.TableInvariant.{TableReadsExits, TableHolds};
-ghost use Rattle.depth_maker.specs.TableView.{seen};
-ghost use Rattle.depth_maker.specs.AssignmentCounts.{AreFew};
+ghost use Rattle.depth_maker.specs.TableInvariant.{TableReadsExits, TableInvariantHoldsOn};
+ghost use Rattle.depth_maker.specs.TableView.{view_of_table};
+ghost use Rattle.depth_maker.specs.AssignmentCounts.{AreFewEnough};
 ghost use Rattle.depth_maker.specs.SpotsAsPlaces.{place_of_spot};
 ghost use Rattle.depth_maker.specs.Answers.{RefusalIsRight};
-ghost use Rattle.depth_maker.specs.Joins.{AddsOn, AsksOn, JoinedOn, JoinsOn};
+ghost use Rattle.depth_maker.specs.Joins.{AddsJoinedPlace, FlowsInto, JoinsAtPlace, JoinsWithoutReaders};
 ghost use Rattle.depth_maker.specs.declared.inputs_and_limits.Ground.{Ground};
 
 use crate::inputs_and_limits::Visit;
@@ -37,9 +37,9 @@ pub(crate) fn add_joined_place(
     value: SmallKnown,
 ) -> Result<Option<usize>, Refusal>
     requires listed { AllListed table.old.places (all_work table.old.work) }
-    requires few { AreFew (map place_of_spot table.old.points.items) table.old.frames.items }
-    ensures { (g : Ground) → TableHolds g table.old → AsksOn g table.old y value
-        → AddsOn g table.old table.new y value result }
+    requires few { AreFewEnough (map place_of_spot table.old.points.items) table.old.frames.items }
+    ensures { (g : Ground) → TableInvariantHoldsOn g table.old → FlowsInto g table.old y value
+        → AddsJoinedPlace g table.old table.new y value result }
 {
     match add_or_find_place(&mut table.places, &mut table.work, y, value)? {
         None => {
@@ -59,14 +59,14 @@ pub(crate) fn join_at_place(
     y: &Spot,
     incoming: &Incoming,
 ) -> Result<(), Refusal>
-    requires fine { TableHolds v.now.ground.now table.old }
+    requires fine { TableInvariantHoldsOn v.now.ground.now table.old }
     requires near { PlaceHasNumber table.old.places table.old.near (Point v.now.key v.now.addr) }
-    requires at { (seen table.old).cells (point v.now.key v.now.addr)
+    requires at { (view_of_table table.old).cells (point v.now.key v.now.addr)
         ≡ Some (state v.now.state.now) }
     requires own { sender_state incoming.now ≡ v.now.state.now }
-    requires incoming { AsksOn v.now.ground.now table.old y.now (incoming_known incoming.now) }
+    requires incoming { FlowsInto v.now.ground.now table.old y.now (incoming_known incoming.now) }
     ensures ok { OnOk result
-        (JoinedOn v.now.ground.now table.old table.new y.now (incoming_known incoming.now)) }
+        (JoinsAtPlace v.now.ground.now table.old table.new y.now (incoming_known incoming.now)) }
     ensures err { IfErr result (RefusalIsRight v.now.ground.now) }
 {
     let _byte = incoming_priority(incoming);
@@ -87,13 +87,13 @@ fn join_without_readers(
     y: &Spot,
     incoming: &Incoming,
 ) -> Result<bool, Refusal>
-    requires fine { TableHolds v.now.ground.now table.old }
+    requires fine { TableInvariantHoldsOn v.now.ground.now table.old }
     requires near { PlaceHasNumber table.old.places table.old.near (Point v.now.key v.now.addr) }
-    requires at { (seen table.old).cells (point v.now.key v.now.addr)
+    requires at { (view_of_table table.old).cells (point v.now.key v.now.addr)
         ≡ Some (state v.now.state.now) }
     requires own { sender_state incoming.now ≡ v.now.state.now }
-    requires incoming { AsksOn v.now.ground.now table.old y.now (incoming_known incoming.now) }
-    ensures { JoinsOn v.now.ground.now table.old table.new y.now
+    requires incoming { FlowsInto v.now.ground.now table.old y.now (incoming_known incoming.now) }
+    ensures { JoinsWithoutReaders v.now.ground.now table.old table.new y.now
         (incoming_known incoming.now) result }
 {
     if table.near < table.places.len().saturating_sub(1) {
@@ -144,14 +144,14 @@ fn join_known_place(
     y: &Spot,
     incoming: &Incoming,
 ) -> Result<bool, Refusal>
-    requires fine { TableHolds v.now.ground.now table.old }
+    requires fine { TableInvariantHoldsOn v.now.ground.now table.old }
     requires there { PlaceHasNumber table.old.places number y.now }
     requires near { PlaceHasNumber table.old.places table.old.near (Point v.now.key v.now.addr) }
-    requires at { (seen table.old).cells (point v.now.key v.now.addr)
+    requires at { (view_of_table table.old).cells (point v.now.key v.now.addr)
         ≡ Some (state v.now.state.now) }
     requires own { sender_state incoming.now ≡ v.now.state.now }
-    requires incoming { AsksOn v.now.ground.now table.old y.now (incoming_known incoming.now) }
-    ensures { JoinsOn v.now.ground.now table.old table.new y.now
+    requires incoming { FlowsInto v.now.ground.now table.old y.now (incoming_known incoming.now) }
+    ensures { JoinsWithoutReaders v.now.ground.now table.old table.new y.now
         (incoming_known incoming.now) result }
 {
     let Some((_, place)) = table.places.get_index(number) else {

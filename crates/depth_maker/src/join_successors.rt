@@ -5,12 +5,12 @@ ghost use Rattle.vd_transfer.specs.Changes.{state_after};
 ghost use Rattle.cfg_recover.specs.Assignments.{point};
 ghost use Rattle.cfg_recover.specs.LocalRules.{targets_of};
 ghost use Rattle.cfg_recover.specs.SetOperations.{HoldsCachedResults};
-ghost use Rattle.cfg_recover.specs.Duties.{jumps_to, jump_on, owed, jump, resume, leave, leavings_of};
+ghost use Rattle.cfg_recover.specs.Duties.{jumps_to, jump_on, owed, jump, resume, leave, exit_duties_of};
 ghost use Rattle.depth_cert.specs.Known.{state};
-ghost use Rattle.depth_maker.specs.TableView.{seen};
+ghost use Rattle.depth_maker.specs.TableView.{view_of_table};
 ghost use Rattle.depth_maker.specs.Answers.{RefusalIsRight};
-ghost use Rattle.depth_maker.specs.VisitDuties.{OwesAll, JoinedBy, OwesDutiesOf, next_by, side_by, successors_by, OwesDuty};
-ghost use Rattle.depth_maker.specs.Visits.{VisitedBy};
+ghost use Rattle.depth_maker.specs.VisitDuties.{OwesDuties, JoinedBy, OwesDutiesOf, next_duties, side_state, jump_duties, OwesDuty};
+ghost use Rattle.depth_maker.specs.Visits.{VisitInvariantHolds};
 ghost use Rattle.indexmap.specs.IndexMap.{get};
 ghost use Rattle.depth_cert.specs.Exits.{exit_of};
 ghost use Rattle.frame_places.specs.declared.places.Spot.TheVariants.{Exit, Point};
@@ -48,13 +48,13 @@ pub(crate) fn join_successors(
     c: &mut Change,
     cache: &mut OperationCache,
 ) -> Result<(), Refusal>
-    requires visited { VisitedBy v.now table.old }
-    requires at { (seen table.old).cells (point v.now.key v.now.addr)
+    requires visited { VisitInvariantHolds v.now table.old }
+    requires at { (view_of_table table.old).cells (point v.now.key v.now.addr)
         ≡ Some (state v.now.state.now) }
     requires found { OwesDutiesOf v.now found.now }
-    requires owes { OwesAll v.now (successors_by v.now found.now) }
+    requires owes { OwesDuties v.now (jump_duties v.now found.now) }
     requires results { HoldsCachedResults v.now.ground.now.bounds.now cache.old }
-    ensures ok { OnOk result (JoinedBy v.now table.old table.new (successors_by v.now found.now)) }
+    ensures ok { OnOk result (JoinedBy v.now table.old table.new (jump_duties v.now found.now)) }
     ensures err { IfErr result (RefusalIsRight v.now.ground.now) }
     ensures results { HoldsCachedResults v.now.ground.now.bounds.now cache.new }
 {
@@ -88,7 +88,7 @@ pub(crate) fn join_jump(
     to: u32,
     c: &Change,
 ) -> Result<(), Refusal>
-    requires visited { VisitedBy v.now table.old }
+    requires visited { VisitInvariantHolds v.now table.old }
     requires owes { OwesDuty v.now (jump to (state_after v.now.state.now c.now)) }
     ensures ok { OnOk result
         (JoinedBy v.now table.old table.new
@@ -110,8 +110,8 @@ pub(crate) fn join_first_jump(
     to: u32,
     c: &Change,
 ) -> Result<(), Refusal>
-    requires visited { VisitedBy v.now table.old }
-    requires at { (seen table.old).cells (point v.now.key v.now.addr)
+    requires visited { VisitInvariantHolds v.now table.old }
+    requires at { (view_of_table table.old).cells (point v.now.key v.now.addr)
         ≡ Some (state v.now.state.now) }
     requires owes { OwesDuty v.now (jump to (state_after v.now.state.now c.now)) }
     ensures ok { OnOk result
@@ -126,7 +126,7 @@ pub(crate) fn join_first_jump(
 /// Joins the visited point's state at the exit of its frame, which the point leaves instead of
 /// going on to a successor.
 pub(crate) fn join_exit(alloc: Global, table: &mut Table, v: &Visit) -> Result<(), Refusal>
-    requires visited { VisitedBy v.now table.old }
+    requires visited { VisitInvariantHolds v.now table.old }
     requires owes { OwesDuty v.now (leave (exit_of v.now.state.now)) }
     ensures ok { (rule : ℕ)
         → OnOk result
@@ -149,7 +149,7 @@ pub(crate) fn join_return(
     key: Key,
     back: u32,
 ) -> Result<(), Refusal>
-    requires visited { VisitedBy v.now table.old }
+    requires visited { VisitInvariantHolds v.now table.old }
     requires registered { IsAmongReaders (get spot_eq table.old.readers (Exit key))
         (Point v.now.key v.now.addr) }
     requires owes { OwesDuty v.now (resume key back) }
@@ -177,10 +177,10 @@ pub(crate) fn join_exit_if_left(
     v: &Visit,
     shape: Shape,
 ) -> Result<(), Refusal>
-    requires visited { VisitedBy v.now table.old }
-    requires owes { OwesAll v.now (leavings_of v.now.key v.now.state.now shape) }
+    requires visited { VisitInvariantHolds v.now table.old }
+    requires owes { OwesDuties v.now (exit_duties_of v.now.key v.now.state.now shape) }
     ensures ok { OnOk result
-        (JoinedBy v.now table.old table.new (leavings_of v.now.key v.now.state.now shape)) }
+        (JoinedBy v.now table.old table.new (exit_duties_of v.now.key v.now.state.now shape)) }
     ensures err { IfErr result (RefusalIsRight v.now.ground.now) }
 {
     match shape {
@@ -204,16 +204,16 @@ fn join_branch_sides(
     taken: Side,
     c: &mut Change,
 ) -> Result<(), Refusal>
-    requires visited { VisitedBy v.now table.old }
+    requires visited { VisitInvariantHolds v.now table.old }
     requires next { IsShape next.shape }
     requires taken { IsShape taken.shape }
-    requires owes { OwesAll v.now
-        (jump_on next.to (side_by v.now next.shape next.taken)
-        ++ jump_on taken.to (side_by v.now taken.shape taken.taken)) }
+    requires owes { OwesDuties v.now
+        (jump_on next.to (side_state v.now next.shape next.taken)
+        ++ jump_on taken.to (side_state v.now taken.shape taken.taken)) }
     ensures ok { OnOk result
         (JoinedBy v.now table.old table.new
-        (jump_on next.to (side_by v.now next.shape next.taken)
-        ++ jump_on taken.to (side_by v.now taken.shape taken.taken))) }
+        (jump_on next.to (side_state v.now next.shape next.taken)
+        ++ jump_on taken.to (side_state v.now taken.shape taken.taken))) }
     ensures err { IfErr result (RefusalIsRight v.now.ground.now) }
 {
     join_branch_side(alloc, table, v, next, c)?;
@@ -229,11 +229,11 @@ fn join_jump_targets(
     to: Target,
     c: &mut Change,
 ) -> Result<(), Refusal>
-    requires visited { VisitedBy v.now table.old }
-    requires at { (seen table.old).cells (point v.now.key v.now.addr)
+    requires visited { VisitInvariantHolds v.now table.old }
+    requires at { (view_of_table table.old).cells (point v.now.key v.now.addr)
         ≡ Some (state v.now.state.now) }
     requires target { IsTarget to }
-    requires owes { OwesAll v.now
+    requires owes { OwesDuties v.now
         (jumps_to v.now.state.now
         (unwrap_or (targets_of v.now.ground.now.plan.now v.now.state.now v.now.addr to) [])) }
     ensures ok { OnOk result (JoinedBy v.now table.old table.new
@@ -259,13 +259,13 @@ fn join_next_instruction(
     c: &mut Change,
     cache: &mut OperationCache,
 ) -> Result<(), Refusal>
-    requires visited { VisitedBy v.now table.old }
-    requires at { (seen table.old).cells (point v.now.key v.now.addr)
+    requires visited { VisitInvariantHolds v.now table.old }
+    requires at { (view_of_table table.old).cells (point v.now.key v.now.addr)
         ≡ Some (state v.now.state.now) }
     requires found { OwesDutiesOf v.now found.now }
-    requires owes { OwesAll v.now (next_by v.now found.now) }
+    requires owes { OwesDuties v.now (next_duties v.now found.now) }
     requires results { HoldsCachedResults v.now.ground.now.bounds.now cache.old }
-    ensures ok { OnOk result (JoinedBy v.now table.old table.new (next_by v.now found.now)) }
+    ensures ok { OnOk result (JoinedBy v.now table.old table.new (next_duties v.now found.now)) }
     ensures err { IfErr result (RefusalIsRight v.now.ground.now) }
     ensures results { HoldsCachedResults v.now.ground.now.bounds.now cache.new }
 {
@@ -281,12 +281,12 @@ fn join_branch_side(
     side: Side,
     c: &mut Change,
 ) -> Result<(), Refusal>
-    requires visited { VisitedBy v.now table.old }
+    requires visited { VisitInvariantHolds v.now table.old }
     requires shape { IsShape side.shape }
-    requires owes { OwesAll v.now (jump_on side.to (side_by v.now side.shape side.taken)) }
+    requires owes { OwesDuties v.now (jump_on side.to (side_state v.now side.shape side.taken)) }
     ensures ok { OnOk result
         (JoinedBy v.now table.old table.new
-        (jump_on side.to (side_by v.now side.shape side.taken))) }
+        (jump_on side.to (side_state v.now side.shape side.taken))) }
     ensures err { IfErr result (RefusalIsRight v.now.ground.now) }
 {
     let g = v.ground;
@@ -305,9 +305,9 @@ fn join_listed_jumps(
     to: Target,
     c: &mut Change,
 ) -> Result<(), Refusal>
-    requires visited { VisitedBy v.now table.old }
+    requires visited { VisitInvariantHolds v.now table.old }
     requires target { IsTarget to }
-    requires owes { OwesAll v.now
+    requires owes { OwesDuties v.now
         (jumps_to v.now.state.now
         (unwrap_or (targets_of v.now.ground.now.plan.now v.now.state.now v.now.addr to) [])) }
     ensures ok { OnOk result (JoinedBy v.now table.old table.new
@@ -327,8 +327,8 @@ fn join_jumps(
     targets: &[u32],
     c: &mut Change,
 ) -> Result<(), Refusal>
-    requires visited { VisitedBy v.now table.old }
-    requires owes { OwesAll v.now (jumps_to v.now.state.now targets.now) }
+    requires visited { VisitInvariantHolds v.now table.old }
+    requires owes { OwesDuties v.now (jumps_to v.now.state.now targets.now) }
     ensures ok { OnOk result
         (JoinedBy v.now table.old table.new (jumps_to v.now.state.now targets.now)) }
     ensures err { IfErr result (RefusalIsRight v.now.ground.now) }

@@ -1,12 +1,12 @@
 // Laws: what grows with a state, and what holds of derived assignments and accepted certificates.
-ghost use Rattle.depth_maker.specs.DutiesMonotone.{AddressesMonotone, AfterMonotone, DutiesMonotone, FaultsFall, SidesMonotone, TransfersMonotone};
-ghost use Rattle.depth_maker.specs.WellFormedAssignments.{AfterIsWellFormed, DutiesAreWellFormed};
-ghost use Rattle.depth_maker.specs.MakerLaws.{RefusalsHold, AcceptedIsClosed, DerivedIsBelow, FaultsRefute, RefusalsRefute, SolutionIsAccepted, RefusedIsNone, WrittenIsMade, MadeIsLeast};
+ghost use Rattle.depth_maker.specs.DutiesMonotone.{AddressesMonotone, ReturnStatesMonotone, DutiesMonotone, FaultsMonotone, SidesMonotone, TransfersMonotone};
+ghost use Rattle.depth_maker.specs.WellFormedAssignments.{ReturnStatesAreWellFormed, DutiesAreWellFormed};
+ghost use Rattle.depth_maker.specs.MakerLaws.{RefusalsHold, AcceptedIsClosed, DerivedIsBelow, FaultsRefute, RefusalsRefute, SolutionIsAccepted, RefusalMeansNoneAccepted, LeastClosedCertIsMade, MadeIsLeast};
 
 /// Laws of the maker: what a point owes grows with its state, and is at the limits. A point without
 /// a fault of its own has none with a smaller state.
 pub fn duty_monotonicity_laws()
-    ensures faults { FaultsFall }
+    ensures faults { FaultsMonotone }
     ensures duties { DutiesMonotone }
     ensures well_formed { DutiesAreWellFormed }
 {}
@@ -14,8 +14,8 @@ pub fn duty_monotonicity_laws()
 /// Laws of the maker: the state after a return grows with the caller's state and with the exit, and
 /// it is at the limits.
 pub fn return_state_laws()
-    ensures grows { AfterMonotone }
-    ensures well_formed { AfterIsWellFormed }
+    ensures grows { ReturnStatesMonotone }
+    ensures well_formed { ReturnStatesAreWellFormed }
 {}
 
 /// Laws of the maker: duties grow with states, since effects of instructions do. A side of a branch
@@ -45,8 +45,8 @@ pub fn accepted_laws()
 /// make. It is accepted, and no accepted certificate of its format is less. If a refusal holds, no
 /// certificate of the format is accepted.
 pub fn making_laws()
-    ensures made { WrittenIsMade }
-    ensures refused { RefusedIsNone }
+    ensures made { LeastClosedCertIsMade }
+    ensures refused { RefusalMeansNoneAccepted }
     ensures least { MadeIsLeast }
     ensures none { RefusalsHold }
 {}

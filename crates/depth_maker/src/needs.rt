@@ -1,9 +1,9 @@
 // The least needs of the frames of a closed table.
 ghost use Rattle.std.specs.Prelude.{◌≡◌, ◌≤◌, ◌-◌, IfOk, None};
 ghost use Rattle.depth_maker.specs.Rows.{IsRowSource, RowsOn};
-ghost use Rattle.depth_maker.specs.Needs.{NeedsOrRecursion, NeedsOn};
-ghost use Rattle.depth_maker.specs.Answers.{Refuses};
-ghost use Rattle.depth_maker.specs.Recursing.{IsRecursion};
+ghost use Rattle.depth_maker.specs.Needs.{LeastNeedsOrRecursion, AreLeastNeedsOrTooMany};
+ghost use Rattle.depth_maker.specs.Answers.{MakeErrHolds};
+ghost use Rattle.depth_maker.specs.Recursing.{IsFirstRecursion};
 
 use crate::answering::MakeErr;
 use crate::recursion::first_recursion;
@@ -34,7 +34,7 @@ pub(crate) fn least_frame_needs(
     source: &Source,
 ) -> Result<Result<Vec<u32>, Option<(Key, u32)>>, AllocError>
     requires { IsRowSource source.now }
-    ensures { IfOk result (NeedsOrRecursion source.now) }
+    ensures { IfOk result (LeastNeedsOrRecursion source.now) }
 {
     let mut rows = need_rows(alloc, source)?;
     let frames = source.table.frames.as_slice();
@@ -57,9 +57,9 @@ pub(crate) fn least_frame_needs(
 /// Returns the refusal if no needs are within the areas: at the first recursion, or at the start.
 pub(crate) fn need_refusal(source: &Source, place: Option<(Key, u32)>) -> MakeErr
     requires source { IsRowSource source.now }
-    requires none { NeedsOn source.now None }
-    requires place { IsRecursion source.now place }
-    ensures { Refuses source.now.ground.now result }
+    requires none { AreLeastNeedsOrTooMany source.now None }
+    requires place { IsFirstRecursion source.now place }
+    ensures { MakeErrHolds source.now.ground.now result }
 {
     match place {
         Some((key, addr)) => MakeErr::Refused {
@@ -89,9 +89,9 @@ fn needs_from_rows(
 ) -> Result<Result<Vec<u32>, Option<(Key, u32)>>, AllocError>
     requires source { IsRowSource source.now }
     requires rows { RowsOn source.now.ground.now source.now.table.now rows.now }
-    requires recurs { IsRecursion source.now recurs }
+    requires recurs { IsFirstRecursion source.now recurs }
     requires frames { frames.now ≡ source.now.table.now.frames.items }
-    ensures { IfOk result (NeedsOrRecursion source.now) }
+    ensures { IfOk result (LeastNeedsOrRecursion source.now) }
 {
     if let Some(place) = recurs {
         return Ok(Err(Some(place)));

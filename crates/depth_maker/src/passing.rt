@@ -4,8 +4,8 @@ ghost use Rattle.std.specs.Prelude.{IsTrue, IfSome};
 ghost use Rattle.cfg_recover.specs.Code.{LocatesCode};
 ghost use Rattle.frame_places.specs.declared.places.Spot.TheVariants.{Point};
 ghost use Rattle.frame_places.specs.Numbers.{PlaceHasNumber};
-ghost use Rattle.depth_maker.specs.SharedStates.{MayShareState, StateSharedBy, SharesState};
-ghost use Rattle.depth_maker.specs.TableInvariant.{TableHolds};
+ghost use Rattle.depth_maker.specs.SharedStates.{MayShareState, JoinsBySharing, PassesStateTo};
+ghost use Rattle.depth_maker.specs.TableInvariant.{TableInvariantHoldsOn};
 ghost use Rattle.tc_isa.specs.InBounds.{IsShape};
 
 use crate::inputs_and_limits::Site;
@@ -25,13 +25,13 @@ use tc_isa::Shape;
 /// This is tried only at the place that was found last. The successors of other places are mostly
 /// known already, and the look-up here would be in vain.
 pub(crate) fn share_state(alloc: Global, table: &mut Table, site: &Site) -> Result<bool, Refusal>
-    requires fine { TableHolds site.now.ground.now table.old }
+    requires fine { TableInvariantHoldsOn site.now.ground.now table.old }
     requires near { PlaceHasNumber table.old.places table.old.near
         (Point site.now.key site.now.addr) }
     requires code { LocatesCode site.now.ground.now.image.now site.now.ground.now.plan.now
         site.now.addr site.now.located.now }
     requires shape { IfSome site.now.located.now (λ found. IsShape found.shape) }
-    ensures { StateSharedBy site.now table.old table.new result }
+    ensures { JoinsBySharing site.now table.old table.new result }
 {
     let Some(to) = unchanged_state_successor(site) else {
         return Ok(false);
@@ -57,7 +57,7 @@ fn unchanged_state_successor(site: &Site) -> Option<u32>
         site.now.addr site.now.located.now }
     requires shape { IfSome site.now.located.now (λ found. IsShape found.shape) }
     ensures { IfSome result
-        (SharesState site.now.ground.now.image.now site.now.ground.now.plan.now site.now.addr) }
+        (PassesStateTo site.now.ground.now.image.now site.now.ground.now.plan.now site.now.addr) }
 {
     let Some(found) = site.located else {
         return None;
@@ -73,7 +73,7 @@ fn unchanged_state_successor(site: &Site) -> Option<u32>
 /// interrupts that may be taken there are covered.
 #[inline(always)]
 fn may_share_state(table: &Table, site: &Site) -> bool
-    requires fine { TableHolds site.now.ground.now table.now }
+    requires fine { TableInvariantHoldsOn site.now.ground.now table.now }
     requires near { PlaceHasNumber table.now.places table.now.near
         (Point site.now.key site.now.addr) }
     ensures { IsTrue result → MayShareState site.now table.now }

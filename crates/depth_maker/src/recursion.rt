@@ -1,6 +1,6 @@
 // The first point that enters a frame from which its own is reached.
 ghost use Rattle.std.specs.Prelude.{◌≡◌, ◌↔◌, IsTrue, IfOk};
-ghost use Rattle.depth_maker.specs.Recursing.{RecursionEdgesOn, IsRecursiveByMarks, IsFirstRecursive, IsFirstRecursiveWith, IsRecursion};
+ghost use Rattle.depth_maker.specs.Recursing.{AreTableEdges, EntersMarkedFrame, IsFirstRecursiveAddress, IsFirstRecursiveAddressWith, IsFirstRecursion};
 ghost use Rattle.depth_maker.specs.Rows.{IsRowSource};
 
 use crate::rows::{KnownPoint, Source, point_row};
@@ -24,8 +24,8 @@ pub(crate) fn first_recursion(
 ) -> Result<Option<(Key, u32)>, AllocError>
     requires source { IsRowSource source.now }
     requires frames { frames.now ≡ source.now.table.now.frames.items }
-    requires edges { RecursionEdgesOn source.now edges.now }
-    ensures { IfOk result (IsRecursion source.now) }
+    requires edges { AreTableEdges source.now edges.now }
+    ensures { IfOk result (IsFirstRecursion source.now) }
 {
     let orders = frame_order_numbers(alloc, frames)?;
     let Some(node) = first_recursive_node(alloc, orders.as_slice(), edges, ranks)? else {
@@ -49,7 +49,7 @@ fn first_recursive_address(
     points: &[Spot],
 ) -> Result<Option<u32>, AllocError>
     requires { IsRowSource source.now }
-    ensures { IfOk result (IsFirstRecursive source.now marks.now key points.now) }
+    ensures { IfOk result (IsFirstRecursiveAddress source.now marks.now key points.now) }
 {
     let mut first = None;
     for place in points {
@@ -69,7 +69,7 @@ fn lesser_recursive_address(
     first: Option<u32>,
 ) -> Result<Option<u32>, AllocError>
     requires { IsRowSource source.now }
-    ensures { IfOk result (IsFirstRecursiveWith source.now marks.now key place first) }
+    ensures { IfOk result (IsFirstRecursiveAddressWith source.now marks.now key place first) }
 {
     let Some(addr) = address_in_frame(key, place) else {
         return Ok(first);
@@ -96,7 +96,7 @@ fn enters_marked_frame(
 ) -> Result<bool, AllocError>
     requires { IsRowSource source.now }
     ensures { IfOk result (λ enters. IsTrue enters
-        ↔ IsRecursiveByMarks source.now marks.now key addr) }
+        ↔ EntersMarkedFrame source.now marks.now key addr) }
 {
     let place = Spot::Point(key, addr);
     let Some(known) = source.table.places.get(&place) else {

@@ -6,7 +6,7 @@ ghost use Rattle.depth_cert.specs.WellFormed.{IsWellFormedState};
 ghost use Rattle.frame_places.specs.Numbers.{frame_number_in};
 ghost use Rattle.depth_maker.specs.InterruptHandlers.{AreNumberedHandlers};
 ghost use Rattle.depth_maker.specs.VisitDuties.{OwesDutiesOf};
-ghost use Rattle.depth_maker.specs.Rows.{AddsPointRow, RowFramesKnownBy, IsDraft, IsKnownRowPoint, IsPointRow, IsRowBy, HasEqualRow, IsRowSource, RowsOn};
+ghost use Rattle.depth_maker.specs.Rows.{AddsPointRow, AreRowFramesAmong, HasFirstRows, IsKnownRowPoint, IsPointRow, IsVisitedPointRow, HasEqualRow, IsRowSource, RowsOn};
 
 use crate::entered_frames::entered_frames;
 use crate::inputs_and_limits::{Ground, Visit};
@@ -79,8 +79,8 @@ fn visited_point_row(
     ensures { IfOk result (λ row. (frames : List keys.Key)
         → AreNumberedHandlers v.now.ground.now.plan.now source.now.numbers.now
         source.now.handlers.now frames
-        → RowFramesKnownBy v.now frames → node ≡ frame_number_in frames v.now.key
-        → IsRowBy v.now frames row) }
+        → AreRowFramesAmong v.now frames → node ≡ frame_number_in frames v.now.key
+        → IsVisitedPointRow v.now frames row) }
 {
     let keys = entered_frames(alloc, v, found)?;
     let more = source.handlers.len();
@@ -134,8 +134,8 @@ fn add_row(
 ) -> Result<(), AllocError>
     requires source { IsRowSource source.now }
     requires entry { entry < index_map_len source.now.table.now.places }
-    requires draft { IsDraft source.now entry draft.old }
-    ensures { OnOk result (IsDraft source.now (entry + 1) draft.new) }
+    requires draft { HasFirstRows source.now entry draft.old }
+    ensures { OnOk result (HasFirstRows source.now (entry + 1) draft.new) }
 {
     let Some((place, known)) = source.table.places.get_index(entry) else {
         return Ok(());

@@ -2,10 +2,10 @@
 ghost use Rattle.std.specs.Prelude.{◌≡◌, ◌<◌, ◌^◌, ◌⊎◌, OnOk, IfOk};
 ghost use Rattle.frame_places.specs.PointEntries.{place_at};
 ghost use Rattle.frame_places.specs.Spots.{spot_address};
-ghost use Rattle.depth_maker.specs.Needs.{need_by, NeedsAre};
+ghost use Rattle.depth_maker.specs.Needs.{need_of_frame, AreLeastTableNeeds};
 ghost use Rattle.depth_maker.specs.Rows.{IsRowSource};
-ghost use Rattle.depth_maker.specs.SpelledCert.{AreSpelledFrames, AreSpelledPointsOf, IsSpelledFrameOf, IsSpelledVersion, IsSpelledInOrder, IsSpelledPointOf, IsSpelledOn, SpellsTableExit, SpellsTableNode, SpellsTableNodes, SpellsTablePoint, SpellsTablePoints};
-ghost use Rattle.depth_maker.specs.SpotsAsPlaces.{spots_on};
+ghost use Rattle.depth_maker.specs.SpelledCert.{AreTableFrames, AreTablePointEntries, IsTableFrame, SourceHasLimitsOfFormat, IsOrderedCertSource, IsTablePointEntry, AreClosedCertBytesOf, SpellsTableExit, SpellsTableNode, SpellsTableNodes, SpellsTablePoint, SpellsTablePoints};
+ghost use Rattle.depth_maker.specs.SpotsAsPlaces.{spots_of_entries};
 
 use crate::rows::Source;
 use depth_cert::{Key, put_u16, write_key, write_no_exit};
@@ -33,7 +33,7 @@ fn spell_table_point(
     point: &PointEntry,
 ) -> Result<(), NoMemory>
     requires source { IsRowSource source.now }
-    requires point { IsSpelledPointOf source.now _key point.now }
+    requires point { IsTablePointEntry source.now _key point.now }
     ensures { OnOk result (SpellsTablePoint source.now _key
         (spot_address (place_at source.now.table.now.places point.now))
         out.old.items out.new.items) }
@@ -55,8 +55,8 @@ fn spell_table_points(
     points: &[PointEntry],
 ) -> Result<(), NoMemory>
     requires source { IsRowSource source.now }
-    requires points { AreSpelledPointsOf source.now key points.now }
-    ensures { OnOk result (SpellsTablePoints source.now key (spots_on source.now points.now)
+    requires points { AreTablePointEntries source.now key points.now }
+    ensures { OnOk result (SpellsTablePoints source.now key (spots_of_entries source.now points.now)
         out.old.items out.new.items) }
 {
     for p in points {
@@ -86,9 +86,9 @@ fn spell_table_exit(out: &mut Vec<u8>, source: &Source, key: Key) -> Result<(), 
 /// Returns the need of a frame.
 fn spelled_need(source: &Source, needs: &[u32], key: Key) -> u16
     requires source { IsRowSource source.now }
-    requires needs { NeedsAre source.now needs.now }
-    requires key { IsSpelledFrameOf source.now key }
-    ensures { result ≡ need_by (source.now.table.now).frames.items needs.now key }
+    requires needs { AreLeastTableNeeds source.now needs.now }
+    requires key { IsTableFrame source.now key }
+    ensures { result ≡ need_of_frame (source.now.table.now).frames.items needs.now key }
 {
     let number = frame_number(source.numbers, key);
     match needs.get(number) {
@@ -115,9 +115,9 @@ pub(crate) fn spelled_cert_bytes(
 ) -> Result<Vec<u8>, NoMemory>
     requires source { IsRowSource source.now }
     requires known { (version ≡ 1) ⊎ (version ≡ 2) }
-    requires limits { IsSpelledVersion source.now version }
-    requires needs { NeedsAre source.now needs.now }
-    ensures { IfOk result (λ out. IsSpelledOn source.now version out.items) }
+    requires limits { SourceHasLimitsOfFormat source.now version }
+    requires needs { AreLeastTableNeeds source.now needs.now }
+    ensures { IfOk result (λ out. AreClosedCertBytesOf source.now version out.items) }
 {
     let frames = frames_in_order(alloc, source.table.frames.as_slice())?;
     let points = points_in_order(alloc, &source.table.places)?;
@@ -137,8 +137,8 @@ pub(crate) fn spelled_cert_bytes(
 
 /// Appends the nodes of these frames.
 fn spell_table_nodes(out: &mut Vec<u8>, ordered: &Ordered, frames: &[Key]) -> Result<(), NoMemory>
-    requires ordered { IsSpelledInOrder ordered.now }
-    requires frames { AreSpelledFrames ordered.now frames.now }
+    requires ordered { IsOrderedCertSource ordered.now }
+    requires frames { AreTableFrames ordered.now frames.now }
     ensures { OnOk result (SpellsTableNodes ordered.now frames.now out.old.items out.new.items) }
 {
     for k in frames {
@@ -149,8 +149,8 @@ fn spell_table_nodes(out: &mut Vec<u8>, ordered: &Ordered, frames: &[Key]) -> Re
 
 /// Appends the node of a frame.
 fn spell_table_node(out: &mut Vec<u8>, ordered: &Ordered, key: Key) -> Result<(), NoMemory>
-    requires ordered { IsSpelledInOrder ordered.now }
-    requires key { IsSpelledFrameOf ordered.now.source.now key }
+    requires ordered { IsOrderedCertSource ordered.now }
+    requires key { IsTableFrame ordered.now.source.now key }
     ensures { OnOk result (SpellsTableNode ordered.now key out.old.items out.new.items) }
 {
     let source = ordered.source;

@@ -5,14 +5,14 @@ ghost use Rattle.cfg_recover.specs.Code.{LocatesCode};
 ghost use Rattle.depth_cert.specs.Known.{state};
 ghost use Rattle.frame_places.specs.declared.places.Spot.TheVariants.{Point};
 ghost use Rattle.cfg_recover.specs.SetOperations.{HoldsCachedResults};
-ghost use Rattle.depth_maker.specs.EnteredFrames.{IsPlainAt, IsPlainIn};
-ghost use Rattle.depth_maker.specs.VisitDuties.{JoinedBy, OwesDutiesOf, duties_by, step_by};
-ghost use Rattle.depth_maker.specs.TableView.{seen};
+ghost use Rattle.depth_maker.specs.EnteredFrames.{EntersNoFrameAt, EntersNoFrameIn};
+ghost use Rattle.depth_maker.specs.VisitDuties.{JoinedBy, OwesDutiesOf, visit_duties, state_after_step};
+ghost use Rattle.depth_maker.specs.TableView.{view_of_table};
 ghost use Rattle.depth_maker.specs.Answers.{RefusalIsRight};
-ghost use Rattle.depth_maker.specs.Visits.{VisitJoinsPointOn, VisitedBy};
+ghost use Rattle.depth_maker.specs.Visits.{VisitJoinsDutiesOn, VisitInvariantHolds};
 ghost use Rattle.frame_places.specs.declared.places.Spot as spots;
 ghost use Rattle.frame_places.specs.Numbers.{PlaceHasNumber};
-ghost use Rattle.depth_maker.specs.TableInvariant.{TableHolds};
+ghost use Rattle.depth_maker.specs.TableInvariant.{TableInvariantHoldsOn};
 ghost use Rattle.tc_isa.specs.InBounds.{IsShape};
 ghost use Rattle.value_domain.specs.State.{AreValues};
 ghost use Rattle.vd_transfer.specs.Changes.{state_after};
@@ -42,13 +42,13 @@ pub(crate) fn visit_place(
     change: &mut Change,
     cache: &mut OperationCache,
 ) -> Result<bool, Refusal>
-    requires fine { TableHolds ground.now table.old }
+    requires fine { TableInvariantHoldsOn ground.now table.old }
     requires results { HoldsCachedResults ground.now.bounds.now cache.old }
     ensures ok { (x : spots.Spot) → PlaceHasNumber table.old.places table.old.near x
-        → OnOk result (VisitJoinsPointOn ground.now table.old table.new x) }
+        → OnOk result (VisitJoinsDutiesOn ground.now table.old table.new x) }
     ensures plain { (x : spots.Spot) → PlaceHasNumber table.old.places table.old.near x
         → IfOk result (λ plain. IsTrue plain
-        → IsPlainIn ground.now.image.now ground.now.plan.now x) }
+        → EntersNoFrameIn ground.now.image.now ground.now.plan.now x) }
     ensures err { IfErr result (RefusalIsRight ground.now) }
     ensures results { HoldsCachedResults ground.now.bounds.now cache.new }
 {
@@ -84,7 +84,7 @@ pub(crate) fn write_visit_change(
     requires values { AreValues v.now.ground.now.bounds.now v.now.state.now.regs }
     requires room { EffectHasRoom v.now.ground.now.bounds.now shape v.now.state.now }
     requires results { HoldsCachedResults v.now.ground.now.bounds.now cache.old }
-    ensures change { state_after v.now.state.now c.new ≡ step_by v.now shape }
+    ensures change { state_after v.now.state.now c.new ≡ state_after_step v.now shape }
     ensures results { HoldsCachedResults v.now.ground.now.bounds.now cache.new }
 {
     let g = v.ground;
@@ -103,12 +103,12 @@ fn join_visit_duties(
     c: &mut Change,
     cache: &mut OperationCache,
 ) -> Result<(), Refusal>
-    requires visited { VisitedBy v.now table.old }
-    requires at { (seen table.old).cells (point v.now.key v.now.addr)
+    requires visited { VisitInvariantHolds v.now table.old }
+    requires at { (view_of_table table.old).cells (point v.now.key v.now.addr)
         ≡ Some (state v.now.state.now) }
     requires found { OwesDutiesOf v.now found.now }
     requires results { HoldsCachedResults v.now.ground.now.bounds.now cache.old }
-    ensures ok { OnOk result (JoinedBy v.now table.old table.new (duties_by v.now found.now)) }
+    ensures ok { OnOk result (JoinedBy v.now table.old table.new (visit_duties v.now found.now)) }
     ensures err { IfErr result (RefusalIsRight v.now.ground.now) }
     ensures results { HoldsCachedResults v.now.ground.now.bounds.now cache.new }
 {
@@ -129,17 +129,17 @@ fn visit_point(
     change: &mut Change,
     cache: &mut OperationCache,
 ) -> Result<bool, Refusal>
-    requires fine { TableHolds site.now.ground.now table.old }
+    requires fine { TableInvariantHoldsOn site.now.ground.now table.old }
     requires near { PlaceHasNumber table.old.places table.old.near
         (Point site.now.key site.now.addr) }
     requires code { LocatesCode site.now.ground.now.image.now site.now.ground.now.plan.now
         site.now.addr site.now.located.now }
     requires shape { IfSome site.now.located.now (λ found. IsShape found.shape) }
     requires results { HoldsCachedResults site.now.ground.now.bounds.now cache.old }
-    ensures ok { OnOk result (VisitJoinsPointOn site.now.ground.now table.old table.new
+    ensures ok { OnOk result (VisitJoinsDutiesOn site.now.ground.now table.old table.new
         (Point site.now.key site.now.addr)) }
     ensures plain { IfOk result (λ plain. IsTrue plain
-        → IsPlainAt site.now.ground.now.image.now site.now.ground.now.plan.now site.now.addr) }
+        → EntersNoFrameAt site.now.ground.now.image.now site.now.ground.now.plan.now site.now.addr) }
     ensures err { IfErr result (RefusalIsRight site.now.ground.now) }
     ensures results { HoldsCachedResults site.now.ground.now.bounds.now cache.new }
 {

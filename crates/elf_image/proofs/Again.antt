@@ -8,9 +8,9 @@ use Rattle.std.proofs.lemmas.List.Sums.{sum_by-cons}
 use Rattle.std.proofs.lemmas.Bool.Decides.{nat_tests}
 use Rattle.elf_image.specs.declared.headers.Header.{Header}
 use Rattle.elf_image.specs.declared.errors.ImageErr.TheVariants.{BadSegment}
-use Rattle.elf_image.specs.Images.{ImageData, SegmentData, IsImage, is_segment, are_apart, all_apart}
-use Rattle.elf_image.specs.ReadElf.{e_phoff, e_phnum, e_phentsize, header_at, headers_of, is_bad_header, has_bytes, has_overlap_with, loads_of, segment_refusal, is_large, overlap_refusal, segment_of, image_of_file}
-use Rattle.elf_image.specs.WrittenElf.{elf_header, program_header, program_headers, elf_contents_offset, elf_contents, file_of}
+use Rattle.elf_image.specs.Images.{ImageData, SegmentData, IsImage, is_segment, are_segments_apart, are_all_segments_apart}
+use Rattle.elf_image.specs.ReadElf.{e_phoff, e_phnum, e_phentsize, program_header_at, program_headers_of, is_bad_header, loads_file_bytes, has_overlap_with, load_headers, program_header_refusal, exceeds_limits, overlap_refusal, segment_of, image_of_file}
+use Rattle.elf_image.specs.WrittenElf.{elf_header, program_header, program_headers, elf_contents_offset, elf_contents, elf_file}
 use Rattle.elf_image.proofs.Fields.{written_header, header_at-written, start-elf_header, entry-elf_header, phoff-elf_header, phentsize-elf_header, phnum-elf_header, length-elf_header, length-program_header}
 use Rattle.elf_image.proofs.Refusals.{image_of-loaded}
 
@@ -32,13 +32,13 @@ length-contents : (ss : List SegmentData) → length (elf_contents ss) ≡ size 
 unfolding elf_contents
 length-contents ss = length-flat_map (λ (s : SegmentData). s.bytes) ss
 
-length_is : (i : ImageData) → length (file_of i) ≡ 52 + 32 * length i.segments + size i.segments
-unfolding file_of
+length_is : (i : ImageData) → length (elf_file i) ≡ 52 + 32 * length i.segments + size i.segments
+unfolding elf_file
 length_is i =
     let ss = i.segments in
     omega (arith, length-append (elf_header i.entry (length ss)) (program_headers (elf_contents_offset ss) ss ++ elf_contents ss), length-append (program_headers (elf_contents_offset ss) ss) (elf_contents ss), length-elf_header i.entry (length ss), length-program_headers (elf_contents_offset ss) ss, length-contents ss)
 
-pub length-file_of : (i : ImageData) → IsImage i → length (file_of i) ≤ 2 ^ 30
+pub length-file_of : (i : ImageData) → IsImage i → length (elf_file i) ≤ 2 ^ 30
 length-file_of i h = omega (arith, length_is i, h.few, h.small)
 
 -- ---- the program headers
@@ -66,7 +66,7 @@ both_second true b h = h
 both_second false b h = absurd cc
 
 -- the headers are read back after a front
-headers_again : (file front back : List ℕ) (number offset : ℕ) (ss : List SegmentData) → file ≡ front ++ (program_headers offset ss ++ back) → e_phoff file ≡ 52 → length front ≡ 52 + 32 * number → offset + size ss < 2 ^ 32 → list_all is_segment ss ≡ true → map (header_at file) (range_with_len number (length ss)) ≡ headers_from number offset ss
+headers_again : (file front back : List ℕ) (number offset : ℕ) (ss : List SegmentData) → file ≡ front ++ (program_headers offset ss ++ back) → e_phoff file ≡ 52 → length front ≡ 52 + 32 * number → offset + size ss < 2 ^ 32 → list_all is_segment ss ≡ true → map (program_header_at file) (range_with_len number (length ss)) ≡ headers_from number offset ss
 unfolding program_headers headers_from
 headers_again file front back number offset [] is first place fits good = refl
 headers_again file front back number offset (s ∷ ss) is first place fits good =
@@ -81,12 +81,12 @@ headers_again file front back number offset (s ∷ ss) is first place fits good 
     let tail = headers_again file (front ++ h) back (number + 1) (offset + len s) ss later first more (omega arith) (both_second (is_segment s) (list_all is_segment ss) good) in
     rw (head, tail) refl
 
-loads_bytes : (number offset at n : ℕ) → 0 < n → has_bytes (written_header number offset at n) ≡ true
-unfolding has_bytes written_header
+loads_bytes : (number offset at n : ℕ) → 0 < n → loads_file_bytes (written_header number offset at n) ≡ true
+unfolding loads_file_bytes written_header
 loads_bytes number offset at n h = grind (arith, nat_tests)
 
 -- each of the headers loads bytes
-loads_again : (number offset : ℕ) (ss : List SegmentData) → list_all is_segment ss ≡ true → filter has_bytes (headers_from number offset ss) ≡ headers_from number offset ss
+loads_again : (number offset : ℕ) (ss : List SegmentData) → list_all is_segment ss ≡ true → filter loads_file_bytes (headers_from number offset ss) ≡ headers_from number offset ss
 unfolding headers_from
 loads_again number offset [] good = refl
 loads_again number offset (s ∷ ss) good =
@@ -118,28 +118,28 @@ unfolding headers_from written_header
 size_again number offset [] = refl
 size_again number offset (s ∷ ss) = omega (arith, sum_by-cons (λ (h : Header). h.file_size) (written_header number offset s.at (len s)) (headers_from (number + 1) (offset + len s) ss), size-cons s ss, size_again (number + 1) (offset + len s) ss)
 
-not_large : (hs : List Header) → length hs ≤ 64 → sum_by (λ h. h.file_size) hs ≤ 2 ^ 24 → is_large hs ≡ false
-unfolding is_large
+not_large : (hs : List Header) → length hs ≤ 64 → sum_by (λ h. h.file_size) hs ≤ 2 ^ 24 → exceeds_limits hs ≡ false
+unfolding exceeds_limits
 not_large hs few small = grind (arith, nat_tests)
 
 -- no two of the headers share an address
-not_met : (s t : SegmentData) (number offset other place : ℕ) → are_apart s t ≡ true → has_overlap_with (written_header number offset s.at (len s)) (written_header other place t.at (len t)) ≡ false
+not_met : (s t : SegmentData) (number offset other place : ℕ) → are_segments_apart s t ≡ true → has_overlap_with (written_header number offset s.at (len s)) (written_header other place t.at (len t)) ≡ false
 unfolding has_overlap_with written_header
 not_met s t number offset other place h = grind (arith, nat_tests)
 
-none_met : (s : SegmentData) (number offset other place : ℕ) (ss : List SegmentData) → list_all (are_apart s) ss ≡ true → find (has_overlap_with (written_header number offset s.at (len s))) (headers_from other place ss) ≡ None
+none_met : (s : SegmentData) (number offset other place : ℕ) (ss : List SegmentData) → list_all (are_segments_apart s) ss ≡ true → find (has_overlap_with (written_header number offset s.at (len s))) (headers_from other place ss) ≡ None
 unfolding headers_from
 none_met s number offset other place [] h = refl
 none_met s number offset other place (t ∷ ss) h =
-    let head = not_met s t number offset other place (both_first (are_apart s t) (list_all (are_apart s) ss) h) in
-    rw head (none_met s number offset (other + 1) (place + len t) ss (both_second (are_apart s t) (list_all (are_apart s) ss) h))
+    let head = not_met s t number offset other place (both_first (are_segments_apart s t) (list_all (are_segments_apart s) ss) h) in
+    rw head (none_met s number offset (other + 1) (place + len t) ss (both_second (are_segments_apart s t) (list_all (are_segments_apart s) ss) h))
 
-apart_again : (number offset : ℕ) (ss : List SegmentData) → all_apart ss ≡ true → overlap_refusal (headers_from number offset ss) ≡ None
+apart_again : (number offset : ℕ) (ss : List SegmentData) → are_all_segments_apart ss ≡ true → overlap_refusal (headers_from number offset ss) ≡ None
 unfolding headers_from overlap_refusal
 apart_again number offset [] h = refl
 apart_again number offset (s ∷ ss) h =
-    let head = none_met s number offset (number + 1) (offset + len s) ss (both_first (list_all (are_apart s) ss) (all_apart ss) h) in
-    rw head (apart_again (number + 1) (offset + len s) ss (both_second (list_all (are_apart s) ss) (all_apart ss) h))
+    let head = none_met s number offset (number + 1) (offset + len s) ss (both_first (list_all (are_segments_apart s) ss) (are_all_segments_apart ss) h) in
+    rw head (apart_again (number + 1) (offset + len s) ss (both_second (list_all (are_segments_apart s) ss) (are_all_segments_apart ss) h))
 
 -- ---- the segments
 
@@ -165,12 +165,12 @@ passed : (b : Bool) (n : ℕ) (o : Option Header) → n ≡ 32 → o ≡ None �
 passed true n o e h = rw (e, h) refl
 passed false n o e h = rw h refl
 
-no_refusal : (bytes : List ℕ) → e_phentsize bytes ≡ 32 → find (is_bad_header bytes) (headers_of bytes) ≡ None → segment_refusal bytes ≡ None
-unfolding segment_refusal
-no_refusal bytes e h = passed (ltb 0 (e_phnum bytes)) (e_phentsize bytes) (find (is_bad_header bytes) (headers_of bytes)) e h
+no_refusal : (bytes : List ℕ) → e_phentsize bytes ≡ 32 → find (is_bad_header bytes) (program_headers_of bytes) ≡ None → program_header_refusal bytes ≡ None
+unfolding program_header_refusal
+no_refusal bytes e h = passed (ltb 0 (e_phnum bytes)) (e_phentsize bytes) (find (is_bad_header bytes) (program_headers_of bytes)) e h
 
-pub image_of-file_of : (i : ImageData) → IsImage i → image_of_file (file_of i) ≡ Ok i
-unfolding file_of headers_of loads_of
+pub image_of-file_of : (i : ImageData) → IsImage i → image_of_file (elf_file i) ≡ Ok i
+unfolding elf_file program_headers_of load_headers
 image_of-file_of i h =
     let ss = i.segments in
     let n = length ss in
@@ -178,14 +178,14 @@ image_of-file_of i h =
     let header = elf_header i.entry n in
     let table = program_headers place ss in
     let rest = table ++ elf_contents ss in
-    let file = file_of i in
+    let file = elf_file i in
     let first : e_phoff file ≡ 52 = phoff-elf_header i.entry n rest in
     let count : e_phnum file ≡ n = phnum-elf_header i.entry n rest (omega (arith, h.few)) in
-    let again : headers_of file ≡ headers_from 0 place ss = ap (λ m. map (header_at file) (range_with_len 0 m)) count ∙ headers_again file header (elf_contents ss) 0 place ss refl first (length-elf_header i.entry n) (omega (arith, h.few, h.small)) h.segments in
-    let loads : loads_of file ≡ headers_from 0 place ss = ap (filter has_bytes) again ∙ loads_again 0 place ss h.segments in
-    let fine : find (is_bad_header file) (headers_of file) ≡ None = ap (find (is_bad_header file)) again ∙ fine_again file 0 place ss first (omega (arith, length_is i)) (omega (arith, length_is i)) h.segments in
-    let small : is_large (loads_of file) ≡ false = ap is_large loads ∙ not_large (headers_from 0 place ss) (omega (arith, length_again 0 place ss, h.few)) (omega (arith, size_again 0 place ss, h.small)) in
-    let alone : overlap_refusal (loads_of file) ≡ None = ap overlap_refusal loads ∙ apart_again 0 place ss h.apart in
+    let again : program_headers_of file ≡ headers_from 0 place ss = ap (λ m. map (program_header_at file) (range_with_len 0 m)) count ∙ headers_again file header (elf_contents ss) 0 place ss refl first (length-elf_header i.entry n) (omega (arith, h.few, h.small)) h.segments in
+    let loads : load_headers file ≡ headers_from 0 place ss = ap (filter loads_file_bytes) again ∙ loads_again 0 place ss h.segments in
+    let fine : find (is_bad_header file) (program_headers_of file) ≡ None = ap (find (is_bad_header file)) again ∙ fine_again file 0 place ss first (omega (arith, length_is i)) (omega (arith, length_is i)) h.segments in
+    let small : exceeds_limits (load_headers file) ≡ false = ap exceeds_limits loads ∙ not_large (headers_from 0 place ss) (omega (arith, length_again 0 place ss, h.few)) (omega (arith, size_again 0 place ss, h.small)) in
+    let alone : overlap_refusal (load_headers file) ≡ None = ap overlap_refusal loads ∙ apart_again 0 place ss h.apart in
     let front : length (header ++ table) ≡ place = omega (arith, length-append header table, length-elf_header i.entry n, length-program_headers place ss) in
-    let same : map (segment_of file) (loads_of file) ≡ ss = ap (map (segment_of file)) loads ∙ segments_again file (header ++ table) 0 place ss (sym (append_assoc header table (elf_contents ss))) front in
+    let same : map (segment_of file) (load_headers file) ≡ ss = ap (map (segment_of file)) loads ∙ segments_again file (header ++ table) 0 place ss (sym (append_assoc header table (elf_contents ss))) front in
     image_of-loaded file i.entry ss (sym (start-elf_header i.entry n rest)) (sym (no_refusal file (phentsize-elf_header i.entry n rest) fine)) small (sym alone) (sym (entry-elf_header i.entry n rest h.entry)) (sym same)

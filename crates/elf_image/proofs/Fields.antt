@@ -3,7 +3,7 @@ use Rattle.std.proofs.Common.{◌≡◌, ℕ, ◌+◌, ◌*◌, ◌^◌, ◌<◌
 use Rattle.std.proofs.lemmas.List.{get_or-append-add}
 use Rattle.std.proofs.lemmas.Bool.{le-ltb}
 use Rattle.elf_image.specs.declared.headers.Header.{Header}
-use Rattle.elf_image.specs.ReadElf.{elf_half_at, elf_word_at, e_entry, e_phoff, e_phentsize, e_phnum, header_at, start_refusal}
+use Rattle.elf_image.specs.ReadElf.{elf_half_at, elf_word_at, e_entry, e_phoff, e_phentsize, e_phnum, program_header_at, elf_header_refusal}
 use Rattle.elf_image.specs.WrittenElf.{elf_header, program_header}
 
 get_or-behind : (front back : List ℕ) (k at : ℕ) → length front + k ≡ at → get_or (front ++ back) at 0 ≡ get_or back k 0
@@ -21,8 +21,8 @@ word_at-behind front back k at e =
 
 -- ---- the ELF header
 
-pub start-elf_header : (entry count : ℕ) (rest : List ℕ) → start_refusal (elf_header entry count ++ rest) ≡ None
-unfolding start_refusal elf_half_at elf_header
+pub start-elf_header : (entry count : ℕ) (rest : List ℕ) → elf_header_refusal (elf_header entry count ++ rest) ≡ None
+unfolding elf_header_refusal elf_half_at elf_header
 start-elf_header entry count rest = rw (le-ltb (length (elf_header entry count ++ rest)) 52 (omega arith)) refl
 
 pub entry-elf_header : (entry count : ℕ) (rest : List ℕ) → entry < 2 ^ 32 → e_entry (elf_header entry count ++ rest) ≡ entry
@@ -75,8 +75,8 @@ memory_size_again offset at len rest lt = omega arith
 unfoldable pub written_header : ℕ → ℕ → ℕ → ℕ → Header
 written_header number offset at len = record { number = number; kind = 1; offset = offset; address = at; file_size = len; memory_size = len }
 
-pub header_at-written : (file front back : List ℕ) (number offset at len : ℕ) → file ≡ front ++ (program_header offset at len ++ back) → e_phoff file ≡ 52 → length front ≡ 52 + 32 * number → offset < 2 ^ 32 → at < 2 ^ 32 → len < 2 ^ 32 → header_at file number ≡ written_header number offset at len
-unfolding header_at written_header
+pub header_at-written : (file front back : List ℕ) (number offset at len : ℕ) → file ≡ front ++ (program_header offset at len ++ back) → e_phoff file ≡ 52 → length front ≡ 52 + 32 * number → offset < 2 ^ 32 → at < 2 ^ 32 → len < 2 ^ 32 → program_header_at file number ≡ written_header number offset at len
+unfolding program_header_at written_header
 header_at-written file front back number offset at len is first place small_offset small_at small_len =
     let h = program_header offset at len ++ back in
     let at_0 : e_phoff file + 32 * number ≡ length front = omega arith in

@@ -7,7 +7,7 @@ use Rattle.std.specs.Option.{option_map}
 use Rattle.elf_image.specs.declared.headers.Header.{Header}
 use Rattle.elf_image.specs.declared.errors.ImageErr.{ImageErr}
 use Rattle.elf_image.specs.declared.errors.ImageErr.TheVariants.{BadSegment}
-use Rattle.elf_image.specs.ReadElf.{e_phnum, program_header_offset, header_at, headers_of, is_bad_header, has_bytes, loads_of, segment_refusal}
+use Rattle.elf_image.specs.ReadElf.{e_phnum, program_header_offset, program_header_at, program_headers_of, is_bad_header, loads_file_bytes, load_headers, program_header_refusal}
 use Rattle.elf_image.proofs.Rest.{number-header_at}
 
 -- the bytes that a header loads are in the file and below 2^32, and there is at least one
@@ -16,8 +16,8 @@ pub record Good (bytes : List ℕ) (h : Header) : Type 0 where
   pub below : h.address + h.file_size ≤ 2 ^ 32
   pub some : 0 < h.file_size
 
-good : (bytes : List ℕ) (h : Header) → is_bad_header bytes h ≡ false → has_bytes h ≡ true → Good bytes h
-unfolding is_bad_header has_bytes
+good : (bytes : List ℕ) (h : Header) → is_bad_header bytes h ≡ false → loads_file_bytes h ≡ true → Good bytes h
+unfolding is_bad_header loads_file_bytes
 good bytes h fine loads = record { inside = grind (arith, nat_tests); below = grind (arith, nat_tests); some = grind (arith, nat_tests) }
 
 whole : (bytes : List ℕ) (h : Header) → is_bad_header bytes h ≡ false → program_header_offset bytes h.number + 32 ≤ length bytes
@@ -42,28 +42,28 @@ chosen false e None h = refl
 chosen false e (Some x) h = absurd cc
 
 -- if there is no refusal, no header is bad
-none_bad : (bytes : List ℕ) → segment_refusal bytes ≡ None → find (is_bad_header bytes) (headers_of bytes) ≡ None
-unfolding segment_refusal
+none_bad : (bytes : List ℕ) → program_header_refusal bytes ≡ None → find (is_bad_header bytes) (program_headers_of bytes) ≡ None
+unfolding program_header_refusal
 none_bad bytes e = chosen _ _ _ e
 
 -- each program header is in the file
-pub headers_whole : (bytes : List ℕ) (i : ℕ) → segment_refusal bytes ≡ None → i < e_phnum bytes → program_header_offset bytes i + 32 ≤ length bytes
-unfolding headers_of
+pub headers_whole : (bytes : List ℕ) (i : ℕ) → program_header_refusal bytes ≡ None → i < e_phnum bytes → program_header_offset bytes i + 32 ≤ length bytes
+unfolding program_headers_of
 headers_whole bytes i e lt =
-    let fine : is_bad_header bytes (header_at bytes (0 + i)) ≡ false = unfound_at (is_bad_header bytes) (header_at bytes) 0 (e_phnum bytes) i (none_bad bytes e) lt in
+    let fine : is_bad_header bytes (program_header_at bytes (0 + i)) ≡ false = unfound_at (is_bad_header bytes) (program_header_at bytes) 0 (e_phnum bytes) i (none_bad bytes e) lt in
     let zero_add : 0 + i ≡ i = omega arith in
-    let here = whole bytes (header_at bytes i) (rw zero_add at fine) in
+    let here = whole bytes (program_header_at bytes i) (rw zero_add at fine) in
     rw (number-header_at bytes i) at here
 
-goods_more : (bytes : List ℕ) (h : Header) (hs : List Header) (b : Bool) → has_bytes h ≡ b → is_bad_header bytes h ≡ false → AllByRecursion (Good bytes) (filter has_bytes hs) → AllByRecursion (Good bytes) (cond b (h ∷ filter has_bytes hs) (filter has_bytes hs))
+goods_more : (bytes : List ℕ) (h : Header) (hs : List Header) (b : Bool) → loads_file_bytes h ≡ b → is_bad_header bytes h ≡ false → AllByRecursion (Good bytes) (filter loads_file_bytes hs) → AllByRecursion (Good bytes) (cond b (h ∷ filter loads_file_bytes hs) (filter loads_file_bytes hs))
 goods_more bytes h hs true loads fine rest = (good bytes h fine loads, rest)
 goods_more bytes h hs false loads fine rest = rest
 
-goods : (bytes : List ℕ) (hs : List Header) → find (is_bad_header bytes) hs ≡ None → AllByRecursion (Good bytes) (filter has_bytes hs)
+goods : (bytes : List ℕ) (hs : List Header) → find (is_bad_header bytes) hs ≡ None → AllByRecursion (Good bytes) (filter loads_file_bytes hs)
 goods bytes [] e = tt
-goods bytes (h ∷ hs) e = goods_more bytes h hs (has_bytes h) refl (unfound_head (is_bad_header bytes) h hs e) (goods bytes hs (unfound_tail (is_bad_header bytes) h hs e))
+goods bytes (h ∷ hs) e = goods_more bytes h hs (loads_file_bytes h) refl (unfound_head (is_bad_header bytes) h hs e) (goods bytes hs (unfound_tail (is_bad_header bytes) h hs e))
 
 -- each header that loads bytes is good
-pub loads_good : (bytes : List ℕ) → segment_refusal bytes ≡ None → All (Good bytes) (loads_of bytes)
-unfolding loads_of
-loads_good bytes e = All-from_recursion (Good bytes) (loads_of bytes) (goods bytes (headers_of bytes) (none_bad bytes e))
+pub loads_good : (bytes : List ℕ) → program_header_refusal bytes ≡ None → All (Good bytes) (load_headers bytes)
+unfolding load_headers
+loads_good bytes e = All-from_recursion (Good bytes) (load_headers bytes) (goods bytes (program_headers_of bytes) (none_bad bytes e))

@@ -9,8 +9,8 @@ use Rattle.std.proofs.lemmas.Bool.Decides.{nat_tests}
 use Rattle.elf_image.specs.declared.headers.Header.{Header}
 use Rattle.elf_image.specs.declared.errors.ImageErr.{ImageErr}
 use Rattle.elf_image.specs.declared.errors.ImageErr.TheVariants.{Overlap}
-use Rattle.elf_image.specs.Images.{SegmentData, AreSegmentBytes, IsImage, is_segment, are_apart, all_apart}
-use Rattle.elf_image.specs.ReadElf.{has_overlap_with, loads_of, segment_refusal, is_large, overlap_refusal, segment_of}
+use Rattle.elf_image.specs.Images.{SegmentData, AreSegmentBytes, IsImage, is_segment, are_segments_apart, are_all_segments_apart}
+use Rattle.elf_image.specs.ReadElf.{has_overlap_with, load_headers, program_header_refusal, exceeds_limits, overlap_refusal, segment_of}
 use Rattle.elf_image.proofs.Good.{Good, loads_good, unfound_head, unfound_tail}
 
 both : {a b : Bool} → a ≡ true → b ≡ true → (a && b) ≡ true
@@ -36,14 +36,14 @@ are_bytes bytes hs small =
     All-map (λ (s : SegmentData). All (λ b. b < 2 ^ 8) s.bytes) (segment_of bytes) hs
     (λ k h lt. All-take (λ b. b < 2 ^ 8) (get_or hs k h).file_size (drop (get_or hs k h).offset bytes) (All-drop (λ b. b < 2 ^ 8) (get_or hs k h).offset bytes small))
 
-apart : (bytes : List ℕ) (h k : Header) → Good bytes h → Good bytes k → has_overlap_with h k ≡ false → are_apart (segment_of bytes h) (segment_of bytes k) ≡ true
+apart : (bytes : List ℕ) (h k : Header) → Good bytes h → Good bytes k → has_overlap_with h k ≡ false → are_segments_apart (segment_of bytes h) (segment_of bytes k) ≡ true
 unfolding has_overlap_with
 apart bytes h k good_h good_k e =
     let len_h = length-segment_of bytes h good_h in
     let len_k = length-segment_of bytes k good_k in
     grind (arith, nat_tests)
 
-apart_all : (bytes : List ℕ) (h : Header) (hs : List Header) → Good bytes h → AllByRecursion (Good bytes) hs → find (has_overlap_with h) hs ≡ None → list_all (are_apart (segment_of bytes h)) (map (segment_of bytes) hs) ≡ true
+apart_all : (bytes : List ℕ) (h : Header) (hs : List Header) → Good bytes h → AllByRecursion (Good bytes) hs → find (has_overlap_with h) hs ≡ None → list_all (are_segments_apart (segment_of bytes h)) (map (segment_of bytes) hs) ≡ true
 apart_all bytes h [] good_h good e = refl
 apart_all bytes h (k ∷ hs) good_h good e = both (apart bytes h k good_h good.0 (unfound_head (has_overlap_with h) k hs e)) (apart_all bytes h hs good_h good.1 (unfound_tail (has_overlap_with h) k hs e))
 
@@ -51,7 +51,7 @@ first_none : (o : Option Header) (h : Header) (p : Option ImageErr) → option_o
 first_none None h p e = (refl, e)
 first_none (Some k) h p e = absurd cc
 
-all_are_apart : (bytes : List ℕ) (hs : List Header) → AllByRecursion (Good bytes) hs → overlap_refusal hs ≡ None → all_apart (map (segment_of bytes) hs) ≡ true
+all_are_apart : (bytes : List ℕ) (hs : List Header) → AllByRecursion (Good bytes) hs → overlap_refusal hs ≡ None → are_all_segments_apart (map (segment_of bytes) hs) ≡ true
 unfolding overlap_refusal
 all_are_apart bytes [] good e = refl
 all_are_apart bytes (h ∷ hs) good e =
@@ -63,13 +63,13 @@ sizes bytes [] good = refl
 sizes bytes (h ∷ hs) good =
     omega (arith, sum_by-cons (λ (s : SegmentData). length s.bytes) (segment_of bytes h) (map (segment_of bytes) hs), sum_by-cons (λ (x : Header). x.file_size) h hs, length-segment_of bytes h good.0, sizes bytes hs good.1)
 
-not_large : (hs : List Header) → is_large hs ≡ false → (length hs ≤ 64) × (sum_by (λ h. h.file_size) hs ≤ 2 ^ 24)
-unfolding is_large
+not_large : (hs : List Header) → exceeds_limits hs ≡ false → (length hs ≤ 64) × (sum_by (λ h. h.file_size) hs ≤ 2 ^ 24)
+unfolding exceeds_limits
 not_large hs e = (grind (arith, nat_tests), grind (arith, nat_tests))
 
-pub loaded_is_image : (bytes : List ℕ) (entry : ℕ) (ss : List SegmentData) → entry < 2 ^ 32 → ((k : ℕ) → get_or bytes k 0 < 2 ^ 8) → segment_refusal bytes ≡ None → is_large (loads_of bytes) ≡ false → overlap_refusal (loads_of bytes) ≡ None → ss ≡ map (segment_of bytes) (loads_of bytes) → IsImage (record { entry = entry; segments = ss })
+pub loaded_is_image : (bytes : List ℕ) (entry : ℕ) (ss : List SegmentData) → entry < 2 ^ 32 → ((k : ℕ) → get_or bytes k 0 < 2 ^ 8) → program_header_refusal bytes ≡ None → exceeds_limits (load_headers bytes) ≡ false → overlap_refusal (load_headers bytes) ≡ None → ss ≡ map (segment_of bytes) (load_headers bytes) → IsImage (record { entry = entry; segments = ss })
 loaded_is_image bytes entry ss below small_bytes fine small alone e =
-    let hs = loads_of bytes in
+    let hs = load_headers bytes in
     let good = recursion_from_All (Good bytes) hs (loads_good bytes fine) in
     let limits = not_large hs small in
     rw e (record {

@@ -4,32 +4,32 @@ use Rattle.std.proofs.lemmas.List.{append-nil, length-append}
 use Rattle.std.proofs.lemmas.List.Sums.{sum_by-append}
 use Rattle.std.proofs.lemmas.Bool.Decides.{nat_tests}
 use Rattle.elf_image.specs.declared.headers.Header.{Header}
-use Rattle.elf_image.specs.ReadElf.{e_phnum, header_at, has_bytes, loads_of, is_large}
+use Rattle.elf_image.specs.ReadElf.{e_phnum, program_header_at, loads_file_bytes, load_headers, exceeds_limits}
 use Rattle.elf_image.proofs.Rest.{rest_of, rest_of-start, rest_of-more, rest_of-end}
 
 -- the headers so far and those that follow are all; those so far are within the limits of an image
 pub record LoadsSoFar (bytes : List ℕ) (i n : ℕ) (loads : List Header) (total : ℕ) : Type 0 where
-  pub all : loads ++ filter has_bytes (rest_of bytes i n) ≡ loads_of bytes
+  pub all : loads ++ filter loads_file_bytes (rest_of bytes i n) ≡ load_headers bytes
   pub sum : total ≡ sum_by (λ h. h.file_size) loads
   pub few : length loads ≤ 64
   pub small : total ≤ 2 ^ 24
 
 pub loads_none : (bytes : List ℕ) (n : ℕ) → n ≡ e_phnum bytes → LoadsSoFar bytes 0 n [] 0
-unfolding loads_of
+unfolding load_headers
 loads_none bytes n e = record {
-  all = ap (λ m. filter has_bytes (rest_of bytes 0 m)) e ∙ ap (filter has_bytes) (rest_of-start bytes);
+  all = ap (λ m. filter loads_file_bytes (rest_of bytes 0 m)) e ∙ ap (filter loads_file_bytes) (rest_of-start bytes);
   sum = refl;
   few = omega arith;
   small = omega arith;
 }
 
-step : (bytes : List ℕ) (i n : ℕ) (h : Header) (b : Bool) → i < n → h ≡ header_at bytes i → has_bytes h ≡ b → filter has_bytes (rest_of bytes i n) ≡ cond b (h ∷ filter has_bytes (rest_of bytes (i + 1) n)) (filter has_bytes (rest_of bytes (i + 1) n))
+step : (bytes : List ℕ) (i n : ℕ) (h : Header) (b : Bool) → i < n → h ≡ program_header_at bytes i → loads_file_bytes h ≡ b → filter loads_file_bytes (rest_of bytes i n) ≡ cond b (h ∷ filter loads_file_bytes (rest_of bytes (i + 1) n)) (filter loads_file_bytes (rest_of bytes (i + 1) n))
 step bytes i n h b lt is e =
-    let next = filter has_bytes (rest_of bytes (i + 1) n) in
-    ap (filter has_bytes) (rest_of-more bytes i n lt ∙ ap (λ (x : Header). x ∷ rest_of bytes (i + 1) n) (sym is)) ∙ ap (λ t. cond t (h ∷ next) next) e
+    let next = filter loads_file_bytes (rest_of bytes (i + 1) n) in
+    ap (filter loads_file_bytes) (rest_of-more bytes i n lt ∙ ap (λ (x : Header). x ∷ rest_of bytes (i + 1) n) (sym is)) ∙ ap (λ t. cond t (h ∷ next) next) e
 
 -- a header that loads nothing
-pub loads_pass : (bytes : List ℕ) (i n : ℕ) (h : Header) (loads : List Header) (total : ℕ) → LoadsSoFar bytes i n loads total → i < n → h ≡ header_at bytes i → has_bytes h ≡ false → LoadsSoFar bytes (i + 1) n loads total
+pub loads_pass : (bytes : List ℕ) (i n : ℕ) (h : Header) (loads : List Header) (total : ℕ) → LoadsSoFar bytes i n loads total → i < n → h ≡ program_header_at bytes i → loads_file_bytes h ≡ false → LoadsSoFar bytes (i + 1) n loads total
 loads_pass bytes i n h loads total so_far lt is e = record {
   all = ap (λ (hs : List Header). loads ++ hs) (sym (step bytes i n h false lt is e)) ∙ so_far.all;
   sum = so_far.sum;
@@ -37,11 +37,11 @@ loads_pass bytes i n h loads total so_far lt is e = record {
   small = so_far.small;
 }
 
-taken : (bytes : List ℕ) (i n : ℕ) (h : Header) (loads : List Header) (total : ℕ) → LoadsSoFar bytes i n loads total → i < n → h ≡ header_at bytes i → has_bytes h ≡ true → (loads ++ h ∷ []) ++ filter has_bytes (rest_of bytes (i + 1) n) ≡ loads_of bytes
-taken bytes i n h loads total so_far lt is e = append_assoc loads (h ∷ []) (filter has_bytes (rest_of bytes (i + 1) n)) ∙ ap (λ (hs : List Header). loads ++ hs) (sym (step bytes i n h true lt is e)) ∙ so_far.all
+taken : (bytes : List ℕ) (i n : ℕ) (h : Header) (loads : List Header) (total : ℕ) → LoadsSoFar bytes i n loads total → i < n → h ≡ program_header_at bytes i → loads_file_bytes h ≡ true → (loads ++ h ∷ []) ++ filter loads_file_bytes (rest_of bytes (i + 1) n) ≡ load_headers bytes
+taken bytes i n h loads total so_far lt is e = append_assoc loads (h ∷ []) (filter loads_file_bytes (rest_of bytes (i + 1) n)) ∙ ap (λ (hs : List Header). loads ++ hs) (sym (step bytes i n h true lt is e)) ∙ so_far.all
 
 -- one more header
-pub loads_more : (bytes : List ℕ) (i n : ℕ) (h : Header) (loads : List Header) (total : ℕ) → LoadsSoFar bytes i n loads total → i < n → h ≡ header_at bytes i → has_bytes h ≡ true → length loads ≢ 64 → total + h.file_size ≤ 2 ^ 24 → LoadsSoFar bytes (i + 1) n (loads ++ h ∷ []) (total + h.file_size)
+pub loads_more : (bytes : List ℕ) (i n : ℕ) (h : Header) (loads : List Header) (total : ℕ) → LoadsSoFar bytes i n loads total → i < n → h ≡ program_header_at bytes i → loads_file_bytes h ≡ true → length loads ≢ 64 → total + h.file_size ≤ 2 ^ 24 → LoadsSoFar bytes (i + 1) n (loads ++ h ∷ []) (total + h.file_size)
 loads_more bytes i n h loads total so_far lt is e few small = record {
   all = taken bytes i n h loads total so_far lt is e;
   sum = omega (arith, so_far.sum, sum_by-append (λ (x : Header). x.file_size) loads (h ∷ []));
@@ -49,27 +49,27 @@ loads_more bytes i n h loads total so_far lt is e few small = record {
   small = small;
 }
 
-large : (loads front back : List Header) (h : Header) → (front ++ h ∷ []) ++ back ≡ loads → (64 ≤ length front) ⊎ (2 ^ 24 < sum_by (λ x. x.file_size) front + h.file_size) → is_large loads ≡ true
-unfolding is_large
+large : (loads front back : List Header) (h : Header) → (front ++ h ∷ []) ++ back ≡ loads → (64 ≤ length front) ⊎ (2 ^ 24 < sum_by (λ x. x.file_size) front + h.file_size) → exceeds_limits loads ≡ true
+unfolding exceeds_limits
 large loads front back h e much =
     let len : length loads ≡ length front + 1 + length back = ap length (sym e) ∙ omega (arith, length-append (front ++ h ∷ []) back, length-append front (h ∷ [])) in
     let all : sum_by (λ x. x.file_size) loads ≡ sum_by (λ x. x.file_size) front + h.file_size + sum_by (λ x. x.file_size) back = ap (sum_by (λ (x : Header). x.file_size)) (sym e) ∙ omega (arith, sum_by-append (λ (x : Header). x.file_size) (front ++ h ∷ []) back, sum_by-append (λ (x : Header). x.file_size) front (h ∷ [])) in
     elim much [ inl a ↦ grind (arith, nat_tests) | inr a ↦ grind (arith, nat_tests) ]
 
 -- one header too many
-pub loads_many : (bytes : List ℕ) (i n : ℕ) (h : Header) (loads : List Header) (total : ℕ) → LoadsSoFar bytes i n loads total → i < n → h ≡ header_at bytes i → has_bytes h ≡ true → length loads ≡ 64 → is_large (loads_of bytes) ≡ true
-loads_many bytes i n h loads total so_far lt is e much = large (loads_of bytes) loads (filter has_bytes (rest_of bytes (i + 1) n)) h (taken bytes i n h loads total so_far lt is e) (inl (omega arith))
+pub loads_many : (bytes : List ℕ) (i n : ℕ) (h : Header) (loads : List Header) (total : ℕ) → LoadsSoFar bytes i n loads total → i < n → h ≡ program_header_at bytes i → loads_file_bytes h ≡ true → length loads ≡ 64 → exceeds_limits (load_headers bytes) ≡ true
+loads_many bytes i n h loads total so_far lt is e much = large (load_headers bytes) loads (filter loads_file_bytes (rest_of bytes (i + 1) n)) h (taken bytes i n h loads total so_far lt is e) (inl (omega arith))
 
 -- too many bytes
-pub loads_long : (bytes : List ℕ) (i n : ℕ) (h : Header) (loads : List Header) (total : ℕ) → LoadsSoFar bytes i n loads total → i < n → h ≡ header_at bytes i → has_bytes h ≡ true → 2 ^ 24 - total < h.file_size → is_large (loads_of bytes) ≡ true
-loads_long bytes i n h loads total so_far lt is e much = large (loads_of bytes) loads (filter has_bytes (rest_of bytes (i + 1) n)) h (taken bytes i n h loads total so_far lt is e) (inr (omega (arith, so_far.sum, so_far.small)))
+pub loads_long : (bytes : List ℕ) (i n : ℕ) (h : Header) (loads : List Header) (total : ℕ) → LoadsSoFar bytes i n loads total → i < n → h ≡ program_header_at bytes i → loads_file_bytes h ≡ true → 2 ^ 24 - total < h.file_size → exceeds_limits (load_headers bytes) ≡ true
+loads_long bytes i n h loads total so_far lt is e much = large (load_headers bytes) loads (filter loads_file_bytes (rest_of bytes (i + 1) n)) h (taken bytes i n h loads total so_far lt is e) (inr (omega (arith, so_far.sum, so_far.small)))
 
 -- all headers
-pub loads_all : (bytes : List ℕ) (i n : ℕ) (loads : List Header) (total : ℕ) → LoadsSoFar bytes i n loads total → n ≤ i → loads ≡ loads_of bytes
-loads_all bytes i n loads total h le = sym (append-nil loads) ∙ ap (λ (hs : List Header). loads ++ hs) (ap (filter has_bytes) (sym (rest_of-end bytes i n le))) ∙ h.all
+pub loads_all : (bytes : List ℕ) (i n : ℕ) (loads : List Header) (total : ℕ) → LoadsSoFar bytes i n loads total → n ≤ i → loads ≡ load_headers bytes
+loads_all bytes i n loads total h le = sym (append-nil loads) ∙ ap (λ (hs : List Header). loads ++ hs) (ap (filter loads_file_bytes) (sym (rest_of-end bytes i n le))) ∙ h.all
 
-pub loads_fit : (loads : List Header) (total : ℕ) → total ≡ sum_by (λ h. h.file_size) loads → length loads ≤ 64 → total ≤ 2 ^ 24 → is_large loads ≡ false
-unfolding is_large
+pub loads_fit : (loads : List Header) (total : ℕ) → total ≡ sum_by (λ h. h.file_size) loads → length loads ≤ 64 → total ≤ 2 ^ 24 → exceeds_limits loads ≡ false
+unfolding exceeds_limits
 loads_fit loads total e few small = grind (arith, nat_tests)
 
 pub loads_same : (bytes : List ℕ) (i n : ℕ) (loads others : List Header) (total other : ℕ) → others ≡ loads → other ≡ total → LoadsSoFar bytes i n loads total → LoadsSoFar bytes i n others other

@@ -27,13 +27,13 @@ abbrev pub is_segment : SegmentData → Bool
 is_segment s = nat_lt 0 (length s.bytes) && nat_le (s.at + length s.bytes) (2 ^ 32)
 
 -- two segments share no address
-abbrev pub are_apart : SegmentData → SegmentData → Bool
-are_apart s t = nat_le (s.at + length s.bytes) t.at || nat_le (t.at + length t.bytes) s.at
+abbrev pub are_segments_apart : SegmentData → SegmentData → Bool
+are_segments_apart s t = nat_le (s.at + length s.bytes) t.at || nat_le (t.at + length t.bytes) s.at
 
 -- no two segments share an address
-abbrev pub all_apart : List SegmentData → Bool
-all_apart [] = true
-all_apart (s ∷ ss) = list_all (are_apart s) ss && all_apart ss
+abbrev pub are_all_segments_apart : List SegmentData → Bool
+are_all_segments_apart [] = true
+are_all_segments_apart (s ∷ ss) = list_all (are_segments_apart s) ss && are_all_segments_apart ss
 
 -- the bytes in the segments of an image are numbers below 256
 abbrev pub AreSegmentBytes : List SegmentData → Type 0
@@ -45,7 +45,7 @@ pub record IsImage (i : ImageData) : Type 0 where
   pub few : length i.segments ≤ 64
   pub segments : IsTrue (list_all is_segment i.segments)
   pub bytes : AreSegmentBytes i.segments
-  pub apart : IsTrue (all_apart i.segments)
+  pub apart : IsTrue (are_all_segments_apart i.segments)
   pub small : sum_by (λ s. length s.bytes) i.segments ≤ 2 ^ 24
 
 -- the segment holds the address x

@@ -55,8 +55,8 @@ abbrev pub program_header_offset : List ℕ → ℕ → ℕ
 program_header_offset bytes number = e_phoff bytes + 32 * number
 
 -- the program header with this number, from 0: p_type, p_offset, p_paddr, p_filesz and p_memsz
-unfoldable pub header_at : List ℕ → ℕ → Header
-header_at bytes number = record {
+unfoldable pub program_header_at : List ℕ → ℕ → Header
+program_header_at bytes number = record {
   number = number;
   kind = elf_word_at bytes (program_header_offset bytes number);
   offset = elf_word_at bytes (program_header_offset bytes number + 4);
@@ -66,12 +66,12 @@ header_at bytes number = record {
 }
 
 -- the program headers of a file, in order
-unfoldable pub headers_of : List ℕ → List Header
-headers_of bytes = map (header_at bytes) (range_with_len 0 (e_phnum bytes))
+unfoldable pub program_headers_of : List ℕ → List Header
+program_headers_of bytes = map (program_header_at bytes) (range_with_len 0 (e_phnum bytes))
 
 -- the program header isn't wholly in the file
-abbrev pub is_cut : List ℕ → ℕ → Bool
-is_cut bytes number = nat_lt (length bytes) (program_header_offset bytes number + 32)
+abbrev pub is_truncated_header : List ℕ → ℕ → Bool
+is_truncated_header bytes number = nat_lt (length bytes) (program_header_offset bytes number + 32)
 
 -- p_type is PT_LOAD
 abbrev pub is_load : Header → Bool
@@ -79,23 +79,23 @@ is_load h = h.kind == 1
 
 -- the header's bytes pass the end of a file of this length or address 2^32, or p_filesz is above
 -- p_memsz
-abbrev pub passes_bounds : ℕ → Header → Bool
-passes_bounds len h =
+abbrev pub exceeds_bounds : ℕ → Header → Bool
+exceeds_bounds len h =
     nat_lt len (h.offset + h.file_size)
     || nat_lt (2 ^ 32) (h.address + h.file_size)
     || nat_lt h.memory_size h.file_size
 
 -- the program header isn't wholly in the file, or loads bytes that pass a bound
 unfoldable pub is_bad_header : List ℕ → Header → Bool
-is_bad_header bytes h = is_cut bytes h.number || (is_load h && passes_bounds (length bytes) h)
+is_bad_header bytes h = is_truncated_header bytes h.number || (is_load h && exceeds_bounds (length bytes) h)
 
 -- the program header loads bytes of the file
-unfoldable pub has_bytes : Header → Bool
-has_bytes h = is_load h && nat_lt 0 h.file_size
+unfoldable pub loads_file_bytes : Header → Bool
+loads_file_bytes h = is_load h && nat_lt 0 h.file_size
 
 -- the program headers that load bytes of the file, in order
-unfoldable pub loads_of : List ℕ → List Header
-loads_of bytes = filter has_bytes (headers_of bytes)
+unfoldable pub load_headers : List ℕ → List Header
+load_headers bytes = filter loads_file_bytes (program_headers_of bytes)
 
 -- two program headers that load bytes share an address
 unfoldable pub has_overlap_with : Header → Header → Bool
@@ -105,8 +105,8 @@ has_overlap_with h k = nat_lt h.address (k.address + k.file_size) && nat_lt k.ad
 
 -- refusals of a file that isn't ELF of 32 bits with the least significant byte first, isn't for
 -- this machine (44), or isn't executable (ET_EXEC)
-unfoldable pub start_refusal : List ℕ → Option ImageErr
-start_refusal bytes =
+unfoldable pub elf_header_refusal : List ℕ → Option ImageErr
+elf_header_refusal bytes =
     if nat_lt (length bytes) 52 then Some Short
     else (if not (starts_with nat_eq bytes ident) then Some NotElf32Le
     else (if not (e_machine bytes == 44) then Some NotTriCore
@@ -114,14 +114,14 @@ start_refusal bytes =
     else None)))
 
 -- the refusal if program headers aren't of 32 bytes, or else of the first bad one
-unfoldable pub segment_refusal : List ℕ → Option ImageErr
-segment_refusal bytes =
+unfoldable pub program_header_refusal : List ℕ → Option ImageErr
+program_header_refusal bytes =
     if nat_lt 0 (e_phnum bytes) && not (e_phentsize bytes == 32) then Some (BadSegment 0)
-    else option_map (λ h. BadSegment h.number) (find (is_bad_header bytes) (headers_of bytes))
+    else option_map (λ h. BadSegment h.number) (find (is_bad_header bytes) (program_headers_of bytes))
 
 -- more segments or bytes than an image can have
-unfoldable pub is_large : List Header → Bool
-is_large loads = nat_lt 64 (length loads) || nat_lt (2 ^ 24) (sum_by (λ h. h.file_size) loads)
+unfoldable pub exceeds_limits : List Header → Bool
+exceeds_limits loads = nat_lt 64 (length loads) || nat_lt (2 ^ 24) (sum_by (λ h. h.file_size) loads)
 
 -- the first header that shares an address with a later one, and the first such later one
 unfoldable pub overlap_refusal : List Header → Option ImageErr
@@ -132,10 +132,10 @@ overlap_refusal (h ∷ hs) =
 -- the first refusal, in the order of the checks
 unfoldable pub image_refusal : List ℕ → Option ImageErr
 image_refusal bytes =
-    option_or (start_refusal bytes)
-    (option_or (segment_refusal bytes)
-    (option_or (then_some (is_large (loads_of bytes)) TooLarge)
-    (overlap_refusal (loads_of bytes))))
+    option_or (elf_header_refusal bytes)
+    (option_or (program_header_refusal bytes)
+    (option_or (then_some (exceeds_limits (load_headers bytes)) TooLarge)
+    (overlap_refusal (load_headers bytes))))
 
 -- ---- the image of a file
 
@@ -145,7 +145,7 @@ segment_of bytes h = record { at = h.address; bytes = take h.file_size (drop h.o
 
 -- the entry, and a segment for each program header that loads bytes of the file
 unfoldable pub image_of_loads : List ℕ → ImageData
-image_of_loads bytes = record { entry = e_entry bytes; segments = map (segment_of bytes) (loads_of bytes) }
+image_of_loads bytes = record { entry = e_entry bytes; segments = map (segment_of bytes) (load_headers bytes) }
 
 -- the refusal, if there is one, else this image
 abbrev pub image_unless_refused : Option ImageErr → ImageData → Result ImageData ImageErr

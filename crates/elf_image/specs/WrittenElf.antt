@@ -45,7 +45,7 @@ unfoldable pub elf_contents : List SegmentData → List ℕ
 elf_contents ss = flat_map (λ s. s.bytes) ss
 
 -- the file: the ELF header, the program headers, and the segments' bytes
-unfoldable pub file_of : ImageData → List ℕ
-file_of i =
+unfoldable pub elf_file : ImageData → List ℕ
+elf_file i =
     elf_header i.entry (length i.segments)
     ++ (program_headers (elf_contents_offset i.segments) i.segments ++ elf_contents i.segments)

@@ -2,7 +2,7 @@
 ghost use Rattle.std.specs.Prelude.{◌≡◌, ◌+◌, ◌≤◌, ◌<◌, length, find, Option, Some, None, OnOk, ◌-◌, true};
 ghost use Rattle.std.specs.Result.{result_err};
 ghost use Rattle.std.specs.Option.{option_map};
-ghost use Rattle.elf_image.specs.ReadElf.{headers_of, is_bad_header, start_refusal, segment_refusal, has_overlap_with, overlap_refusal, passes_bounds, program_header_offset, header_at};
+ghost use Rattle.elf_image.specs.ReadElf.{program_headers_of, is_bad_header, elf_header_refusal, program_header_refusal, has_overlap_with, overlap_refusal, exceeds_bounds, program_header_offset, program_header_at};
 
 use crate::ImageErr;
 use crate::headers::{
@@ -11,9 +11,9 @@ use crate::headers::{
 };
 
 // Checks that the file begins with the header of an executable for this machine.
-#[tactic(auto, unfolding(crate::specs::ReadElf::start_refusal))]
+#[tactic(auto, unfolding(crate::specs::ReadElf::elf_header_refusal))]
 pub(crate) fn check_elf_header(bytes: &[u8]) -> Result<(), ImageErr>
-    ensures refusal { result_err result ≡ start_refusal bytes.now }
+    ensures refusal { result_err result ≡ elf_header_refusal bytes.now }
     ensures long { OnOk result (52 ≤ length bytes.now) }
 {
     if bytes.len() < 52 {
@@ -32,10 +32,10 @@ pub(crate) fn check_elf_header(bytes: &[u8]) -> Result<(), ImageErr>
 }
 
 // Checks that no program header is bad.
-#[tactic(auto, unfolding(crate::specs::ReadElf::segment_refusal))]
+#[tactic(auto, unfolding(crate::specs::ReadElf::program_header_refusal))]
 pub(crate) fn check_program_headers(bytes: &[u8]) -> Result<(), ImageErr>
     requires { 52 ≤ length bytes.now }
-    ensures { result_err result ≡ segment_refusal bytes.now }
+    ensures { result_err result ≡ program_header_refusal bytes.now }
 {
     if elf_half_at(bytes, E_PHNUM) > 0 && elf_half_at(bytes, E_PHENTSIZE) != 32 {
         return Err(ImageErr::BadSegment(0));
@@ -62,7 +62,7 @@ pub(crate) fn check_no_overlap(loads: &[Header]) -> Result<(), ImageErr>
 /// Returns true if a check refuses a program header: its bytes pass the end of a file of this
 /// length, address 2^32 or its own memory size.
 pub(crate) fn exceeds_bounds(len: usize, header: &Header) -> bool
-    ensures { result ≡ passes_bounds len header.now }
+    ensures { result ≡ exceeds_bounds len header.now }
 {
     let size = u64::from(header.file_size);
     u64::from(header.offset) + size > len as u64
@@ -72,10 +72,10 @@ pub(crate) fn exceeds_bounds(len: usize, header: &Header) -> bool
 
 // Returns true if the program header with this number can't be used: it isn't wholly in the file,
 // or its bytes pass a bound.
-#[tactic(auto, unfolding(crate::specs::ReadElf::is_bad_header, crate::specs::ReadElf::header_at))]
+#[tactic(auto, unfolding(crate::specs::ReadElf::is_bad_header, crate::specs::ReadElf::program_header_at))]
 pub(crate) fn is_bad_header(bytes: &[u8], number: u16) -> bool
     requires { 52 ≤ length bytes.now }
-    ensures { result ≡ is_bad_header bytes.now (header_at bytes.now number) }
+    ensures { result ≡ is_bad_header bytes.now (program_header_at bytes.now number) }
 {
     if program_header_offset(bytes, number) + 32 > bytes.len() {
         return true;
@@ -98,7 +98,7 @@ pub(crate) fn has_overlap_with(header: &Header, other: &Header) -> bool
 fn first_bad_header(bytes: &[u8]) -> Option<u32>
     requires { 52 ≤ length bytes.now }
     ensures { result ≡ option_map (λ h. h.number)
-        (find (is_bad_header bytes.now) (headers_of bytes.now)) }
+        (find (is_bad_header bytes.now) (program_headers_of bytes.now)) }
 {
     let count = elf_half_at(bytes, E_PHNUM);
     for number in 0..count {

@@ -1,18 +1,18 @@
 // Writes the ELF file of an image, part by part.
 ghost use Rattle.std.specs.Prelude.{◌≡◌, ◌++◌, ◌≤◌, ◌^◌, length, map, sum_by, OnOk, IfOk, IfErr};
 ghost use Rattle.elf_image.specs.Images.{segment_data};
-ghost use Rattle.elf_image.specs.WrittenElf.{elf_header, program_header, program_headers, elf_contents, elf_contents_offset, file_of};
+ghost use Rattle.elf_image.specs.WrittenElf.{elf_header, program_header, program_headers, elf_contents, elf_contents_offset, elf_file};
 
 use crate::{ImageErr, Segment};
 use std::alloc::Global;
 
 // Returns the ELF file of these segments, with the address at which the program begins.
-#[tactic(auto, unfolding(crate::specs::WrittenElf::file_of))]
+#[tactic(auto, unfolding(crate::specs::WrittenElf::elf_file))]
 pub(crate) fn elf_file(alloc: Global, entry: u32, segments: &[Segment]) -> Result<Vec<u8>, ImageErr>
     requires few { length segments.now ≤ 64 }
     requires small { sum_by (λ s. length s.bytes) (map segment_data segments.now) ≤ 2 ^ 24 }
     ensures ok { IfOk result (λ v.
-        v.items ≡ file_of (record { entry = entry; segments = map segment_data segments.now })) }
+        v.items ≡ elf_file (record { entry = entry; segments = map segment_data segments.now })) }
     ensures err { IfErr result (λ e. e ≡ ImageErr.NoMemory) }
 {
     let mut out = Vec::new(alloc);

@@ -1,6 +1,6 @@
 // Reads the fields of an ELF file by their offsets.
 ghost use Rattle.std.specs.Prelude.{◌≡◌, ◌+◌, ◌*◌, ◌≤◌, ◌<◌, ◌^◌, length, ◌-◌, ◌⊎◌, None, IfOk, IfErr, true, false};
-ghost use Rattle.elf_image.specs.ReadElf.{elf_half_at, elf_word_at, program_header_offset, header_at, has_bytes, segment_refusal, loads_of, is_large};
+ghost use Rattle.elf_image.specs.ReadElf.{elf_half_at, elf_word_at, program_header_offset, program_header_at, loads_file_bytes, program_header_refusal, load_headers, exceeds_limits};
 
 use crate::ImageErr;
 use std::alloc::Global;
@@ -71,11 +71,11 @@ pub(crate) fn program_header_offset(bytes: &[u8], number: u16) -> usize
 }
 
 // Reads the program header with this number, which is wholly in the file.
-#[tactic(auto, unfolding(crate::specs::ReadElf::header_at))]
+#[tactic(auto, unfolding(crate::specs::ReadElf::program_header_at))]
 pub(crate) fn program_header_at(bytes: &[u8], number: u16) -> Header
     requires long { 52 ≤ length bytes.now }
     requires whole { program_header_offset bytes.now number + 32 ≤ length bytes.now }
-    ensures { result ≡ header_at bytes.now number }
+    ensures { result ≡ program_header_at bytes.now number }
 {
     let place = program_header_offset(bytes, number);
     Header {
@@ -89,9 +89,9 @@ pub(crate) fn program_header_at(bytes: &[u8], number: u16) -> Header
 }
 
 // Returns true if the program header loads bytes of the file (type PT_LOAD).
-#[tactic(auto, unfolding(crate::specs::ReadElf::has_bytes))]
+#[tactic(auto, unfolding(crate::specs::ReadElf::loads_file_bytes))]
 pub(crate) fn loads_file_bytes(header: &Header) -> bool
-    ensures { result ≡ has_bytes header.now }
+    ensures { result ≡ loads_file_bytes header.now }
 {
     header.kind == PT_LOAD && header.file_size > 0
 }
@@ -99,12 +99,12 @@ pub(crate) fn loads_file_bytes(header: &Header) -> bool
 // Collects the headers that load bytes, in order: at most 64, with at most 2^24 bytes together.
 pub(crate) fn load_headers(alloc: Global, bytes: &[u8]) -> Result<Vec<Header>, ImageErr>
     requires long { 52 ≤ length bytes.now }
-    requires good { segment_refusal bytes.now ≡ None }
+    requires good { program_header_refusal bytes.now ≡ None }
     ensures ok { IfOk result (λ v.
-        (v.items ≡ loads_of bytes.now) × (is_large (loads_of bytes.now) ≡ false)) }
+        (v.items ≡ load_headers bytes.now) × (exceeds_limits (load_headers bytes.now) ≡ false)) }
     ensures err { IfErr result (λ e.
         (e ≡ ImageErr.NoMemory)
-        ⊎ ((e ≡ ImageErr.TooLarge) × (is_large (loads_of bytes.now) ≡ true))) }
+        ⊎ ((e ≡ ImageErr.TooLarge) × (exceeds_limits (load_headers bytes.now) ≡ true))) }
 {
     let mut loads = Vec::new(alloc);
     let mut total = 0u32;

@@ -30,7 +30,7 @@ impl Image {
     ghost use Rattle.std.specs.Prelude.{◌≡◌, ◌≤◌, ◌^◌, ◌↔◌, IsTrue, length, Some, Ok, IfOk, IfErr};
     ghost use Rattle.elf_image.specs.Images.{image_byte};
     ghost use Rattle.elf_image.specs.ReadElf.{GivesImage, image_of_file};
-    ghost use Rattle.elf_image.specs.WrittenElf.{file_of};
+    ghost use Rattle.elf_image.specs.WrittenElf.{elf_file};
 
     /// Reads an executable ELF file of 32 bits for this machine. The image has the segments of type
     /// PT_LOAD with bytes in the file, in the order of their headers, at their physical addresses.
@@ -52,7 +52,7 @@ impl Image {
     /// Returns this image as an executable file: the ELF header, a program header for each segment,
     /// and the segments' bytes without gaps. `Image::read` gives the image back.
     pub fn write(&self, alloc: Global) -> Result<Vec<u8>, ImageErr>
-        ensures bytes { IfOk result (λ v. v.items ≡ file_of self.now) }
+        ensures bytes { IfOk result (λ v. v.items ≡ elf_file self.now) }
         ensures small { IfOk result (λ v. length v.items ≤ 2 ^ 30) }
         ensures again { IfOk result (λ v. image_of_file v.items ≡ Ok self.now) }
         ensures err { IfErr result (λ e. e ≡ ImageErr.NoMemory) }

@@ -12,7 +12,7 @@ use Rattle.frame_places.specs.declared.places.Marked.{Marked}
 use Rattle.frame_places.specs.declared.places.Mark.TheVariants.{Queued}
 use Rattle.frame_places.specs.Numbers.{PlaceHasNumber, KeepsNumbers}
 use Rattle.frame_places.specs.Spots.{spot_eq}
-use Rattle.frame_places.proofs.SpotLemmas.{spot_tells, spot_refl}
+use Rattle.frame_places.proofs.SpotLemmas.{equal_spots_are_same, spot_refl}
 use Rattle.frame_places.specs.Marks.{AllListed, AreKnown, MarksAs, PutsPlaceValue, Requeues, is_queued, mark_for, value_for}
 
 -- which side of an if
@@ -37,7 +37,7 @@ module _ {V S : Type 0} (a b : IndexMap Spot (Marked V) S) (x : Spot) (w : Marke
   marks_as had numbers = record {
     values = λ q.
         elim (sides (spot_eq x q) (Some w.value) (value_for a q) (value_for b q) (values_after q)) [
-          | inl l ↦ l.1 ∙ sym had ∙ ap (value_for a) (spot_tells x q l.0)
+          | inl l ↦ l.1 ∙ sym had ∙ ap (value_for a) (equal_spots_are_same x q l.0)
           | inr r ↦ r.1
         ];
     marks = marks_after;
@@ -60,7 +60,7 @@ marked_there false o p same = refl
 pub marked_already : {V S : Type 0} (a : IndexMap Spot (Marked V) S) (x : Spot) (mark : Mark) → mark_for a x ≡ Some mark → MarksAs a a x mark
 marked_already a x mark at = record {
   values = λ q. refl;
-  marks = λ q. marked_there (spot_eq x q) (mark_for a q) (Some mark) (λ e. ap (mark_for a) (sym (spot_tells x q e)) ∙ at);
+  marks = λ q. marked_there (spot_eq x q) (mark_for a q) (Some mark) (λ e. ap (mark_for a) (sym (equal_spots_are_same x q e)) ∙ at);
   numbers = λ n q h. h;
 }
 
@@ -70,7 +70,7 @@ module _ {V S : Type 0} (a b : IndexMap Spot (Marked V) S) (work : List ℕ) (nu
   AllListed-adds more adds stands h = record {
     listed = λ q at.
         elim (sides (spot_eq x q) (Some Queued) (mark_for a q) (mark_for b q) (is q)) [
-          | inl l ↦ (number, adds_there work more number adds, subst (λ (k : Spot). PlaceHasNumber b number k) (spot_tells x q l.0) stands)
+          | inl l ↦ (number, adds_there work more number adds, subst (λ (k : Spot). PlaceHasNumber b number k) (equal_spots_are_same x q l.0) stands)
           | inr r ↦ (let f = h.listed q (sym r.1 ∙ at) in (f.0, adds_kept work more number f.0 adds f.1, numbers f.0 q f.2))
         ];
     known = λ n c.
@@ -85,7 +85,7 @@ module _ {V S : Type 0} (a b : IndexMap Spot (Marked V) S) (work : List ℕ) (nu
   AllListed-again before h = record {
     listed = λ q at.
         elim (sides (spot_eq x q) (Some Queued) (mark_for a q) (mark_for b q) (is q)) [
-          | inl l ↦ (let f = h.listed q (ap (mark_for a) (sym (spot_tells x q l.0)) ∙ before) in (f.0, f.1, numbers f.0 q f.2))
+          | inl l ↦ (let f = h.listed q (ap (mark_for a) (sym (equal_spots_are_same x q l.0)) ∙ before) in (f.0, f.1, numbers f.0 q f.2))
           | inr r ↦ (let f = h.listed q (sym r.1 ∙ at) in (f.0, f.1, numbers f.0 q f.2))
         ];
     known = λ n c. (let f = h.known n c in (f.0, numbers n f.0 f.1));
@@ -100,7 +100,7 @@ Requeues-push a b c ps x t is = record {
   values = λ q. is.values q ∙ t.values q;
   marks = λ q.
       elim (sides (spot_eq x q) (Some Queued) (mark_for b q) (mark_for c q) (is.marks q)) [
-        | inl l ↦ inl (l.1, subst (λ (k : Spot). Contains (ps ++ x ∷ []) k) (spot_tells x q l.0) (Contains-push ps x))
+        | inl l ↦ inl (l.1, subst (λ (k : Spot). Contains (ps ++ x ∷ []) k) (equal_spots_are_same x q l.0) (Contains-push ps x))
         | inr r ↦ elim (t.marks q) [
           | inl u ↦ inl (r.1 ∙ u.0, Contains-append_left ps (x ∷ []) q u.1)
           | inr u ↦ inr (

@@ -17,16 +17,16 @@ use Rattle.frame_places.specs.declared.places.Mark.TheVariants.{Queued}
 use Rattle.frame_places.specs.Spots.{spot_eq}
 use Rattle.frame_places.specs.Marks.{is_queued}
 use Rattle.frame_places.specs.Numbers.{PlaceHasNumber}
-use Rattle.frame_places.proofs.SpotLemmas.{spot_refl, spot_tells}
+use Rattle.frame_places.proofs.SpotLemmas.{spot_refl, equal_spots_are_same}
 
 turned : (x y : Spot) → spot_eq x y ≡ true → spot_eq y x ≡ true
-turned x y e = subst (λ (k : Spot). spot_eq k x ≡ true) (spot_tells x y e) (spot_refl x)
+turned x y e = subst (λ (k : Spot). spot_eq k x ≡ true) (equal_spots_are_same x y e) (spot_refl x)
 
 spot_equiv : IsEquivalence spot_eq
 spot_equiv = record {
   refl = spot_refl;
   symm = λ x y. both_ways (spot_eq x y) (spot_eq y x) (turned x y) (turned y x);
-  congr = λ x y z e. ap (λ (k : Spot). spot_eq k z) (spot_tells x y e);
+  congr = λ x y z e. ap (λ (k : Spot). spot_eq k z) (equal_spots_are_same x y e);
 }
 
 module _ {X S : Type 0} (m : IndexMap Spot X S) (number : ℕ) (x : Spot) where
@@ -59,7 +59,7 @@ module _ {X S : Type 0} (m : IndexMap Spot X S) (number : ℕ) (x : Spot) where
   pub index_there : index_of spot_eq m x ≡ Some number → PlaceHasNumber m number x
   index_there e =
       let h = position-Some (spot_eq x) (keys m) number x e in
-      slice_get-get_or (keys m) number x h.0 ∙ ap (λ (k : Spot). Some k) (sym (spot_tells x (get_or (keys m) number x) h.1))
+      slice_get-get_or (keys m) number x h.0 ∙ ap (λ (k : Spot). Some k) (sym (equal_spots_are_same x (get_or (keys m) number x) h.1))
 
   -- a value that is written there is the value of x, and the others stay
   pub written_there : (w : X) → IsUnique spot_eq m → PlaceHasNumber m number x → (q : Spot) → get spot_eq (with_value_at m number w) q ≡ (if spot_eq x q then Some w else get spot_eq m q)
@@ -84,7 +84,7 @@ first_there {X} y (e ∷ es) h = by (spot_eq y e.0) refl (λ i. first_there y es
   rest = position_or_len (spot_eq y) (keys_of es)
 
   by : (t : Bool) → spot_eq y e.0 ≡ t → (IsSome (lookup (spot_eq y) es) → slice_get (keys_of es) rest ≡ Some y) → slice_get (keys_of (e ∷ es)) (position_or_len (spot_eq y) (keys_of (e ∷ es))) ≡ Some y
-  by true t next = ap (λ (b : Bool). slice_get (e.0 ∷ keys_of es) (if not b then 1 + rest else 0)) t ∙ ap (λ (k : Spot). Some k) (sym (spot_tells y e.0 t))
+  by true t next = ap (λ (b : Bool). slice_get (e.0 ∷ keys_of es) (if not b then 1 + rest else 0)) t ∙ ap (λ (k : Spot). Some k) (sym (equal_spots_are_same y e.0 t))
   by false t next =
       let one : 1 + rest ≡ suc rest = omega arith in
       ap (λ (b : Bool). slice_get (e.0 ∷ keys_of es) (if not b then 1 + rest else 0)) t ∙ ap (λ (n : ℕ). slice_get (e.0 ∷ keys_of es) n) one

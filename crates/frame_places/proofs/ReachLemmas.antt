@@ -10,7 +10,7 @@ use Rattle.std.specs.declared.alloc.Global.{Global}
 use Rattle.indexmap.specs.IndexMap.{IndexMap, get}
 use Rattle.frame_places.specs.declared.needs.reach.FrameEdge.{FrameEdge}
 use Rattle.frame_places.specs.declared.needs.row.NeedRow.{NeedRow}
-use Rattle.frame_places.specs.NodeGraph.{edge_to, AreEdges, AddsEdges, AreEdgesBetween, LeadsAlongEdges, here, along, IsRecurring, unmarked_nodes, HasEdgeSource, AreEdgeSources, AreEdgeSourcesBelow, AddsEdgeSource, MarksNodes, IsMarking, AreReaching, IsFirstRecurringBefore, IsFirstRecurring, IsNodeMarked}
+use Rattle.frame_places.specs.NodeGraph.{edge_to, AreEdges, AddsEdges, AreEdgesBetween, LeadsAlongEdges, here, along, IsRecursiveNode, unmarked_nodes, HasPredecessor, ArePredecessors, ArePredecessorsBelow, AddsPredecessor, MarksNodes, IsMarking, AreReachingMarks, IsFirstRecursiveNodeBefore, IsFirstRecursiveNode, IsNodeMarked}
 use Rattle.frame_places.specs.Hashed.{edge_eq}
 
 -- ---- one more mark
@@ -101,14 +101,14 @@ nodes_more ns n a b d w x y h g = record {
 
 -- ---- all from which a node is reached
 -- the sources of a queued node are marked
-pub marking_more : {S : Type 0} (edges : List FrameEdge) (sources : IndexMap ℕ (Vec ℕ Global) S) (nodes j t : ℕ) (list : Vec ℕ Global) (a b : List Bool) (w x : List ℕ) → AreEdgeSources edges sources
+pub marking_more : {S : Type 0} (edges : List FrameEdge) (sources : IndexMap ℕ (Vec ℕ Global) S) (nodes j t : ℕ) (list : Vec ℕ Global) (a b : List Bool) (w x : List ℕ) → ArePredecessors edges sources
     → get nat_eq sources t ≡ Some list → MarksNodes list.items a b w x → IsMarking edges nodes j a (w ++ t ∷ []) → IsMarking edges nodes j b x
 marking_more edges sources nodes j t list a b w x are at m old = record {
   all = m.same ∙ old.all;
   sound = λ k h.
       elim (m.only k h) [
         | inl o ↦ old.sound k o
-        | inr c ↦ along k t (are.sound k t (subst (λ (o : Option (Vec ℕ Global)). HasEdgeSource o k) (sym at) c)) (old.sound t (old.listed t (Contains-push w t)))
+        | inr c ↦ along k t (are.sound k t (subst (λ (o : Option (Vec ℕ Global)). HasPredecessor o k) (sym at) c)) (old.sound t (old.listed t (Contains-push w t)))
       ];
   goal = m.keeps j old.goal;
   listed = λ k c.
@@ -121,7 +121,7 @@ marking_more edges sources nodes j t list a b w x are at m old = record {
         | inl o ↦ (elim (old.done k u e o) [
           | inl c ↦ (elim (Contains-push_cases w t u c) [
             | inl i ↦ inl (m.listed u i)
-            | inr same ↦ inr (m.marks k (subst (λ (o : Option (Vec ℕ Global)). HasEdgeSource o k) at (subst (λ (n : ℕ). HasEdgeSource (get nat_eq sources n) k) (sym same) (are.complete k u e))))
+            | inr same ↦ inr (m.marks k (subst (λ (o : Option (Vec ℕ Global)). HasPredecessor o k) at (subst (λ (n : ℕ). HasPredecessor (get nat_eq sources n) k) (sym same) (are.complete k u e))))
           ])
           | inr p ↦ inr (m.keeps k p)
         ])
@@ -130,7 +130,7 @@ marking_more edges sources nodes j t list a b w x are at m old = record {
 }
 
 -- a node without sources is skipped
-pub marking_past : {S : Type 0} (edges : List FrameEdge) (sources : IndexMap ℕ (Vec ℕ Global) S) (nodes j t : ℕ) (a : List Bool) (w : List ℕ) → AreEdgeSources edges sources
+pub marking_past : {S : Type 0} (edges : List FrameEdge) (sources : IndexMap ℕ (Vec ℕ Global) S) (nodes j t : ℕ) (a : List Bool) (w : List ℕ) → ArePredecessors edges sources
     → get nat_eq sources t ≡ None → IsMarking edges nodes j a (w ++ t ∷ []) → IsMarking edges nodes j a w
 marking_past edges sources nodes j t a w are none old = record {
   all = old.all;
@@ -141,20 +141,20 @@ marking_past edges sources nodes j t a w are none old = record {
       elim (old.done k u e h) [
         | inl c ↦ (elim (Contains-push_cases w t u c) [
           | inl i ↦ inl i
-          | inr same ↦ absurd (subst (λ (o : Option (Vec ℕ Global)). HasEdgeSource o k) none (subst (λ (n : ℕ). HasEdgeSource (get nat_eq sources n) k) (sym same) (are.complete k u e)))
+          | inr same ↦ absurd (subst (λ (o : Option (Vec ℕ Global)). HasPredecessor o k) none (subst (λ (n : ℕ). HasPredecessor (get nat_eq sources n) k) (sym same) (are.complete k u e)))
         ])
         | inr p ↦ inr p
       ];
 }
 
-pub sources_below : {S : Type 0} (edges : List FrameEdge) (sources : IndexMap ℕ (Vec ℕ Global) S) (nodes : ℕ) → AreEdgeSources edges sources → AreEdgesBetween edges nodes → AreEdgeSourcesBelow sources nodes
+pub sources_below : {S : Type 0} (edges : List FrameEdge) (sources : IndexMap ℕ (Vec ℕ Global) S) (nodes : ℕ) → ArePredecessors edges sources → AreEdgesBetween edges nodes → ArePredecessorsBelow sources nodes
 sources_below edges sources nodes are between k t h = between.node (edge_to k t) (are.sound k t h)
 
 closed_marks : (edges : List FrameEdge) (nodes j : ℕ) (marks : List Bool) → IsMarking edges nodes j marks [] → (k : ℕ) → LeadsAlongEdges edges j k → IsNodeMarked marks k
 closed_marks edges nodes j marks m _ here = m.goal
 closed_marks edges nodes j marks m _ (along k t c r) = elim (m.done k t c (closed_marks edges nodes j marks m t r)) [ inl i ↦ absurd (omega (arith, i.1)) | inr h ↦ h ]
 
-pub marking_done : (edges : List FrameEdge) (nodes j : ℕ) (marks : List Bool) → IsMarking edges nodes j marks [] → AreReaching edges nodes j marks
+pub marking_done : (edges : List FrameEdge) (nodes j : ℕ) (marks : List Bool) → IsMarking edges nodes j marks [] → AreReachingMarks edges nodes j marks
 marking_done edges nodes j marks m = record { each = m.all; sound = m.sound; complete = closed_marks edges nodes j marks m }
 
 zeros : (n k : ℕ) → get_or (replicate n false) k false ≡ false
@@ -179,27 +179,27 @@ marking_begins edges nodes j lt len = record {
 }
 
 -- a node is recursive if it enters one from which it is reached
-pub recurring_marks : (edges : List FrameEdge) (nodes node : ℕ) (marks : List Bool) (r : Bool) → AreReaching edges nodes node marks
+pub recurring_marks : (edges : List FrameEdge) (nodes node : ℕ) (marks : List Bool) (r : Bool) → AreReachingMarks edges nodes node marks
     → (IsTrue r → (t : ℕ) × Contains edges (edge_to node t) × IsNodeMarked marks t) × (((t : ℕ) × Contains edges (edge_to node t) × IsNodeMarked marks t) → IsTrue r)
-    → (IsTrue r → IsRecurring edges node) × (IsRecurring edges node → IsTrue r)
+    → (IsTrue r → IsRecursiveNode edges node) × (IsRecursiveNode edges node → IsTrue r)
 recurring_marks edges nodes node marks r are tells = (
   (λ h. let f = tells.0 h in record { next = f.0; enters = f.1; back = are.sound f.0 f.2 }),
   (λ h. tells.1 (h.next, h.enters, are.complete h.next h.back)),
 )
 
 -- ---- the first so far
-pub first_done : (orders : List ℕ) (edges : List FrameEdge) (first : Option ℕ) (n : ℕ) → AreEdgesBetween edges (length orders) → length orders ≤ n → IsFirstRecurringBefore orders edges n first → IsFirstRecurring orders edges first
+pub first_done : (orders : List ℕ) (edges : List FrameEdge) (first : Option ℕ) (n : ℕ) → AreEdgesBetween edges (length orders) → length orders ≤ n → IsFirstRecursiveNodeBefore orders edges n first → IsFirstRecursiveNode orders edges first
 first_done orders edges None n between le h = λ k r. h k (omega (arith, between.node (edge_to k r.next) r.enters)) r
 first_done orders edges (Some k) n between le h = (h.0, h.1, (λ j r. h.2 j (omega (arith, between.node (edge_to j r.next) r.enters)) r))
 
 -- a node that isn't recursive
-pub first_not : (orders : List ℕ) (edges : List FrameEdge) (first : Option ℕ) (n : ℕ) → IsFirstRecurringBefore orders edges n first → (IsRecurring edges n → ⊥) → IsFirstRecurringBefore orders edges (n + 1) first
+pub first_not : (orders : List ℕ) (edges : List FrameEdge) (first : Option ℕ) (n : ℕ) → IsFirstRecursiveNodeBefore orders edges n first → (IsRecursiveNode edges n → ⊥) → IsFirstRecursiveNodeBefore orders edges (n + 1) first
 first_not orders edges None n h apart = below_more _ n h apart
 first_not orders edges (Some k) n h apart = (h.0, h.1, below_more _ n h.2 (λ r. absurd (apart r)))
 
 -- a node that is
-pub first_here : (orders : List ℕ) (edges : List FrameEdge) (first : Option ℕ) (n : ℕ) → n < length orders → IsFirstRecurringBefore orders edges n first → ((k : ℕ) → first ≡ Some k → slice_index orders n < slice_index orders k) → IsRecurring edges n
-    → IsFirstRecurringBefore orders edges (n + 1) (Some n)
+pub first_here : (orders : List ℕ) (edges : List FrameEdge) (first : Option ℕ) (n : ℕ) → n < length orders → IsFirstRecursiveNodeBefore orders edges n first → ((k : ℕ) → first ≡ Some k → slice_index orders n < slice_index orders k) → IsRecursiveNode edges n
+    → IsFirstRecursiveNodeBefore orders edges (n + 1) (Some n)
 first_here orders edges None n lt h less r = (lt, r, below_more _ n (λ j b q. absurd (h j b q)) (λ q. omega arith))
 first_here orders edges (Some k) n lt h less r = (lt, r, below_more _ n (λ j b q. let below = less k refl in let f = h.2 j b q in omega (arith, below, f)) (λ q. omega arith))
 
@@ -263,7 +263,7 @@ edge_tells e f h =
     λ i. record { node = node i; into = into i }
 
 -- ---- sources
-pub sources_more : {S T : Type 0} (edges : List FrameEdge) (edge : FrameEdge) (old : IndexMap ℕ (Vec ℕ Global) S) (new : IndexMap ℕ (Vec ℕ Global) T) → AreEdgeSources edges old → AddsEdgeSource old new edge.node edge.into → AreEdgeSources (edges ++ edge ∷ []) new
+pub sources_more : {S T : Type 0} (edges : List FrameEdge) (edge : FrameEdge) (old : IndexMap ℕ (Vec ℕ Global) S) (new : IndexMap ℕ (Vec ℕ Global) T) → ArePredecessors edges old → AddsPredecessor old new edge.node edge.into → ArePredecessors (edges ++ edge ∷ []) new
 sources_more edges edge old new are adds = record {
   sound = λ k t h.
       elim (adds.sound k t h) [
@@ -273,12 +273,12 @@ sources_more edges edge old new are adds = record {
   complete = λ k t c.
       elim (Contains-push_cases edges edge (edge_to k t) c) [
         | inl i ↦ adds.keeps k t (are.complete k t i)
-        | inr e ↦ subst (λ (z : FrameEdge). HasEdgeSource (get nat_eq new z.into) z.node) e adds.there
+        | inr e ↦ subst (λ (z : FrameEdge). HasPredecessor (get nat_eq new z.into) z.node) e adds.there
       ];
 }
 
 -- if ranks rise along each edge, no node is reached from one that it enters
-pub ranks_rise : (edges : List FrameEdge) (ranks : List ℕ) → ((e : FrameEdge) → Contains edges e → slice_index ranks e.node < slice_index ranks e.into) → (k : ℕ) → IsRecurring edges k → ⊥
+pub ranks_rise : (edges : List FrameEdge) (ranks : List ℕ) → ((e : FrameEdge) → Contains edges e → slice_index ranks e.node < slice_index ranks e.into) → (k : ℕ) → IsRecursiveNode edges k → ⊥
 ranks_rise edges ranks rise k r = let a = past k r.next r.enters in let b = lead k r.next r.back in omega (arith, a, b) where
   past : (k t : ℕ) → Contains edges (edge_to k t) → slice_index ranks k < slice_index ranks t
   past k t c = rise (edge_to k t) c

@@ -9,7 +9,7 @@ use Rattle.std.specs.declared.vec.Vec.{Vec}
 use Rattle.std.specs.declared.alloc.Global.{Global}
 use Rattle.frame_places.specs.declared.places.Spot.{Spot}
 use Rattle.frame_places.specs.Spots.{spot_eq}
-use Rattle.frame_places.proofs.SpotLemmas.{spot_tells, spot_refl}
+use Rattle.frame_places.proofs.SpotLemmas.{equal_spots_are_same, spot_refl}
 use Rattle.frame_places.specs.Marks.{ForgetsReaders, IsAmongReaders, RegistersReader}
 use Rattle.frame_places.proofs.MarkLemmas.{sides}
 
@@ -19,7 +19,7 @@ pub registered : {S : Type 0} (old new : IndexMap Spot (Vec Spot Global) S) (z x
 registered old new z x more is has keeps from = record {
   kept = λ p q h.
       elim (sides (spot_eq z p) (Some more) (get spot_eq old p) (get spot_eq new p) (is p)) [
-        | inl l ↦ subst (λ (o : Option (Vec Spot Global)). IsAmongReaders o q) (sym l.1) (keeps q (subst (λ (k : Spot). IsAmongReaders (get spot_eq old k) q) (sym (spot_tells z p l.0)) h))
+        | inl l ↦ subst (λ (o : Option (Vec Spot Global)). IsAmongReaders o q) (sym l.1) (keeps q (subst (λ (k : Spot). IsAmongReaders (get spot_eq old k) q) (sym (equal_spots_are_same z p l.0)) h))
         | inr r ↦ subst (λ (o : Option (Vec Spot Global)). IsAmongReaders o q) (sym r.1) h
       ];
   there =
@@ -27,7 +27,7 @@ registered old new z x more is has keeps from = record {
   alone = λ p q h.
       elim (sides (spot_eq z p) (Some more) (get spot_eq old p) (get spot_eq new p) (is p)) [
         | inl l ↦ elim (from q (subst (λ (o : Option (Vec Spot Global)). IsAmongReaders o q) l.1 h)) [
-          | inl before ↦ inl (subst (λ (k : Spot). IsAmongReaders (get spot_eq old k) q) (spot_tells z p l.0) before)
+          | inl before ↦ inl (subst (λ (k : Spot). IsAmongReaders (get spot_eq old k) q) (equal_spots_are_same z p l.0) before)
           | inr e ↦ inr (l.0, e)
         ]
         | inr r ↦ inl (subst (λ (o : Option (Vec Spot Global)). IsAmongReaders o q) r.1 h)

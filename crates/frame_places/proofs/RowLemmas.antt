@@ -7,7 +7,7 @@ use Rattle.std.proofs.lemmas.Bool.{cases_eq}
 use Rattle.std.proofs.Math.Seq.{take-append_seam}
 use Rattle.std.proofs.lemmas.List.Sums.{sum_by-set, sum_by-le}
 use Rattle.frame_places.specs.declared.needs.row.NeedRow.{NeedRow}
-use Rattle.frame_places.specs.RowNeeds.{MeetsRow, MeetsCapped, PassesRow, PassesRows, AreNeedsLow, MeetsRows}
+use Rattle.frame_places.specs.RowNeeds.{MeetsRow, MeetsRowUpToCap, RaisesNeedByRow, RaisesNeedsByRows, AreLowerBounds, MeetsRows}
 
 sum-set : (xs : List ℕ) (i y : ℕ) → i < length xs → sum (set xs i y) + slice_index xs i ≡ sum xs + y
 sum-set xs i y lt = sum_by-set (λ (x : ℕ). x) xs i y 0 lt
@@ -48,7 +48,7 @@ asks_more needs row cap seen need new t a has lt low is =
           (let x = m.into t has in let y = low2 t lt in omega (arith, x, y));
     }
 
-pub rose_row : (needs : List ℕ) (row : NeedRow) (cap need : ℕ) → row.node < length needs → slice_index needs row.node < need → need ≤ cap + 1 → ((k : ℕ) → slice_index needs k ≤ cap + 1) → ((other : ℕ → ℕ) → MeetsRow other row → ((t : ℕ) → t < length needs → slice_index needs t ≤ other t) → need ≤ other row.node) → PassesRow cap needs (set needs row.node need) row true
+pub rose_row : (needs : List ℕ) (row : NeedRow) (cap need : ℕ) → row.node < length needs → slice_index needs row.node < need → need ≤ cap + 1 → ((k : ℕ) → slice_index needs k ≤ cap + 1) → ((other : ℕ → ℕ) → MeetsRow other row → ((t : ℕ) → t < length needs → slice_index needs t ≤ other t) → need ≤ other row.node) → RaisesNeedByRow cap needs (set needs row.node need) row true
 rose_row needs row cap need lt below bound capped least = record {
   low = λ other m low k klt. set_at needs row.node need k (λ v. v ≤ other k)
       (λ e. subst (λ (j : ℕ). need ≤ other j) (sym e) (least other m low)) (low k (subst (λ (n : ℕ). k < n) (length-set needs row.node need) klt)) lt;
@@ -58,7 +58,7 @@ rose_row needs row cap need lt below bound capped least = record {
   met = λ e. (let no : true ≡ false = e in cc);
 }
 
-pub passes_more : (cap : ℕ) (old mid new : List ℕ) (seen : List NeedRow) (row : NeedRow) (changed raised next : Bool) → PassesRows cap old mid seen changed → PassesRow cap mid new row raised → next ≡ (if raised then true else changed) → PassesRows cap old new (row ∷ seen) next
+pub passes_more : (cap : ℕ) (old mid new : List ℕ) (seen : List NeedRow) (row : NeedRow) (changed raised next : Bool) → RaisesNeedsByRows cap old mid seen changed → RaisesNeedByRow cap mid new row raised → next ≡ (if raised then true else changed) → RaisesNeedsByRows cap old new (row ∷ seen) next
 passes_more cap old mid new seen row changed raised next p r is = record {
   low = λ other m low. r.low other (m row (Contains-append_left (row ∷ []) seen row (Contains-push [] row))) (p.low other (λ q has. m q (Contains-append_right (row ∷ []) seen q has)) low);
   capped = r.capped;
@@ -67,9 +67,9 @@ passes_more cap old mid new seen row changed raised next p r is = record {
   met = λ e q has. (let b = both_false raised changed next is e in elim (Contains-append_cases (row ∷ []) seen q has) [
     | inl here ↦ elim (Contains-push_cases [] row q here) [
       | inl none ↦ absurd (omega (arith, none.1))
-      | inr same ↦ subst (λ (k : NeedRow). MeetsCapped cap new k) same (r.met b.0)
+      | inr same ↦ subst (λ (k : NeedRow). MeetsRowUpToCap cap new k) same (r.met b.0)
     ]
-    | inr behind ↦ subst (λ (l : List ℕ). MeetsCapped cap l q) (sym (r.same b.0)) (p.met b.1 q behind)
+    | inr behind ↦ subst (λ (l : List ℕ). MeetsRowUpToCap cap l q) (sym (r.same b.0)) (p.met b.1 q behind)
   ]);
 } where
   both_false : (a b c : Bool) → c ≡ (if a then true else b) → c ≡ false → (a ≡ false) × (b ≡ false)
@@ -83,10 +83,10 @@ passes_more cap old mid new seen row changed raised next p r is = record {
   grown false false next e f g s h t = let no : false ≡ true = sym e ∙ f in cc
 
 -- one row before those that were passed
-pub passes_front : (cap : ℕ) (old mid new : List ℕ) (rows : List NeedRow) (i : ℕ) (row : NeedRow) (changed raised next : Bool) → 0 < i → i ≤ length rows → row ≡ get_or rows (i - 1) row → PassesRows cap old mid (drop i rows) changed → PassesRow cap mid new row raised
-    → next ≡ (if raised then true else changed) → PassesRows cap old new (drop (i - 1) rows) next
+pub passes_front : (cap : ℕ) (old mid new : List ℕ) (rows : List NeedRow) (i : ℕ) (row : NeedRow) (changed raised next : Bool) → 0 < i → i ≤ length rows → row ≡ get_or rows (i - 1) row → RaisesNeedsByRows cap old mid (drop i rows) changed → RaisesNeedByRow cap mid new row raised
+    → next ≡ (if raised then true else changed) → RaisesNeedsByRows cap old new (drop (i - 1) rows) next
 passes_front cap old mid new rows i row changed raised next some few is p r e =
-    subst (λ (l : List NeedRow). PassesRows cap old new l next)
+    subst (λ (l : List NeedRow). RaisesNeedsByRows cap old new l next)
     (sym (drop_more rows (i - 1) row (omega arith) ∙ ap (λ (q : NeedRow). q ∷ drop (i - 1 + 1) rows) (sym is) ∙ ap (λ (n : ℕ). row ∷ drop n rows) (omega arith)))
     (passes_more cap old mid new (drop i rows) row changed raised next p r e)
 
@@ -99,7 +99,7 @@ falls n c s t lt le = let m = n * c in falls_at (n * c) s t lt le where
   falls_at m s t lt le = omega arith
 
 -- below the cap, a row that is met up to the cap is met
-pub met_uncapped : (cap : ℕ) (needs : List ℕ) (row : NeedRow) → ((k : ℕ) → slice_index needs k ≤ cap) → MeetsCapped cap needs row → MeetsRow (λ k. slice_index needs k) row
+pub met_uncapped : (cap : ℕ) (needs : List ℕ) (row : NeedRow) → ((k : ℕ) → slice_index needs k ≤ cap) → MeetsRowUpToCap cap needs row → MeetsRow (λ k. slice_index needs k) row
 met_uncapped cap needs row low m = record {
   held = (let a = m.held in let b = low row.node in omega (arith, a, b));
   into = λ t has. (let a = m.into t has in let b = low row.node in omega (arith, a, b));
@@ -114,9 +114,9 @@ each_low (x ∷ xs) cap h (suc k) = each_low xs cap (λ j lt. h (suc j) (omega a
 pub take_front : (n : ℕ) (s xs : List ℕ) → n ≡ length s → take n (s ++ xs) ≡ s
 take_front n s xs e = subst (λ (k : ℕ). take k (s ++ xs) ≡ s) (sym e) (take-append_seam s xs)
 
-pub answered_none : (nodes cap : ℕ) (rows : List NeedRow) (settled : List ℕ) → length settled ≡ nodes → AreNeedsLow settled rows → ((row : NeedRow) → Contains rows row → MeetsCapped cap settled row) → ((k : ℕ) → k < length settled → slice_index settled k ≤ cap)
-    → (length settled ≡ nodes) × MeetsRows (λ k. slice_index settled k) rows × AreNeedsLow settled rows × ((k : ℕ) → slice_index settled k ≤ cap)
+pub answered_none : (nodes cap : ℕ) (rows : List NeedRow) (settled : List ℕ) → length settled ≡ nodes → AreLowerBounds settled rows → ((row : NeedRow) → Contains rows row → MeetsRowUpToCap cap settled row) → ((k : ℕ) → k < length settled → slice_index settled k ≤ cap)
+    → (length settled ≡ nodes) × MeetsRows (λ k. slice_index settled k) rows × AreLowerBounds settled rows × ((k : ℕ) → slice_index settled k ≤ cap)
 answered_none nodes cap rows settled len low met below = (len, (λ row has. met_uncapped cap settled row (each_low settled cap below) (met row has)), low, each_low settled cap below)
 
-pub answered_some : (nodes cap k : ℕ) (rows : List NeedRow) (settled : List ℕ) → length settled ≡ nodes → AreNeedsLow settled rows → k < length settled → cap < slice_index settled k → (other : ℕ → ℕ) → MeetsRows other rows → (k : ℕ) × (k < nodes) × (cap < other k)
+pub answered_some : (nodes cap k : ℕ) (rows : List NeedRow) (settled : List ℕ) → length settled ≡ nodes → AreLowerBounds settled rows → k < length settled → cap < slice_index settled k → (other : ℕ → ℕ) → MeetsRows other rows → (k : ℕ) × (k < nodes) × (cap < other k)
 answered_some nodes cap k rows settled len low lt above other m = (k, omega arith, (let h = low other m k lt in omega (arith, h)))

@@ -6,7 +6,7 @@ use Rattle.depth_cert.specs.declared.keys.Key.{Key}
 use Rattle.frame_places.specs.declared.places.Spot.{Spot}
 use Rattle.frame_places.specs.declared.places.Spot.TheVariants.{Point, Exit}
 use Rattle.frame_places.specs.Spots.{spot_eq}
-pub use Rattle.frame_places.specs.Hashed.{keys_tell, spot_tells}
+pub use Rattle.frame_places.specs.Hashed.{equal_keys_are_same, equal_spots_are_same}
 
 flag_same : (a : Bool) → beq a a ≡ true
 flag_same true = refl

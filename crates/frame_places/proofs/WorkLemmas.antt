@@ -4,7 +4,7 @@ use Rattle.std.specs.Prelude.{IfSome, IfNone}
 use Rattle.std.proofs.lemmas.List.Elements.{Contains-append_cases, Contains-append_left, Contains-append_right, Contains-push, Contains-push_cases}
 use Rattle.std.proofs.lemmas.List.Sorted.{Contains-permutation, IsPermutation-append_left, IsPermutation-append_right, IsPermutation-middle, IsPermutation-refl, IsPermutation-sym, IsPermutation-to_front, IsPermutation-trans, length_permutation}
 use Rattle.std.specs.List.Sorted.{IsPermutation}
-use Rattle.frame_places.specs.Work.{BeginsRound, HasNoNext, WorkLists, PutsAs, PutsEntry, PutsNew, PutsNext, PutsWaiting, Takes, TakesFirst, TakesLast, TakesRound, Turns, all_work}
+use Rattle.frame_places.specs.Work.{BeginsRound, HasNoNext, WorkLists, PutsWaitingOrNext, PutsEntry, PutsEntryOrNext, PutsNext, PutsWaiting, TakesPlace, TakesFirst, TakesLast, TakesRound, RefillsFirst, all_work}
 
 -- a list has the elements of another, and one number
 abbrev pub Adds : List ℕ → List ℕ → ℕ → Type 0
@@ -63,7 +63,7 @@ adds_waiting old new number puts =
     subst (λ (l : List ℕ). Adds (all_work old) l number) (sym (parts new old.first old.next old.round new.waiting puts.first puts.next puts.round refl))
     (behind old.first (old.next ++ rest) (old.next ++ more) number (behind old.next rest more number (behind old.round old.waiting new.waiting number puts.waiting)))
 
-pub adds_either : (waits : Bool) (old new : WorkLists) (number : ℕ) → PutsAs waits old new number → Adds (all_work old) (all_work new) number
+pub adds_either : (waits : Bool) (old new : WorkLists) (number : ℕ) → PutsWaitingOrNext waits old new number → Adds (all_work old) (all_work new) number
 adds_either true old new number puts = adds_waiting old new number puts
 adds_either false old new number puts = adds_next old new number puts
 
@@ -74,7 +74,7 @@ adds_entry old new number puts =
     subst (λ (l : List ℕ). Adds (all_work old) l number) (sym (parts new old.first old.next new.round old.waiting puts.first puts.next refl puts.waiting))
     (behind old.first (old.next ++ rest) (old.next ++ more) number (behind old.next rest more number (IsPermutation-append_left old.waiting (number ∷ old.round) new.round puts.round)))
 
-pub adds_new : (entry : Bool) (old new : WorkLists) (number : ℕ) → PutsNew entry old new number → Adds (all_work old) (all_work new) number
+pub adds_new : (entry : Bool) (old new : WorkLists) (number : ℕ) → PutsEntryOrNext entry old new number → Adds (all_work old) (all_work new) number
 adds_new true old new number puts = adds_entry old new number puts
 adds_new false old new number puts = adds_next old new number puts
 
@@ -84,25 +84,25 @@ from_end : (xs ys : List ℕ) (number : ℕ) → IsPermutation ((xs ++ number �
 from_end xs ys number = IsPermutation-append_left ys (xs ++ number ∷ []) (number ∷ xs) (IsPermutation-to_front xs number)
 
 -- from the whole list
-taken_of : (old new : WorkLists) (number : ℕ) (before after : List ℕ) → all_work old ≡ before → all_work new ≡ after → IsPermutation before (number ∷ after) → Takes old new number
+taken_of : (old new : WorkLists) (number : ℕ) (before after : List ℕ) → all_work old ≡ before → all_work new ≡ after → IsPermutation before (number ∷ after) → TakesPlace old new number
 taken_of old new number before after a b h =
     subst (λ (l : List ℕ). IsPermutation l (number ∷ all_work new)) (sym a) (subst (λ (l : List ℕ). IsPermutation before (number ∷ l)) (sym b) h)
 
 same_of : (old new : WorkLists) (before after : List ℕ) → all_work old ≡ before → all_work new ≡ after → IsPermutation before after → IsPermutation (all_work old) (all_work new)
 same_of old new before after a b h = subst (λ (l : List ℕ). IsPermutation l (all_work new)) (sym a) (subst (λ (l : List ℕ). IsPermutation before l) (sym b) h)
 
-takes_same : (old mid new : WorkLists) (number : ℕ) → IsPermutation (all_work old) (all_work mid) → Takes mid new number → Takes old new number
+takes_same : (old mid new : WorkLists) (number : ℕ) → IsPermutation (all_work old) (all_work mid) → TakesPlace mid new number → TakesPlace old new number
 takes_same old mid new number same takes = IsPermutation-trans (all_work old) (all_work mid) (number ∷ all_work new) same takes
 
 -- the first one
-pub takes_first : (old new : WorkLists) (number : ℕ) → TakesFirst old new number → Takes old new number
+pub takes_first : (old new : WorkLists) (number : ℕ) → TakesFirst old new number → TakesPlace old new number
 takes_first old new number takes =
     let rest = new.next ++ (new.round ++ new.waiting) in
     taken_of old new number ((new.first ++ number ∷ []) ++ rest) (new.first ++ rest)
     (parts old (new.first ++ number ∷ []) new.next new.round new.waiting takes.first (sym takes.next) (sym takes.round) (sym takes.waiting)) refl (from_end new.first rest number)
 
 -- the last of those that are next
-pub takes_last : (old new : WorkLists) (number : ℕ) → old.first ≡ [] → TakesLast old new number → Takes old new number
+pub takes_last : (old new : WorkLists) (number : ℕ) → old.first ≡ [] → TakesLast old new number → TakesPlace old new number
 takes_last old new number none takes =
     let rest = new.round ++ new.waiting in
     taken_of old new number ((new.next ++ number ∷ []) ++ rest) (new.next ++ rest)
@@ -110,17 +110,17 @@ takes_last old new number none takes =
     (parts new [] new.next new.round new.waiting (takes.first ∙ none) refl refl refl) (from_end new.next rest number)
 
 -- the places that are next were reversed
-turned_all : (old mid : WorkLists) → old.first ≡ [] → Turns old mid → IsPermutation (all_work old) (all_work mid)
+turned_all : (old mid : WorkLists) → old.first ≡ [] → RefillsFirst old mid → IsPermutation (all_work old) (all_work mid)
 turned_all old mid none turns =
     let rest = old.round ++ old.waiting in
     same_of old mid (old.next ++ rest) (mid.first ++ rest) (parts old [] old.next old.round old.waiting none refl refl refl)
     (parts mid mid.first [] old.round old.waiting refl (turns.next ∙ none) turns.round turns.waiting) (IsPermutation-append_left rest old.next mid.first turns.first)
 
 -- for the result of a call
-pub last_some : (old mid new : WorkLists) (r : Option ℕ) → mid ≡ old → old.first ≡ [] → IfSome r (TakesLast mid new) → IfSome r (Takes old new)
+pub last_some : (old mid new : WorkLists) (r : Option ℕ) → mid ≡ old → old.first ≡ [] → IfSome r (TakesLast mid new) → IfSome r (TakesPlace old new)
 last_some old mid new None same none takes = takes
 last_some old mid new (Some number) same none takes =
-    subst (λ (w : WorkLists). Takes w new number) same (takes_last mid new number (ap (λ (w : WorkLists). w.first) same ∙ none) takes)
+    subst (λ (w : WorkLists). TakesPlace w new number) same (takes_last mid new number (ap (λ (w : WorkLists). w.first) same ∙ none) takes)
 
 pub last_none : (old mid new : WorkLists) (r : Option ℕ) → mid ≡ old → old.first ≡ [] → IfNone r ((mid.next ≡ []) × (new ≡ mid)) → IfNone r (HasNoNext old new)
 last_none old mid new None same none left =
@@ -132,13 +132,13 @@ last_none old mid new None same none left =
     }
 last_none old mid new (Some number) same none left = left
 
-pub turned_some : (old mid turned new : WorkLists) (r : Option ℕ) → mid ≡ old → old.first ≡ [] → Turns mid turned → IfSome r (TakesFirst turned new) → IfSome r (Takes old new)
+pub turned_some : (old mid turned new : WorkLists) (r : Option ℕ) → mid ≡ old → old.first ≡ [] → RefillsFirst mid turned → IfSome r (TakesFirst turned new) → IfSome r (TakesPlace old new)
 turned_some old mid turned new None same none turns takes = takes
 turned_some old mid turned new (Some number) same none turns takes =
-    subst (λ (w : WorkLists). Takes w new number) same
+    subst (λ (w : WorkLists). TakesPlace w new number) same
     (takes_same mid turned new number (turned_all mid turned (ap (λ (w : WorkLists). w.first) same ∙ none) turns) (takes_first turned new number takes))
 
-pub turned_none : (old mid turned new : WorkLists) (r : Option ℕ) → mid ≡ old → old.first ≡ [] → Turns mid turned → IfNone r ((turned.first ≡ []) × (new ≡ turned)) → IfNone r (HasNoNext old new)
+pub turned_none : (old mid turned new : WorkLists) (r : Option ℕ) → mid ≡ old → old.first ≡ [] → RefillsFirst mid turned → IfNone r ((turned.first ≡ []) × (new ≡ turned)) → IfNone r (HasNoNext old new)
 turned_none old mid turned new None same none turns left =
     let empty = ap (λ (w : WorkLists). w.first) same ∙ none in
     record {
@@ -156,7 +156,7 @@ moved_same old new first next both =
     (IsPermutation-append_right old.first (old.next ++ (old.round ++ old.waiting)) (old.next ++ (new.round ++ new.waiting)) (IsPermutation-append_right old.next (old.round ++ old.waiting) (new.round ++ new.waiting) both))
 
 -- one of this round
-pub takes_round : (old mid new : WorkLists) (number : ℕ) → HasNoNext old mid → TakesRound mid new number → Takes old new number
+pub takes_round : (old mid new : WorkLists) (number : ℕ) → HasNoNext old mid → TakesRound mid new number → TakesPlace old new number
 takes_round old mid new number has takes =
     takes_same old mid new number has.same
     (taken_of mid new number ((new.round ++ number ∷ []) ++ new.waiting) (new.round ++ new.waiting)
@@ -173,7 +173,7 @@ begun_all old mid begun has begins = record {
       (parts begun [] [] begun.round begun.waiting (begins.first ∙ has.first) (begins.next ∙ has.next) refl refl) begins.both);
 }
 
-pub begun_some : (old mid begun new : WorkLists) (r : Option ℕ) → HasNoNext old mid → BeginsRound mid begun → IfSome r (TakesRound begun new) → IfSome r (Takes old new)
+pub begun_some : (old mid begun new : WorkLists) (r : Option ℕ) → HasNoNext old mid → BeginsRound mid begun → IfSome r (TakesRound begun new) → IfSome r (TakesPlace old new)
 begun_some old mid begun new None has begins takes = takes
 begun_some old mid begun new (Some number) has begins takes = takes_round old begun new number (begun_all old mid begun has begins) takes
 
@@ -196,13 +196,13 @@ begun_none old mid begun new None has begins left =
 begun_none old mid begun new (Some number) has begins left = left
 
 -- the place that was taken was listed
-pub takes_there : (old new : WorkLists) (number : ℕ) → Takes old new number → Contains (all_work old) number
+pub takes_there : (old new : WorkLists) (number : ℕ) → TakesPlace old new number → Contains (all_work old) number
 takes_there old new number takes = adds_there (all_work new) (all_work old) number (IsPermutation-sym (all_work old) (number ∷ all_work new) takes)
 
 -- all that is left was listed
-pub takes_left : (old new : WorkLists) (number n : ℕ) → Takes old new number → Contains (all_work new) n → Contains (all_work old) n
+pub takes_left : (old new : WorkLists) (number n : ℕ) → TakesPlace old new number → Contains (all_work new) n → Contains (all_work old) n
 takes_left old new number n takes c = adds_kept (all_work new) (all_work old) number n (IsPermutation-sym (all_work old) (number ∷ all_work new) takes) c
 
 -- and nothing else was
-pub takes_only : (old new : WorkLists) (number n : ℕ) → Takes old new number → Contains (all_work old) n → Contains (all_work new) n ⊎ (number ≡ n)
+pub takes_only : (old new : WorkLists) (number n : ℕ) → TakesPlace old new number → Contains (all_work old) n → Contains (all_work new) n ⊎ (number ≡ n)
 takes_only old new number n takes c = first_or_not number n (all_work new) (Contains-permutation (all_work old) (number ∷ all_work new) n takes c)

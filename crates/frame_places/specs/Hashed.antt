@@ -17,31 +17,31 @@ equal_numbers_are_same : (a b : ℕ) → nat_eq a b ≡ true → a ≡ b
 equal_numbers_are_same a b e = eqb-true a b e
 
 -- in the keys of hashed places, flags that compare as equal are the same
-key_flags_tell : (a b : Bool) → beq a b ≡ true → a ≡ b
-key_flags_tell true true e = refl
-key_flags_tell false false e = refl
-key_flags_tell true false e = cc
-key_flags_tell false true e = cc
+equal_flags_are_same : (a b : Bool) → beq a b ≡ true → a ≡ b
+equal_flags_are_same true true e = refl
+equal_flags_are_same false false e = refl
+equal_flags_are_same true false e = cc
+equal_flags_are_same false true e = cc
 
 -- keys of frames that compare as equal in all fields are the same, as the hash map of places needs
 -- it
-pub keys_tell : (f g : Key) → (nat_eq f.kind g.kind && (nat_eq f.entry g.entry && (nat_eq f.prio g.prio && beq f.is g.is))) ≡ true → f ≡ g
-keys_tell f g e =
+pub equal_keys_are_same : (f g : Key) → (nat_eq f.kind g.kind && (nat_eq f.entry g.entry && (nat_eq f.prio g.prio && beq f.is g.is))) ≡ true → f ≡ g
+equal_keys_are_same f g e =
     let a = and_parts _ _ e in
     let b = and_parts _ _ a.1 in
     let c = and_parts _ _ b.1 in
     let kind = equal_numbers_are_same f.kind g.kind a.0 in
     let entry = equal_numbers_are_same f.entry g.entry b.0 in
     let prio = equal_numbers_are_same f.prio g.prio c.0 in
-    let is = key_flags_tell f.is g.is c.1 in
+    let is = equal_flags_are_same f.is g.is c.1 in
     λ i. record { kind = kind i; entry = entry i; prio = prio i; is = is i }
 
 -- for hashing: places that compare as equal are the same
-pub spot_tells : (x y : Spot) → spot_eq x y ≡ true → x ≡ y
-spot_tells (Point f p) (Point g q) e = let h = and_parts _ _ e in let same = keys_tell f g h.0 in let addr = equal_numbers_are_same p q h.1 in λ i. Point (same i) (addr i)
-spot_tells (Point f p) (Exit g) e = cc
-spot_tells (Exit f) (Point g q) e = cc
-spot_tells (Exit f) (Exit g) e = ap Exit (keys_tell f g e)
+pub equal_spots_are_same : (x y : Spot) → spot_eq x y ≡ true → x ≡ y
+equal_spots_are_same (Point f p) (Point g q) e = let h = and_parts _ _ e in let same = equal_keys_are_same f g h.0 in let addr = equal_numbers_are_same p q h.1 in λ i. Point (same i) (addr i)
+equal_spots_are_same (Point f p) (Exit g) e = cc
+equal_spots_are_same (Exit f) (Point g q) e = cc
+equal_spots_are_same (Exit f) (Exit g) e = ap Exit (equal_keys_are_same f g e)
 
 -- the low four bytes of the frame's number, then the address
 abbrev pub hashed_word : Spot → ℕ
@@ -49,8 +49,8 @@ hashed_word (Point k p) = number_of_key k % 2 ^ 32 * 2 ^ 32 + p
 hashed_word (Exit k) = number_of_key k % 2 ^ 32 * 2 ^ 32
 
 -- equal places have the same hash input
-pub hashed_alike : (x y : Spot) → spot_eq x y ≡ true → fed.u64 (hashed_word x) ≡ fed.u64 (hashed_word y)
-hashed_alike x y e = ap (λ (z : Spot). fed.u64 (hashed_word z)) (spot_tells x y e)
+pub equal_spots_hash_alike : (x y : Spot) → spot_eq x y ≡ true → fed.u64 (hashed_word x) ≡ fed.u64 (hashed_word y)
+equal_spots_hash_alike x y e = ap (λ (z : Spot). fed.u64 (hashed_word z)) (equal_spots_are_same x y e)
 
 -- edge equality, as sets compare edges
 abbrev pub edge_eq : FrameEdge → FrameEdge → Bool

@@ -36,7 +36,7 @@ pub data LeadsAlongEdges (edges : List FrameEdge) (j : ℕ) : ℕ → Type 0 whe
   along : (k t : ℕ) → Contains edges (edge_to k t) → LeadsAlongEdges edges j t → LeadsAlongEdges edges j k
 
 -- the node is reached from one that it enters
-pub record IsRecurring (edges : List FrameEdge) (k : ℕ) : Type 0 where
+pub record IsRecursiveNode (edges : List FrameEdge) (k : ℕ) : Type 0 where
   pub next : ℕ
   pub enters : Contains edges (edge_to k next)
   pub back : LeadsAlongEdges edges k next
@@ -58,24 +58,24 @@ abbrev pub AllLeadAlongEdges : List FrameEdge → ℕ → List Bool → Type 0
 AllLeadAlongEdges edges j marks = (k : ℕ) → IsNodeMarked marks k → LeadsAlongEdges edges j k
 
 -- a node has this source
-abbrev pub HasEdgeSource : Option (Vec ℕ Global) → ℕ → Type 0
-HasEdgeSource None k = ⊥
-HasEdgeSource (Some ks) k = Contains ks.items k
+abbrev pub HasPredecessor : Option (Vec ℕ Global) → ℕ → Type 0
+HasPredecessor None k = ⊥
+HasPredecessor (Some ks) k = Contains ks.items k
 
 -- the sources of each node, as far as these edges go
-pub record AreEdgeSources {S : Type 0} (edges : List FrameEdge) (sources : IndexMap ℕ (Vec ℕ Global) S) : Type 0 where
-  pub sound : (k t : ℕ) → HasEdgeSource (get nat_eq sources t) k → Contains edges (edge_to k t)
-  pub complete : (k t : ℕ) → Contains edges (edge_to k t) → HasEdgeSource (get nat_eq sources t) k
+pub record ArePredecessors {S : Type 0} (edges : List FrameEdge) (sources : IndexMap ℕ (Vec ℕ Global) S) : Type 0 where
+  pub sound : (k t : ℕ) → HasPredecessor (get nat_eq sources t) k → Contains edges (edge_to k t)
+  pub complete : (k t : ℕ) → Contains edges (edge_to k t) → HasPredecessor (get nat_eq sources t) k
 
 -- the sources are among `nodes` nodes
-abbrev pub AreEdgeSourcesBelow : {S : Type 0} → IndexMap ℕ (Vec ℕ Global) S → ℕ → Type 0
-AreEdgeSourcesBelow sources nodes = (k t : ℕ) → HasEdgeSource (get nat_eq sources t) k → k < nodes
+abbrev pub ArePredecessorsBelow : {S : Type 0} → IndexMap ℕ (Vec ℕ Global) S → ℕ → Type 0
+ArePredecessorsBelow sources nodes = (k t : ℕ) → HasPredecessor (get nat_eq sources t) k → k < nodes
 
 -- a node is a source of one more node
-pub record AddsEdgeSource {S T : Type 0} (old : IndexMap ℕ (Vec ℕ Global) S) (new : IndexMap ℕ (Vec ℕ Global) T) (k t : ℕ) : Type 0 where
-  pub keeps : (j u : ℕ) → HasEdgeSource (get nat_eq old u) j → HasEdgeSource (get nat_eq new u) j
-  pub there : HasEdgeSource (get nat_eq new t) k
-  pub sound : (j u : ℕ) → HasEdgeSource (get nat_eq new u) j → HasEdgeSource (get nat_eq old u) j ⊎ ((j ≡ k) × (u ≡ t))
+pub record AddsPredecessor {S T : Type 0} (old : IndexMap ℕ (Vec ℕ Global) S) (new : IndexMap ℕ (Vec ℕ Global) T) (k t : ℕ) : Type 0 where
+  pub keeps : (j u : ℕ) → HasPredecessor (get nat_eq old u) j → HasPredecessor (get nat_eq new u) j
+  pub there : HasPredecessor (get nat_eq new t) k
+  pub sound : (j u : ℕ) → HasPredecessor (get nat_eq new u) j → HasPredecessor (get nat_eq old u) j ⊎ ((j ≡ k) × (u ≡ t))
 
 -- these nodes are marked, those that weren't are queued, and nothing else changes
 pub record MarksNodes (nodes : List ℕ) (old new : List Bool) (work later : List ℕ) : Type 0 where
@@ -98,35 +98,35 @@ pub record IsMarking (edges : List FrameEdge) (nodes j : ℕ) (marks : List Bool
   pub done : (k t : ℕ) → Contains edges (edge_to k t) → IsNodeMarked marks t → Contains work t ⊎ IsNodeMarked marks k
 
 -- from marks on the way all marks are set
-abbrev pub SettlesMarks : {S : Type 0} → IndexMap ℕ (Vec ℕ Global) S → List Bool → List Bool → List ℕ → Type 0
-SettlesMarks sources old new work =
-    (edges : List FrameEdge) (j : ℕ) → AreEdgeSources edges sources → IsMarking edges (length old) j old work
+abbrev pub MarksAllReaching : {S : Type 0} → IndexMap ℕ (Vec ℕ Global) S → List Bool → List Bool → List ℕ → Type 0
+MarksAllReaching sources old new work =
+    (edges : List FrameEdge) (j : ℕ) → ArePredecessors edges sources → IsMarking edges (length old) j old work
     → IsMarking edges (length old) j new []
 
 -- exactly the nodes of the graph from which j is reached are marked
-pub record AreReaching (edges : List FrameEdge) (nodes j : ℕ) (marks : List Bool) : Type 0 where
+pub record AreReachingMarks (edges : List FrameEdge) (nodes j : ℕ) (marks : List Bool) : Type 0 where
   pub each : length marks ≡ nodes
   pub sound : AllLeadAlongEdges edges j marks
   pub complete : (k : ℕ) → LeadsAlongEdges edges j k → IsNodeMarked marks k
 
 -- the same, by the sources of each node
-abbrev pub AreReachingBy : {S : Type 0} → IndexMap ℕ (Vec ℕ Global) S → ℕ → ℕ → List Bool → Type 0
-AreReachingBy sources nodes j marks = (edges : List FrameEdge) → AreEdgeSources edges sources → AreReaching edges nodes j marks
+abbrev pub AreReachingByPredecessors : {S : Type 0} → IndexMap ℕ (Vec ℕ Global) S → ℕ → ℕ → List Bool → Type 0
+AreReachingByPredecessors sources nodes j marks = (edges : List FrameEdge) → ArePredecessors edges sources → AreReachingMarks edges nodes j marks
 
 -- some node that this one enters is marked
-abbrev pub HasMarkedNext : List Bool → List FrameEdge → ℕ → Type 0
-HasMarkedNext marks edges k = (t : ℕ) × Contains edges (edge_to k t) × IsNodeMarked marks t
+abbrev pub HasMarkedSuccessor : List Bool → List FrameEdge → ℕ → Type 0
+HasMarkedSuccessor marks edges k = (t : ℕ) × Contains edges (edge_to k t) × IsNodeMarked marks t
 
 -- ---- the first
 -- the recursive node that is first in an order, or that none is recursive
-abbrev pub IsFirstRecurring : List ℕ → List FrameEdge → Option ℕ → Type 0
-IsFirstRecurring orders edges None = (k : ℕ) → IsRecurring edges k → ⊥
-IsFirstRecurring orders edges (Some k) =
-    (k < length orders) × IsRecurring edges k × ((j : ℕ) → IsRecurring edges j → slice_index orders k ≤ slice_index orders j)
+abbrev pub IsFirstRecursiveNode : List ℕ → List FrameEdge → Option ℕ → Type 0
+IsFirstRecursiveNode orders edges None = (k : ℕ) → IsRecursiveNode edges k → ⊥
+IsFirstRecursiveNode orders edges (Some k) =
+    (k < length orders) × IsRecursiveNode edges k × ((j : ℕ) → IsRecursiveNode edges j → slice_index orders k ≤ slice_index orders j)
 
 -- the recursive node that is first in an order among the nodes before n, or that none of them is
 -- recursive
-abbrev pub IsFirstRecurringBefore : List ℕ → List FrameEdge → ℕ → Option ℕ → Type 0
-IsFirstRecurringBefore orders edges n None = (k : ℕ) → k < n → IsRecurring edges k → ⊥
-IsFirstRecurringBefore orders edges n (Some k) =
-    (k < length orders) × IsRecurring edges k × ((j : ℕ) → j < n → IsRecurring edges j → slice_index orders k ≤ slice_index orders j)
+abbrev pub IsFirstRecursiveNodeBefore : List ℕ → List FrameEdge → ℕ → Option ℕ → Type 0
+IsFirstRecursiveNodeBefore orders edges n None = (k : ℕ) → k < n → IsRecursiveNode edges k → ⊥
+IsFirstRecursiveNodeBefore orders edges n (Some k) =
+    (k < length orders) × IsRecursiveNode edges k × ((j : ℕ) → j < n → IsRecursiveNode edges j → slice_index orders k ≤ slice_index orders j)

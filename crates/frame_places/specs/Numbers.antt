@@ -3,7 +3,7 @@ use Rattle.std.specs.Prelude.{◌≡◌, ◌+◌, ℕ, Bool, List, ◌∷◌, So
 use Rattle.indexmap.specs.IndexMap.{IndexMap, get, keys}
 use Rattle.depth_cert.specs.declared.keys.Key.{Key}
 use Rattle.depth_cert.specs.contracts.keys.KeyPartialEq.TheImpl as block
-use Rattle.depth_cert.specs.Keys.{same_key}
+use Rattle.depth_cert.specs.Keys.{is_same_key}
 use Rattle.frame_places.specs.declared.places.Spot.{Spot}
 use Rattle.frame_places.specs.declared.places.Marked.{Marked}
 
@@ -14,7 +14,7 @@ frame_key_eq = (block.ghosts).eq
 -- the place of the first frame with this key; the length of the list if there is none
 abbrev pub frame_number_in : List Key → Key → ℕ
 frame_number_in [] k = 0
-frame_number_in (j ∷ js) k = if same_key j k then 0 else frame_number_in js k + 1
+frame_number_in (j ∷ js) k = if is_same_key j k then 0 else frame_number_in js k + 1
 
 -- the map has the numbers of these frames
 pub record AreFrameNumbers {S : Type 0} (numbers : IndexMap Key ℕ S) (frames : List Key) (known : List Key) : Type 0 where

@@ -22,11 +22,11 @@ pub record AreRowsWithin (rows : List NeedRow) (nodes : ℕ) : Type 0 where
   pub into : (row : NeedRow) (t : ℕ) → Contains rows row → Contains row.into.items t → t < nodes
 
 -- these needs are at most any that meet the rows
-abbrev pub AreNeedsLow : List ℕ → List NeedRow → Type 0
-AreNeedsLow needs rows = (other : ℕ → ℕ) → MeetsRows other rows → (k : ℕ) → k < length needs → slice_index needs k ≤ other k
+abbrev pub AreLowerBounds : List ℕ → List NeedRow → Type 0
+AreLowerBounds needs rows = (other : ℕ → ℕ) → MeetsRows other rows → (k : ℕ) → k < length needs → slice_index needs k ≤ other k
 
 -- the row is met up to the cap
-pub record MeetsCapped (cap : ℕ) (needs : List ℕ) (row : NeedRow) : Type 0 where
+pub record MeetsRowUpToCap (cap : ℕ) (needs : List ℕ) (row : NeedRow) : Type 0 where
   pub held : min row.held (cap + 1) ≤ slice_index needs row.node
   pub into : (t : ℕ) → Contains row.into.items t → min (row.held + 1 + slice_index needs t) (cap + 1) ≤ slice_index needs row.node
 
@@ -35,23 +35,23 @@ abbrev pub AllAtMost : List ℕ → (ℕ → ℕ) → Type 0
 AllAtMost needs other = (k : ℕ) → k < length needs → slice_index needs k ≤ other k
 
 -- the step of one row
-pub record PassesRow (cap : ℕ) (old new : List ℕ) (row : NeedRow) (changed : Bool) : Type 0 where
+pub record RaisesNeedByRow (cap : ℕ) (old new : List ℕ) (row : NeedRow) (changed : Bool) : Type 0 where
   pub low : (other : ℕ → ℕ) → MeetsRow other row → AllAtMost old other → AllAtMost new other
   pub capped : (k : ℕ) → slice_index new k ≤ cap + 1
   pub grows : changed ≡ true → sum old < sum new
   pub same : changed ≡ false → new ≡ old
-  pub met : changed ≡ false → MeetsCapped cap new row
+  pub met : changed ≡ false → MeetsRowUpToCap cap new row
 
 -- the steps of these rows, one after another
-pub record PassesRows (cap : ℕ) (old new : List ℕ) (rows : List NeedRow) (changed : Bool) : Type 0 where
+pub record RaisesNeedsByRows (cap : ℕ) (old new : List ℕ) (rows : List NeedRow) (changed : Bool) : Type 0 where
   pub low : (other : ℕ → ℕ) → MeetsRows other rows → AllAtMost old other → AllAtMost new other
   pub capped : (k : ℕ) → slice_index new k ≤ cap + 1
   pub grows : changed ≡ true → sum old < sum new
   pub same : changed ≡ false → new ≡ old
-  pub met : changed ≡ false → (row : NeedRow) → Contains rows row → MeetsCapped cap new row
+  pub met : changed ≡ false → (row : NeedRow) → Contains rows row → MeetsRowUpToCap cap new row
 
 -- the least needs that meet the rows, none above the cap; or any needs that meet the rows pass it
 abbrev pub LeastNeeds : ℕ → List NeedRow → ℕ → Result (Option (Vec ℕ Global)) AllocError → Type 0
-LeastNeeds nodes rows cap (Ok (Some needs)) = (length needs.items ≡ nodes) × MeetsRows (λ k. slice_index needs.items k) rows × AreNeedsLow needs.items rows × ((k : ℕ) → slice_index needs.items k ≤ cap)
+LeastNeeds nodes rows cap (Ok (Some needs)) = (length needs.items ≡ nodes) × MeetsRows (λ k. slice_index needs.items k) rows × AreLowerBounds needs.items rows × ((k : ℕ) → slice_index needs.items k ≤ cap)
 LeastNeeds nodes rows cap (Ok None) = (other : ℕ → ℕ) → MeetsRows other rows → (k : ℕ) × (k < nodes) × (cap < other k)
 LeastNeeds nodes rows cap (Err e) = Unit {0}

@@ -1,7 +1,7 @@
 -- Places of frames: which are the same, and their order.
 use Rattle.std.specs.Prelude.{◌≡◌, ◌<◌, ◌+◌, ◌*◌, ◌^◌, ◌==◌, ℕ, Bool, false, List, Option, Some, None, Contains, true}
 use Rattle.depth_cert.specs.declared.keys.Key.{Key}
-use Rattle.depth_cert.specs.Keys.{IsKey, number_of_key, same_key}
+use Rattle.depth_cert.specs.Keys.{IsKey, number_of_key, is_same_key}
 use Rattle.frame_places.specs.contracts.places.SpotPartialEq.TheImpl as block
 use Rattle.frame_places.specs.declared.places.Spot.{Spot}
 use Rattle.frame_places.specs.declared.places.Spot.TheVariants.{Point, Exit}
@@ -27,7 +27,7 @@ is_entry_point (Exit k) = false
 
 -- a point of frame k
 abbrev pub is_point_of : Key → Spot → Bool
-is_point_of k (Point j p) = same_key j k
+is_point_of k (Point j p) = is_same_key j k
 is_point_of k (Exit j) = false
 
 -- each of these places of frames is a point in range: its frame's key is valid, and its address is

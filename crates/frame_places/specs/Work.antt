@@ -36,14 +36,14 @@ pub record PutsEntry (old new : WorkLists) (number : ℕ) : Type 0 where
   pub waiting : new.waiting ≡ old.waiting
 
 -- this place is in this round too if it is an entry point; otherwise it is next too
-abbrev pub PutsNew : Bool → WorkLists → WorkLists → ℕ → Type 0
-PutsNew true old new number = PutsEntry old new number
-PutsNew false old new number = PutsNext old new number
+abbrev pub PutsEntryOrNext : Bool → WorkLists → WorkLists → ℕ → Type 0
+PutsEntryOrNext true old new number = PutsEntry old new number
+PutsEntryOrNext false old new number = PutsNext old new number
 
 -- this place waits too, or is next too
-abbrev pub PutsAs : Bool → WorkLists → WorkLists → ℕ → Type 0
-PutsAs true old new number = PutsWaiting old new number
-PutsAs false old new number = PutsNext old new number
+abbrev pub PutsWaitingOrNext : Bool → WorkLists → WorkLists → ℕ → Type 0
+PutsWaitingOrNext true old new number = PutsWaiting old new number
+PutsWaitingOrNext false old new number = PutsNext old new number
 
 -- some of the places that wait, one at least if any waits, come into this round
 pub record BeginsRound (old new : WorkLists) : Type 0 where
@@ -53,7 +53,7 @@ pub record BeginsRound (old new : WorkLists) : Type 0 where
   pub some : new.round ≡ [] → new.waiting ≡ []
 
 -- the places that are next become the first, in some order, and the first ones are next
-pub record Turns (old new : WorkLists) : Type 0 where
+pub record RefillsFirst (old new : WorkLists) : Type 0 where
   pub first : IsPermutation old.next new.first
   pub next : new.next ≡ old.first
   pub round : new.round ≡ old.round
@@ -85,8 +85,8 @@ abbrev pub HasSameWork : WorkLists → WorkLists → Type 0
 HasSameWork old new = IsPermutation (all_work old) (all_work new)
 
 -- this place is taken off the list
-abbrev pub Takes : WorkLists → WorkLists → ℕ → Type 0
-Takes old new number = IsPermutation (all_work old) (number ∷ all_work new)
+abbrev pub TakesPlace : WorkLists → WorkLists → ℕ → Type 0
+TakesPlace old new number = IsPermutation (all_work old) (number ∷ all_work new)
 
 -- no place is first or next, and none was taken
 pub record HasNoNext (old new : WorkLists) : Type 0 where

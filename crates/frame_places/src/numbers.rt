@@ -1,7 +1,7 @@
 // Numbers of frames: their places in the list of frames.
 ghost use Rattle.std.specs.Prelude.{◌≡◌, List, Contains, IfOk, map};
 ghost use Rattle.std.specs.List.{IsDistinct};
-ghost use Rattle.depth_cert.specs.Keys.{same_key};
+ghost use Rattle.depth_cert.specs.Keys.{is_same_key};
 ghost use Rattle.depth_cert.specs.declared.keys.Key as keys;
 ghost use Rattle.frame_places.specs.Numbers.{AreFrameNumbers, frame_number_in};
 
@@ -14,7 +14,7 @@ pub fn number_frames(
     alloc: Global,
     frames: &[Key],
 ) -> Result<IndexMap<Key, usize>, AllocFailed<(Key, usize)>>
-    requires { IsDistinct same_key frames.now }
+    requires { IsDistinct is_same_key frames.now }
     ensures { IfOk result (λ numbers. AreFrameNumbers numbers frames.now frames.now) }
 {
     let mut numbers = IndexMap::new(alloc);

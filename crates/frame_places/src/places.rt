@@ -66,11 +66,11 @@ impl Spot {
 
 /// Hashing is one write of eight bytes.
 impl Hash for Spot {
-    ghost use Rattle.frame_places.specs.Hashed.{hashed_alike, hashed_word};
+    ghost use Rattle.frame_places.specs.Hashed.{equal_spots_hash_alike, hashed_word};
 
     ghost hash_input = { λ x. fed.u64 (hashed_word x) };
 
-    ghost respects_eq = { λ x y e. hashed_alike x y e };
+    ghost respects_eq = { λ x y e. equal_spots_hash_alike x y e };
 
     fn hash<H: Hasher>(&self, state: &mut H) {
         state.write_u64(self.hash_word());

@@ -1,6 +1,6 @@
 // The work list.
 ghost use Rattle.std.specs.Prelude.{◌≡◌, ◌<◌, ◌^◌, ◌==◌, IfOk, IfSome, IfNone, OnOk, OnErr, [], length};
-ghost use Rattle.frame_places.specs.Work.{BeginsRound, HasNoNext, HasSameWork, PutsEntry, PutsNext, PutsWaiting, Takes, TakesFirst, TakesLast, TakesRound, Turns, all_work, PutsAs, PutsNew};
+ghost use Rattle.frame_places.specs.Work.{BeginsRound, HasNoNext, HasSameWork, PutsEntry, PutsNext, PutsWaiting, TakesPlace, TakesFirst, TakesLast, TakesRound, RefillsFirst, all_work, PutsWaitingOrNext, PutsEntryOrNext};
 
 use std::alloc::{AllocError, Global};
 use std::cmp::Reverse;
@@ -113,7 +113,7 @@ impl Work {
     /// Takes a place. If memory is short, the same places stay listed.
     #[inline(always)]
     pub fn pop(&mut self) -> Result<Option<usize>, AllocError>
-        ensures some { IfOk result (λ o. IfSome o (Takes self.old self.new)) }
+        ensures some { IfOk result (λ o. IfSome o (TakesPlace self.old self.new)) }
         ensures none { IfOk result (λ o. IfNone o (all_work self.old ≡ [])) }
         ensures empty { IfOk result (λ o. IfNone o (all_work self.new ≡ [])) }
         ensures err { OnErr result (HasSameWork self.old self.new) }
@@ -131,7 +131,7 @@ impl Work {
     /// Takes the first of the places that are next. A single one is also the last.
     #[inline(always)]
     fn pop_next(&mut self) -> Option<usize>
-        ensures some { IfSome result (Takes self.old self.new) }
+        ensures some { IfSome result (TakesPlace self.old self.new) }
         ensures none { IfNone result (HasNoNext self.old self.new) }
     {
         if let Some(number) = self.pop_first() {
@@ -185,7 +185,7 @@ impl Work {
     /// Makes the places that are next the first ones, in reverse, since they are taken from the
     /// end.
     fn refill_first(&mut self)
-        ensures { Turns self.old self.new }
+        ensures { RefillsFirst self.old self.new }
     {
         swap(&mut self.first, &mut self.next);
         self.first.reverse();
@@ -204,7 +204,7 @@ impl Work {
 /// Queues a place: it waits for the next round, or is next.
 #[inline(always)]
 pub(crate) fn enqueue(work: &mut Work, number: usize, waits: bool) -> Result<(), AllocError>
-    ensures { OnOk result (PutsAs waits work.old work.new number) }
+    ensures { OnOk result (PutsWaitingOrNext waits work.old work.new number) }
 {
     if waits {
         work.push_waiting(number)
@@ -217,7 +217,7 @@ pub(crate) fn enqueue(work: &mut Work, number: usize, waits: bool) -> Result<(),
 /// earlier, any other is next.
 #[inline(always)]
 pub(crate) fn enqueue_new(work: &mut Work, number: usize, entry: bool) -> Result<(), AllocError>
-    ensures { OnOk result (PutsNew entry work.old work.new number) }
+    ensures { OnOk result (PutsEntryOrNext entry work.old work.new number) }
 {
     if entry {
         work.push_entry(number)

@@ -3,7 +3,7 @@ use Rattle.std.proofs.Common.{◌≡◌, ℕ, zero, suc, ◌+◌, ◌*◌, ◌<�
 use Rattle.std.proofs.lemmas.Bool.{cases_lt, cases_eq}
 use Rattle.std.proofs.lemmas.List.{length-take-le, get_or-take, ext_get_or}
 use Rattle.tcd_base.specs.Bytes.{word_in_bytes}
-use Rattle.value_domain.specs.Sets.{Among, Rising}
+use Rattle.value_domain.specs.Sets.{Among, IsAscending}
 use Rattle.value_domain.proofs.Loops.{among_get}
 use Rattle.value_domain.proofs.WordLaws.{among_place}
 use Rattle.packed_cert.specs.ValuesInBytes.{words_at}
@@ -22,7 +22,7 @@ get-words_at bytes place (suc n) (suc k) h =
     get-words_at bytes (place + 4) n k (omega arith) ∙ ap (word_in_bytes bytes) e
 
 -- a later word is above an earlier one
-pub rising_places : (xs : List ℕ) → Rising xs → (i k : ℕ) → i < k → k < length xs → get_or xs i 0 < get_or xs k 0
+pub rising_places : (xs : List ℕ) → IsAscending xs → (i k : ℕ) → i < k → k < length xs → get_or xs i 0 < get_or xs k 0
 rising_places [] r i k lt h = absurd (omega arith)
 rising_places (x ∷ xs) r i zero lt h = absurd (omega arith)
 rising_places (x ∷ xs) r zero (suc k) lt h = r.0 (get_or xs k 0) (among_get xs k (omega arith))
@@ -42,7 +42,7 @@ front_words ws bytes place n few each =
     let within : k < n = omega (arith, size) in
     get_or-take n ws k 0 within ∙ each k within ∙ sym (get-words_at bytes place n k within))
 
-pub not_among : (bytes : List ℕ) (place n k x : ℕ) → Rising (words_at bytes place n) → Below bytes place k x → k ≤ n → (k < n → x ≤ word_in_bytes bytes (place + 4 * k))
+pub not_among : (bytes : List ℕ) (place n k x : ℕ) → IsAscending (words_at bytes place n) → Below bytes place k x → k ≤ n → (k < n → x ≤ word_in_bytes bytes (place + 4 * k))
     → (k < n → word_in_bytes bytes (place + 4 * k) ≡ x → ⊥) → Among x (words_at bytes place n) → ⊥
 not_among bytes place n k x rising below end reached other i =
     let p = among_place (words_at bytes place n) x i in

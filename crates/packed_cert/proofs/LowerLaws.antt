@@ -3,21 +3,21 @@ use Rattle.std.proofs.Common.{◌≡◌, ℕ, ◌≤◌, ◌<◌, ◌+◌, ◌-�
 use Rattle.std.specs.Prelude.{IsTrue, ◌↔◌}
 use Rattle.std.proofs.lemmas.Bool.{cases_lt, cases_Bool}
 use Rattle.value_domain.specs.declared.values.Val.{Val}
-use Rattle.value_domain.specs.Values.{any_val, IsWell, IsBelow}
+use Rattle.value_domain.specs.Values.{any_val, IsWellFormed, IsBelow}
 use Rattle.value_domain.proofs.RangeLaws.{below_any}
-use Rattle.value_domain.specs.State.{AreWell, is_lower_slot}
-use Rattle.depth_cert.specs.Exits.{lower_values, with_lower_from}
+use Rattle.value_domain.specs.State.{AreWellFormed, is_lower_slot}
+use Rattle.depth_cert.specs.Exits.{lower_values, values_with_lower_from}
 use Rattle.depth_cert.proofs.ExitValues.{restored_at, after-at, lower_low, lower_high}
 use Rattle.packed_cert.specs.ValuesInBytes.{place_after_value, value_in, values_in, HasValueInBytes, HaveValuesInBytes}
 use Rattle.packed_cert.proofs.SameBytes.{Small}
 use Rattle.packed_cert.proofs.ValueShapes.{left_first, length-values_in, stands_at, well_of}
 
 -- ---- where they stand in a list of their own
-pub lower_well : (regs : List Val) (i : ℕ) → 22 ≤ length regs → i < 14 → AreWell regs → IsWell (get_or (lower_values regs) i any_val)
+pub lower_well : (regs : List Val) (i : ℕ) → 22 ≤ length regs → i < 14 → AreWellFormed regs → IsWellFormed (get_or (lower_values regs) i any_val)
 lower_well regs i len h well =
     elim (cases_lt i 8) [
-      | inl low ↦ subst (λ (v : Val). IsWell v) (sym (lower_low regs i len low)) (well i (omega arith))
-      | inr high ↦ subst (λ (v : Val). IsWell v) (sym (lower_high regs i len high h)) (well (i + 8) (omega arith))
+      | inl low ↦ subst (λ (v : Val). IsWellFormed v) (sym (lower_low regs i len low)) (well i (omega arith))
+      | inr high ↦ subst (λ (v : Val). IsWellFormed v) (sym (lower_high regs i len high h)) (well (i + 8) (omega arith))
     ]
 
 -- ---- how many of them have a place before one
@@ -42,13 +42,13 @@ restored_in version bytes from i regs = cond (is_lower_slot i) (value_in version
 
 pub record LowerStep (version : ℕ) (bytes : List ℕ) (place i from : ℕ) (regs : List Val) : Type 0 where
   pub has : IsTrue (is_lower_slot i) → HasValueInBytes version bytes from
-  pub is : get_or (with_lower_from 0 (values_in version bytes place 14) regs) i any_val ≡ restored_in version bytes from i regs
+  pub is : get_or (values_with_lower_from 0 (values_in version bytes place 14) regs) i any_val ≡ restored_in version bytes from i regs
   pub next : LeftBehind version bytes place (lower_before (i + 1)) (cond (is_lower_slot i) (place_after_value bytes from) from)
 
 pub lower_step : (version : ℕ) (bytes : List ℕ) (place i from : ℕ) (regs : List Val) → i < 27 → length regs ≡ 27 → LeftBehind version bytes place (lower_before i) from → LowerStep version bytes place i from regs
 lower_step version bytes place i from regs h len l =
     let ls : List Val = values_in version bytes place 14 in
-    let at : get_or (with_lower_from 0 ls regs) i any_val ≡ restored_at i ls (get_or regs i any_val) = after-at ls regs i (omega arith) in
+    let at : get_or (values_with_lower_from 0 ls regs) i any_val ≡ restored_at i ls (get_or regs i any_val) = after-at ls regs i (omega arith) in
     elim (cases_Bool (is_lower_slot i)) [
       | inl t ↦
           let k = slot_before i h t in
@@ -71,7 +71,7 @@ lower_step version bytes place i from regs h len l =
     ]
 
 -- below a value that holds all words is each of them
-pub any_above : (i : ℕ) (regs : List Val) (version : ℕ) (bytes : List ℕ) (from : ℕ) (high : Val) → Small bytes → i < 27 → length regs ≡ 27 → AreWell regs → (IsTrue (is_lower_slot i) → HasValueInBytes version bytes from) → high ≡ any_val
+pub any_above : (i : ℕ) (regs : List Val) (version : ℕ) (bytes : List ℕ) (from : ℕ) (high : Val) → Small bytes → i < 27 → length regs ≡ 27 → AreWellFormed regs → (IsTrue (is_lower_slot i) → HasValueInBytes version bytes from) → high ≡ any_val
     → IsTrue true ↔ IsBelow (restored_in version bytes from i regs) high
 any_above i regs version bytes from high small h len well has any =
     elim (cases_Bool (is_lower_slot i)) [

@@ -17,7 +17,7 @@ use Rattle.depth_cert.specs.Grammar.{exit_at, optional_exit_at, last_number_read
 use Rattle.packed_cert.specs.declared.places.NodePlaces.{NodePlaces}
 use Rattle.packed_cert.specs.ValuesInBytes.{place_in_bytes, read_from_bytes_or}
 use Rattle.packed_cert.specs.PointsInBytes.{point_in}
-use Rattle.packed_cert.specs.NodesInBytes.{exit_in, HasExit, HasPlaces, node_of, nodes_of}
+use Rattle.packed_cert.specs.NodesInBytes.{exit_in, HasExit, AreNodePlaces, node_of, nodes_of}
 use Rattle.depth_cert.specs.Exits.{no_exit}
 
 -- the exit that was read stands where it was read
@@ -43,11 +43,11 @@ pub whole_exit : {A : Type 0} (version : ℕ) (bytes : List ℕ) (x : ℕ) (r : 
 whole_exit {A} version bytes x (Ok n) e c d there h ok err = exit_whole version bytes x e d c there ok
 whole_exit {A} version bytes x (Err f) e c d there h ok err = absurd (exit_never version bytes x f c there h err)
 
-pub keys_in : (version : ℕ) (bytes : List ℕ) (ns : List NodePlaces) → All (HasPlaces version bytes) ns → key_numbers (nodes_of version bytes ns) ≡ map (λ n. n.number) ns
+pub keys_in : (version : ℕ) (bytes : List ℕ) (ns : List NodePlaces) → All (AreNodePlaces version bytes) ns → key_numbers (nodes_of version bytes ns) ≡ map (λ n. n.number) ns
 keys_in version bytes [] all = refl
 keys_in version bytes (n ∷ ns) all =
     let here : number_of_key n.key ≡ n.number = sym (all 0 n (omega arith)).number in
-    let more : All (HasPlaces version bytes) ns = λ k d h. all (suc k) d (omega arith) in
+    let more : All (AreNodePlaces version bytes) ns = λ k d h. all (suc k) d (omega arith) in
     ap (λ (k : ℕ). k ∷ key_numbers (nodes_of version bytes ns)) here ∙ ap (λ (l : List ℕ). n.number ∷ l) (keys_in version bytes ns more)
 
 pub nodes_push : (version : ℕ) (bytes : List ℕ) (ns : List NodePlaces) (n : NodePlaces) → nodes_of version bytes (ns ++ n ∷ []) ≡ nodes_of version bytes ns ++ node_of version bytes n ∷ []

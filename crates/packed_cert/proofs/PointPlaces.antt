@@ -11,18 +11,18 @@ use Rattle.depth_cert.specs.Points.{addresses}
 use Rattle.depth_cert.specs.Grammar.{values_at, state_at, last_number_read, address_after, point_after}
 use Rattle.depth_cert.proofs.PointReads.{point_reads}
 use Rattle.packed_cert.specs.declared.places.PointPlace.{PointPlace}
-use Rattle.packed_cert.specs.ValuesInBytes.{ValuesStandBetween, place_in_bytes}
+use Rattle.packed_cert.specs.ValuesInBytes.{AreValuesBetween, place_in_bytes}
 use Rattle.packed_cert.specs.PointsInBytes.{state_in, point_in, points_in}
 use Rattle.packed_cert.proofs.SameBytes.{Small, values_stand}
 
 -- the values that were read stand where they were read
 pub read_stand : (version n : ℕ) (bytes : List ℕ) (c : Place) (vs : List Val) (q : Place) (x : ℕ) → Small bytes → c.bytes ≡ bytes → x ≡ c.place → x ≤ length bytes → values_at version n c ≡ Ok (vs, q)
-    → (x ≤ length bytes) × ValuesStandBetween version bytes x vs q.place
+    → (x ≤ length bytes) × AreValuesBetween version bytes x vs q.place
 unfolding values_at
 read_stand version n bytes c vs q x small b p h e =
     let there : place_in_bytes bytes x ≡ c = ap (λ (k : ℕ). place_in_bytes bytes k) p ∙ ap (λ (l : List ℕ). place_in_bytes l c.place) (sym b) in
     let s = values_stand version bytes n x [] vs q small h (ap (values_at version n) there ∙ e) in
-    (h, subst (λ (l : List Val). ValuesStandBetween version bytes x l q.place) (sym s.is) s.stand)
+    (h, subst (λ (l : List Val). AreValuesBetween version bytes x l q.place) (sym s.is) s.stand)
 
 pub addresses_in : (version : ℕ) (bytes : List ℕ) (ps : List PointPlace) → addresses (points_in version bytes ps) ≡ map (λ p. p.addr) ps
 addresses_in version bytes [] = refl

@@ -8,11 +8,11 @@ use Rattle.value_domain.specs.declared.values.Val.{Val}
 use Rattle.value_domain.specs.declared.states.State.{State}
 use Rattle.value_domain.specs.Values.{any_val}
 use Rattle.packed_cert.specs.declared.places.PointPlace.{PointPlace}
-use Rattle.packed_cert.specs.ValuesInBytes.{ValuesStandBetween, place_after_value, place_in_bytes, place_after_values, value_in, values_in, HaveValuesInBytes, read_from_bytes_or}
-use Rattle.packed_cert.specs.ChangedRows.{RowBeginsAtPlace, IsWholeRow, ChangesRow}
+use Rattle.packed_cert.specs.ValuesInBytes.{AreValuesBetween, place_after_value, place_in_bytes, place_after_values, value_in, values_in, HaveValuesInBytes, read_from_bytes_or}
+use Rattle.packed_cert.specs.ChangedRows.{RowBeginsAtPlace, IsWholeRow, ChangesOnlyRow}
 use Rattle.packed_cert.specs.PointsInBytes.{state_in, HasState}
 use Rattle.value_domain.specs.State.{no_state}
-use Rattle.packed_cert.specs.Moves.{IsMoved, StandsBefore, AreMoves}
+use Rattle.packed_cert.specs.Moves.{DiffersOnlyInRow, IsStateBefore, AllDifferOnlyInRows}
 use Rattle.packed_cert.proofs.SameBytes.{Small, value_stands}
 use Rattle.packed_cert.proofs.ValueShapes.{length-values_in}
 use Rattle.packed_cert.proofs.StateShapes.{state_values}
@@ -33,7 +33,7 @@ pub record StandsRow (version : ℕ) (bytes : List ℕ) (y : ℕ) (vs : List Val
   pub have : HaveValuesInBytes version bytes y (n - i)
   pub stand : drop i vs ≡ values_in version bytes y (n - i)
 
-pub all_stand : (version : ℕ) (bytes : List ℕ) (x e : ℕ) (vs : List Val) → Small bytes → x ≤ length bytes → ValuesStandBetween version bytes x vs e → HaveValuesInBytes version bytes x (length vs) × (vs ≡ values_in version bytes x (length vs))
+pub all_stand : (version : ℕ) (bytes : List ℕ) (x e : ℕ) (vs : List Val) → Small bytes → x ≤ length bytes → AreValuesBetween version bytes x vs e → HaveValuesInBytes version bytes x (length vs) × (vs ≡ values_in version bytes x (length vs))
 all_stand version bytes x e [] small h s = (tt, refl)
 all_stand version bytes x e (v ∷ vs) small h s =
     let one = value_stands version bytes x v _ small h s.0 in
@@ -41,7 +41,7 @@ all_stand version bytes x e (v ∷ vs) small h s =
     let here : v ≡ value_in version bytes x = sym (ap (read_from_bytes_or any_val) s.0) in
     ((((v, place_in_bytes bytes (place_after_value bytes x)), s.0, h), rest.0), ap (λ (u : Val). u ∷ vs) here ∙ ap (λ (us : List Val). value_in version bytes x ∷ us) rest.1)
 
-pub row_stands : (version : ℕ) (bytes : List ℕ) (x e i n : ℕ) (vs : List Val) → Small bytes → x ≤ length bytes → ValuesStandBetween version bytes x vs e → length vs ≡ n → i ≤ n → StandsRow version bytes (place_after_values bytes x i) vs i n
+pub row_stands : (version : ℕ) (bytes : List ℕ) (x e i n : ℕ) (vs : List Val) → Small bytes → x ≤ length bytes → AreValuesBetween version bytes x vs e → length vs ≡ n → i ≤ n → StandsRow version bytes (place_after_values bytes x i) vs i n
 row_stands version bytes x e zero n vs small h s len few =
     let all = all_stand version bytes x e vs small h s in
     let same : length vs ≡ n - 0 = omega arith in
@@ -63,13 +63,13 @@ state_length version bytes x small h =
 
 -- what is read behind a state keeps what it says of it
 pub moved_by : (version : ℕ) (bytes : List ℕ) (before after : State) (p : PointPlace) (x e : ℕ) → Small bytes → state_in version bytes p.place ≡ after → length after.regs ≡ 27 → length before.regs ≡ 27
-    → x ≤ length bytes → ValuesStandBetween version bytes x after.regs e → ChangesRow before.regs after.regs p.row → RowBeginsAtPlace bytes x p.row → (IsTrue p.same → after ≡ before) → IsMoved version bytes before p
+    → x ≤ length bytes → AreValuesBetween version bytes x after.regs e → ChangesOnlyRow before.regs after.regs p.row → RowBeginsAtPlace bytes x p.row → (IsTrue p.same → after ≡ before) → DiffersOnlyInRow version bytes before p
 moved_by version bytes before after p x e small is count len h s row from same =
     let few : (p.row).behind ≤ 27 = omega (arith, row.within) in
     let first : (p.row).first ≤ 27 = omega (arith, row.order, row.within) in
     let stands = row_stands version bytes x e (p.row).first 27 after.regs small h s count first in
     record {
-      row = subst (λ (t : State). ChangesRow before.regs t.regs p.row) (sym is) row;
+      row = subst (λ (t : State). ChangesOnlyRow before.regs t.regs p.row) (sym is) row;
       few = few;
       have = λ some. subst (λ (y : ℕ). HaveValuesInBytes version bytes y (27 - (p.row).first)) (sym (from some)) stands.have;
       stand = λ some.
@@ -80,31 +80,31 @@ moved_by version bytes before after p x e small is count len h s row from same =
     }
 
 -- points that keep what they say, and one more
-pub moves_push : (version : ℕ) (bytes : List ℕ) (ps : List PointPlace) (p : PointPlace) → AreMoves version bytes ps → ((t : State) → StandsBefore version bytes ps (length ps) t → IsMoved version bytes t p) → AreMoves version bytes (ps ++ p ∷ [])
+pub moves_push : (version : ℕ) (bytes : List ℕ) (ps : List PointPlace) (p : PointPlace) → AllDifferOnlyInRows version bytes ps → ((t : State) → IsStateBefore version bytes ps (length ps) t → DiffersOnlyInRow version bytes t p) → AllDifferOnlyInRows version bytes (ps ++ p ∷ [])
 moves_push version bytes ps p moves one k d s lt before =
     elim (cases_lt k (length ps)) [
       | inl low ↦
           let here : get_or (ps ++ p ∷ []) k d ≡ get_or ps k d = get_or_append_left ps (p ∷ []) d k low in
-          let front : StandsBefore version bytes ps k s = record {
+          let front : IsStateBefore version bytes ps k s = record {
             count = before.count;
             last = λ j e next. before.last j e next ∙ ap (λ (q : PointPlace). state_in version bytes q.place) (get_or_append_left ps (p ∷ []) e j (omega arith));
           } in
-          subst (λ (q : PointPlace). IsMoved version bytes s q) (sym here) (moves k d s low front)
+          subst (λ (q : PointPlace). DiffersOnlyInRow version bytes s q) (sym here) (moves k d s low front)
       | inr from ↦
           let there : k ≡ length ps = omega (arith, length-append ps (p ∷ [])) in
           let here : get_or (ps ++ p ∷ []) k d ≡ p = ap (λ (n : ℕ). get_or (ps ++ p ∷ []) n d) there ∙ get_or-append_seam ps p [] d in
-          let front : StandsBefore version bytes ps (length ps) s = record {
+          let front : IsStateBefore version bytes ps (length ps) s = record {
             count = before.count;
             last = λ j e next. before.last j e (next ∙ sym there) ∙ ap (λ (q : PointPlace). state_in version bytes q.place) (get_or_append_left ps (p ∷ []) e j (omega arith));
           } in
-          subst (λ (q : PointPlace). IsMoved version bytes s q) (sym here) (one s front)
+          subst (λ (q : PointPlace). DiffersOnlyInRow version bytes s q) (sym here) (one s front)
     ]
 
 -- what is read behind the points keeps what it says of any state that stands before it; a first
 -- point says of all values that they were read
 pub moved_next : (version : ℕ) (bytes : List ℕ) (ps : List PointPlace) (t before after : State) (p : PointPlace) (x e i : ℕ) → Small bytes → state_in version bytes p.place ≡ after → HasState version bytes p.place
-    → x ≤ length bytes → ValuesStandBetween version bytes x after.regs e → RowBeginsAtPlace bytes x p.row → (i ≡ 0 → IsWholeRow 27 p.row × (p.same ≡ false)) → (1 ≤ i → ChangesRow before.regs after.regs p.row) → (1 ≤ i → IsTrue p.same → after ≡ before)
-    → length ps ≡ i → ((j : ℕ) (d : PointPlace) → j + 1 ≡ i → before ≡ state_in version bytes (get_or ps j d).place) → StandsBefore version bytes ps (length ps) t → IsMoved version bytes t p
+    → x ≤ length bytes → AreValuesBetween version bytes x after.regs e → RowBeginsAtPlace bytes x p.row → (i ≡ 0 → IsWholeRow 27 p.row × (p.same ≡ false)) → (1 ≤ i → ChangesOnlyRow before.regs after.regs p.row) → (1 ≤ i → IsTrue p.same → after ≡ before)
+    → length ps ≡ i → ((j : ℕ) (d : PointPlace) → j + 1 ≡ i → before ≡ state_in version bytes (get_or ps j d).place) → IsStateBefore version bytes ps (length ps) t → DiffersOnlyInRow version bytes t p
 moved_next version bytes ps t before after p x e zero small is there h s from whole row same size last b =
     let w = whole refl in
     let count : length after.regs ≡ 27 = ap (λ (u : State). length u.regs) (sym is) ∙ state_length version bytes p.place small there in
@@ -116,4 +116,4 @@ moved_next version bytes ps t before after p x e (suc j) small is there h s from
     let count : length after.regs ≡ 27 = ap (λ (u : State). length u.regs) (sym is) ∙ state_length version bytes p.place small there in
     let own : before ≡ t = last j p (omega arith) ∙ sym (b.last j p (omega arith)) in
     let len : length before.regs ≡ 27 = ap (λ (u : State). length u.regs) own ∙ b.count in
-    subst (λ (u : State). IsMoved version bytes u p) own (moved_by version bytes before after p x e small is count len h s (row some) from (same some))
+    subst (λ (u : State). DiffersOnlyInRow version bytes u p) own (moved_by version bytes before after p x e small is count len h s (row some) from (same some))

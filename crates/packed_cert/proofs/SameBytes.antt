@@ -12,14 +12,14 @@ use Rattle.tcd_base.proofs.FieldReads.{bind_ok}
 use Rattle.value_domain.specs.declared.values.Val.{Val}
 use Rattle.value_domain.specs.declared.values.Val.TheVariants.{Set, Span}
 use Rattle.value_domain.specs.Values.{any_val, is_any_span}
-use Rattle.depth_cert.specs.Points.{IsWellCertValue}
+use Rattle.depth_cert.specs.Points.{IsWellFormedCertValue}
 use Rattle.depth_cert.specs.Grammar.{value_at}
 use Rattle.depth_cert.specs.Spelling.{bytes_of_value}
 use Rattle.tcd_base.proofs.PassedLaws.{AreBytes, bytes_from, Passed, ok_pair}
 use Rattle.depth_cert.proofs.GrammarLaws.{value_passed}
 use Rattle.depth_cert.proofs.WrittenLaws.{IsRead, value_cases}
-use Rattle.packed_cert.specs.RepeatedBytes.{SameBytesAtPlaces, MovesOverRepeated}
-use Rattle.packed_cert.specs.ValuesInBytes.{ValuesStandBetween, value_length_by_tag, place_after_value, place_in_bytes}
+use Rattle.packed_cert.specs.RepeatedBytes.{SameBytesAtPlaces, SkipsRepeatedBytes}
+use Rattle.packed_cert.specs.ValuesInBytes.{AreValuesBetween, value_length_by_tag, place_after_value, place_in_bytes}
 
 -- all bytes are below 256
 abbrev pub Small : List ℕ → Type 0
@@ -71,7 +71,7 @@ stands_from read part v bytes x e h good p =
 
 -- where the same bytes come again, the same is read
 pub read_again : {A : Type 0} (read : Place → Result (A × Place) FormErr) (v : A) (n : ℕ) (bytes : List ℕ) (x e : ℕ) (c d : Place)
-    → StandsFrom read bytes x e v → c.bytes ≡ bytes → x + n ≡ e → MovesOverRepeated bytes x n c d → read c ≡ Ok (v, d)
+    → StandsFrom read bytes x e v → c.bytes ≡ bytes → x + n ≡ e → SkipsRepeatedBytes bytes x n c d → read c ≡ Ok (v, d)
 read_again {A} read v n bytes x e c d from b len m =
     let there : c ≡ place_in_bytes bytes c.place = ap (λ (l : List ℕ). place_in_bytes l c.place) b in
     let after : place_in_bytes bytes (c.place + n) ≡ d = ap (λ (l : List ℕ). place_in_bytes l (c.place + n)) (sym b) ∙ sym m.0 in
@@ -92,7 +92,7 @@ length_words : (ws : List ℕ) → length (flat_map bytes_of_word ws) ≡ 4 * le
 length_words [] = refl
 length_words (w ∷ ws) = let e = length_words ws in omega arith
 
-value_length : (version : ℕ) (v : Val) → IsWellCertValue version v → length (bytes_of_value v) ≡ value_length_by_tag (get_or (bytes_of_value v) 0 0)
+value_length : (version : ℕ) (v : Val) → IsWellFormedCertValue version v → length (bytes_of_value v) ≡ value_length_by_tag (get_or (bytes_of_value v) 0 0)
 unfolding bytes_of_value
 value_length version (Set ws) h =
     let not_zero : eqb (length ws) 0 ≡ false = ne_eqb _ _ (λ same. let s : length ws ≡ 0 = same in omega (arith, h.0.some)) in
@@ -113,7 +113,7 @@ pub record IsValueAt (version : ℕ) (bytes : List ℕ) (x : ℕ) (v : Val) (q :
   pub end : q ≡ place_in_bytes bytes (place_after_value bytes x)
   pub within : place_after_value bytes x ≤ length bytes
   pub inside : x < length bytes
-  pub well : IsWellCertValue version v
+  pub well : IsWellFormedCertValue version v
   pub same : (y : ℕ) → y + value_length_by_tag (get_or bytes x 0) ≤ length bytes → take (value_length_by_tag (get_or bytes x 0)) (drop x bytes) ≡ take (value_length_by_tag (get_or bytes x 0)) (drop y bytes)
       → value_at version (place_in_bytes bytes y) ≡ Ok (v, place_in_bytes bytes (y + value_length_by_tag (get_or bytes x 0)))
 
@@ -151,7 +151,7 @@ pub record AreValuesAt (version : ℕ) (bytes : List ℕ) (x n : ℕ) (before vs
   pub values : List Val
   pub is : vs ≡ before ++ values
   pub count : length values ≡ n
-  pub stand : ValuesStandBetween version bytes x values end
+  pub stand : AreValuesBetween version bytes x values end
 
 pub values_stand : (version : ℕ) (bytes : List ℕ) (n x : ℕ) (before vs : List Val) (q : Place) → Small bytes → x ≤ length bytes
     → many_fields_at (λ before. value_at version) n before (place_in_bytes bytes x) ≡ Ok (vs, q) → AreValuesAt version bytes x n before vs q.place
@@ -171,11 +171,11 @@ values_stand version bytes (suc n) x before vs q small h e =
       stand = (b.1 ∙ ap (λ (p : Place). let r : Result (Val × Place) FormErr = Ok (b.0.0, p) in r) one.end, more.stand);
     }
 
-pub stand_next : (version : ℕ) (bytes : List ℕ) (b i e : ℕ) (out : List Val) → i < length out → ValuesStandBetween version bytes b (drop i out) e
-    → (value_at version (place_in_bytes bytes b) ≡ Ok (get_or out i any_val, place_in_bytes bytes (place_after_value bytes b))) × ValuesStandBetween version bytes (place_after_value bytes b) (drop (i + 1) out) e
-stand_next version bytes b i e out h s = subst (λ (vs : List Val). ValuesStandBetween version bytes b vs e) (drop_more out i any_val h) s
+pub stand_next : (version : ℕ) (bytes : List ℕ) (b i e : ℕ) (out : List Val) → i < length out → AreValuesBetween version bytes b (drop i out) e
+    → (value_at version (place_in_bytes bytes b) ≡ Ok (get_or out i any_val, place_in_bytes bytes (place_after_value bytes b))) × AreValuesBetween version bytes (place_after_value bytes b) (drop (i + 1) out) e
+stand_next version bytes b i e out h s = subst (λ (vs : List Val). AreValuesBetween version bytes b vs e) (drop_more out i any_val h) s
 
-pub stand_order : (version : ℕ) (bytes : List ℕ) (x e : ℕ) (vs : List Val) → ValuesStandBetween version bytes x vs e → x ≤ e
+pub stand_order : (version : ℕ) (bytes : List ℕ) (x e : ℕ) (vs : List Val) → AreValuesBetween version bytes x vs e → x ≤ e
 stand_order version bytes x e [] s = let same : x ≡ e = s in omega arith
 stand_order version bytes x e (v ∷ vs) s = let more : place_after_value bytes x ≤ e = stand_order version bytes (place_after_value bytes x) e vs s.1 in omega arith
 
@@ -203,7 +203,7 @@ alike_read version bytes x y n k v q small h e len few room same =
     rw len (s.same y (rw (← len) within) (rw (← len) part))
 
 -- where all bytes of values stand alike, all of them are read there
-pub rest_read : (version : ℕ) (bytes : List ℕ) (x y e : ℕ) (before vs : List Val) → Small bytes → x ≤ length bytes → ValuesStandBetween version bytes x vs e → y + (e - x) ≤ length bytes → SameBytesAtPlaces bytes x y (e - x)
+pub rest_read : (version : ℕ) (bytes : List ℕ) (x y e : ℕ) (before vs : List Val) → Small bytes → x ≤ length bytes → AreValuesBetween version bytes x vs e → y + (e - x) ≤ length bytes → SameBytesAtPlaces bytes x y (e - x)
     → many_fields_at (λ before. value_at version) (length vs) before (place_in_bytes bytes y) ≡ Ok (before ++ vs, place_in_bytes bytes (y + (e - x)))
 unfolding many_fields_at
 rest_read version bytes x y e before [] small h s room same =
@@ -226,11 +226,11 @@ rest_read version bytes x y e before (v ∷ vs) small h s room same =
     ∙ ap (λ (k : ℕ). let r : Result (List Val × Place) FormErr = Ok (before ++ v ∷ vs, place_in_bytes bytes k) in r) end
 
 -- so where all bytes behind the first values stand alike, all values are read
-pub all_read : (version n i x y stop e : ℕ) (bytes : List ℕ) (out : List Val) (c : Place) → Small bytes → stop ≡ e → x ≤ stop → stop ≤ length bytes → length out ≡ n → ValuesStandBetween version bytes x (drop i out) e
+pub all_read : (version n i x y stop e : ℕ) (bytes : List ℕ) (out : List Val) (c : Place) → Small bytes → stop ≡ e → x ≤ stop → stop ≤ length bytes → length out ≡ n → AreValuesBetween version bytes x (drop i out) e
     → y + (stop - x) ≤ length bytes → SameBytesAtPlaces bytes x y (stop - x) → many_fields_at (λ before. value_at version) n [] c ≡ many_fields_at (λ before. value_at version) (n - i) (take i out) (place_in_bytes bytes y)
     → many_fields_at (λ before. value_at version) n [] c ≡ Ok (out, place_in_bytes bytes (y + (stop - x)))
 all_read version n i x y stop e bytes out c small is order within count stand room same read =
-    let there : ValuesStandBetween version bytes x (drop i out) stop = subst (λ (k : ℕ). ValuesStandBetween version bytes x (drop i out) k) (sym is) stand in
+    let there : AreValuesBetween version bytes x (drop i out) stop = subst (λ (k : ℕ). AreValuesBetween version bytes x (drop i out) k) (sym is) stand in
     let rest = rest_read version bytes x y stop (take i out) (drop i out) small (omega arith) there room same in
     let left : n - i ≡ length (drop i out) = omega (arith, length-drop i out) in
     read

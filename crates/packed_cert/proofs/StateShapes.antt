@@ -10,10 +10,10 @@ use Rattle.value_domain.specs.declared.states.State.{State}
 use Rattle.value_domain.specs.Values.{any_val}
 use Rattle.value_domain.specs.VersionLimits.{most_locals_of}
 use Rattle.depth_cert.specs.declared.points.Exit.{Exit}
-use Rattle.depth_cert.specs.Grammar.{checked_cert_field, flag_at, values_at, value_at, locals_at, state_at, exit_at}
+use Rattle.depth_cert.specs.Grammar.{valid_field_or_fault, flag_at, values_at, value_at, locals_at, state_at, exit_at}
 use Rattle.tcd_base.proofs.PassedLaws.{ok_pair}
 use Rattle.depth_cert.proofs.GrammarLaws.{checked_passed, most_le}
-use Rattle.packed_cert.specs.ValuesInBytes.{ValuesStandBetween, place_after_value, place_in_bytes, value_in, values_in, HaveValuesInBytes, read_from_bytes_or}
+use Rattle.packed_cert.specs.ValuesInBytes.{AreValuesBetween, place_after_value, place_in_bytes, value_in, values_in, HaveValuesInBytes, read_from_bytes_or}
 use Rattle.packed_cert.specs.PointsInBytes.{flags_in}
 use Rattle.packed_cert.proofs.SameBytes.{Small, value_stands, values_stand}
 
@@ -72,7 +72,7 @@ flags_took (suc n) before ls p q h e =
     }
 
 -- values that stand are those that are computed
-stand_in : (version : ℕ) (bytes : List ℕ) (vs : List Val) (x e : ℕ) → Small bytes → x ≤ length bytes → ValuesStandBetween version bytes x vs e → (vs ≡ values_in version bytes x (length vs)) × HaveValuesInBytes version bytes x (length vs)
+stand_in : (version : ℕ) (bytes : List ℕ) (vs : List Val) (x e : ℕ) → Small bytes → x ≤ length bytes → AreValuesBetween version bytes x vs e → (vs ≡ values_in version bytes x (length vs)) × HaveValuesInBytes version bytes x (length vs)
 stand_in version bytes [] x e small h s = (refl, tt)
 stand_in version bytes (v ∷ vs) x e small h s =
     let one = value_stands version bytes x v _ small h s.0 in
@@ -155,7 +155,7 @@ unfolding locals_at
 locals_took version bytes x p ls q b3 p3 e =
     let n = bind_ok (u8_at p) _ _ e in
     let k4 = u8_at_ok p n.0.0 n.0.1 n.1 in
-    let t = bind_ok (checked_cert_field 5 (leb n.0.0 (most_locals_of version)) p n.0) _ _ n.2 in
+    let t = bind_ok (valid_field_or_fault 5 (leb n.0.0 (most_locals_of version)) p n.0) _ _ n.2 in
     let c = checked_passed 5 (leb n.0.0 (most_locals_of version)) p n.0 t.0 t.1 in
     let flags : many_fields_at (λ before. flag_at) n.0.0 [] n.0.1 ≡ Ok (ls, q) = rw c.1 t.2 in
     let b4 : n.0.1.bytes ≡ bytes = k4.0.bytes ∙ b3 in

@@ -9,12 +9,12 @@ use Rattle.tcd_base.specs.FieldReaders.{u8_at, u32_at, many_fields_at}
 use Rattle.tcd_base.proofs.FieldReads.{bind_ok, u8_at_ok, u32_at_ok}
 use Rattle.value_domain.specs.declared.values.Val.{Val}
 use Rattle.value_domain.specs.declared.values.Val.TheVariants.{Set, Span}
-use Rattle.value_domain.specs.Sets.{Rising, AreWords, IsExtent}
-use Rattle.value_domain.specs.Values.{any_val, members, IsWell, IsBelow}
+use Rattle.value_domain.specs.Sets.{IsAscending, AreWords, IsExtent}
+use Rattle.value_domain.specs.Values.{any_val, members, IsWellFormed, IsBelow}
 use Rattle.value_domain.proofs.RangeLaws.{below_span}
 use Rattle.value_domain.specs.VersionLimits.{most_words_of}
-use Rattle.depth_cert.specs.Points.{IsWellCertValue}
-use Rattle.depth_cert.specs.Grammar.{checked_cert_field, set_word_after, set_at, span_at, value_at, is_above_last_read, last_number_read, is_cert_span}
+use Rattle.depth_cert.specs.Points.{IsWellFormedCertValue}
+use Rattle.depth_cert.specs.Grammar.{valid_field_or_fault, set_word_after, set_at, span_at, value_at, is_above_last_read, last_number_read, is_cert_span}
 use Rattle.tcd_base.proofs.PassedLaws.{ok_pair, passed_test}
 use Rattle.depth_cert.proofs.GrammarLaws.{checked_passed, width_le}
 use Rattle.packed_cert.specs.ValuesInBytes.{value_length_by_tag, place_after_value, place_in_bytes, read_from_bytes_or, words_at, value_in, HasValueInBytes, values_in, HaveValuesInBytes}
@@ -34,7 +34,7 @@ unfolding many_fields_at set_word_after words_at
 words_read zero before ws p q e = sym (ok_pair before ws p q e).0 ∙ sym (append-nil before)
 words_read (suc n) before ws p q e =
     let b = bind_ok (set_word_after before p) (λ x. many_fields_at set_word_after n (before ++ x.0 ∷ []) x.1) (ws, q) e in
-    let c = bind_ok (u32_at p) (λ w. checked_cert_field 4 (is_above_last_read (last_number_read before) w.0) p w) b.0 b.1 in
+    let c = bind_ok (u32_at p) (λ w. valid_field_or_fault 4 (is_above_last_read (last_number_read before) w.0) p w) b.0 b.1 in
     let t = checked_passed 4 (is_above_last_read (last_number_read before) c.0.0) p c.0 b.0 c.2 in
     let k = u32_at_ok p c.0.0 c.0.1 c.1 in
     let word : b.0.0 ≡ word_in_bytes p.bytes p.place = ap (λ (x : ℕ × Place). x.0) (sym t.1) ∙ k.1 in
@@ -112,7 +112,7 @@ shaped version bytes x v q e =
 -- all that is known of a value that stands at a place
 pub record StandsAt (version : ℕ) (bytes : List ℕ) (x : ℕ) : Type 0 where
   pub shape : IsShaped version bytes x (value_in version bytes x)
-  pub well : IsWellCertValue version (value_in version bytes x)
+  pub well : IsWellFormedCertValue version (value_in version bytes x)
   pub inside : x < length bytes
   pub within : place_after_value bytes x ≤ length bytes
   pub end : value_at version (place_in_bytes bytes x) ≡ Ok (value_in version bytes x, place_in_bytes bytes (place_after_value bytes x))
@@ -124,13 +124,13 @@ stands_at version bytes x small h =
     let same : value_in version bytes x ≡ v = ap (read_from_bytes_or any_val) h.1 in
     record {
       shape = subst (IsShaped version bytes x) (sym same) (shaped version bytes x v h.0.1 h.1);
-      well = subst (IsWellCertValue version) (sym same) s.well;
+      well = subst (IsWellFormedCertValue version) (sym same) s.well;
       inside = s.inside;
       within = s.within;
       end = h.1 ∙ ap (λ (u : Val). let r : Result (Val × Place) FormErr = Ok (u, h.0.1) in r) (sym same) ∙ ap (λ (p : Place). let r : Result (Val × Place) FormErr = Ok (value_in version bytes x, p) in r) s.end;
     }
 
-pub well_of : (version : ℕ) (v : Val) → IsWellCertValue version v → IsWell v
+pub well_of : (version : ℕ) (v : Val) → IsWellFormedCertValue version v → IsWellFormed v
 well_of version (Set ws) h = h.0
 well_of version (Span lo last step) h = (h.0, omega (arith, h.1, (width_le version).0), h.2)
 
@@ -146,17 +146,17 @@ long_span n many =
     let past : leb n 128 ≡ false = lt-leb _ _ many in
     rw (not_zero, past) refl
 
-pub set_rising : (version : ℕ) (ws : List ℕ) → IsWellCertValue version (Set ws) → Rising ws
+pub set_rising : (version : ℕ) (ws : List ℕ) → IsWellFormedCertValue version (Set ws) → IsAscending ws
 set_rising version ws h = h.0.rising
 
-pub set_good : (version : ℕ) (ws : List ℕ) → IsWellCertValue version (Set ws) → AreWords ws
+pub set_good : (version : ℕ) (ws : List ℕ) → IsWellFormedCertValue version (Set ws) → AreWords ws
 set_good version ws h = h.0
 
-pub well_as : (version : ℕ) (v w : Val) → v ≡ w → IsWellCertValue version v → IsWell w
-well_as version v w e h = subst IsWell e (well_of version v h)
+pub well_as : (version : ℕ) (v w : Val) → v ≡ w → IsWellFormedCertValue version v → IsWellFormed w
+well_as version v w e h = subst IsWellFormed e (well_of version v h)
 
 -- a value is below a Span exactly where its extent lies in it
-pub span_exact : {least greatest step : ℕ} (version : ℕ) (v w : Val) (lo last s : ℕ) → w ≡ Span lo last s → IsWell v → IsWellCertValue version w → IsExtent (members v) least greatest step
+pub span_exact : {least greatest step : ℕ} (version : ℕ) (v w : Val) (lo last s : ℕ) → w ≡ Span lo last s → IsWellFormed v → IsWellFormedCertValue version w → IsExtent (members v) least greatest step
     → (lo ≤ least → greatest ≤ last → s ≤ step → IsBelow v w) × (IsBelow v w → (lo ≤ least) × (greatest ≤ last) × (s ≤ step))
 span_exact version v w lo last s same well ok e =
     let both = below_span v lo last s well (well_as version w (Span lo last s) same ok).0 e in

@@ -9,9 +9,9 @@ use Rattle.value_domain.specs.State.{Covers}
 use Rattle.depth_cert.specs.declared.points.Point.{Point}
 use Rattle.packed_cert.specs.declared.places.PointPlace.{PointPlace}
 use Rattle.packed_cert.specs.declared.places.ValueRow.{ValueRow}
-use Rattle.packed_cert.specs.ChangedRows.{ChangesRow}
+use Rattle.packed_cert.specs.ChangedRows.{ChangesOnlyRow}
 use Rattle.packed_cert.specs.PointsInBytes.{state_in, points_in}
-use Rattle.packed_cert.specs.Walks.{KeepsOthers}
+use Rattle.packed_cert.specs.Walks.{KeepsOtherValues}
 
 -- the first of the points that are left
 pub first_left : (version : ℕ) (bytes : List ℕ) (ps : List PointPlace) (i : ℕ) (d : PointPlace) (s : State) → i < length ps → s ≡ state_in version bytes (get_or ps i d).place
@@ -37,7 +37,7 @@ covers_at version bytes ps i d addr u h e covers =
     (s, next_repeats version bytes ps i d s h refl ∙ ap (λ (a : ℕ). let p : Point = record { addr = a; state = s } in p ∷ rest) e, covers)
 
 -- ---- values that were read row
-pub keeps_others : (before after : State) (row : ValueRow) (left points : List Point) → ChangesRow before.regs after.regs row → KeepsOthers before (record { points = points; current = after; anew = take (row.behind - row.first) (drop row.first after.regs); left = left })
+pub keeps_others : (before after : State) (row : ValueRow) (left points : List Point) → ChangesOnlyRow before.regs after.regs row → KeepsOtherValues before (record { points = points; current = after; anew = take (row.behind - row.first) (drop row.first after.regs); left = left })
 keeps_others before after row left points h r lt = elim (cases_lt r row.first) [
   | inl low ↦ inl (omega (arith, h.count), h.kept r (omega (arith, h.count)) (inl low))
   | inr from ↦

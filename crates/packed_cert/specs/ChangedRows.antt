@@ -6,15 +6,15 @@ use Rattle.packed_cert.specs.declared.places.ValueRow.{ValueRow}
 use Rattle.packed_cert.specs.ValuesInBytes.{place_after_values}
 
 -- a number is before a row or after it
-abbrev pub IsOutside : ValueRow → ℕ → Type 0
-IsOutside row k = (k < row.first) ⊎ (row.behind ≤ k)
+abbrev pub IsOutsideRow : ValueRow → ℕ → Type 0
+IsOutsideRow row k = (k < row.first) ⊎ (row.behind ≤ k)
 
 -- as many values as before, and those outside a row are as they were
-pub record ChangesRow (before after : List Val) (row : ValueRow) : Type 0 where
+pub record ChangesOnlyRow (before after : List Val) (row : ValueRow) : Type 0 where
   pub count : length after ≡ length before
   pub order : row.first ≤ row.behind
   pub within : row.behind ≤ length before
-  pub kept : (k : ℕ) → k < length before → IsOutside row k → slice_index_or after k any_val ≡ slice_index_or before k any_val
+  pub kept : (k : ℕ) → k < length before → IsOutsideRow row k → slice_index_or after k any_val ≡ slice_index_or before k any_val
 
 -- a row of changed values, if it isn't empty, says where its first value is among the values from x
 -- on
@@ -26,7 +26,7 @@ abbrev pub IsWholeRow : ℕ → ValueRow → Type 0
 IsWholeRow n row = (row.first ≡ 0) × (row.behind ≡ n)
 
 -- a row of changed values with one more, which was read and is after the others
-pub record IsWithRead (row : ValueRow) (place : ℕ) (more : ValueRow) : Type 0 where
+pub record IsRowWithReadValue (row : ValueRow) (place : ℕ) (more : ValueRow) : Type 0 where
   pub first : more.first ≤ place
   pub behind : more.behind ≡ place + 1
-  pub others : (k : ℕ) → IsOutside more k → IsOutside row k × (k ≡ place → ⊥)
+  pub others : (k : ℕ) → IsOutsideRow more k → IsOutsideRow row k × (k ≡ place → ⊥)

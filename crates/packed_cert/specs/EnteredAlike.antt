@@ -14,10 +14,10 @@ abbrev pub node_state : ℕ → NodeData → Option State
 node_state addr n = option_map (λ p. p.state) (find_point addr n.points)
 
 -- the nodes of two keys have the same state at the keys' entries, and the same exit
-abbrev pub AreEnteredAlike : List NodeData → Key → Key → Type 0
-AreEnteredAlike ns a b = (n m : NodeData) → find_node a ns ≡ Some n → find_node b ns ≡ Some m → (node_state a.entry n ≡ node_state b.entry m) × (n.exit ≡ m.exit)
+abbrev pub HaveSameEntryAndExit : List NodeData → Key → Key → Type 0
+HaveSameEntryAndExit ns a b = (n m : NodeData) → find_node a ns ≡ Some n → find_node b ns ≡ Some m → (node_state a.entry n ≡ node_state b.entry m) × (n.exit ≡ m.exit)
 
 -- the node of a key has the state at this place at the key's entry, and its exit at the other place
-abbrev pub IsEnteredAt : ℕ → List ℕ → List NodePlaces → Key → ℕ → Option ℕ → Type 0
-IsEnteredAt version bytes ns k state exit =
+abbrev pub HasEntryAndExitAt : ℕ → List ℕ → List NodePlaces → Key → ℕ → Option ℕ → Type 0
+HasEntryAndExitAt version bytes ns k state exit =
     (n : NodeData) → find_node k (nodes_of version bytes ns) ≡ Some n → (node_state k.entry n ≡ Some (state_in version bytes state)) × (n.exit ≡ option_map (exit_in version bytes) exit)

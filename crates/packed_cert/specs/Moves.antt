@@ -2,15 +2,15 @@
 use Rattle.std.specs.Prelude.{◌≡◌, ◌≤◌, ◌<◌, ◌+◌, ◌-◌, ℕ, IsTrue, slice_index_or, List, length, drop}
 use Rattle.value_domain.specs.declared.states.State.{State}
 use Rattle.packed_cert.specs.declared.places.PointPlace.{PointPlace}
-use Rattle.packed_cert.specs.ChangedRows.{ChangesRow}
+use Rattle.packed_cert.specs.ChangedRows.{ChangesOnlyRow}
 use Rattle.packed_cert.specs.PointsInBytes.{state_in}
 use Rattle.packed_cert.specs.ValuesInBytes.{values_in, HaveValuesInBytes}
 
 -- The state of a point beside the one before it: outside its row the values are the same, the row's
 -- values and those after it are where the point says, and the whole state is the same if the point
 -- says so.
-pub record IsMoved (version : ℕ) (bytes : List ℕ) (before : State) (p : PointPlace) : Type 0 where
-  pub row : ChangesRow before.regs (state_in version bytes p.place).regs p.row
+pub record DiffersOnlyInRow (version : ℕ) (bytes : List ℕ) (before : State) (p : PointPlace) : Type 0 where
+  pub row : ChangesOnlyRow before.regs (state_in version bytes p.place).regs p.row
   pub few : (p.row).behind ≤ 27
   pub have : 0 < (p.row).behind → HaveValuesInBytes version bytes (p.row).from (27 - (p.row).first)
   pub stand : 0 < (p.row).behind → drop (p.row).first (state_in version bytes p.place).regs ≡ values_in version bytes (p.row).from (27 - (p.row).first)
@@ -18,10 +18,10 @@ pub record IsMoved (version : ℕ) (bytes : List ℕ) (before : State) (p : Poin
 
 -- the state that point k moves on from and shares values with: that of the point before it, or any
 -- state if it is the first
-pub record StandsBefore (version : ℕ) (bytes : List ℕ) (ps : List PointPlace) (k : ℕ) (s : State) : Type 0 where
+pub record IsStateBefore (version : ℕ) (bytes : List ℕ) (ps : List PointPlace) (k : ℕ) (s : State) : Type 0 where
   pub count : length s.regs ≡ 27
   pub last : (j : ℕ) (d : PointPlace) → j + 1 ≡ k → s ≡ state_in version bytes (slice_index_or ps j d).place
 
 -- each point says what it shares with the state before it
-abbrev pub AreMoves : ℕ → List ℕ → List PointPlace → Type 0
-AreMoves version bytes ps = (k : ℕ) (d : PointPlace) (s : State) → k < length ps → StandsBefore version bytes ps k s → IsMoved version bytes s (slice_index_or ps k d)
+abbrev pub AllDifferOnlyInRows : ℕ → List ℕ → List PointPlace → Type 0
+AllDifferOnlyInRows version bytes ps = (k : ℕ) (d : PointPlace) (s : State) → k < length ps → IsStateBefore version bytes ps k s → DiffersOnlyInRow version bytes s (slice_index_or ps k d)

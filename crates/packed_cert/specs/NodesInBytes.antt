@@ -16,7 +16,7 @@ use Rattle.packed_cert.specs.declared.places.NodePlaces.{NodePlaces}
 use Rattle.packed_cert.specs.declared.places.PointPlace.{PointPlace}
 use Rattle.packed_cert.specs.ValuesInBytes.{place_in_bytes, read_from_bytes_or}
 use Rattle.packed_cert.specs.PointsInBytes.{points_in, HasState}
-use Rattle.packed_cert.specs.Moves.{AreMoves}
+use Rattle.packed_cert.specs.Moves.{AllDifferOnlyInRows}
 use Rattle.depth_cert.specs.Exits.{no_exit}
 
 -- the exit at a place
@@ -32,7 +32,7 @@ abbrev pub ReadsExit : ℕ → Place → Place → Type 0
 ReadsExit version c d = (x : Exit) × (exit_at version c ≡ Ok (x, d))
 
 -- there is an exit at these places
-pub record ExitStands (version : ℕ) (bytes : List ℕ) (p : ExitPlaces) : Type 0 where
+pub record IsExitAtPlaces (version : ℕ) (bytes : List ℕ) (p : ExitPlaces) : Type 0 where
   pub order : p.start ≤ p.end
   pub within : p.end ≤ length bytes
   pub read : ReadsExit version (place_in_bytes bytes p.start) (place_in_bytes bytes p.end)
@@ -54,7 +54,7 @@ pub record IsNodeAt (version : ℕ) (bytes : List ℕ) (exit_place : Option ℕ)
   pub rising : IsStrictlyIncreasing (map (λ p. p.addr) points)
   pub states : All (λ p. HasState version bytes p.place) points
   pub exit : IfSome exit_place (HasExit version bytes)
-  pub moves : AreMoves version bytes points
+  pub moves : AllDifferOnlyInRows version bytes points
 
 -- the node of these places
 abbrev pub node_of : ℕ → List ℕ → NodePlaces → NodeData
@@ -65,7 +65,7 @@ abbrev pub nodes_of : ℕ → List ℕ → List NodePlaces → List NodeData
 nodes_of version bytes ns = map (node_of version bytes) ns
 
 -- the number is that of the key, and states and an exit are at the places of a node
-pub record HasPlaces (version : ℕ) (bytes : List ℕ) (n : NodePlaces) : Type 0 where
+pub record AreNodePlaces (version : ℕ) (bytes : List ℕ) (n : NodePlaces) : Type 0 where
   pub number : n.number ≡ number_of_key n.key
   pub node : IsNodeAt version bytes n.exit n.points.items
 
@@ -80,4 +80,4 @@ pub record IsCertAt (version : ℕ) (bytes : List ℕ) (ns : List NodePlaces) : 
   pub spells : certificate_of bytes ≡ Ok (cert_of version bytes ns)
   pub one : bytes_of_cert (cert_of version bytes ns) ≡ bytes
   pub limits : IsCert (cert_of version bytes ns)
-  pub nodes : All (HasPlaces version bytes) ns
+  pub nodes : All (AreNodePlaces version bytes) ns

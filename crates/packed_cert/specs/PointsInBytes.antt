@@ -6,7 +6,7 @@ use Rattle.depth_cert.specs.declared.points.Point.{Point}
 use Rattle.depth_cert.specs.Grammar.{state_at}
 use Rattle.packed_cert.specs.declared.places.PointPlace.{PointPlace}
 use Rattle.packed_cert.specs.declared.places.StatePlaces.{StatePlaces}
-use Rattle.packed_cert.specs.ValuesInBytes.{ValuesStandFrom, place_in_bytes, read_from_bytes_or}
+use Rattle.packed_cert.specs.ValuesInBytes.{AreValuesInBytes, place_in_bytes, read_from_bytes_or}
 use Rattle.value_domain.specs.State.{no_state}
 
 -- the state at a place
@@ -26,11 +26,11 @@ abbrev pub points_in : ℕ → List ℕ → List PointPlace → List Point
 points_in version bytes ps = map (point_in version bytes) ps
 
 -- there is a state at these places
-pub record StateStandsAtPlaces (version : ℕ) (bytes : List ℕ) (s : State) (p : StatePlaces) : Type 0 where
+pub record IsStateAtPlaces (version : ℕ) (bytes : List ℕ) (s : State) (p : StatePlaces) : Type 0 where
   pub order : p.start ≤ p.end
   pub within : p.end ≤ length bytes
   pub read : state_at version (place_in_bytes bytes p.start) ≡ Ok (s, place_in_bytes bytes p.end)
-  pub values : ValuesStandFrom version bytes s.regs p.values p.end
+  pub values : AreValuesInBytes version bytes s.regs p.values p.end
 
 -- what always holds of a state in the bytes: it is there, and its values are inside
 pub record IsStateAt (version : ℕ) (bytes : List ℕ) (place : ℕ) : Type 0 where

@@ -3,7 +3,7 @@ use Rattle.std.specs.Prelude.{◌≡◌, ℕ, List, take, drop, ◌+◌, ◌≤�
 use Rattle.packed_cert.specs.declared.places.RepeatedState.{RepeatedState}
 use Rattle.tcd_base.specs.Place.{Place}
 use Rattle.value_domain.specs.declared.values.Val.{Val}
-use Rattle.packed_cert.specs.ValuesInBytes.{ValuesStandFrom}
+use Rattle.packed_cert.specs.ValuesInBytes.{AreValuesInBytes}
 use Rattle.tcd_base.specs.Bytes.{word_in_bytes}
 
 -- bytes of a packed certificate come again: the same n bytes are at two places
@@ -18,14 +18,14 @@ pub record IsRepeated (bytes : List ℕ) (place : ℕ) (p : RepeatedState) : Typ
 
 -- a cursor moved over n bytes of a packed certificate that come again: they equal the n bytes from
 -- x on
-abbrev pub MovesOverRepeated : List ℕ → ℕ → ℕ → Place → Place → Type 0
-MovesOverRepeated bytes x n before after =
+abbrev pub SkipsRepeatedBytes : List ℕ → ℕ → ℕ → Place → Place → Type 0
+SkipsRepeatedBytes bytes x n before after =
     (after ≡ record before { place = before.place + n }) × (before.place + n ≤ length bytes) × (take n (drop x bytes) ≡ take n (drop before.place bytes))
 
 -- a state in the bytes has these values, and its first bytes, as many as p counts, come again at
 -- this place
-pub record StateComesAgain (version : ℕ) (bytes : List ℕ) (vs : List Val) (place : ℕ) (p : RepeatedState) : Type 0 where
-  pub values : ValuesStandFrom version bytes vs (p.at).values (p.at).end
+pub record StateRepeatsAt (version : ℕ) (bytes : List ℕ) (vs : List Val) (place : ℕ) (p : RepeatedState) : Type 0 where
+  pub values : AreValuesInBytes version bytes vs (p.at).values (p.at).end
   pub repeated : IsRepeated bytes place p
 
 -- the number in the eight bytes from a place on, to test whether bytes come again

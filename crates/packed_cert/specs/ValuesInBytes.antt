@@ -53,11 +53,11 @@ place_after_values bytes place zero = place
 place_after_values bytes place (suc n) = place_after_values bytes (place_after_value bytes place) n
 
 -- these values are in the bytes, one after another, from one place to another
-abbrev pub ValuesStandBetween : ℕ → List ℕ → ℕ → List Val → ℕ → Type 0
-ValuesStandBetween version bytes place [] end = place ≡ end
-ValuesStandBetween version bytes place (v ∷ vs) end = (value_at version (place_in_bytes bytes place) ≡ Ok (v, place_in_bytes bytes (place_after_value bytes place))) × ValuesStandBetween version bytes (place_after_value bytes place) vs end
+abbrev pub AreValuesBetween : ℕ → List ℕ → ℕ → List Val → ℕ → Type 0
+AreValuesBetween version bytes place [] end = place ≡ end
+AreValuesBetween version bytes place (v ∷ vs) end = (value_at version (place_in_bytes bytes place) ≡ Ok (v, place_in_bytes bytes (place_after_value bytes place))) × AreValuesBetween version bytes (place_after_value bytes place) vs end
 
 -- these values are in the bytes, one after another, from one place to another; the first place
 -- isn't past the end of the bytes
-abbrev pub ValuesStandFrom : ℕ → List ℕ → List Val → ℕ → ℕ → Type 0
-ValuesStandFrom version bytes vs x end = (x ≤ length bytes) × ValuesStandBetween version bytes x vs end
+abbrev pub AreValuesInBytes : ℕ → List ℕ → List Val → ℕ → ℕ → Type 0
+AreValuesInBytes version bytes vs x end = (x ≤ length bytes) × AreValuesBetween version bytes x vs end

@@ -11,7 +11,7 @@ use Rattle.depth_cert.specs.Points.{find_point}
 use Rattle.packed_cert.specs.declared.places.PointPlace.{PointPlace}
 use Rattle.packed_cert.specs.declared.places.ValueRow.{ValueRow}
 use Rattle.packed_cert.specs.PointsInBytes.{HasState}
-use Rattle.packed_cert.specs.Moves.{StandsBefore, AreMoves}
+use Rattle.packed_cert.specs.Moves.{IsStateBefore, AllDifferOnlyInRows}
 
 -- the points that are walked over, the state of the point at hand, values of it that hold all that
 -- the last step read, and the points after it
@@ -22,8 +22,8 @@ pub record WalkData : Type 0 where
   pub left : List Point
 
 -- each value at hand is as it was before, or one of those that may be new
-abbrev pub KeepsOthers : State → WalkData → Type 0
-KeepsOthers before after =
+abbrev pub KeepsOtherValues : State → WalkData → Type 0
+KeepsOtherValues before after =
     (r : ℕ) → r < length (after.current).regs → ((r < length before.regs) × (slice_index_or (after.current).regs r any_val ≡ slice_index_or before.regs r any_val)) ⊎ Contains after.anew (slice_index_or (after.current).regs r any_val)
 
 -- a step returns the address of the first point that is left, whose state is then at hand, or none
@@ -31,11 +31,11 @@ KeepsOthers before after =
 abbrev pub StepsTo : WalkData → Option ℕ → WalkData → Type 0
 StepsTo before None after = (before.left ≡ []) × (after ≡ before)
 StepsTo before (Some addr) after =
-    (before.left ≡ record { addr = addr; state = after.current } ∷ after.left) × KeepsOthers before.current after × (after.points ≡ before.points)
+    (before.left ≡ record { addr = addr; state = after.current } ∷ after.left) × KeepsOtherValues before.current after × (after.points ≡ before.points)
 
 -- the next point has this address and the state at hand
-abbrev pub RepeatsAt : WalkData → ℕ → Type 0
-RepeatsAt w addr = w.left ≡ record { addr = addr; state = w.current } ∷ drop 1 w.left
+abbrev pub IsNextWithSameState : WalkData → ℕ → Type 0
+IsNextWithSameState w addr = w.left ≡ record { addr = addr; state = w.current } ∷ drop 1 w.left
 
 -- the next point has this address, and its state covers this one
 abbrev pub CoversNext : WalkData → ℕ → State → Type 0
@@ -50,8 +50,8 @@ CoversAt w addr = IsSomeAnd (find_point addr w.points) (λ p. Covers p.state w.c
 pub record IsWalk (version : ℕ) (bytes : List ℕ) (points : List PointPlace) (next : ℕ) (read : ValueRow) (state : State) : Type 0 where
   pub states : All (λ p. HasState version bytes p.place) points
   pub rising : IsStrictlyIncreasing (map (λ p. p.addr) points)
-  pub moves : AreMoves version bytes points
+  pub moves : AllDifferOnlyInRows version bytes points
   pub within : next ≤ length points
-  pub here : StandsBefore version bytes points next state
+  pub here : IsStateBefore version bytes points next state
   pub order : read.first ≤ read.behind
   pub few : read.behind ≤ 27

@@ -3,8 +3,8 @@ ghost use Rattle.std.specs.Prelude.{◌≡◌, ◌≤◌, ◌<◌, ◌^◌, ℕ,
 ghost use Rattle.std.specs.List.{All, slice_get};
 ghost use Rattle.std.specs.List.Sorted.{IsStrictlyIncreasing, IsPartitionPoint};
 ghost use Rattle.depth_cert.specs.Answers.{IsFaultOf};
-ghost use Rattle.packed_cert.specs.NodesInBytes.{HasPlaces};
-ghost use Rattle.packed_cert.specs.EnteredAlike.{IsEnteredAt};
+ghost use Rattle.packed_cert.specs.NodesInBytes.{AreNodePlaces};
+ghost use Rattle.packed_cert.specs.EnteredAlike.{HasEntryAndExitAt};
 
 use crate::cert_reader::read_cert_parts;
 use crate::nodes::{Node, count_points_below};
@@ -38,7 +38,7 @@ impl Cert {
     ghost use Rattle.depth_cert.specs.Nodes.{find_node, count_points};
     ghost use Rattle.depth_cert.specs.Grammar.{certificate_of};
     ghost use Rattle.depth_cert.specs.Spelling.{bytes_of_cert};
-    ghost use Rattle.packed_cert.specs.EnteredAlike.{AreEnteredAlike};
+    ghost use Rattle.packed_cert.specs.EnteredAlike.{HaveSameEntryAndExit};
 
     /// Makes a `Cert`, which keeps the bytes that spell a certificate and the places of its
     /// nodes, or returns the first fault of the bytes.
@@ -114,7 +114,7 @@ impl Cert {
     /// Returns true only if the nodes of two keys have the same state at the keys' entries, and the
     /// same exit. Their places are compared: what is at equal places is equal.
     pub fn have_same_entry_and_exit(&self, a: &Key, b: &Key) -> bool
-        ensures { IsTrue result → AreEnteredAlike self.now.nodes a.now b.now }
+        ensures { IsTrue result → HaveSameEntryAndExit self.now.nodes a.now b.now }
     {
         let bytes = self.bytes.as_slice();
         let nodes = self.nodes.as_slice();
@@ -136,9 +136,9 @@ fn entry_places(
     nodes: &[NodePlaces],
     key: &Key,
 ) -> Option<(u32, Option<u32>)>
-    requires places { All (HasPlaces version bytes.now) nodes.now }
+    requires places { All (AreNodePlaces version bytes.now) nodes.now }
     requires rising { IsStrictlyIncreasing (map (λ n. n.number) nodes.now) }
-    ensures { IfSome result (λ r. IsEnteredAt version bytes.now nodes.now key.now r.0 r.1) }
+    ensures { IfSome result (λ r. HasEntryAndExitAt version bytes.now nodes.now key.now r.0 r.1) }
 {
     let number = key_number(key);
     let at = count_nodes_below(nodes, number);

@@ -1,12 +1,12 @@
 // Are the values of a state, of a changed one, or of an exit below those in the bytes?
 ghost use Rattle.std.specs.Prelude.{◌≡◌, ◌≤◌, ◌<◌, ◌↔◌, IsTrue, length, slice_index_or, ◌+◌, ◌*◌, ℕ, slice_index};
-ghost use Rattle.value_domain.specs.Values.{any_val, IsBelow, IsWell};
-ghost use Rattle.value_domain.specs.State.{AreBelow, AreWell};
+ghost use Rattle.value_domain.specs.Values.{any_val, IsBelow, IsWellFormed};
+ghost use Rattle.value_domain.specs.State.{AreBelow, AreWellFormed};
 ghost use Rattle.packed_cert.specs.ToCover.{values_to_cover};
 ghost use Rattle.packed_cert.specs.ValuesInBytes.{values_in, HaveValuesInBytes, value_in, HasValueInBytes, words_at};
 ghost use Rattle.tcd_base.specs.Bytes.{word_in_bytes};
 ghost use Rattle.value_domain.specs.declared.values.Val.{Val};
-ghost use Rattle.value_domain.specs.Sets.{Rising, Within};
+ghost use Rattle.value_domain.specs.Sets.{IsAscending, Within};
 
 use crate::certs::cert_bytes_below_256;
 use crate::restored_values::ValuesAt;
@@ -38,7 +38,7 @@ pub(crate) fn are_covered_at(
     place: usize,
 ) -> bool
     requires count { length (values_to_cover values.now) ≡ n }
-    requires well { AreWell (values_to_cover values.now) }
+    requires well { AreWellFormed (values_to_cover values.now) }
     requires stand { HaveValuesInBytes version bytes.now place n }
     ensures { IsTrue result
         ↔ AreBelow (values_to_cover values.now) (values_in version bytes.now place n) }
@@ -72,7 +72,7 @@ pub(crate) fn is_read_value_covered(low: ValuesAt<'_>, high: ValuesAt<'_>) -> bo
 
 /// Returns true if a value is below the span at a place.
 pub(crate) fn is_below_span_at(v: &Val, bytes: &[u8], version: u8, place: usize) -> bool
-    requires well { IsWell v.now }
+    requires well { IsWellFormed v.now }
     requires stands { HasValueInBytes version bytes.now place }
     requires span { 128 < slice_index bytes.now place }
     ensures { IsTrue result ↔ IsBelow v.now (value_in version bytes.now place) }
@@ -91,8 +91,8 @@ pub(crate) fn is_below_span_at(v: &Val, bytes: &[u8], version: u8, place: usize)
 /// are walked once.
 pub(crate) fn are_words_covered_at(own: &[u32], bytes: &[u8], place: usize, n: usize) -> bool
     requires within { place + 4 * n ≤ length bytes.now }
-    requires own { Rising own.now }
-    requires words { Rising (words_at bytes.now place n) }
+    requires own { IsAscending own.now }
+    requires words { IsAscending (words_at bytes.now place n) }
     ensures { IsTrue result ↔ Within own.now (words_at bytes.now place n) }
 {
     let mut k = 0;
@@ -110,7 +110,7 @@ pub(crate) fn are_words_covered_at(own: &[u32], bytes: &[u8], place: usize, n: u
 // A function of its own, so that the others have no room of a value to fill.
 #[inline(never)]
 pub(crate) fn is_covered_by_read(v: &Val, bytes: &[u8], version: u8, place: usize) -> bool
-    requires well { IsWell v.now }
+    requires well { IsWellFormed v.now }
     requires stands { HasValueInBytes version bytes.now place }
     ensures { IsTrue result ↔ IsBelow v.now (value_in version bytes.now place) }
 {

@@ -1,6 +1,6 @@
 // The type `ExitAt`: an exit that stays in the bytes of its certificate.
 ghost use Rattle.std.specs.Prelude.{◌≡◌, ◌≤◌, ◌^◌, ◌↔◌, IsTrue, length, Ok, Err, OnOk, IfOk, IfErr, IfSome};
-ghost use Rattle.packed_cert.specs.NodesInBytes.{exit_in, HasExit, ExitStands};
+ghost use Rattle.packed_cert.specs.NodesInBytes.{exit_in, HasExit, IsExitAtPlaces};
 ghost use Rattle.std.specs.Option.{option_map};
 ghost use Rattle.depth_cert.specs.Grammar.{optional_exit_at, exit_at};
 
@@ -36,7 +36,7 @@ impl<'a> Model for ExitAt<'a> {
 }
 
 impl<'a> ExitAt<'a> {
-    ghost use Rattle.value_domain.specs.State.{AreValues, AreWell};
+    ghost use Rattle.value_domain.specs.State.{AreValues, AreWellFormed};
     ghost use Rattle.depth_cert.specs.Exits.{exit_of, ExitCovers};
     ghost use Rattle.packed_cert.specs.ValuesInBytes.{values_in, HaveValuesInBytes};
 
@@ -91,7 +91,7 @@ impl<'a> ExitAt<'a> {
 
     /// Returns true if it covers the exit of a state. Its own values are compared in the bytes.
     pub fn covers(&self, s: &State) -> bool
-        requires { AreWell s.now.regs }
+        requires { AreWellFormed s.now.regs }
         ensures { IsTrue result ↔ ExitCovers self.now (exit_of s.now) }
     {
         let _regs = &s.regs[..];
@@ -134,13 +134,13 @@ pub(crate) fn read_exit_place(
     room: &mut ExitRoom,
 ) -> Result<Option<u32>, FormErr>
     requires same { c.old.bytes ≡ bytes.now }
-    requires last { IfSome room.old.last (ExitStands version bytes.now) }
+    requires last { IfSome room.old.last (IsExitAtPlaces version bytes.now) }
     ensures ok { IfOk result (λ e.
         optional_exit_at version kind c.old
         ≡ Ok (option_map (exit_in version bytes.now) e, c.new)) }
     ensures err { IfErr result (λ e. optional_exit_at version kind c.old ≡ Err e) }
     ensures exit { IfOk result (λ e. IfSome e (HasExit version bytes.now)) }
-    ensures last { OnOk result (IfSome room.new.last (ExitStands version bytes.now)) }
+    ensures last { OnOk result (IfSome room.new.last (IsExitAtPlaces version bytes.now)) }
     ensures bytes { c.new.bytes ≡ c.old.bytes }
 {
     if !read_has_exit(c, kind)? {
@@ -158,12 +158,12 @@ pub(crate) fn read_or_skip_exit(
     room: &mut ExitRoom,
 ) -> Result<u32, FormErr>
     requires same { c.old.bytes ≡ bytes.now }
-    requires last { IfSome room.old.last (ExitStands version bytes.now) }
+    requires last { IfSome room.old.last (IsExitAtPlaces version bytes.now) }
     ensures ok { IfOk result (λ p.
         exit_at version c.old ≡ Ok (exit_in version bytes.now p, c.new)) }
     ensures err { IfErr result (λ e. exit_at version c.old ≡ Err e) }
     ensures exit { IfOk result (HasExit version bytes.now) }
-    ensures last { OnOk result (IfSome room.new.last (ExitStands version bytes.now)) }
+    ensures last { OnOk result (IfSome room.new.last (IsExitAtPlaces version bytes.now)) }
     ensures bytes { c.new.bytes ≡ c.old.bytes }
 {
     let start = c.place();

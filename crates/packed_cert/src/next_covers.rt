@@ -3,13 +3,13 @@
 // is put, and the values of that row, are compared, and not all 27.
 ghost use Rattle.std.specs.Prelude.{◌≡◌, ◌≤◌, ◌<◌, ◌-◌, ℕ, IsTrue, Some, slice_index_or, false};
 ghost use Rattle.value_domain.specs.Values.{IsBelow, any_val};
-ghost use Rattle.value_domain.specs.State.{AreWell, Covers};
+ghost use Rattle.value_domain.specs.State.{AreWellFormed, Covers};
 ghost use Rattle.vd_transfer.specs.Changes.{state_after};
 ghost use Rattle.vd_transfer.specs.declared.change.Base.TheVariants.{Same};
 ghost use Rattle.packed_cert.specs.PointsInBytes.{state_in, HasState};
-ghost use Rattle.packed_cert.specs.Moves.{IsMoved};
+ghost use Rattle.packed_cert.specs.Moves.{DiffersOnlyInRow};
 ghost use Rattle.packed_cert.specs.ToCover.{IsCoveredByOwn};
-ghost use Rattle.packed_cert.specs.ChangedRows.{IsOutside};
+ghost use Rattle.packed_cert.specs.ChangedRows.{IsOutsideRow};
 
 use crate::places::{PointPlace, VALUES, ValueRow};
 use crate::states::StateAt;
@@ -23,9 +23,9 @@ use vd_transfer::{Change, changed_value};
 /// there.
 pub(crate) fn are_puts_below(s: &State, c: &Change, row: ValueRow) -> bool
     requires base { c.now.base ≡ Same }
-    requires hand { AreWell s.now.regs }
-    requires well { AreWell (state_after s.now c.now).regs }
-    ensures { IsTrue result → (i : ℕ) → i < 27 → IsOutside row i → IsCoveredByOwn s.now c.now i }
+    requires hand { AreWellFormed s.now.regs }
+    requires well { AreWellFormed (state_after s.now c.now).regs }
+    ensures { IsTrue result → (i : ℕ) → i < 27 → IsOutsideRow row i → IsCoveredByOwn s.now c.now i }
 {
     let _regs = &s.regs[..];
     if !is_put_below(s, c, row, c.first.at) {
@@ -45,8 +45,8 @@ pub(crate) fn is_row_below(
     version: u8,
     point: PointPlace,
 ) -> bool
-    requires well { AreWell (state_after s.now c.now).regs }
-    requires moved { IsMoved version bytes.now s.now point }
+    requires well { AreWellFormed (state_after s.now c.now).regs }
+    requires moved { DiffersOnlyInRow version bytes.now s.now point }
     ensures { IsTrue result → (i : ℕ) → point.row.first ≤ i → i < point.row.behind
         → IsBelow (slice_index_or (state_after s.now c.now).regs i any_val)
         (slice_index_or (state_in version bytes.now point.place).regs i any_val) }
@@ -75,10 +75,10 @@ pub(crate) fn does_next_point_cover(
     point: PointPlace,
 ) -> bool
     requires base { c.now.base ≡ Same }
-    requires hand { AreWell s.now.regs }
-    requires well { AreWell (state_after s.now c.now).regs }
+    requires hand { AreWellFormed s.now.regs }
+    requires well { AreWellFormed (state_after s.now c.now).regs }
     requires state { HasState version bytes.now point.place }
-    requires moved { IsMoved version bytes.now s.now point }
+    requires moved { DiffersOnlyInRow version bytes.now s.now point }
     ensures { IsTrue result
         → Covers (state_in version bytes.now point.place) (state_after s.now c.now) }
 {
@@ -96,9 +96,9 @@ pub(crate) fn does_next_point_cover(
 /// Returns true if the changed value at a place is below the state's own, or if there is no place,
 /// or it is inside the row.
 fn is_put_below(s: &State, c: &Change, row: ValueRow, place: Option<usize>) -> bool
-    requires hand { AreWell s.now.regs }
-    requires well { AreWell (state_after s.now c.now).regs }
-    ensures { IsTrue result → (i : ℕ) → place ≡ Some i → i < 27 → IsOutside row i
+    requires hand { AreWellFormed s.now.regs }
+    requires well { AreWellFormed (state_after s.now c.now).regs }
+    ensures { IsTrue result → (i : ℕ) → place ≡ Some i → i < 27 → IsOutsideRow row i
         → IsCoveredByOwn s.now c.now i }
 {
     let Some(i) = place else {

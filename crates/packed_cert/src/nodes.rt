@@ -2,7 +2,7 @@
 ghost use Rattle.std.specs.Prelude.{◌≡◌, ◌<◌, nat_lt, ◌==◌, true, false, map, length};
 ghost use Rattle.std.specs.Option.{option_map};
 ghost use Rattle.std.specs.List.Sorted.{IsStrictlyIncreasing, IsPartitionPoint};
-ghost use Rattle.packed_cert.specs.NodesInBytes.{node_of, HasPlaces};
+ghost use Rattle.packed_cert.specs.NodesInBytes.{node_of, AreNodePlaces};
 
 use crate::exits::ExitAt;
 use crate::places::{NodePlaces, PointPlace};
@@ -40,7 +40,7 @@ impl<'a> Node<'a> {
 
     /// Returns the node of these places.
     pub(crate) fn at(bytes: &'a [u8], version: u8, places: &'a NodePlaces) -> Node<'a>
-        requires { HasPlaces version bytes.now places.now }
+        requires { AreNodePlaces version bytes.now places.now }
         ensures { result ≡ node_of version bytes.now places.now }
     {
         Node {

@@ -8,11 +8,11 @@ ghost use Rattle.std.specs.List.{All};
 ghost use Rattle.depth_cert.specs.Grammar.{state_at, points_at};
 ghost use Rattle.depth_cert.specs.Answers.{IsFaultOf};
 ghost use Rattle.std.specs.List.Sorted.{IsStrictlyIncreasing};
-ghost use Rattle.packed_cert.specs.ValuesInBytes.{ValuesStandFrom};
-ghost use Rattle.packed_cert.specs.ChangedRows.{ChangesRow, RowBeginsAtPlace, IsWholeRow};
-ghost use Rattle.packed_cert.specs.PointsInBytes.{HasState, StateStandsAtPlaces, points_in};
-ghost use Rattle.packed_cert.specs.RepeatedBytes.{StateComesAgain};
-ghost use Rattle.packed_cert.specs.Moves.{AreMoves};
+ghost use Rattle.packed_cert.specs.ValuesInBytes.{AreValuesInBytes};
+ghost use Rattle.packed_cert.specs.ChangedRows.{ChangesOnlyRow, RowBeginsAtPlace, IsWholeRow};
+ghost use Rattle.packed_cert.specs.PointsInBytes.{HasState, IsStateAtPlaces, points_in};
+ghost use Rattle.packed_cert.specs.RepeatedBytes.{StateRepeatsAt};
+ghost use Rattle.packed_cert.specs.Moves.{AllDifferOnlyInRows};
 
 use crate::places::{
     ExitPlaces, PointPlace, ReadState, RepeatedState, StatePlaces, VALUES, ValueRow, empty_row,
@@ -67,18 +67,18 @@ pub(crate) fn read_points(
 ) -> Result<Vec<PointPlace>, CertErr>
     requires same { c.old.bytes ≡ bytes.now }
     requires used { room.old.used ≤ 2 ^ 16 }
-    requires state { IfSome room.old.last (StateStandsAtPlaces version bytes.now room.old.state) }
+    requires state { IfSome room.old.last (IsStateAtPlaces version bytes.now room.old.state) }
     ensures ok { IfOk result (λ ps.
         points_at version room.old.used c.old ≡ Ok (points_in version bytes.now ps.items, c.new)) }
     ensures err { IfErr result (IsFaultOf (points_at version room.old.used c.old)) }
     ensures states { IfOk result (λ ps. All (λ p. HasState version bytes.now p.place) ps.items) }
     ensures rising { IfOk result (λ ps. IsStrictlyIncreasing (map (λ p. p.addr) ps.items)) }
-    ensures moves { IfOk result (λ ps. AreMoves version bytes.now ps.items) }
+    ensures moves { IfOk result (λ ps. AllDifferOnlyInRows version bytes.now ps.items) }
     ensures used { IfOk result (λ ps. room.new.used ≡ room.old.used + vec_len ps) }
     ensures few { OnOk result (room.new.used ≤ 2 ^ 16) }
     ensures exit { room.new.exit ≡ room.old.exit }
     ensures state { OnOk result
-        (IfSome room.new.last (StateStandsAtPlaces version bytes.now room.new.state)) }
+        (IfSome room.new.last (IsStateAtPlaces version bytes.now room.new.state)) }
     ensures bytes { c.new.bytes ≡ c.old.bytes }
 {
     let _place = c.place(); // so that the prover knows that the bytes are few
@@ -113,11 +113,11 @@ pub(crate) fn read_or_skip_state(
     out: &mut State,
 ) -> Result<ReadState, FormErr>
     requires same { c.old.bytes ≡ bytes.now }
-    requires before { IfSome before (StateStandsAtPlaces version bytes.now out.old) }
+    requires before { IfSome before (IsStateAtPlaces version bytes.now out.old) }
     ensures ok { OnOk result (state_at version c.old ≡ Ok (out.new, c.new)) }
     ensures err { IfErr result (λ e. state_at version c.old ≡ Err e) }
-    ensures held { IfOk result (λ r. StateStandsAtPlaces version bytes.now out.new r.at) }
-    ensures row { IfOk result (λ r. ChangesRow out.old.regs out.new.regs r.row) }
+    ensures held { IfOk result (λ r. IsStateAtPlaces version bytes.now out.new r.at) }
+    ensures row { IfOk result (λ r. ChangesOnlyRow out.old.regs out.new.regs r.row) }
     ensures from { IfOk result (λ r. RowBeginsAtPlace bytes.now r.at.values r.row) }
     ensures again { IfOk result (λ r. IsTrue r.same → out.new ≡ out.old) }
     ensures bytes { c.new.bytes ≡ c.old.bytes }
@@ -150,12 +150,12 @@ pub(crate) fn read_state_fields(
     out: &mut State,
 ) -> Result<(usize, ValueRow), FormErr>
     requires same { c.old.bytes ≡ bytes.now }
-    requires held { IfSome before (StateComesAgain version bytes.now out.old.regs c.old.place) }
+    requires held { IfSome before (StateRepeatsAt version bytes.now out.old.regs c.old.place) }
     ensures ok { OnOk result (state_at version c.old ≡ Ok (out.new, c.new)) }
     ensures err { IfErr result (λ e. state_at version c.old ≡ Err e) }
     ensures held { IfOk result
-        (λ r. ValuesStandFrom version bytes.now out.new.regs r.0 c.new.place) }
-    ensures row { IfOk result (λ r. ChangesRow out.old.regs out.new.regs r.1) }
+        (λ r. AreValuesInBytes version bytes.now out.new.regs r.0 c.new.place) }
+    ensures row { IfOk result (λ r. ChangesOnlyRow out.old.regs out.new.regs r.1) }
     ensures from { IfOk result (λ r. RowBeginsAtPlace bytes.now r.0 r.1) }
     ensures bytes { c.new.bytes ≡ c.old.bytes }
 {
@@ -180,11 +180,11 @@ pub(crate) fn read_state_after(
     out: &mut State,
 ) -> Result<ReadState, FormErr>
     requires same { c.old.bytes ≡ bytes.now }
-    requires held { IfSome before (StateComesAgain version bytes.now out.old.regs c.old.place) }
+    requires held { IfSome before (StateRepeatsAt version bytes.now out.old.regs c.old.place) }
     ensures ok { OnOk result (state_at version c.old ≡ Ok (out.new, c.new)) }
     ensures err { IfErr result (λ e. state_at version c.old ≡ Err e) }
-    ensures held { IfOk result (λ r. StateStandsAtPlaces version bytes.now out.new r.at) }
-    ensures row { IfOk result (λ r. ChangesRow out.old.regs out.new.regs r.row) }
+    ensures held { IfOk result (λ r. IsStateAtPlaces version bytes.now out.new r.at) }
+    ensures row { IfOk result (λ r. ChangesOnlyRow out.old.regs out.new.regs r.row) }
     ensures from { IfOk result (λ r. RowBeginsAtPlace bytes.now r.at.values r.row) }
     ensures other { IfOk result (λ r. r.same ≡ false) }
     ensures bytes { c.new.bytes ≡ c.old.bytes }

@@ -2,7 +2,7 @@
 // From 1,024 bytes on they are compared as slices first. Where those differ, and below, they are
 // compared eight at a time: 64 in a turn, then 16. A turn of 64 takes some 28 instructions.
 ghost use Rattle.std.specs.Prelude.{◌≡◌, ◌≤◌, ◌<◌, ◌+◌, IsTrue, length, take, ◌-◌, IsFalse};
-ghost use Rattle.packed_cert.specs.RepeatedBytes.{SameBytesAtPlaces, IsRepeated, MovesOverRepeated, eight_bytes_at_place};
+ghost use Rattle.packed_cert.specs.RepeatedBytes.{SameBytesAtPlaces, IsRepeated, SkipsRepeatedBytes, eight_bytes_at_place};
 
 use crate::places::RepeatedState;
 use crate::value_reader::FEW_BYTES;
@@ -147,7 +147,7 @@ pub(crate) fn skip_if_repeated(
 ) -> bool
     requires same { c.old.bytes ≡ bytes.now }
     requires within { x + n ≤ length bytes.now }
-    ensures moved { IsTrue result → MovesOverRepeated bytes.now x n c.old c.new }
+    ensures moved { IsTrue result → SkipsRepeatedBytes bytes.now x n c.old c.new }
     ensures kept { IsFalse result → c.new ≡ c.old }
 {
     let y = c.place();

@@ -2,9 +2,9 @@
 // That state has the lower registers' values of the exit, which stay in the bytes too.
 ghost use Rattle.std.specs.Prelude.{◌≡◌, ◌<◌, ◌↔◌, if◌then◌else◌, IsTrue, slice_index_or};
 ghost use Rattle.value_domain.specs.Values.{any_val, IsBelow};
-ghost use Rattle.value_domain.specs.State.{AreWell, AreBelow};
+ghost use Rattle.value_domain.specs.State.{AreWellFormed, AreBelow};
 ghost use Rattle.value_domain.specs.State as states;
-ghost use Rattle.depth_cert.specs.Exits.{with_lower_from};
+ghost use Rattle.depth_cert.specs.Exits.{values_with_lower_from};
 ghost use Rattle.packed_cert.specs.ValuesInBytes.{place_after_value, value_in, HasValueInBytes, values_in, HaveValuesInBytes};
 
 use crate::certs::cert_bytes_below_256;
@@ -26,12 +26,12 @@ pub(crate) struct ValuesAt<'a> {
 /// Returns true if each value of a state is below the one in its turn at `high`, with those at
 /// `lower` for the lower registers.
 pub(crate) fn are_restored_below(regs: &[Val; 27], lower: ValuesAt<'_>, high: ValuesAt<'_>) -> bool
-    requires well { AreWell regs.now }
+    requires well { AreWellFormed regs.now }
     requires low { HaveValuesInBytes lower.version lower.bytes.now lower.place 14 }
     requires high { HaveValuesInBytes high.version high.bytes.now high.place 27 }
     ensures { IsTrue result
         ↔ AreBelow
-        (with_lower_from 0
+        (values_with_lower_from 0
         (values_in lower.entry.version lower.entry.bytes.now lower.entry.place 14) regs.now)
         (values_in high.entry.version high.entry.bytes.now high.entry.place 27) }
 {
@@ -62,7 +62,7 @@ pub(crate) fn are_restored_below(regs: &[Val; 27], lower: ValuesAt<'_>, high: Va
 /// it is the one at `low`, else the state's own.
 fn is_restored_below(regs: &[Val; 27], i: usize, low: ValuesAt<'_>, high: ValuesAt<'_>) -> bool
     requires place { i < 27 }
-    requires well { AreWell regs.now }
+    requires well { AreWellFormed regs.now }
     requires low { IsTrue (states.is_lower_slot i)
         → HasValueInBytes low.version low.bytes.now low.place }
     requires high { HasValueInBytes high.version high.bytes.now high.place }

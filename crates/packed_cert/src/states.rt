@@ -1,6 +1,6 @@
 // The type `StateAt`: a state that stays in the bytes of its certificate.
 ghost use Rattle.std.specs.Prelude.{◌≡◌, ◌≤◌, ◌+◌, ◌↔◌, ◌==◌, if◌then◌else◌, IsTrue, length, ◌<◌, ◌-◌, false};
-ghost use Rattle.value_domain.specs.State.{AreWell, Covers};
+ghost use Rattle.value_domain.specs.State.{AreWellFormed, Covers};
 ghost use Rattle.vd_transfer.specs.Changes.{state_after};
 ghost use Rattle.packed_cert.specs.ValuesInBytes.{values_in, HaveValuesInBytes};
 ghost use Rattle.packed_cert.specs.PointsInBytes.{flags_in, state_in, HasState, IsStateAt};
@@ -80,7 +80,7 @@ impl<'a> StateAt<'a> {
 }
 
 impl<'a> StateAt<'a> {
-    ghost use Rattle.value_domain.specs.State.{AreWell, Covers};
+    ghost use Rattle.value_domain.specs.State.{AreWellFormed, Covers};
     ghost use Rattle.depth_cert.specs.Exits.{state_after_exit};
     ghost use Rattle.vd_transfer.specs.Changes.{state_after};
 
@@ -95,7 +95,7 @@ impl<'a> StateAt<'a> {
 
     /// Returns true if this state covers another.
     pub fn covers(&self, s: &State) -> bool
-        requires { AreWell s.now.regs }
+        requires { AreWellFormed s.now.regs }
         ensures { IsTrue result ↔ Covers self.now s.now }
     {
         let _regs = &s.regs[..];
@@ -111,7 +111,7 @@ impl<'a> StateAt<'a> {
 
     /// Returns true if this state covers a changed one, which is never built.
     pub fn covers_changed(&self, s: &State, c: &Change) -> bool
-        requires { AreWell (state_after s.now c.now).regs }
+        requires { AreWellFormed (state_after s.now c.now).regs }
         ensures { IsTrue result ↔ Covers self.now (state_after s.now c.now) }
     {
         let _regs = &s.regs[..];
@@ -134,7 +134,7 @@ impl<'a> StateAt<'a> {
     /// Returns true if this state covers the one after a `CALL` or a `SYS` that returned by the
     /// exit. Neither is read.
     pub fn covers_after_return(&self, s: &State, exit: &ExitAt<'_>, kind: u8) -> bool
-        requires { AreWell s.now.regs }
+        requires { AreWellFormed s.now.regs }
         ensures { IsTrue result ↔ Covers self.now (state_after_exit s.now exit.now kind) }
     {
         let (ie, ccpn) = ie_and_ccpn_after_return(s, exit, kind);

@@ -1,9 +1,9 @@
 // Reads values over those of the state before.
 // Fast path: a value whose bytes come again isn't read. Bytes are compared for many values at once.
 ghost use Rattle.std.specs.Prelude.{◌≡◌, ◌≤◌, ◌<◌, ◌+◌, ◌-◌, ℕ, List, length, Ok, Err, OnOk, IfOk, IfErr, IfSome};
-ghost use Rattle.packed_cert.specs.RepeatedBytes.{SameBytesAtPlaces, StateComesAgain};
-ghost use Rattle.packed_cert.specs.ValuesInBytes.{ValuesStandFrom, place_after_values};
-ghost use Rattle.packed_cert.specs.ChangedRows.{ChangesRow, RowBeginsAtPlace, IsWithRead};
+ghost use Rattle.packed_cert.specs.RepeatedBytes.{SameBytesAtPlaces, StateRepeatsAt};
+ghost use Rattle.packed_cert.specs.ValuesInBytes.{AreValuesInBytes, place_after_values};
+ghost use Rattle.packed_cert.specs.ChangedRows.{ChangesOnlyRow, RowBeginsAtPlace, IsRowWithReadValue};
 ghost use Rattle.packed_cert.specs.ValuesInBytes as standing;
 ghost use Rattle.depth_cert.specs.Grammar.{values_at};
 
@@ -33,14 +33,14 @@ pub(crate) fn read_values_after(
 ) -> Result<ValueRow, FormErr>
     requires same { c.old.bytes ≡ bytes.now }
     requires few { length out.old ≤ 27 }
-    requires held { ValuesStandFrom version bytes.now out.old before.values before.end }
+    requires held { AreValuesInBytes version bytes.now out.old before.values before.end }
     requires start { before.values ≤ stop }
     requires first { stop ≤ length bytes.now }
     requires second { c.old.place + (stop - before.values) ≤ length bytes.now }
     requires again { SameBytesAtPlaces bytes.now before.values c.old.place (stop - before.values) }
     ensures ok { OnOk result (values_at version (length out.old) c.old ≡ Ok (out.new, c.new)) }
     ensures err { IfErr result (λ e. values_at version (length out.old) c.old ≡ Err e) }
-    ensures row { IfOk result (ChangesRow out.old out.new) }
+    ensures row { IfOk result (ChangesOnlyRow out.old out.new) }
     ensures from { IfOk result (RowBeginsAtPlace bytes.now c.old.place) }
     ensures bytes { c.new.bytes ≡ c.old.bytes }
 {
@@ -105,10 +105,10 @@ pub(crate) fn read_or_skip_values(
 ) -> Result<ValueRow, FormErr>
     requires same { c.old.bytes ≡ bytes.now }
     requires few { length out.old ≤ 27 }
-    requires held { IfSome before (StateComesAgain version bytes.now out.old start) }
+    requires held { IfSome before (StateRepeatsAt version bytes.now out.old start) }
     ensures ok { OnOk result (values_at version (length out.old) c.old ≡ Ok (out.new, c.new)) }
     ensures err { IfErr result (λ e. values_at version (length out.old) c.old ≡ Err e) }
-    ensures row { IfOk result (ChangesRow out.old out.new) }
+    ensures row { IfOk result (ChangesOnlyRow out.old out.new) }
     ensures from { IfOk result (RowBeginsAtPlace bytes.now c.old.place) }
     ensures bytes { c.new.bytes ≡ c.old.bytes }
 {
@@ -133,7 +133,7 @@ fn row_with_read_value(row: ValueRow, i: u8, place: u32) -> ValueRow
     requires order { row.first ≤ row.behind }
     requires behind { row.behind ≤ i }
     requires number { i < 27 }
-    ensures read { IsWithRead row i result }
+    ensures read { IsRowWithReadValue row i result }
     ensures from { (bytes : List ℕ) (x : ℕ) → RowBeginsAtPlace bytes x row
         → place ≡ place_after_values bytes x i → RowBeginsAtPlace bytes x result }
 {

@@ -3,7 +3,7 @@ ghost use Rattle.std.specs.Prelude.{◌≡◌, ◌≤◌, ◌<◌, ◌+◌, ◌*
 ghost use Rattle.value_domain.specs.declared.values.Val.{Val};
 ghost use Rattle.value_domain.specs.declared.values.Val.TheVariants.{Set};
 ghost use Rattle.value_domain.specs.Sets.{AreWords};
-ghost use Rattle.value_domain.specs.Values.{IsWell, IsBelow, IsValue};
+ghost use Rattle.value_domain.specs.Values.{IsWellFormed, IsBelow, IsValue};
 ghost use Rattle.packed_cert.specs.ValuesInBytes.{words_at, value_in, HasValueInBytes, values_in, HaveValuesInBytes};
 ghost use Rattle.value_domain.specs.State.{AreValues};
 ghost use Rattle.tcd_base.specs.Bytes.{word_in_bytes};
@@ -15,7 +15,7 @@ use value_domain::{Bounds, Val, is_value, set_span, set_words, write_any};
 
 /// Tests the value that is at a place in the bytes: returns true if another value is below it.
 pub(crate) fn is_below_value_at(v: &Val, bytes: &[u8], version: u8, place: usize) -> bool
-    requires well { IsWell v.now }
+    requires well { IsWellFormed v.now }
     requires stands { HasValueInBytes version bytes.now place }
     ensures { IsTrue result ↔ IsBelow v.now (value_in version bytes.now place) }
 {

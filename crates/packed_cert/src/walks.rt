@@ -2,9 +2,9 @@
 ghost use Rattle.std.specs.Prelude.{◌≡◌, ◌≤◌, ◌<◌, ◌-◌, ◌↔◌, [], drop, map, IfSome, IsTrue};
 ghost use Rattle.std.specs.List.Sorted.{IsStrictlyIncreasing};
 ghost use Rattle.packed_cert.specs.PointsInBytes.{state_in, HasState};
-ghost use Rattle.packed_cert.specs.ChangedRows.{ChangesRow};
+ghost use Rattle.packed_cert.specs.ChangedRows.{ChangesOnlyRow};
 ghost use Rattle.packed_cert.specs.ValuesInBytes.{values_in, HaveValuesInBytes};
-ghost use Rattle.packed_cert.specs.Moves.{IsMoved};
+ghost use Rattle.packed_cert.specs.Moves.{DiffersOnlyInRow};
 
 use crate::next_covers::does_next_point_cover;
 use crate::nodes::count_points_below;
@@ -50,10 +50,10 @@ impl<'a> Model for PointWalk<'a> {
 impl<'a> PointWalk<'a> {
     ghost use Rattle.std.specs.List.{All};
     ghost use Rattle.packed_cert.specs.PointsInBytes.{points_in, HasState};
-    ghost use Rattle.value_domain.specs.State.{AreWell};
+    ghost use Rattle.value_domain.specs.State.{AreWellFormed};
     ghost use Rattle.vd_transfer.specs.Changes.{state_after};
-    ghost use Rattle.packed_cert.specs.Moves.{AreMoves};
-    ghost use Rattle.packed_cert.specs.Walks.{StepsTo, RepeatsAt, CoversNext, CoversAt};
+    ghost use Rattle.packed_cert.specs.Moves.{AllDifferOnlyInRows};
+    ghost use Rattle.packed_cert.specs.Walks.{StepsTo, IsNextWithSameState, CoversNext, CoversAt};
 
     /// Returns a walk over no points.
     pub fn none() -> PointWalk<'a>
@@ -73,7 +73,7 @@ impl<'a> PointWalk<'a> {
     pub(crate) fn restart(&mut self, bytes: &'a [u8], version: u8, points: &'a [PointPlace])
         requires states { All (λ p. HasState version bytes.now p.place) points.now }
         requires rising { IsStrictlyIncreasing (map (λ p. p.addr) points.now) }
-        requires moves { AreMoves version bytes.now points.now }
+        requires moves { AllDifferOnlyInRows version bytes.now points.now }
         ensures left { self.new.left ≡ points_in version bytes.now points.now }
         ensures points { self.new.points ≡ points_in version bytes.now points.now }
     {
@@ -100,7 +100,7 @@ impl<'a> PointWalk<'a> {
 
     /// Returns the address of the next point if its state is the one at hand.
     pub fn next_address_if_same_state(&self) -> Option<u32>
-        ensures { IfSome result (RepeatsAt self.now) }
+        ensures { IfSome result (IsNextWithSameState self.now) }
     {
         if self.next >= self.points.len() {
             return None;
@@ -112,8 +112,8 @@ impl<'a> PointWalk<'a> {
     /// Returns true if the walk's next point has this address and is seen to cover the changed
     /// state. Only values put or in its row are compared; a base other than `Same` gives false.
     pub fn covers_next(&self, addr: u32, c: &Change) -> bool
-        requires hand { AreWell self.now.current.regs }
-        requires changed { AreWell (state_after self.now.current c.now).regs }
+        requires hand { AreWellFormed self.now.current.regs }
+        requires changed { AreWellFormed (state_after self.now.current c.now).regs }
         ensures { IsTrue result → CoversNext self.now addr (state_after self.now.current c.now) }
     {
         if self.next >= self.points.len() {
@@ -132,7 +132,7 @@ impl<'a> PointWalk<'a> {
     /// Returns true if a point has this address, and its state covers the one at hand. A state that
     /// is in the file at the same place is the same one, so its values aren't compared.
     pub fn covers_at(&self, addr: u32) -> bool
-        requires { AreWell self.now.current.regs }
+        requires { AreWellFormed self.now.current.regs }
         ensures { IsTrue result ↔ CoversAt self.now addr }
     {
         let points = self.points;
@@ -168,9 +168,9 @@ impl<'a> PointWalk<'a> {
 /// the row.
 fn walk_to_point(bytes: &[u8], version: u8, point: PointPlace, room: &mut State) -> ValueRow
     requires state { HasState version bytes.now point.place }
-    requires moved { IsMoved version bytes.now room.old point }
+    requires moved { DiffersOnlyInRow version bytes.now room.old point }
     ensures state { room.new ≡ state_in version bytes.now point.place }
-    ensures row { ChangesRow room.old.regs room.new.regs result }
+    ensures row { ChangesOnlyRow room.old.regs room.new.regs result }
     ensures few { result.behind ≤ 27 }
 {
     if point.same {
@@ -187,7 +187,7 @@ fn walk_to_point(bytes: &[u8], version: u8, point: PointPlace, room: &mut State)
 
 /// Reads the row of the walk's next point into its room, over the values of the state before.
 fn read_row(bytes: &[u8], version: u8, point: PointPlace, out: &mut [Val; 27])
-    requires row { ChangesRow out.old (state_in version bytes.now point.place).regs point.row }
+    requires row { ChangesOnlyRow out.old (state_in version bytes.now point.place).regs point.row }
     requires few { point.row.behind ≤ 27 }
     requires have { 0 < point.row.behind
         → HaveValuesInBytes version bytes.now point.row.from (27 - point.row.first) }

@@ -5,7 +5,7 @@ use Rattle.std.proofs.lemmas.List.{length-drop, take_all}
 use Rattle.value_domain.specs.declared.values.Val.{Val}
 use Rattle.value_domain.specs.declared.values.Val.TheVariants.{Set, Span}
 use Rattle.value_domain.specs.Limits.{Limits}
-use Rattle.value_domain.specs.Sets.{Among, Rising, Within}
+use Rattle.value_domain.specs.Sets.{Among, IsAscending, Within}
 use Rattle.value_domain.specs.Values.{IsMember, IsValue, cover, members, words_of, join_of}
 use Rattle.value_domain.proofs.CoverLaws.{cover-same}
 use Rattle.value_domain.proofs.ExtentLaws.{among_append, append_left, append_right}
@@ -22,7 +22,7 @@ pub record IsWalked (own words : List ℕ) (n k : ℕ) : Type 0 where
   pub held : (j : ℕ) → j < n → Among (get_or words j 0) own
   pub below : n < length words → Below own k (get_or words n 0)
 
-pub walk_both : (own words : List ℕ) (n k : ℕ) → Rising words → n < length words → k < length own → get_or own k 0 ≡ get_or words n 0 → IsWalked own words n k
+pub walk_both : (own words : List ℕ) (n k : ℕ) → IsAscending words → n < length words → k < length own → get_or own k 0 ≡ get_or words n 0 → IsWalked own words n k
     → IsWalked own words (n + 1) (k + 1)
 walk_both own words n k rising ln lk e w = record {
   end = omega arith;
@@ -56,7 +56,7 @@ walk_own own words n k lk le other w = record {
 }
 
 -- the next of the others is above the word, so the word isn't among them
-pub walk_past : (own words : List ℕ) (n k : ℕ) → Rising own → (k < length own → get_or words n 0 < get_or own k 0) → IsWalked own words n k → n < length words
+pub walk_past : (own words : List ℕ) (n k : ℕ) → IsAscending own → (k < length own → get_or words n 0 < get_or own k 0) → IsWalked own words n k → n < length words
     → Among (get_or words n 0) own → ⊥
 walk_past own words n k rising above w h i =
     not_among own k (get_or words n 0) rising (w.below h) (λ lt. let up = above lt in omega (arith, up)) (λ lt e. let up = above lt in omega (arith, up, e)) i
@@ -67,7 +67,7 @@ set_of (Set own) words e = let same : words ≡ own = cc in ap Set (sym same)
 set_of (Span lo last step) words e = absurd cc
 
 -- words with a greater one than all of the others aren't among them
-pub past_greatest : (held words : List ℕ) → Rising held → 1 ≤ length words → get_or held (length held - 1) 0 < get_or words (length words - 1) 0 → Within words held → ⊥
+pub past_greatest : (held words : List ℕ) → IsAscending held → 1 ≤ length words → get_or held (length held - 1) 0 < get_or words (length words - 1) 0 → Within words held → ⊥
 past_greatest held words rising some over within =
     let p = among_place held (get_or words (length words - 1) 0) (within (get_or words (length words - 1) 0) (among_get words (length words - 1) (omega arith))) in
     elim (cases_lt p.0 (length held - 1)) [

@@ -4,7 +4,7 @@ use Rattle.value_domain.specs.declared.values.Val.{Val}
 use Rattle.value_domain.specs.Limits.{Limits}
 use Rattle.value_domain.specs.declared.values.Val.TheVariants.{Set, Span}
 use Rattle.value_domain.specs.Sets.{Among}
-use Rattle.value_domain.specs.Values.{IsBelow, IsMember, IsValue, IsWell, any_val, members, join_of}
+use Rattle.value_domain.specs.Values.{IsBelow, IsMember, IsValue, IsWellFormed, any_val, members, join_of}
 use Rattle.value_domain.proofs.RangeLaws.{members_below}
 use Rattle.value_domain.proofs.CoverLaws.{among_member, cover-same, has_step, member_among}
 use Rattle.value_domain.proofs.ExtentLaws.{among_append, append_left}
@@ -24,7 +24,7 @@ join_held b v w x e m value =
     ∙ join_below b v (Set (x ∷ [])) value (λ z i. elim i [ inl same ↦ subst (λ (y : ℕ). IsMember y v) (sym same) m | inr none ↦ absurd none ]))
 
 -- nothing is added to all words
-pub join_all : (b : Limits) (v w : Val) → v ≡ any_val → IsValue b v → IsWell w → join_of b v w ≡ v
+pub join_all : (b : Limits) (v w : Val) → v ≡ any_val → IsValue b v → IsWellFormed w → join_of b v w ≡ v
 join_all b v w e value well =
     join_below b v w value (λ z i. subst (λ (u : Val). IsMember z u) (sym e) (omega arith, omega (arith, members_below w well z i), omega arith))
 
@@ -38,7 +38,7 @@ join_same b v w e value =
     ∙ value.own)
 
 -- a value with all members of the other is the least with those of both
-pub join_under : (b : Limits) (v w : Val) → IsValue b v → IsWell w → IsBelow w v → v ≡ join_of b v w
+pub join_under : (b : Limits) (v w : Val) → IsValue b v → IsWellFormed w → IsBelow w v → v ≡ join_of b v w
 join_under b v w value well below = sym (join_below b v w value (λ z i. below z (member_among w z (has_step w well) i)))
 
 -- each member of a value is below the range of one word exactly if it is that word

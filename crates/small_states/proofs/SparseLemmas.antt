@@ -6,8 +6,8 @@ use Rattle.std.proofs.lemmas.List.Concat.{flat_map-append}
 use Rattle.std.proofs.lemmas.List.{append-nil, append_assoc, drop-set, drop_more, get_or-append-add, get_or-append_right, get_or-replicate, get_or_append_left, get_or_at, get_or_past, get_or_default, length-append, length-replicate, length-take-le, length_push, replicate-append-replicate, replicate_more, set-get_or, set_at, set_past, set_split, take-append-drop, take-set, take_all, take_more}
 use Rattle.value_domain.specs.declared.values.Val.{Val}
 use Rattle.value_domain.specs.Limits.{Limits}
-use Rattle.value_domain.specs.State.{AreBelow, AreValues, AreWell, joined_regs}
-use Rattle.value_domain.specs.Values.{join_of, IsBelow, IsValue, IsWell, any_val}
+use Rattle.value_domain.specs.State.{AreBelow, AreValues, AreWellFormed, joined_regs}
+use Rattle.value_domain.specs.Values.{join_of, IsBelow, IsValue, IsWellFormed, any_val}
 use Rattle.value_domain.proofs.RangeLaws.{below_any}
 use Rattle.value_domain.proofs.RegLaws.{get_or-joined, length-joined}
 use Rattle.depth_cert.specs.Spelling.{bytes_of_value}
@@ -194,7 +194,7 @@ part_joins ws vs k from (suc count) h same =
     ∙ ap (λ (m : ℕ). take m ws) e
 
 -- ---- comparing
-module _ (known : List SpacedValue) (rest : ℕ) (ws : List Val) (long : length (all known rest) ≡ length ws) (well : AreWell ws) where
+module _ (known : List SpacedValue) (rest : ℕ) (ws : List Val) (long : length (all known rest) ≡ length ws) (well : AreWellFormed ws) where
   -- below up to the last known value, so everywhere
   pub covered_all : ((r : ℕ) → r < length (compact_front known) → IsBelow (get_or ws r any_val) (get_or (all known rest) r any_val)) → AreBelow ws (all known rest)
   covered_all so_far r lt =
@@ -404,6 +404,6 @@ spelled_all known rest old =
     (ap (λ (l : List ℕ). flat_map bytes_of_value (compact_front known) ++ l) (sym (bytes_of_anys rest)) ∙ sym (flat_map-append bytes_of_value (compact_front known) (replicate rest any_val)))
 
 -- a known value is one of all
-pub known_well : (known : List SpacedValue) (rest n : ℕ) (here : SpacedValue) → n < length known → here ≡ get_or known n here → All IsWell (all known rest) → IsWell here.value
+pub known_well : (known : List SpacedValue) (rest n : ℕ) (here : SpacedValue) → n < length known → here ≡ get_or known n here → All IsWellFormed (all known rest) → IsWellFormed here.value
 known_well known rest n here lt is well =
-    subst IsWell (value_there known rest n here lt is) (well (length (compact_front (take n known)) + here.anys) any_val (is_within known rest n here lt is))
+    subst IsWellFormed (value_there known rest n here lt is) (well (length (compact_front (take n known)) + here.anys) any_val (is_within known rest n here lt is))

@@ -33,17 +33,17 @@ values_from vs from zero = []
 values_from vs from (suc count) = slice_index_or vs from any_val ∷ values_from vs (from + 1) count
 
 -- the state with these values
-abbrev pub state_in : SmallState → State
-state_in s = record { regs = all_values s.regs.value; ie = s.ie; ccpn = s.ccpn; lower = s.lower; locals = s.locals }
+abbrev pub whole_state : SmallState → State
+whole_state s = record { regs = all_values s.regs.value; ie = s.ie; ccpn = s.ccpn; lower = s.lower; locals = s.locals }
 
 -- the exit with these values
-abbrev pub exit_in : SmallExit → Exit
-exit_in x = record { ie = x.ie; ccpn = x.ccpn; lower = all_values x.lower.value }
+abbrev pub whole_exit : SmallExit → Exit
+whole_exit x = record { ie = x.ie; ccpn = x.ccpn; lower = all_values x.lower.value }
 
 -- the state or the exit of this form
-abbrev pub known_of : KnownForm → Known
-known_of (Point s) = state (state_in s)
-known_of (Leaves x) = leaving (exit_in x)
+abbrev pub whole_known : KnownForm → Known
+whole_known (Point s) = state (whole_state s)
+whole_known (Leaves x) = leaving (whole_exit x)
 
 -- the outline (IE, CCPN and the number of locals) is that of the state that a compact form stands
 -- for; an exit has none
@@ -52,7 +52,7 @@ IsOutline (state s) o = (s.ie ≡ o.ie) × (s.ccpn ≡ o.ccpn) × (length s.loca
 IsOutline (leaving x) o = ⊥
 
 -- the place i is after n known values and `others` unknown ones, before the next known value
-pub record IsFoundIn (v : Values) (i n others : ℕ) : Type 0 where
+pub record IsIndexAfter (v : Values) (i n others : ℕ) : Type 0 where
   pub within : n ≤ length v.known.items
   pub at : i ≡ length (compact_front (take n v.known.items)) + others
   pub before : n < length v.known.items → (d : SpacedValue) → others ≤ (slice_index_or v.known.items n d).anys

@@ -6,7 +6,7 @@ use Rattle.vd_transfer.specs.Changes.{state_after}
 use Rattle.depth_cert.specs.Exits.{state_after_exit, exit_of, lower_values}
 use Rattle.depth_cert.specs.Spelling.{bytes_of_state}
 use Rattle.depth_cert.specs.Known.{Known, state, leaving}
-use Rattle.small_states.specs.CompactForms.{exit_in}
+use Rattle.small_states.specs.CompactForms.{whole_exit}
 use Rattle.small_states.specs.declared.incoming.Incoming.{Incoming}
 use Rattle.small_states.specs.declared.incoming.Context.{Context}
 use Rattle.small_states.specs.declared.incoming.Incoming.TheVariants.{Changed, After, Leaving}
@@ -17,7 +17,7 @@ use Rattle.small_states.specs.declared.incoming.Given.TheVariants.{Whole, Compac
 -- what flows in
 abbrev pub incoming_known : Incoming → Known
 incoming_known (Changed s c) = state (state_after s.now c.now)
-incoming_known (After s x kind) = state (state_after_exit s.now (exit_in x.now) kind)
+incoming_known (After s x kind) = state (state_after_exit s.now (whole_exit x.now) kind)
 incoming_known (Leaving s) = leaving (exit_of s.now)
 
 -- the state of the point that it comes from
@@ -29,7 +29,7 @@ sender_state (Leaving s) = s.now
 -- the incoming values: 27 of a state, or 14 of an exit
 abbrev pub incoming_values : Incoming → List Val
 incoming_values (Changed s c) = (state_after s.now c.now).regs
-incoming_values (After s x kind) = (state_after_exit s.now (exit_in x.now) kind).regs
+incoming_values (After s x kind) = (state_after_exit s.now (whole_exit x.now) kind).regs
 incoming_values (Leaving s) = lower_values (s.now).regs
 
 -- an exit flows in
@@ -47,8 +47,8 @@ abbrev pub incoming_exit_with : List Val → Context → Exit
 incoming_exit_with values k = record { ie = k.ie; ccpn = k.ccpn; lower = values }
 
 -- what flows in, by its values and its context
-abbrev pub known_by : Incoming → Context → Known
-known_by incoming k = if is_incoming_exit incoming then leaving (incoming_exit_with (incoming_values incoming) k) else state (incoming_state_with (incoming_values incoming) k)
+abbrev pub incoming_known_with : Incoming → Context → Known
+incoming_known_with incoming k = if is_incoming_exit incoming then leaving (incoming_exit_with (incoming_values incoming) k) else state (incoming_state_with (incoming_values incoming) k)
 
 -- if what is known at a place, into which other states flow, is a state, its bytes are appended and
 -- its CCPN is a byte; nothing is said of an exit
@@ -57,6 +57,6 @@ AddsKnownState (state s) old new = (new ≡ old ++ bytes_of_state s) × (s.ccpn 
 AddsKnownState (leaving x) old new = Unit {0}
 
 -- the value that an incoming value stands for, whether it is given whole or in compact form
-abbrev pub given_of : Given → Val
-given_of (Whole v) = v.now
-given_of (Compact v) = v.now
+abbrev pub value_of_given : Given → Val
+value_of_given (Whole v) = v.now
+value_of_given (Compact v) = v.now

@@ -1,10 +1,10 @@
 // What flows into a place from the duty of a point.
 ghost use Rattle.std.specs.Prelude.{◌≡◌, ◌<◌, ◌-◌, ◌==◌, length, ◌↔◌, IsTrue, IfOk, Some};
-ghost use Rattle.small_states.specs.Incoming.{incoming_known, is_incoming_exit, known_by, incoming_values, incoming_state_with, incoming_exit_with};
+ghost use Rattle.small_states.specs.Incoming.{incoming_known, is_incoming_exit, incoming_known_with, incoming_values, incoming_state_with, incoming_exit_with};
 ghost use Rattle.depth_cert.specs.Known.{known_priority, state, leaving};
 ghost use Rattle.std.specs.Option.{option_map};
-ghost use Rattle.value_domain.specs.State.{AreValues, AreWell, Covers, joined_states};
-ghost use Rattle.small_states.specs.CompactForms.{all_values, state_in, known_of, exit_in};
+ghost use Rattle.value_domain.specs.State.{AreValues, AreWellFormed, Covers, joined_states};
+ghost use Rattle.small_states.specs.CompactForms.{all_values, whole_state, whole_known, whole_exit};
 ghost use Rattle.depth_cert.specs.Exits.{ExitCovers, joined_exit};
 
 use crate::incoming_values::{are_incoming_covered, join_incoming_values};
@@ -77,7 +77,7 @@ pub(crate) fn is_exit_flow(incoming: &Incoming) -> bool
 
 /// Returns the incoming facts beside the values.
 pub(crate) fn incoming_context<'a>(incoming: &Incoming<'a>) -> Context<'a>
-    ensures { incoming_known incoming.now ≡ known_by incoming.now result }
+    ensures { incoming_known incoming.now ≡ incoming_known_with incoming.now result }
 {
     let ccpn = incoming_priority(incoming);
     match incoming {
@@ -106,7 +106,7 @@ pub(crate) fn incoming_context<'a>(incoming: &Incoming<'a>) -> Context<'a>
 /// Returns the incoming state or exit with these values.
 pub(crate) fn incoming_form(values: Rc<Values>, incoming: &Incoming) -> KnownForm
     requires { all_values values.value ≡ incoming_values incoming.now }
-    ensures { known_of result ≡ incoming_known incoming.now }
+    ensures { whole_known result ≡ incoming_known incoming.now }
 {
     let k = incoming_context(incoming);
     if is_exit_flow(incoming) {
@@ -131,12 +131,12 @@ pub(crate) fn is_incoming_state_covered(
     incoming: &Incoming,
     k: &Context,
 ) -> bool
-    requires upper { AreWell (all_values upper.now.regs.value) }
-    requires incoming { AreWell (incoming_values incoming.now) }
+    requires upper { AreWellFormed (all_values upper.now.regs.value) }
+    requires incoming { AreWellFormed (incoming_values incoming.now) }
     requires long { length (all_values upper.now.regs.value)
         ≡ length (incoming_values incoming.now) }
     ensures { IsTrue result
-        ↔ Covers (state_in upper.now) (incoming_state_with (incoming_values incoming.now) k.now) }
+        ↔ Covers (whole_state upper.now) (incoming_state_with (incoming_values incoming.now) k.now) }
 {
     if !upper.covers_context(k.ie, k.ccpn, k.lower) {
         return false;
@@ -161,7 +161,7 @@ pub(crate) fn join_incoming_state(
         ≡ length (incoming_values incoming.now) }
     ensures { IfOk result
         (λ r. r ≡ option_map state
-        (joined_states b.now (state_in left.now)
+        (joined_states b.now (whole_state left.now)
         (incoming_state_with (incoming_values incoming.now) k.now))) }
 {
     if left.locals.len() != k.locals.len() {
@@ -180,12 +180,12 @@ pub(crate) fn join_incoming_state(
 
 /// Returns whether an exit covers the incoming one.
 pub(crate) fn is_incoming_exit_covered(upper: &SmallExit, incoming: &Incoming, k: &Context) -> bool
-    requires upper { AreWell (all_values upper.now.lower.value) }
-    requires incoming { AreWell (incoming_values incoming.now) }
+    requires upper { AreWellFormed (all_values upper.now.lower.value) }
+    requires incoming { AreWellFormed (incoming_values incoming.now) }
     requires long { length (all_values upper.now.lower.value)
         ≡ length (incoming_values incoming.now) }
     ensures { IsTrue result
-        ↔ ExitCovers (exit_in upper.now) (incoming_exit_with (incoming_values incoming.now) k.now) }
+        ↔ ExitCovers (whole_exit upper.now) (incoming_exit_with (incoming_values incoming.now) k.now) }
 {
     if !upper.covers_context(k.ie, k.ccpn) {
         return false;
@@ -207,7 +207,7 @@ pub(crate) fn join_incoming_exit(
         ≡ length (incoming_values incoming.now) }
     ensures { IfOk result
         (λ r. r ≡ Some
-        (leaving (joined_exit b.now (exit_in exit.now)
+        (leaving (joined_exit b.now (whole_exit exit.now)
         (incoming_exit_with (incoming_values incoming.now) k.now)))) }
 {
     let lower = Rc::new(alloc, join_incoming_values(alloc, b, exit.lower.as_ref(), incoming)?)?;

@@ -1,13 +1,13 @@
 // Lists of compact values: made from what flows in, compared with it, joined with it.
 ghost use Rattle.std.specs.Prelude.{◌≡◌, ◌↔◌, IsTrue, IfOk, OnOk, length, ◌<◌, ◌-◌, ◌==◌, nat_lt, slice_index_or, if◌then◌else◌, ◌≤◌};
-ghost use Rattle.value_domain.specs.State.{AreBelow, AreValues, AreWell, joined_regs};
-ghost use Rattle.vd_transfer.specs.Changes.{base_of, put_in, state_after};
-ghost use Rattle.vd_transfer.specs.EffectsOnStates.{forgotten_from};
-ghost use Rattle.small_states.specs.Incoming.{sender_state, incoming_values, given_of};
+ghost use Rattle.value_domain.specs.State.{AreBelow, AreValues, AreWellFormed, joined_regs};
+ghost use Rattle.vd_transfer.specs.Changes.{base_of, with_put, state_after};
+ghost use Rattle.vd_transfer.specs.EffectsOnStates.{with_lower_unknown_from};
+ghost use Rattle.small_states.specs.Incoming.{sender_state, incoming_values, value_of_given};
 ghost use Rattle.small_states.specs.CompactForms.{all_values};
 ghost use Rattle.value_domain.specs.Values.{any_val};
 ghost use Rattle.value_domain.specs.State as states;
-ghost use Rattle.depth_cert.specs.Exits.{with_lower_from};
+ghost use Rattle.depth_cert.specs.Exits.{values_with_lower_from};
 
 use crate::SmallExit;
 use crate::incoming::{Given, Incoming};
@@ -62,8 +62,8 @@ pub(crate) fn compact_shared_values(
 /// Returns whether each incoming value is below the one at its place. Places of unknown values are
 /// skipped.
 pub(crate) fn are_incoming_covered(upper: &Values, incoming: &Incoming) -> bool
-    requires upper { AreWell (all_values upper.now) }
-    requires incoming { AreWell (incoming_values incoming.now) }
+    requires upper { AreWellFormed (all_values upper.now) }
+    requires incoming { AreWellFormed (incoming_values incoming.now) }
     requires long { length (all_values upper.now) ≡ length (incoming_values incoming.now) }
     ensures { IsTrue result ↔ AreBelow (incoming_values incoming.now) (all_values upper.now) }
 {
@@ -130,7 +130,7 @@ pub(crate) fn join_incoming_values(
 pub(crate) fn incoming_value<'a>(incoming: &'a Incoming, any: &'a Small, i: usize) -> Given<'a>
     requires place { i < length (incoming_values incoming.now) }
     requires any { any.now ≡ any_val }
-    ensures { given_of result ≡ slice_index_or (incoming_values incoming.now) i any_val }
+    ensures { value_of_given result ≡ slice_index_or (incoming_values incoming.now) i any_val }
 {
     match incoming {
         Incoming::Changed(s, c) => {
@@ -200,7 +200,7 @@ fn put_change_over(alloc: Global, own: &Rc<Values>, c: &Change) -> Result<Rc<Val
     requires { length (all_values own.now.value) ≡ 27 }
     ensures { IfOk result
         (λ values. all_values values.value
-        ≡ put_in (put_in (put_in (base_of c.now.base (all_values own.now.value)) c.now.first)
+        ≡ with_put (with_put (with_put (base_of c.now.base (all_values own.now.value)) c.now.first)
         c.now.second) c.now.third) }
 {
     if c.first.at.is_none() && c.second.at.is_none() && c.third.at.is_none() {
@@ -234,7 +234,7 @@ fn base_values(alloc: Global, own: &Values, base: Base) -> Result<Values, AllocE
 /// Puts one value of a change over a list of compact incoming values, if the change has it.
 #[inline(always)]
 fn put_value_over(alloc: Global, values: &mut Values, put: &Put) -> Result<(), AllocError>
-    ensures { OnOk result (all_values values.new ≡ put_in (all_values values.old) put.now) }
+    ensures { OnOk result (all_values values.new ≡ with_put (all_values values.old) put.now) }
 {
     let Some(at) = put.at else {
         return Ok(());
@@ -247,7 +247,7 @@ fn put_value_over(alloc: Global, values: &mut Values, put: &Put) -> Result<(), A
 #[inline(never)]
 fn without_lower_values(alloc: Global, own: &Values) -> Result<Values, AllocError>
     requires { length (all_values own.now) ≡ 27 }
-    ensures { IfOk result (λ values. all_values values ≡ forgotten_from 0 (all_values own.now)) }
+    ensures { IfOk result (λ values. all_values values ≡ with_lower_unknown_from 0 (all_values own.now)) }
 {
     let mut values = Values {
         known: Vec::with_capacity(alloc, own.known.len() + 1)?,
@@ -264,7 +264,7 @@ fn without_lower_values(alloc: Global, own: &Values) -> Result<Values, AllocErro
 fn changed_state_value<'a>(s: &'a State, c: &'a Change, any: &'a Small, i: usize) -> Given<'a>
     requires place { i < 27 }
     requires any { any.now ≡ any_val }
-    ensures { given_of result ≡ slice_index_or (state_after s.now c.now).regs i any_val }
+    ensures { value_of_given result ≡ slice_index_or (state_after s.now c.now).regs i any_val }
 {
     let _regs = &s.regs[..];
     if c.third.at == Some(i) {
@@ -289,8 +289,8 @@ fn value_after_return<'a>(
 ) -> Given<'a>
     requires place { i < 27 }
     requires any { any.now ≡ any_val }
-    ensures { given_of result
-        ≡ slice_index_or (with_lower_from 0 (all_values exit.now.lower.value) s.now.regs) i
+    ensures { value_of_given result
+        ≡ slice_index_or (values_with_lower_from 0 (all_values exit.now.lower.value) s.now.regs) i
         any_val }
 {
     let _regs = &s.regs[..];
@@ -302,7 +302,7 @@ fn value_after_return<'a>(
 fn base_value<'a>(s: &'a State, base: Base, any: &'a Small, i: usize) -> Given<'a>
     requires place { i < 27 }
     requires any { any.now ≡ any_val }
-    ensures { given_of result ≡ slice_index_or (base_of base s.now.regs) i any_val }
+    ensures { value_of_given result ≡ slice_index_or (base_of base s.now.regs) i any_val }
 {
     let _regs = &s.regs[..];
     match base {
@@ -328,7 +328,7 @@ fn lower_or_caller_value<'a>(
     v: &'a Val,
 ) -> Given<'a>
     requires { any.now ≡ any_val }
-    ensures { given_of result
+    ensures { value_of_given result
         ≡ (if states.is_lower_slot i
         then slice_index_or (all_values exit.now.lower.value)
         (if nat_lt i 8 then i else i - 8) any_val

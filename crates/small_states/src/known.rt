@@ -1,6 +1,6 @@
 // What is known at a place.
 ghost use Rattle.std.specs.Prelude.{◌≡◌, ◌↔◌, IsTrue, IfNone, IfOk, IfSome, OnOk, Some};
-ghost use Rattle.small_states.specs.CompactForms.{exit_in, known_of, IsOutline};
+ghost use Rattle.small_states.specs.CompactForms.{whole_exit, whole_known, IsOutline};
 ghost use Rattle.small_states.specs.Incoming.{AddsKnownState, incoming_known, sender_state};
 ghost use Rattle.depth_cert.specs.Known.{CoversKnown, joined_known, state, leaving, IsNoExit, IsKnownState};
 ghost use Rattle.depth_cert.specs.WellFormed.{IsWellFormedKnown};
@@ -46,11 +46,11 @@ pub struct SmallKnown {
 
 impl Model for SmallKnown {
     ghost use Rattle.depth_cert.specs.Known.{Known};
-    ghost use Rattle.small_states.specs.CompactForms.{known_of};
+    ghost use Rattle.small_states.specs.CompactForms.{whole_known};
 
     ghost Value = { Known };
 
-    ghost view = { λ c. known_of c.form };
+    ghost view = { λ c. whole_known c.form };
 }
 
 /// Returns whether the incoming state seems to cover the known one. The answer is only a hint,
@@ -242,7 +242,7 @@ impl SmallKnown {
 
     /// Returns the compact exit, or `None` for a state.
     pub fn exit(&self) -> Option<&SmallExit>
-        ensures some { IfSome result (λ x. self.now ≡ leaving (exit_in x.now)) }
+        ensures some { IfSome result (λ x. self.now ≡ leaving (whole_exit x.now)) }
         ensures none { IfNone result (IsNoExit self.now) }
     {
         match &self.form {

@@ -1,6 +1,6 @@
 // A state that visits write over.
 ghost use Rattle.std.specs.Prelude.{◌≡◌, IfSome, IsTrue, length};
-ghost use Rattle.small_states.specs.CompactForms.{all_values, state_in};
+ghost use Rattle.small_states.specs.CompactForms.{all_values, whole_state};
 
 use crate::states::SmallState;
 use crate::values::Values;
@@ -103,7 +103,7 @@ impl ScratchState {
     /// Writes a state over it.
     pub(crate) fn write(&mut self, s: &SmallState)
         requires { length (all_values s.now.regs.value) ≡ 27 }
-        ensures { self.new ≡ state_in s.now }
+        ensures { self.new ≡ whole_state s.now }
     {
         write_scratch_values(&s.regs, &mut self.last, &mut self.state.regs);
         self.state.ie = s.ie;

@@ -2,10 +2,10 @@
 ghost use Rattle.std.specs.Prelude.{◌≡◌, ◌↔◌, ◌≤◌, ◌<◌, ℕ, List, IsTrue, IfOk, IfSome, OnOk, ◌∷◌, ◌++◌, [], length, slice_index};
 ghost use Rattle.depth_cert.specs.Spelling.{bytes_of_value};
 ghost use Rattle.value_domain.specs.declared.values.Val.TheVariants.{Set, Span};
-ghost use Rattle.value_domain.specs.Sets.{Among, Rising};
-ghost use Rattle.value_domain.specs.Values.{IsWell, IsValue, IsBelow, IsMember, any_val, cover, members, join_of};
+ghost use Rattle.value_domain.specs.Sets.{Among, IsAscending};
+ghost use Rattle.value_domain.specs.Values.{IsWellFormed, IsValue, IsBelow, IsMember, any_val, cover, members, join_of};
 ghost use Rattle.small_states.specs.SmallValues.{small_value_of};
-ghost use Rattle.small_states.specs.Incoming.{given_of};
+ghost use Rattle.small_states.specs.Incoming.{value_of_given};
 
 use crate::incoming::Given;
 use depth_cert::write_value;
@@ -74,8 +74,8 @@ fn have_same_words(v: &Val, w: &Val) -> bool
 /// Returns the number of words that are among those of a small value, up to the first that isn't.
 /// Both ascend, and are walked once.
 fn count_held_words(own: &[u32], words: &[u32]) -> usize
-    requires own { Rising own.now }
-    requires words { Rising words.now }
+    requires own { IsAscending own.now }
+    requires words { IsAscending words.now }
     ensures within { result ≤ length words.now }
     ensures held { (j : ℕ) → j < result → Among (slice_index words.now j) own.now }
     ensures missing { result < length words.now → ¬ Among (slice_index words.now result) own.now }
@@ -97,8 +97,8 @@ fn count_held_words(own: &[u32], words: &[u32]) -> usize
 /// Returns whether each member of a value is one of another. Of two sets it compares the greatest
 /// words first. A set that grew mostly begins with the words that it had.
 fn is_below_small_value(v: &Val, own: &Val) -> bool
-    requires value { IsWell v.now }
-    requires own { IsWell own.now }
+    requires value { IsWellFormed v.now }
+    requires own { IsWellFormed own.now }
     ensures { IsTrue result ↔ IsBelow v.now own.now }
 {
     let Some(words) = v.words() else {
@@ -122,7 +122,7 @@ fn is_below_small_value(v: &Val, own: &Val) -> bool
 /// Returns whether each member of a value is a word of a range that a small value holds, which may
 /// be a single word.
 fn is_below_range(v: &Val, lo: u32, last: u32, step: u8) -> bool
-    requires value { IsWell v.now }
+    requires value { IsWellFormed v.now }
     requires step { step ≤ 2 }
     ensures { IsTrue result ↔ IsBelow v.now (Span lo last step) }
 {
@@ -289,7 +289,7 @@ impl Small {
     /// Returns a compact copy of an incoming value.
     #[inline(always)]
     pub(crate) fn of_incoming(alloc: Global, v: &Given) -> Result<Small, AllocError>
-        ensures { IfOk result (λ s. s ≡ given_of v.now) }
+        ensures { IfOk result (λ s. s ≡ value_of_given v.now) }
     {
         match v {
             Given::Whole(v) => Small::of(alloc, v),
@@ -316,7 +316,7 @@ impl Small {
     /// Appends the only bytes that spell this small value. It makes the whole value first.
     #[inline(never)]
     pub(crate) fn spell(&self, out: &mut Vec<u8>) -> Result<(), NoMemory>
-        requires { IsWell self.now }
+        requires { IsWellFormed self.now }
         ensures { OnOk result (out.new.items ≡ out.old.items ++ bytes_of_value self.now) }
     {
         write_value(out, &self.value())
@@ -325,8 +325,8 @@ impl Small {
     /// Returns whether it has all members of a value.
     #[inline(always)]
     pub fn covers(&self, v: &Val) -> bool
-        requires own { IsWell self.now }
-        requires value { IsWell v.now }
+        requires own { IsWellFormed self.now }
+        requires value { IsWellFormed v.now }
         ensures { IsTrue result ↔ IsBelow v.now self.now }
     {
         if let Some(x) = singleton_word(v) {
@@ -367,8 +367,8 @@ impl Small {
     /// Returns whether it has all members of a compact value.
     #[inline(always)]
     pub(crate) fn covers_small(&self, v: &Small) -> bool
-        requires own { IsWell self.now }
-        requires value { IsWell v.now }
+        requires own { IsWellFormed self.now }
+        requires value { IsWellFormed v.now }
         ensures { IsTrue result ↔ IsBelow v.now self.now }
     {
         if self.is_equal(v) {
@@ -380,9 +380,9 @@ impl Small {
     /// Returns whether the small value has all members of an incoming one.
     #[inline(always)]
     pub(crate) fn covers_incoming(&self, v: &Given) -> bool
-        requires own { IsWell self.now }
-        requires value { IsWell (given_of v.now) }
-        ensures { IsTrue result ↔ IsBelow (given_of v.now) self.now }
+        requires own { IsWellFormed self.now }
+        requires value { IsWellFormed (value_of_given v.now) }
+        ensures { IsTrue result ↔ IsBelow (value_of_given v.now) self.now }
     {
         match v {
             Given::Whole(v) => self.covers(v),
@@ -420,8 +420,8 @@ impl Small {
         v: &Given,
     ) -> Result<Small, AllocError>
         requires own { IsValue b.now self.now }
-        requires value { IsValue b.now (given_of v.now) }
-        ensures { IfOk result (λ s. s ≡ join_of b.now self.now (given_of v.now)) }
+        requires value { IsValue b.now (value_of_given v.now) }
+        ensures { IfOk result (λ s. s ≡ join_of b.now self.now (value_of_given v.now)) }
     {
         match v {
             Given::Whole(v) => self.join(alloc, b, v),
@@ -494,8 +494,8 @@ impl Small {
     /// before.
     #[inline(never)]
     fn covers_compact(&self, v: &Small) -> bool
-        requires own { IsWell self.now }
-        requires value { IsWell v.now }
+        requires own { IsWellFormed self.now }
+        requires value { IsWellFormed v.now }
         ensures { IsTrue result ↔ IsBelow v.now self.now }
     {
         match &v.form {
@@ -529,8 +529,8 @@ impl Small {
     /// Returns whether it has all members of a compact value. It makes the whole value.
     #[inline(never)]
     fn covers_as_whole(&self, v: &Small) -> bool
-        requires own { IsWell self.now }
-        requires value { IsWell v.now }
+        requires own { IsWellFormed self.now }
+        requires value { IsWellFormed v.now }
         ensures { IsTrue result ↔ IsBelow v.now self.now }
     {
         self.covers(&v.value())

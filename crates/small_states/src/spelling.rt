@@ -1,10 +1,10 @@
 // Writes the only bytes that spell compact values and states in a certificate.
 ghost use Rattle.std.specs.Prelude.{◌≡◌, ◌++◌, All, OnOk, Some, replicate};
 ghost use Rattle.std.specs.List.{flat_map};
-ghost use Rattle.value_domain.specs.Values.{IsWell};
+ghost use Rattle.value_domain.specs.Values.{IsWellFormed};
 ghost use Rattle.depth_cert.specs.Keys as keys;
 ghost use Rattle.depth_cert.specs.Spelling.{bytes_of_exit, bytes_of_state, bytes_of_value};
-ghost use Rattle.small_states.specs.CompactForms.{all_values, exit_in, state_in};
+ghost use Rattle.small_states.specs.CompactForms.{all_values, whole_exit, whole_state};
 
 use crate::gathered::Gathered;
 use crate::small_value::{Small, SmallForm};
@@ -23,7 +23,7 @@ fn spelled_flag_byte(x: bool) -> u8
 /// Appends the bytes of all values of a list.
 #[inline(always)]
 fn spell_values(out: &mut Vec<u8>, gathered: &mut Gathered, values: &Values) -> Result<(), NoMemory>
-    requires { All IsWell (all_values values.now) }
+    requires { All IsWellFormed (all_values values.now) }
     ensures { OnOk result (out.new.items ++ gathered.new
         ≡ (out.old.items ++ gathered.old) ++ flat_map bytes_of_value (all_values values.now)) }
 {
@@ -45,7 +45,7 @@ fn spell_spaced_value(
     anys: u32,
     v: &Small,
 ) -> Result<(), NoMemory>
-    requires { IsWell v.now }
+    requires { IsWellFormed v.now }
     ensures { OnOk result (out.new.items ++ gathered.new
         ≡ ((out.old.items ++ gathered.old) ++ replicate anys 0) ++ bytes_of_value v.now) }
 {
@@ -66,9 +66,9 @@ impl SmallState {
     /// Appends the bytes that spell the state.
     #[tactic(auto, unfolding(depth_cert::specs::Spelling::bytes_of_state))]
     pub(crate) fn spell(&self, out: &mut Vec<u8>) -> Result<(), NoMemory>
-        requires { All IsWell (all_values self.now.regs.value) }
+        requires { All IsWellFormed (all_values self.now.regs.value) }
         ensures { OnOk result
-            (out.new.items ≡ out.old.items ++ bytes_of_state (state_in self.now)) }
+            (out.new.items ≡ out.old.items ++ bytes_of_state (whole_state self.now)) }
     {
         let locals = self.locals.as_slice();
         let mut gathered = Gathered::new();
@@ -88,9 +88,9 @@ impl SmallExit {
     /// Appends the bytes that spell the exit.
     #[tactic(auto, unfolding(depth_cert::specs::Spelling::bytes_of_exit))]
     pub fn spell(&self, out: &mut Vec<u8>) -> Result<(), NoMemory>
-        requires { All IsWell (all_values self.now.lower.value) }
+        requires { All IsWellFormed (all_values self.now.lower.value) }
         ensures { OnOk result
-            (out.new.items ≡ out.old.items ++ bytes_of_exit (Some (exit_in self.now))) }
+            (out.new.items ≡ out.old.items ++ bytes_of_exit (Some (whole_exit self.now))) }
     {
         let mut gathered = Gathered::new();
         gathered.push(1);

@@ -1,6 +1,6 @@
 // States and exits with compact values.
 ghost use Rattle.std.specs.Prelude.{◌≡◌, ◌≤◌, ◌↔◌, IsTrue, IfOk};
-ghost use Rattle.small_states.specs.CompactForms.{exit_in};
+ghost use Rattle.small_states.specs.CompactForms.{whole_exit};
 
 use crate::values::Values;
 use arrayvec::ArrayVec;
@@ -47,7 +47,7 @@ impl SmallState {
 impl SmallExit {
     /// Returns a copy of the compact exit, which shares its values.
     pub fn copy(&self) -> Result<SmallExit, AllocError>
-        ensures { IfOk result (λ x. exit_in x ≡ exit_in self.now) }
+        ensures { IfOk result (λ x. whole_exit x ≡ whole_exit self.now) }
     {
         let lower = self.lower.clone()?;
         Ok(SmallExit {

@@ -1,10 +1,10 @@
 // Sparse lists of values: only known values take room. A value is unknown if it holds all words.
 ghost use Rattle.std.specs.Prelude.{◌≡◌, ◌+◌, ◌-◌, ◌^◌, ◌<◌, ◌≤◌, ◌++◌, ◌∷◌, [], IfOk, OnOk, length, replicate, take, slice_index_or, slice_set, IsTrue};
 ghost use Rattle.value_domain.specs.Values.{any_val};
-ghost use Rattle.small_states.specs.CompactForms.{all_values, compact_front, values_from, IsFoundIn};
-ghost use Rattle.small_states.specs.Incoming.{given_of};
+ghost use Rattle.small_states.specs.CompactForms.{all_values, compact_front, values_from, IsIndexAfter};
+ghost use Rattle.small_states.specs.Incoming.{value_of_given};
 ghost use Rattle.small_states.specs.declared.values.SpacedValue as spaced;
-ghost use Rattle.value_domain.specs.State.{AreBelow, AreWell};
+ghost use Rattle.value_domain.specs.State.{AreBelow, AreWellFormed};
 
 use crate::incoming::Given;
 use crate::small_value::{Small, SmallForm};
@@ -80,7 +80,7 @@ impl Values {
     /// Returns the value at a place. `any` is returned for an unknown value.
     pub(crate) fn value_or_any<'a>(&'a self, any: &'a Small, i: usize) -> Given<'a>
         requires { any.now ≡ any_val }
-        ensures { given_of result ≡ slice_index_or (all_values self.now) i any_val }
+        ensures { value_of_given result ≡ slice_index_or (all_values self.now) i any_val }
     {
         let (n, anys) = self.find(i);
         if n < self.known.len() {
@@ -194,7 +194,7 @@ impl Values {
     /// between.
     #[inline(always)]
     fn find(&self, i: usize) -> (usize, usize)
-        ensures { IsFoundIn self.now i result.0 result.1 }
+        ensures { IsIndexAfter self.now i result.0 result.1 }
     {
         let known = self.known.as_slice();
         let mut left = i;
@@ -262,8 +262,8 @@ impl Values {
 /// Returns true only if both sparse lists of values have the same gaps and each value is below the
 /// other list's value at its place.
 pub(crate) fn are_all_below(low: &Values, high: &Values) -> bool
-    requires low { AreWell (all_values low.now) }
-    requires high { AreWell (all_values high.now) }
+    requires low { AreWellFormed (all_values low.now) }
+    requires high { AreWellFormed (all_values high.now) }
     requires long { length (all_values low.now) ≡ length (all_values high.now) }
     ensures { IsTrue result → AreBelow (all_values low.now) (all_values high.now) }
 {

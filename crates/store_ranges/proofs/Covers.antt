@@ -9,14 +9,14 @@ use Rattle.value_domain.specs.Limits.{Limits, AreLimits}
 use Rattle.value_domain.specs.declared.values.Val.{Val}
 use Rattle.value_domain.specs.declared.values.Val.TheVariants.{Span}
 use Rattle.value_domain.specs.Floors.{floor, above}
-use Rattle.value_domain.specs.Values.{IsValue, cover, range, any_val, count_in, first_in_span}
+use Rattle.value_domain.specs.Values.{IsValue, cover, range, any_val, span_len, first_in_span}
 use Rattle.value_domain.proofs.SetLaws.{length-put_new, distinct-rising, length-distinct}
 use Rattle.value_domain.proofs.CoverLaws.{among_range, range_among, length-multiples, rising_multiples, unit_some}
 use Rattle.value_domain.proofs.ExtentLaws.{cover_span, extent_range}
 use Rattle.value_domain.proofs.RangeLaws.{any_cover, many_range, range_value}
 use Rattle.value_domain.proofs.LimitLaws.{floor_le, above_lt, above_le}
 use Rattle.store_ranges.specs.Accesses.{IsAccessSize}
-use Rattle.store_ranges.specs.Loads.{all_extended}
+use Rattle.store_ranges.specs.Loads.{all_loaded_words}
 
 -- ---- mapped lists
 pub map_has : (f : ℕ → ℕ) (x : ℕ) (xs : List ℕ) → Among x xs → Among (f x) (map f xs)
@@ -36,10 +36,10 @@ map-same f (x ∷ xs) each = let a : f x ≡ x = each x in let r : map f xs ≡ 
 in_all : (size x : ℕ) → x < 2 ^ (8 * size) → Among x (range 0 (2 ^ (8 * size) - 1) 0)
 in_all size x below = among_range x 0 (2 ^ (8 * size) - 1) 0 (omega arith) (omega arith, omega arith, omega arith)
 
-pub anything_has : (size : ℕ) (signed : Bool) (x : ℕ) → x < 2 ^ (8 * size) → Among (extend_loaded_bytes signed size x) (all_extended size signed)
+pub anything_has : (size : ℕ) (signed : Bool) (x : ℕ) → x < 2 ^ (8 * size) → Among (extend_loaded_bytes signed size x) (all_loaded_words size signed)
 anything_has size signed x below = map_has (extend_loaded_bytes signed size) x (range 0 (2 ^ (8 * size) - 1) 0) (in_all size x below)
 
-pub anything-unsigned : (b : Limits) (size : ℕ) → cover b (range 0 (2 ^ (8 * size) - 1) 0) ≡ cover b (all_extended size false)
+pub anything-unsigned : (b : Limits) (size : ℕ) → cover b (range 0 (2 ^ (8 * size) - 1) 0) ≡ cover b (all_loaded_words size false)
 anything-unsigned b size = ap (cover b) (sym (map-same (extend_loaded_bytes false size) (range 0 (2 ^ (8 * size) - 1) 0) (λ x. refl)))
 
 -- small numbers stay, and the greatest becomes the greatest word
@@ -69,41 +69,41 @@ extended_le size x (inr (inr e)) le = let l : x ≤ 2 ^ 32 - 1 = rw e at le in r
 
 module _ (size : ℕ) (is : IsAccessSize size) where
   -- 129 of the signed words
-  some_signed : Within ((2 ^ 32 - 1) ∷ range 0 127 0) (all_extended size true)
+  some_signed : Within ((2 ^ 32 - 1) ∷ range 0 127 0) (all_loaded_words size true)
   some_signed z i =
       elim i [
         | inl e ↦
             let g = greatest_extended size is in
-            subst (λ (y : ℕ). Among y (all_extended size true)) (g.0 ∙ sym e) (anything_has size true (2 ^ (8 * size) - 1) g.1)
+            subst (λ (y : ℕ). Among y (all_loaded_words size true)) (g.0 ∙ sym e) (anything_has size true (2 ^ (8 * size) - 1) g.1)
         | inr j ↦
             let m = range_among z 0 127 0 (omega arith) j in
             let s = small_stays size z is (let h : z ≤ 127 = m.1 in omega arith) in
-            subst (λ (y : ℕ). Among y (all_extended size true)) s.0 (anything_has size true z s.1)
+            subst (λ (y : ℕ). Among y (all_loaded_words size true)) s.0 (anything_has size true z s.1)
       ]
 
-  many_signed : 128 < length (sorted_set_of (all_extended size true))
+  many_signed : 128 < length (sorted_set_of (all_loaded_words size true))
   unfolding sorted_set_of
   many_signed =
-      let r = distinct-rising (range 0 127 0) (rising_multiples (count_in 0 127 0) (first_in_span 0 0) (2 ^ 0) (unit_some 0)) in
+      let r = distinct-rising (range 0 127 0) (rising_multiples (span_len 0 127 0) (first_in_span 0 0) (2 ^ 0) (unit_some 0)) in
       let n = length-put_new (2 ^ 32 - 1) (range 0 127 0) (λ j. let m = range_among (2 ^ 32 - 1) 0 127 0 (omega arith) j in absurd (let h : 2 ^ 32 - 1 ≤ 127 = m.1 in omega arith)) in
-      let c = length-multiples (count_in 0 127 0) (first_in_span 0 0) (2 ^ 0) in
-      let more = length-distinct ((2 ^ 32 - 1) ∷ range 0 127 0) (all_extended size true) some_signed in
+      let c = length-multiples (span_len 0 127 0) (first_in_span 0 0) (2 ^ 0) in
+      let more = length-distinct ((2 ^ 32 - 1) ∷ range 0 127 0) (all_loaded_words size true) some_signed in
       let more2 = rw r at more in
       omega arith
 
-  signed_below : (z : ℕ) → Among z (all_extended size true) → z ≤ 2 ^ 32 - 1
+  signed_below : (z : ℕ) → Among z (all_loaded_words size true) → z ≤ 2 ^ 32 - 1
   signed_below z i =
       let x = among_map (extend_loaded_bytes true size) z (range 0 (2 ^ (8 * size) - 1) 0) i in
       let m = range_among x.0 0 (2 ^ (8 * size) - 1) 0 (omega arith) x.1 in
       subst (λ (y : ℕ). y ≤ 2 ^ 32 - 1) (sym x.2) (extended_le size x.0 is m.1)
 
-  signed_extent : IsExtent (all_extended size true) 0 (2 ^ 32 - 1) 0
+  signed_extent : IsExtent (all_loaded_words size true) 0 (2 ^ 32 - 1) 0
   unfolding alignment_log2
   signed_extent =
       let zeroth = small_stays size 0 is (omega arith) in
-      let last : Among (2 ^ 32 - 1) (all_extended size true) = some_signed (2 ^ 32 - 1) (inl refl) in
+      let last : Among (2 ^ 32 - 1) (all_loaded_words size true) = some_signed (2 ^ 32 - 1) (inl refl) in
       record {
-        low_in = subst (λ (y : ℕ). Among y (all_extended size true)) zeroth.0 (anything_has size true 0 zeroth.1);
+        low_in = subst (λ (y : ℕ). Among y (all_loaded_words size true)) zeroth.0 (anything_has size true 0 zeroth.1);
         high_in = last;
         low = λ z i. omega arith;
         high = signed_below;
@@ -113,11 +113,11 @@ module _ (size : ℕ) (is : IsAccessSize size) where
       }
 
   -- the least value that holds all signed words
-  pub anything-signed : (b : Limits) → AreLimits b → any_val ≡ cover b (all_extended size true)
+  pub anything-signed : (b : Limits) → AreLimits b → any_val ≡ cover b (all_loaded_words size true)
   anything-signed b limits =
       let low : floor b.thresholds 0 ≡ 0 = omega (arith, floor_le b.thresholds 0) in
       let high : above b.thresholds (2 ^ 32 - 1) ≡ 2 ^ 32 = omega (arith, above_lt b.thresholds (2 ^ 32 - 1), above_le b.thresholds (2 ^ 32 - 1) (omega arith)) in
-      sym (cover_span b (all_extended size true) (let many = many_signed in omega (arith, limits.narrow)) signed_extent ∙ rw (low, high) refl)
+      sym (cover_span b (all_loaded_words size true) (let many = many_signed in omega (arith, limits.narrow)) signed_extent ∙ rw (low, high) refl)
 
 -- the least value that holds all numbers up to one
 pub cover_to : (b : Limits) (greatest : ℕ) → AreLimits b → 128 ≤ greatest → Span 0 (above b.thresholds greatest - 1) 0 ≡ cover b (range 0 greatest 0)
@@ -134,7 +134,7 @@ many_numbers size (inl e) = rw e (omega arith)
 many_numbers size (inr (inl e)) = rw e (omega arith)
 many_numbers size (inr (inr e)) = rw e (omega arith)
 
-pub numbers-cover : (b : Limits) (size : ℕ) → AreLimits b → IsAccessSize size → Span 0 (above b.thresholds (2 ^ (8 * size) - 1) - 1) 0 ≡ cover b (all_extended size false)
+pub numbers-cover : (b : Limits) (size : ℕ) → AreLimits b → IsAccessSize size → Span 0 (above b.thresholds (2 ^ (8 * size) - 1) - 1) 0 ≡ cover b (all_loaded_words size false)
 numbers-cover b size limits is = cover_to b (2 ^ (8 * size) - 1) limits (many_numbers size is) ∙ anything-unsigned b size
 
 words_below : (size : ℕ) → IsAccessSize size → 2 ^ (8 * size) - 1 < 2 ^ 32
@@ -148,5 +148,5 @@ numbers_value b size limits is =
     (range_value b 0 (2 ^ (8 * size) - 1) 0 limits (omega arith) (omega arith) (words_below size is))
 
 -- without a sign, a word stays
-pub anything-word : (b : Limits) → AreLimits b → any_val ≡ cover b (all_extended 4 false)
+pub anything-word : (b : Limits) → AreLimits b → any_val ≡ cover b (all_loaded_words 4 false)
 anything-word b limits = sym (any_cover b limits) ∙ anything-unsigned b 4

@@ -7,7 +7,7 @@ use Rattle.elf_image.specs.Images.{ImageData, image_byte}
 use Rattle.elf_image.proofs.ReadBytes.{byte_lt}
 use Rattle.tcd_base.specs.declared.range.Range.{Range}
 use Rattle.tcd_plan.specs.declared.plans.Device.{Device}
-use Rattle.tcd_plan.specs.PlanData.{PlanData, IsPlan, are_all_ranges_apart, areas_range, is_device}
+use Rattle.tcd_plan.specs.PlanData.{PlanData, IsPlan, are_all_ranges_apart, areas_range, is_plan_device}
 use Rattle.tcd_base.specs.Ranges.{IsWithinRange, IsInOneRange, is_within_range}
 use Rattle.tcd_plan.specs.MappedAddresses.{IsInDevice}
 use Rattle.value_domain.specs.declared.values.Val.{Val}
@@ -21,8 +21,8 @@ use Rattle.value_domain.proofs.ExtentLaws.{among_append, many_span}
 use Rattle.value_domain.proofs.RangeLaws.{set_value, some_members}
 use Rattle.value_domain.proofs.Loops.{among_get}
 use Rattle.tcd_base.proofs.RangeLaws.{in_one, IsInOne-front, within_true}
-use Rattle.store_ranges.specs.Loads.{all_extended, loaded_answers, device_of_loads, loaded_words_at, held_number, loaded_of, loaded_number_or, rom_number}
-use Rattle.store_ranges.specs.Laws.{LoadsGrow}
+use Rattle.store_ranges.specs.Loads.{all_loaded_words, answers_to_load, device_of_loads, loaded_words_at, number_in_image, load_value_of, loaded_word_or_answers, rom_number}
+use Rattle.store_ranges.specs.Laws.{LoadsAreMonotone}
 use Rattle.store_ranges.proofs.Covers.{anything_has}
 use Rattle.store_ranges.proofs.Finds.{found_true, found_all, found_device}
 use Rattle.store_ranges.proofs.LoadLaws.{all_at, all_from, answers_some, among_flat, device_bounds}
@@ -44,11 +44,11 @@ flat_among f z (w ∷ ws) i =
     ]
 
 -- a number in rom has its size
-held_lt : (image : ImageData) → HasImageBytes image → (x n w : ℕ) → held_number image x n ≡ Some w → w < 2 ^ (8 * n)
-unfolding held_number
+held_lt : (image : ImageData) → HasImageBytes image → (x n w : ℕ) → number_in_image image x n ≡ Some w → w < 2 ^ (8 * n)
+unfolding number_in_image
 held_lt image bytes x zero w e = let f : 0 ≡ w = let g : Some 0 ≡ Some w = e in cc in omega arith
 held_lt image bytes x (suc n) w e =
-    let h = held_parts (image_byte image x) (held_number image (x + 1) n) w e in
+    let h = held_parts (image_byte image x) (number_in_image image (x + 1) n) w e in
     let rest = held_lt image bytes (x + 1) n h.1 h.3 in
     let s : 8 * suc n ≡ 8 + 8 * n = omega arith in
     let p : 2 ^ (8 * suc n) ≡ 2 ^ 8 * 2 ^ (8 * n) = ap (λ k. 2 ^ k) s ∙ pow-add 2 8 (8 * n) in
@@ -71,33 +71,33 @@ module _ (plan : PlanData) (ok : IsPlan plan) where
       ]
 
   -- what a peripheral may answer is a word
-  answers_within : (size : ℕ) (signed : Bool) (xs : List ℕ) (o : Option Device) → device_of_loads plan size xs ≡ o → Within (loaded_answers size signed o) (all_extended size signed)
+  answers_within : (size : ℕ) (signed : Bool) (xs : List ℕ) (o : Option Device) → device_of_loads plan size xs ≡ o → Within (answers_to_load size signed o) (all_loaded_words size signed)
   answers_within size signed xs None e z i = i
   answers_within size signed xs (Some d) e z i =
       let found = only_words size xs d e in
-      let is = found_all _ is_device plan.devices d ok.ranges.devices found.1 in
+      let is = found_all _ is_plan_device plan.devices d ok.ranges.devices found.1 in
       let below : d.hi < 2 ^ 32 = ltb-true d.hi (2 ^ 32) (and_parts _ _ is).1 in
       let m = range_among z d.lo d.hi 0 (omega arith) i in
       let small : z < 2 ^ 32 = let le : z ≤ d.hi = m.1 in omega arith in
-      subst (λ n. Among z (all_extended n signed)) (sym found.0) (subst (λ (y : ℕ). Among y (all_extended 4 signed)) (extended-word signed z small) (anything_has 4 signed z small))
+      subst (λ n. Among z (all_loaded_words n signed)) (sym found.0) (subst (λ (y : ℕ). Among y (all_loaded_words 4 signed)) (extended-word signed z small) (anything_has 4 signed z small))
 
   given_within : (image : ImageData) → HasImageBytes image → (size : ℕ) (signed : Bool) (x : ℕ) (o : Option ℕ) → rom_number image plan x size ≡ o
-      → Within (loaded_number_or size signed (device_of_loads plan size (x ∷ [])) o) (all_extended size signed)
+      → Within (loaded_word_or_answers size signed (device_of_loads plan size (x ∷ [])) o) (all_loaded_words size signed)
   given_within image bytes size signed x None e z i = answers_within size signed (x ∷ []) (device_of_loads plan size (x ∷ [])) refl z i
   given_within image bytes size signed x (Some w) e z i =
       elim i [
-        | inl is ↦ subst (λ (y : ℕ). Among y (all_extended size signed)) (sym is) (anything_has size signed w (rom_lt image plan bytes x size w e))
+        | inl is ↦ subst (λ (y : ℕ). Among y (all_loaded_words size signed)) (sym is) (anything_has size signed w (rom_lt image plan bytes x size w e))
         | inr none ↦ absurd none
       ]
 
-  answers_more : (size : ℕ) (signed : Bool) (xs : List ℕ) → 1 ≤ length (loaded_answers size signed (device_of_loads plan size xs))
+  answers_more : (size : ℕ) (signed : Bool) (xs : List ℕ) → 1 ≤ length (answers_to_load size signed (device_of_loads plan size xs))
   answers_more size signed xs = more (device_of_loads plan size xs) refl
     where
-      more : (o : Option Device) → device_of_loads plan size xs ≡ o → 1 ≤ length (loaded_answers size signed o)
+      more : (o : Option Device) → device_of_loads plan size xs ≡ o → 1 ≤ length (answers_to_load size signed o)
       more None e = answers_some size signed None tt
       more (Some d) e = answers_some size signed (Some d) (device_bounds plan _ (Some d) ok (sym (only_words size xs d e).1))
 
-  given_more : (image : ImageData) (size : ℕ) (signed : Bool) (x : ℕ) (o : Option ℕ) → 1 ≤ length (loaded_number_or size signed (device_of_loads plan size (x ∷ [])) o)
+  given_more : (image : ImageData) (size : ℕ) (signed : Bool) (x : ℕ) (o : Option ℕ) → 1 ≤ length (loaded_word_or_answers size signed (device_of_loads plan size (x ∷ [])) o)
   given_more image size signed x None = answers_more size signed (x ∷ [])
   given_more image size signed x (Some w) = omega arith
 
@@ -156,17 +156,17 @@ module _ (plan : PlanData) (ok : IsPlan plan) where
 
   module _ (image : ImageData) (bytes : HasImageBytes image) (size : ℕ) (signed : Bool) where
     -- what an address gives is among what a Span that has it gives
-    given_answers : (x : ℕ) (ys : List ℕ) (o : Option Device) → Among x ys → device_of_loads plan size ys ≡ o → Within (loaded_words_at image plan size signed x) (loaded_answers size signed o)
+    given_answers : (x : ℕ) (ys : List ℕ) (o : Option Device) → Among x ys → device_of_loads plan size ys ≡ o → Within (loaded_words_at image plan size signed x) (answers_to_load size signed o)
     given_answers x ys None i e z j = given_within plan ok image bytes size signed x (rom_number image plan x size) refl z j
     given_answers x ys (Some d) i e z j =
         let rom = no_rom image size x ys d i e in
         let device = device_fewer size (x ∷ []) ys d x (inl refl) (λ y k. elim k [ inl is ↦ subst (λ (u : ℕ). Among u ys) (sym is) i | inr none ↦ absurd none ]) e in
-        let at_rom : Among z (loaded_number_or size signed (device_of_loads plan size (x ∷ [])) None) = subst (λ (n : Option ℕ). Among z (loaded_number_or size signed (device_of_loads plan size (x ∷ [])) n)) rom j in
-        subst (λ (n : Option Device). Among z (loaded_answers size signed n)) device at_rom
+        let at_rom : Among z (loaded_word_or_answers size signed (device_of_loads plan size (x ∷ [])) None) = subst (λ (n : Option ℕ). Among z (loaded_word_or_answers size signed (device_of_loads plan size (x ∷ [])) n)) rom j in
+        subst (λ (n : Option Device). Among z (answers_to_load size signed n)) device at_rom
 
-    answers_answers : (xs ys : List ℕ) (x : ℕ) (o : Option Device) → Among x xs → Within xs ys → device_of_loads plan size ys ≡ o → Within (loaded_answers size signed (device_of_loads plan size xs)) (loaded_answers size signed o)
+    answers_answers : (xs ys : List ℕ) (x : ℕ) (o : Option Device) → Among x xs → Within xs ys → device_of_loads plan size ys ≡ o → Within (answers_to_load size signed (device_of_loads plan size xs)) (answers_to_load size signed o)
     answers_answers xs ys x None i there e z j = answers_within plan ok size signed xs (device_of_loads plan size xs) refl z j
-    answers_answers xs ys x (Some d) i there e z j = subst (λ (n : Option Device). Among z (loaded_answers size signed n)) (device_fewer size xs ys d x i there e) j
+    answers_answers xs ys x (Some d) i there e z j = subst (λ (n : Option Device). Among z (answers_to_load size signed n)) (device_fewer size xs ys d x i there e) j
 
     flat_some : (ws : List ℕ) → 1 ≤ length ws → 1 ≤ length (flat_map (loaded_words_at image plan size signed) ws)
     flat_some [] some = absurd (omega arith)
@@ -174,12 +174,12 @@ module _ (plan : PlanData) (ok : IsPlan plan) where
         let f = loaded_words_at image plan size signed in
         omega (arith, length-append (f w) (flat_map f ws), given_more plan ok image size signed w (rom_number image plan w size))
 
-    grow : (b : Limits) (v w : Val) → IsValue b v → IsValue b w → IsBelow v w → IsBelow (loaded_of b image plan v size signed) (loaded_of b image plan w size signed)
+    grow : (b : Limits) (v w : Val) → IsValue b v → IsValue b w → IsBelow v w → IsBelow (load_value_of b image plan v size signed) (load_value_of b image plan w size signed)
     grow b (Set vs) (Set ws) vv vw below =
         cover_mono b (flat_map (loaded_words_at image plan size signed) vs) (flat_map (loaded_words_at image plan size signed) ws) (flat_some vs vv.well.some)
         (λ z i. let x = flat_among (loaded_words_at image plan size signed) z vs i in among_flat (loaded_words_at image plan size signed) x.0 z ws (below x.0 x.1) x.2)
     grow b (Set vs) (Span lo last step) vv vw below =
-        cover_mono b (flat_map (loaded_words_at image plan size signed) vs) (loaded_answers size signed (device_of_loads plan size (range lo last step))) (flat_some vs vv.well.some)
+        cover_mono b (flat_map (loaded_words_at image plan size signed) vs) (answers_to_load size signed (device_of_loads plan size (range lo last step))) (flat_some vs vv.well.some)
         (λ z i.
         let x = flat_among (loaded_words_at image plan size signed) z vs i in
         given_answers x.0 (range lo last step) (device_of_loads plan size (range lo last step)) (among_member (Span lo last step) x.0 vw.well.0 (below x.0 x.1)) refl z x.2)
@@ -192,9 +192,9 @@ module _ (plan : PlanData) (ok : IsPlan plan) where
     grow b (Span lo last step) (Span lo2 last2 step2) vv vw below =
         let xs = range lo last step in
         let ys = range lo2 last2 step2 in
-        cover_mono b (loaded_answers size signed (device_of_loads plan size xs)) (loaded_answers size signed (device_of_loads plan size ys)) (answers_more plan ok size signed xs)
+        cover_mono b (answers_to_load size signed (device_of_loads plan size xs)) (answers_to_load size signed (device_of_loads plan size ys)) (answers_more plan ok size signed xs)
         (answers_answers xs ys _ (device_of_loads plan size ys) (among_get xs 0 (some_members (Span lo last step) vv.well))
         (λ z i. among_member (Span lo2 last2 step2) z vw.well.0 (below z (member_among (Span lo last step) z vv.well.0 i))) refl)
 
-pub loads_grow : LoadsGrow
+pub loads_grow : LoadsAreMonotone
 loads_grow b image plan v w size signed ok whole is vv vw below = grow plan ok image (λ x y. byte_lt image.segments x y whole.bytes) size signed b v w vv vw below

@@ -6,16 +6,16 @@ use Rattle.std.proofs.lemmas.Bool.{cases_Bool, and_parts, and_from, leb-true, fa
 use Rattle.std.proofs.lemmas.List.{flat_map_more, take_more, take_all, length-map}
 use Rattle.tcd_base.specs.declared.range.Range.{Range}
 use Rattle.tcd_plan.specs.declared.plans.Device.{Device}
-use Rattle.tcd_plan.specs.PlanData.{PlanData, IsPlan, is_device, is_range}
+use Rattle.tcd_plan.specs.PlanData.{PlanData, IsPlan, is_plan_device, is_plan_range}
 use Rattle.value_domain.specs.Sets.{Among, IsExtent}
 use Rattle.value_domain.specs.Limits.{Limits}
 use Rattle.value_domain.specs.declared.values.Val.{Val}
-use Rattle.value_domain.specs.Values.{IsWell, cover, members, count_in, first_in_span}
+use Rattle.value_domain.specs.Values.{IsWellFormed, cover, members, span_len, first_in_span}
 use Rattle.value_domain.proofs.CoverLaws.{length-multiples}
 use Rattle.value_domain.proofs.ExtentLaws.{append_left, append_right, cover-part}
 use Rattle.value_domain.proofs.RangeLaws.{some_members}
 use Rattle.tcd_base.specs.Ranges.{is_within_range}
-use Rattle.store_ranges.specs.Loads.{loaded_answers, device_of_loads}
+use Rattle.store_ranges.specs.Loads.{answers_to_load, device_of_loads}
 use Rattle.value_domain.proofs.MeetLaws.{cover-parts}
 use Rattle.store_ranges.proofs.Finds.{found_all}
 use Rattle.tcd_base.proofs.RangeLaws.{within_true, true_within}
@@ -59,13 +59,13 @@ device-ends plan size xs e = ap (λ o. cond (eqb size 4) o None) (find-same _ _ 
 pub device_bounds : (plan : PlanData) (p : Device → Bool) (o : Option Device) → IsPlan plan → o ≡ find p plan.devices → IfSome o (λ d. d.lo ≤ d.hi)
 device_bounds plan p None ok e = tt
 device_bounds plan p (Some d) ok e =
-    let is = found_all p is_device plan.devices d ok.ranges.devices (sym e) in
-    leb-true d.lo d.hi (and_parts (is_range d.range) (nat_le d.lo d.hi) (and_parts (is_range d.range && nat_le d.lo d.hi) (nat_lt d.hi (2 ^ 32)) is).0).1
+    let is = found_all p is_plan_device plan.devices d ok.ranges.devices (sym e) in
+    leb-true d.lo d.hi (and_parts (is_plan_range d.range) (nat_le d.lo d.hi) (and_parts (is_plan_range d.range && nat_le d.lo d.hi) (nat_lt d.hi (2 ^ 32)) is).0).1
 
 -- ---- answers
-pub answers_some : (size : ℕ) (signed : Bool) (device : Option Device) → IfSome device (λ d. d.lo ≤ d.hi) → 1 ≤ length (loaded_answers size signed device)
-answers_some size signed None ordered = simp length-map (omega (arith, length-multiples (count_in 0 (2 ^ (8 * size) - 1) 0) (first_in_span 0 0) (2 ^ 0)))
-answers_some size signed (Some d) ordered = omega (arith, length-multiples (count_in d.lo d.hi 0) (first_in_span d.lo 0) (2 ^ 0))
+pub answers_some : (size : ℕ) (signed : Bool) (device : Option Device) → IfSome device (λ d. d.lo ≤ d.hi) → 1 ≤ length (answers_to_load size signed device)
+answers_some size signed None ordered = simp length-map (omega (arith, length-multiples (span_len 0 (2 ^ (8 * size) - 1) 0) (first_in_span 0 0) (2 ^ 0)))
+answers_some size signed (Some d) ordered = omega (arith, length-multiples (span_len d.lo d.hi 0) (first_in_span d.lo 0) (2 ^ 0))
 
 -- ---- the words of a Set
 pub among_flat : (f : ℕ → List ℕ) (x z : ℕ) (ws : List ℕ) → Among x ws → Among z (f x) → Among z (flat_map f ws)
@@ -98,7 +98,7 @@ pub cover_all : (b : Limits) (f : ℕ → List ℕ) (ws : List ℕ) (i : ℕ) (o
 cover_all b f ws i out le e = e ∙ ap (λ (l : List ℕ). cover b (flat_map f l)) (take_all i ws le)
 
 -- a value is the cover of its members
-pub cover_both : (b : Limits) (v w : Val) (ws : List ℕ) → IsWell v → cover b (members v) ≡ v → 1 ≤ length ws → w ≡ cover b ws → cover b (members v ++ members w) ≡ cover b (members v ++ ws)
+pub cover_both : (b : Limits) (v w : Val) (ws : List ℕ) → IsWellFormed v → cover b (members v) ≡ v → 1 ≤ length ws → w ≡ cover b ws → cover b (members v ++ members w) ≡ cover b (members v ++ ws)
 cover_both b v w ws well own some e =
     ap (λ (o : Val). cover b (members o ++ members w)) (sym own)
     ∙ ap (λ (o : Val). cover b (members (cover b (members v)) ++ members o)) e

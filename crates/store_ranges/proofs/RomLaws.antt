@@ -10,7 +10,7 @@ use Rattle.tcd_base.specs.Ranges.{IsInOneRange, is_within_range}
 use Rattle.tcd_plan.proofs.ApartLaws.{rom_fits}
 use Rattle.elf_image.specs.Images.{ImageData, image_byte}
 use Rattle.tcd_base.proofs.RangeLaws.{within_true, true_within}
-use Rattle.store_ranges.specs.Loads.{held_number}
+use Rattle.store_ranges.specs.Loads.{number_in_image}
 
 -- ---- in one range
 pub any_one : (x n : ℕ) (rs : List Range) → list_any (is_within_range x n) rs ≡ true → IsInOneRange x n rs
@@ -36,25 +36,25 @@ pub any_fits : (plan : PlanData) (x n : ℕ) → IsPlan plan → list_any (is_wi
 any_fits plan x n ok t = rom_fits ok x n (any_one x n plan.rom t)
 
 -- ---- numbers, from the last byte on
-pub held_more : (image : ImageData) (y z k b number : ℕ) → z ≡ y + 1 → image_byte image y ≡ Some b → held_number image z k ≡ Some number → held_number image y (k + 1) ≡ Some (b + 256 * number)
-unfolding held_number
+pub held_more : (image : ImageData) (y z k b number : ℕ) → z ≡ y + 1 → image_byte image y ≡ Some b → number_in_image image z k ≡ Some number → number_in_image image y (k + 1) ≡ Some (b + 256 * number)
+unfolding number_in_image
 held_more image y z k b number next byte rest =
-    let e : held_number image (y + 1) k ≡ Some number = ap (λ a. held_number image a k) (sym next) ∙ rest in
+    let e : number_in_image image (y + 1) k ≡ Some number = ap (λ a. number_in_image image a k) (sym next) ∙ rest in
     let s : k + 1 ≡ suc k = omega arith in
-    ap (held_number image y) s
-    ∙ ap (λ o. option_and_then (λ b. option_map (λ w. b + 2 ^ 8 * w) (held_number image (y + 1) k)) o) byte
+    ap (number_in_image image y) s
+    ∙ ap (λ o. option_and_then (λ b. option_map (λ w. b + 2 ^ 8 * w) (number_in_image image (y + 1) k)) o) byte
     ∙ ap (option_map (λ w. b + 2 ^ 8 * w)) e
 
-pub held_none : (image : ImageData) (x i n : ℕ) → i < n → image_byte image (x + i) ≡ None → held_number image x n ≡ None
-unfolding held_number
+pub held_none : (image : ImageData) (x i n : ℕ) → i < n → image_byte image (x + i) ≡ None → number_in_image image x n ≡ None
+unfolding number_in_image
 held_none image x i zero lt none = absurd (omega arith)
 held_none image x zero (suc n) lt none =
     let here : x + 0 ≡ x = omega arith in
-    ap (λ o. option_and_then (λ b. option_map (λ w. b + 2 ^ 8 * w) (held_number image (x + 1) n)) o) (ap (image_byte image) (sym here) ∙ none)
+    ap (λ o. option_and_then (λ b. option_map (λ w. b + 2 ^ 8 * w) (number_in_image image (x + 1) n)) o) (ap (image_byte image) (sym here) ∙ none)
 held_none image x (suc i) (suc n) lt none =
     let next : x + suc i ≡ x + 1 + i = omega arith in
     let rest = held_none image (x + 1) i n (omega arith) (ap (image_byte image) (sym next) ∙ none) in
-    later (image_byte image x) (held_number image (x + 1) n) rest
+    later (image_byte image x) (number_in_image image (x + 1) n) rest
   where
     later : (o p : Option ℕ) → p ≡ None → option_and_then (λ b. option_map (λ w. b + 2 ^ 8 * w) p) o ≡ None
     later None p e = refl

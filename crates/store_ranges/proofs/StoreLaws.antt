@@ -6,29 +6,29 @@ use Rattle.std.proofs.lemmas.Bool.Decides.{nat_tests}
 use Rattle.std.proofs.lemmas.List.Elements.{All-from_get_or}
 use Rattle.tcd_base.specs.declared.range.Range.{Range}
 use Rattle.tcd_plan.specs.declared.plans.Device.{Device}
-use Rattle.tcd_plan.specs.PlanData.{PlanData, IsPlan, is_range, is_device}
+use Rattle.tcd_plan.specs.PlanData.{PlanData, IsPlan, is_plan_range, is_plan_device}
 use Rattle.tcd_plan.specs.MappedAddresses.{IsStoreInRange}
 use Rattle.value_domain.specs.declared.values.Val.{Val}
 use Rattle.value_domain.specs.declared.values.Val.TheVariants.{Set, Span}
 use Rattle.value_domain.specs.Sets.{Among, alignment_log2, IsExtent}
-use Rattle.value_domain.specs.Values.{IsMember, IsWell, members, range}
+use Rattle.value_domain.specs.Values.{IsMember, IsWellFormed, members, range}
 use Rattle.value_domain.proofs.CoverLaws.{step_cases, in_units, from_units, among_range, range_among, among_member, member_among, has_step}
 use Rattle.value_domain.proofs.SetLaws.{twos_le}
 use Rattle.value_domain.proofs.Loops.{among_get}
-use Rattle.store_ranges.specs.Accesses.{IsAccessSize, AreAligned, AreStoresInRange, IsNextAccessAddress, StaysInRange}
+use Rattle.store_ranges.specs.Accesses.{IsAccessSize, AreAligned, AreStoresInRange, IsNextAccessAddress, AreStoresInRangeUntil}
 use Rattle.store_ranges.proofs.Finds.{found_true, found_all, found_one, found_device, unfound_one, unfound_device}
 use Rattle.tcd_base.specs.Ranges.{is_within_range}
 use Rattle.tcd_base.proofs.RangeLaws.{within_true, true_within}
 
-pub range_fits : (r : Range) → is_range r ≡ true → r.at + r.len ≤ 2 ^ 32
+pub range_fits : (r : Range) → is_plan_range r ≡ true → r.at + r.len ≤ 2 ^ 32
 range_fits r t = leb-true (r.at + r.len) (2 ^ 32) (and_parts _ _ t).1
 
-pub device_fits : (d : Device) → is_device d ≡ true → d.range.at + d.range.len ≤ 2 ^ 32
+pub device_fits : (d : Device) → is_plan_device d ≡ true → d.range.at + d.range.len ≤ 2 ^ 32
 device_fits d t = range_fits d.range (and_parts _ _ (and_parts _ _ t).0).0
 
-pub ram_stays : (plan : PlanData) (x size : ℕ) (r : Range) → IsPlan plan → find (is_within_range x size) plan.ram ≡ Some r → StaysInRange plan size x (r.at + r.len)
+pub ram_stays : (plan : PlanData) (x size : ℕ) (r : Range) → IsPlan plan → find (is_within_range x size) plan.ram ≡ Some r → AreStoresInRangeUntil plan size x (r.at + r.len)
 ram_stays plan x size r ok e =
-    let fits = range_fits r (found_all (is_within_range x size) is_range plan.ram r ok.ranges.ram e) in
+    let fits = range_fits r (found_all (is_within_range x size) is_plan_range plan.ram r ok.ranges.ram e) in
     let here = within_true x size r (found_true (is_within_range x size) plan.ram r e) in
     record {
       here = here.1;
@@ -37,9 +37,9 @@ ram_stays plan x size r ok e =
     }
 
 pub device_stays : (plan : PlanData) (x size : ℕ) (d : Device) → IsPlan plan → find (λ d. is_within_range x size d.range && is_within_range x size d.range) plan.devices ≡ Some d
-    → StaysInRange plan size x (d.range.at + d.range.len)
+    → AreStoresInRangeUntil plan size x (d.range.at + d.range.len)
 device_stays plan x size d ok e =
-    let fits = device_fits d (found_all _ is_device plan.devices d ok.ranges.devices e) in
+    let fits = device_fits d (found_all _ is_plan_device plan.devices d ok.ranges.devices e) in
     let here = within_true x size d.range (and_parts _ _ (found_true _ plan.devices d e)).0 in
     record {
       here = here.1;
@@ -81,7 +81,7 @@ pub record Walked (plan : PlanData) (least last step size x : ℕ) : Type 0 wher
   pub before : (y : ℕ) → IsMember y (Span least last step) → y < x → IsStoreInRange plan (y, size)
 
 -- from a range to the first member that leaves it
-pub walk_more : (plan : PlanData) (least last step size x end next : ℕ) → Walked plan least last step size x → StaysInRange plan size x end → IsNextAccessAddress step (end - size) next
+pub walk_more : (plan : PlanData) (least last step size x end next : ℕ) → Walked plan least last step size x → AreStoresInRangeUntil plan size x end → IsNextAccessAddress step (end - size) next
     → Walked plan least last step size next
 walk_more plan least last step size x end next w s n = record {
   from = omega (arith, w.from, s.here, n.above);
@@ -112,17 +112,17 @@ pub stores_set : (plan : PlanData) (ws : List ℕ) (size : ℕ) → AreStoresInR
 stores_set plan ws size each = All-from_get_or (λ x. IsStoreInRange plan (x, size)) ws 0 (λ i h. each (get_or ws i 0) (among_get ws i h))
 
 -- ---- a Span from its first member on
-pub span_stores : {least greatest s : ℕ} (plan : PlanData) (lo last step size : ℕ) → IsWell (Span lo last step) → IsExtent (range lo last step) least greatest s
+pub span_stores : {least greatest s : ℕ} (plan : PlanData) (lo last step size : ℕ) → IsWellFormed (Span lo last step) → IsExtent (range lo last step) least greatest s
     → AreStoresInRange plan (Span least last step) size → AreStoresInRange plan (Span lo last step) size
 span_stores plan lo last step size well e each x m = each x (e.low x (among_range x lo last step well.0 m), m.1, m.2)
 
-pub stores_span : {least greatest s : ℕ} (plan : PlanData) (lo last step size : ℕ) → IsWell (Span lo last step) → IsExtent (range lo last step) least greatest s
+pub stores_span : {least greatest s : ℕ} (plan : PlanData) (lo last step size : ℕ) → IsWellFormed (Span lo last step) → IsExtent (range lo last step) least greatest s
     → AreStoresInRange plan (Span lo last step) size → AreStoresInRange plan (Span least last step) size
 stores_span {least} plan lo last step size well e each x m =
     let first = range_among least lo last step well.0 e.low_in in
     each x ((let a : lo ≤ least = first.0 in let b : least ≤ x = m.0 in omega arith), m.1, m.2)
 
-pub first_fits : {least greatest s : ℕ} (lo last step : ℕ) → IsWell (Span lo last step) → IsExtent (range lo last step) least greatest s → step ≤ alignment_log2 least
+pub first_fits : {least greatest s : ℕ} (lo last step : ℕ) → IsWellFormed (Span lo last step) → IsExtent (range lo last step) least greatest s → step ≤ alignment_log2 least
 first_fits {least} lo last step well e = (range_among least lo last step well.0 e.low_in).2
 
 -- ---- multiples of a size
@@ -132,7 +132,7 @@ size_twos n x (inl e) = grind (arith, nat_tests)
 size_twos n x (inr (inl e)) = grind (arith, nat_tests)
 size_twos n x (inr (inr e)) = grind (arith, nat_tests)
 
-pub aligned_is : {least greatest s : ℕ} (v : Val) (n : ℕ) → IsWell v → IsAccessSize n → IsExtent (members v) least greatest s → (alignment_log2 n ≤ s) ↔ AreAligned v n
+pub aligned_is : {least greatest s : ℕ} (v : Val) (n : ℕ) → IsWellFormed v → IsAccessSize n → IsExtent (members v) least greatest s → (alignment_log2 n ≤ s) ↔ AreAligned v n
 aligned_is {s = s} v n well size e = (
   (λ h x m. (size_twos n x size).0 (let f : s ≤ alignment_log2 x = e.fits x (among_member v x (has_step v well) m) in omega arith)),
   (λ each. e.full (alignment_log2 n) (twos_le n) (λ z i. (size_twos n z size).1 (each z (member_among v z (has_step v well) i)))),

@@ -21,7 +21,7 @@ abbrev pub AreAligned : Val → ℕ → Type 0
 AreAligned v size = (x : ℕ) → IsMember x v → x % size ≡ 0
 
 -- the access from x, and each later one that ends at the end or before, is in range
-pub record StaysInRange (plan : PlanData) (size x end : ℕ) : Type 0 where
+pub record AreStoresInRangeUntil (plan : PlanData) (size x end : ℕ) : Type 0 where
   pub here : x + size ≤ end
   pub within : end ≤ 2 ^ 32
   pub each : (y : ℕ) → x ≤ y → y + size ≤ end → IsStoreInRange plan (y, size)

@@ -6,10 +6,10 @@ use Rattle.value_domain.specs.declared.values.Val.{Val}
 use Rattle.value_domain.specs.Limits.{Limits}
 use Rattle.value_domain.specs.Values.{IsValue, IsBelow}
 use Rattle.store_ranges.specs.Accesses.{IsAccessSize}
-use Rattle.store_ranges.specs.Loads.{loaded_of}
+use Rattle.store_ranges.specs.Loads.{load_value_of}
 
 -- a value with fewer members gives fewer loaded words
-abbrev pub LoadsGrow : Type 0
-LoadsGrow =
+abbrev pub LoadsAreMonotone : Type 0
+LoadsAreMonotone =
     (b : Limits) (image : ImageData) (plan : PlanData) (v w : Val) (size : ℕ) (signed : Bool) → IsPlan plan → IsImage image → IsAccessSize size →
-    IsValue b v → IsValue b w → IsBelow v w → IsBelow (loaded_of b image plan v size signed) (loaded_of b image plan w size signed)
+    IsValue b v → IsValue b w → IsBelow v w → IsBelow (load_value_of b image plan v size signed) (load_value_of b image plan w size signed)

@@ -2,7 +2,7 @@
 use Rattle.std.specs.Prelude.{◌<◌, ◌+◌, ◌-◌, ◌*◌, ◌^◌, ◌==◌, ℕ, zero, suc, Bool, List, [], ◌∷◌, map, find, if◌then◌else◌, Option, Some, None, IsSome, option_and_then}
 use Rattle.std.specs.List.{list_all, list_any, flat_map}
 use Rattle.std.specs.Option.{option_map}
-use Rattle.csa_chain.specs.MemoryBytes.{Memory, load_number, extend_loaded_bytes, HasBytes}
+use Rattle.csa_chain.specs.MemoryBytes.{Memory, loaded_number, extend_loaded_bytes, HasBytes}
 use Rattle.elf_image.specs.Images.{ImageData, image_byte}
 use Rattle.tcd_plan.specs.declared.plans.Device.{Device}
 use Rattle.tcd_plan.specs.PlanData.{PlanData}
@@ -21,45 +21,45 @@ pub record IsLoadedRom (image : ImageData) (plan : PlanData) (x n : ℕ) : Type 
 
 -- the number that a load gets from the image's n bytes from x on, the lowest byte first, if its
 -- segments hold them
-unfoldable pub held_number : ImageData → ℕ → ℕ → Option ℕ
-held_number image x zero = Some 0
-held_number image x (suc n) = option_and_then (λ b. option_map (λ w. b + 2 ^ 8 * w) (held_number image (x + 1) n)) (image_byte image x)
+unfoldable pub number_in_image : ImageData → ℕ → ℕ → Option ℕ
+number_in_image image x zero = Some 0
+number_in_image image x (suc n) = option_and_then (λ b. option_map (λ w. b + 2 ^ 8 * w) (number_in_image image (x + 1) n)) (image_byte image x)
 
 -- the number in the n bytes from x on, if they are in one rom range and held by segments
 abbrev pub rom_number : ImageData → PlanData → ℕ → ℕ → Option ℕ
-rom_number image plan x n = if list_any (is_within_range x n) plan.rom then held_number image x n else None
+rom_number image plan x n = if list_any (is_within_range x n) plan.rom then number_in_image image x n else None
 
 -- the peripheral whose range has each access; only words are loaded from peripherals
 abbrev pub device_of_loads : PlanData → ℕ → List ℕ → Option Device
 device_of_loads plan size xs = if size == 4 then find (λ d. list_all (λ x. is_within_range x 4 d.range) xs) plan.devices else None
 
 -- all words that a load of that size and sign gives
-abbrev pub all_extended : ℕ → Bool → List ℕ
-all_extended size signed = map (extend_loaded_bytes signed size) (range 0 (2 ^ (8 * size) - 1) 0)
+abbrev pub all_loaded_words : ℕ → Bool → List ℕ
+all_loaded_words size signed = map (extend_loaded_bytes signed size) (range 0 (2 ^ (8 * size) - 1) 0)
 
 -- the words that a peripheral can answer; without a peripheral, all words of that size and sign
-abbrev pub loaded_answers : ℕ → Bool → Option Device → List ℕ
-loaded_answers size signed None = all_extended size signed
-loaded_answers size signed (Some d) = range d.lo d.hi 0
+abbrev pub answers_to_load : ℕ → Bool → Option Device → List ℕ
+answers_to_load size signed None = all_loaded_words size signed
+answers_to_load size signed (Some d) = range d.lo d.hi 0
 
 -- the loaded word of a number that is known, else what the peripheral can answer
-abbrev pub loaded_number_or : ℕ → Bool → Option Device → Option ℕ → List ℕ
-loaded_number_or size signed device None = loaded_answers size signed device
-loaded_number_or size signed device (Some w) = extend_loaded_bytes signed size w ∷ []
+abbrev pub loaded_word_or_answers : ℕ → Bool → Option Device → Option ℕ → List ℕ
+loaded_word_or_answers size signed device None = answers_to_load size signed device
+loaded_word_or_answers size signed device (Some w) = extend_loaded_bytes signed size w ∷ []
 
 -- what an address gives: the word in rom, else what the peripheral can answer, else any word
 abbrev pub loaded_words_at : ImageData → PlanData → ℕ → Bool → ℕ → List ℕ
-loaded_words_at image plan size signed x = loaded_number_or size signed (device_of_loads plan size (x ∷ [])) (rom_number image plan x size)
+loaded_words_at image plan size signed x = loaded_word_or_answers size signed (device_of_loads plan size (x ∷ [])) (rom_number image plan x size)
 
 -- The least value that holds what the loads from all members give. For a Span that is what one
 -- peripheral answers if all accesses are in its range, else any word.
-abbrev pub loaded_of : Limits → ImageData → PlanData → Val → ℕ → Bool → Val
-loaded_of b image plan (Set ws) size signed = cover b (flat_map (loaded_words_at image plan size signed) ws)
-loaded_of b image plan (Span lo last step) size signed = cover b (loaded_answers size signed (device_of_loads plan size (range lo last step)))
+abbrev pub load_value_of : Limits → ImageData → PlanData → Val → ℕ → Bool → Val
+load_value_of b image plan (Set ws) size signed = cover b (flat_map (loaded_words_at image plan size signed) ws)
+load_value_of b image plan (Span lo last step) size signed = cover b (answers_to_load size signed (device_of_loads plan size (range lo last step)))
 
 -- the value v holds each word that a load from a member of `at` gives, in the plan's memory with
 -- the image's bytes in rom, and with a peripheral's input within its bounds
 abbrev pub HoldsLoads : ImageData → PlanData → Val → ℕ → Bool → Val → Type 0
 HoldsLoads image plan at size signed v =
     (mem : Memory) (x input : ℕ) → HasBytes mem → IsPlanMemory plan mem → HoldsRom image plan mem → input < 2 ^ 32
-    → AnswersLoad plan input (Some (x, size)) → IsMember x at → IsMember (extend_loaded_bytes signed size (load_number mem input x size)) v
+    → AnswersLoad plan input (Some (x, size)) → IsMember x at → IsMember (extend_loaded_bytes signed size (loaded_number mem input x size)) v

@@ -7,7 +7,7 @@ ghost use Rattle.value_domain.specs.Values.{IsValue, cover, members};
 ghost use Rattle.value_domain.specs.declared.values.Val.TheVariants.{Set, Span};
 ghost use Rattle.store_ranges.specs.Accesses.{IsAccessSize};
 ghost use Rattle.store_ranges.specs.Loads as loads;
-ghost use Rattle.store_ranges.specs.Loads.{HoldsLoads, all_extended, loaded_words_at, loaded_of};
+ghost use Rattle.store_ranges.specs.Loads.{HoldsLoads, all_loaded_words, loaded_words_at, load_value_of};
 
 use crate::ranges::device_range_at;
 use crate::rom::rom_number;
@@ -31,7 +31,7 @@ pub struct LoadKind {
 pub fn load_of(b: &Bounds, image: &Image, plan: &Plan, at: &Val, size: u8, signed: bool) -> Val
     requires at { IsValue b.now at.now }
     requires size { IsAccessSize size }
-    ensures loaded { result ≡ loaded_of b.now image.now plan.now at.now size signed }
+    ensures loaded { result ≡ load_value_of b.now image.now plan.now at.now size signed }
     ensures value { IsValue b.now result }
     ensures sound { HoldsLoads image.now plan.now at.now size signed result }
 {
@@ -46,7 +46,7 @@ pub fn load_of(b: &Bounds, image: &Image, plan: &Plan, at: &Val, size: u8, signe
 pub fn write_load(b: &Bounds, image: &Image, plan: &Plan, at: &Val, load: LoadKind, out: &mut Val)
     requires at { IsValue b.now at.now }
     requires size { IsAccessSize load.size }
-    ensures loaded { out.new ≡ loaded_of b.now image.now plan.now at.now load.size load.signed }
+    ensures loaded { out.new ≡ load_value_of b.now image.now plan.now at.now load.size load.signed }
     ensures value { IsValue b.now out.new }
     ensures sound { HoldsLoads image.now plan.now at.now load.size load.signed out.new }
 {
@@ -77,7 +77,7 @@ fn write_loads(b: &Bounds, image: &Image, plan: &Plan, words: &[u32], load: Load
 fn write_loads_from_span(b: &Bounds, plan: &Plan, at: &Val, load: LoadKind, out: &mut Val)
     requires at { IsValue b.now at.now }
     requires size { IsAccessSize load.size }
-    ensures loaded { out.new ≡ cover b.now (loads.loaded_answers load.size load.signed
+    ensures loaded { out.new ≡ cover b.now (loads.answers_to_load load.size load.signed
         (loads.device_of_loads plan.now load.size (members at.now))) }
     ensures value { IsValue b.now out.new }
 {
@@ -152,9 +152,9 @@ fn extend_loaded_number(number: u32, load: LoadKind) -> u32
 fn write_peripheral_answers(b: &Bounds, device: Option<Device>, load: LoadKind, out: &mut Val)
     requires size { IsAccessSize load.size }
     requires bounds { IfSome device (λ d. d.lo ≤ d.hi) }
-    ensures cover { out.new ≡ cover b.now (loads.loaded_answers load.size load.signed device) }
+    ensures cover { out.new ≡ cover b.now (loads.answers_to_load load.size load.signed device) }
     ensures value { IsValue b.now out.new }
-    ensures some { 1 ≤ length (loads.loaded_answers load.size load.signed device) }
+    ensures some { 1 ≤ length (loads.answers_to_load load.size load.signed device) }
 {
     match device {
         Some(device) => write_cover(b, device.lo, device.hi, 0, out),
@@ -165,7 +165,7 @@ fn write_peripheral_answers(b: &Bounds, device: Option<Device>, load: LoadKind, 
 /// Overwrites a value with the cover of all words that a load of this kind can give.
 fn write_any_loaded_word(b: &Bounds, load: LoadKind, out: &mut Val)
     requires { IsAccessSize load.size }
-    ensures cover { out.new ≡ cover b.now (all_extended load.size load.signed) }
+    ensures cover { out.new ≡ cover b.now (all_loaded_words load.size load.signed) }
     ensures value { IsValue b.now out.new }
 {
     let _most_words = b.most_words();
@@ -179,7 +179,7 @@ fn write_any_loaded_word(b: &Bounds, load: LoadKind, out: &mut Val)
 /// Overwrites a value with the cover of all numbers of `size` bytes.
 fn write_unsigned_load_range(b: &Bounds, size: u8, out: &mut Val)
     requires { IsAccessSize size }
-    ensures cover { out.new ≡ cover b.now (all_extended size false) }
+    ensures cover { out.new ≡ cover b.now (all_loaded_words size false) }
     ensures value { IsValue b.now out.new }
 {
     let _most_words = b.most_words();
@@ -211,7 +211,7 @@ fn join_peripheral_answers(b: &Bounds, device: Option<Device>, load: LoadKind, o
     requires bounds { IfSome device (λ d. d.lo ≤ d.hi) }
     requires value { IsValue b.now out.old }
     ensures cover { out.new
-        ≡ cover b.now (members out.old ++ loads.loaded_answers load.size load.signed device) }
+        ≡ cover b.now (members out.old ++ loads.answers_to_load load.size load.signed device) }
     ensures value { IsValue b.now out.new }
 {
     let mut answers = Val::any();

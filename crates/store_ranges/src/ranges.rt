@@ -4,7 +4,7 @@ ghost use Rattle.tcd_base.specs.Ranges.{is_within_range};
 ghost use Rattle.tcd_plan.specs.MappedAddresses.{IsStoreInRange};
 ghost use Rattle.value_domain.specs.Sets as sets;
 ghost use Rattle.value_domain.specs.declared.values.Val.TheVariants.{Span};
-ghost use Rattle.store_ranges.specs.Accesses.{AreStoresInRange, StaysInRange, IsNextAccessAddress};
+ghost use Rattle.store_ranges.specs.Accesses.{AreStoresInRange, AreStoresInRangeUntil, IsNextAccessAddress};
 
 use tcd_base::Range;
 use tcd_plan::{Device, Plan};
@@ -80,7 +80,7 @@ pub(crate) fn next_store_address(x: u64, step: u8) -> u64
 /// Returns the end of a ram range or peripheral range that holds the access.
 fn store_range_end(plan: &Plan, x: u32, size: u8) -> Option<u64>
     ensures { MatchOption result (¬ IsStoreInRange plan.now (x, size))
-        (λ end. StaysInRange plan.now size x end) }
+        (λ end. AreStoresInRangeUntil plan.now size x end) }
 {
     match store_range_at(plan.ram.as_slice(), x, size) {
         Some(range) => Some(range.end()),

@@ -60,7 +60,7 @@ fn are_bytes_in_image(image: &Image, x: u32, n: u8) -> bool
 fn number_in_image(image: &Image, x: u32, n: u8) -> Option<u32>
     requires few { n ≤ 4 }
     requires fits { x + n ≤ 2 ^ 32 }
-    ensures value { result ≡ loads.held_number image.now x n }
+    ensures value { result ≡ loads.number_in_image image.now x n }
     ensures small { IfSome result (λ w. w < 2 ^ (8 * n)) }
 {
     let mut number = 0;

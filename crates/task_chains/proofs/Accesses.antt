@@ -2,7 +2,7 @@
 use Rattle.std.proofs.Common.{◌≡◌, ℕ, zero, suc, ◌+◌, ◌*◌, ◌/◌, ◌%◌, ◌^◌, ◌<◌, ◌⊎◌, inl, inr, false, Option, Some, None, refl, sym, ap, ◌∙◌, subst, arith}
 use Rattle.std.specs.Prelude.{unwrap_or}
 use Rattle.std.specs.FinMap as map
-use Rattle.csa_chain.specs.MemoryBytes.{Memory, is_mapped, load_number, with_bytes, HasBytes}
+use Rattle.csa_chain.specs.MemoryBytes.{Memory, is_mapped, loaded_number, with_bytes, HasBytes}
 use Rattle.csa_chain.proofs.MemoryLaws.{with_byte_gone}
 
 -- a byte that the view lacks, or has as the machine has it
@@ -29,19 +29,19 @@ one_byte seen None input again (inr same) e = ap (λ p. unwrap_or p again) same 
 one_byte seen (Some b) input again (inr same) e = ap (λ p. unwrap_or p again) same
 
 -- the view loads the same if its input is what the machine loaded
-pub load_again : (view mem : Memory) → HasBytes mem → (n x input : ℕ) → ((i : ℕ) → i < n → Agrees view mem ((x + i) % 2 ^ 32)) → x < 2 ^ 32 → load_number view (load_number mem input x n) x n ≡ load_number mem input x n
-unfolding load_number
+pub load_again : (view mem : Memory) → HasBytes mem → (n x input : ℕ) → ((i : ℕ) → i < n → Agrees view mem ((x + i) % 2 ^ 32)) → x < 2 ^ 32 → loaded_number view (loaded_number mem input x n) x n ≡ loaded_number mem input x n
+unfolding loaded_number
 load_again view mem bytes zero x input agrees lt = refl
 load_again view mem bytes (suc n) x input agrees lt =
     let b = unwrap_or (map.get mem x) (input % 2 ^ 8) in
-    let l = load_number mem (input / 2 ^ 8) ((x + 1) % 2 ^ 32) n in
+    let l = loaded_number mem (input / 2 ^ 8) ((x + 1) % 2 ^ 32) n in
     let small : b < 2 ^ 8 = byte_lt (map.get mem x) input (bytes x) in
     let here : (x + 0) % 2 ^ 32 ≡ x = omega arith in
     let first : unwrap_or (map.get view x) ((b + 2 ^ 8 * l) % 2 ^ 8) ≡ b =
     one_byte (map.get view x) (map.get mem x) input ((b + 2 ^ 8 * l) % 2 ^ 8) (subst (Agrees view mem) here (agrees 0 (omega arith))) (low_part b l small)
     in
-    let rest : load_number view ((b + 2 ^ 8 * l) / 2 ^ 8) ((x + 1) % 2 ^ 32) n ≡ l =
-    ap (λ w. load_number view w ((x + 1) % 2 ^ 32) n) (high_part b l small)
+    let rest : loaded_number view ((b + 2 ^ 8 * l) / 2 ^ 8) ((x + 1) % 2 ^ 32) n ≡ l =
+    ap (λ w. loaded_number view w ((x + 1) % 2 ^ 32) n) (high_part b l small)
     ∙ load_again view mem bytes n ((x + 1) % 2 ^ 32) (input / 2 ^ 8) (λ i less. subst (Agrees view mem) (sym (next_byte x i)) (agrees (suc i) (omega arith))) (omega arith)
     in
     (λ i. first i + 2 ^ 8 * rest i)

@@ -15,14 +15,14 @@ use Rattle.tc_isa.specs.declared.shapes.Shape.TheVariants.{Call}
 use Rattle.tc_machine.specs.declared.events.Event.{Event}
 use Rattle.tc_machine.specs.declared.events.End.TheVariants.{Running}
 use Rattle.tc_machine.specs.declared.state.Machine.{Machine}
-use Rattle.tc_machine.specs.Machine.{then_, IsMachine}
+use Rattle.tc_machine.specs.Machine.{if_running, IsMachine}
 use Rattle.tc_machine.specs.Instructions.{machine_address_ahead, target_of, does}
-use Rattle.tc_machine.specs.SavesAndRestores.{context_of, saved, save}
-use Rattle.tc_machine.specs.Fetching.{fetched}
-use Rattle.tc_machine.specs.Handlers.{at_handler, interrupt}
-use Rattle.tc_machine.specs.Stepping.{is_taken, executed, machine_after_event, step}
+use Rattle.tc_machine.specs.SavesAndRestores.{context_of, with_context_saved, save}
+use Rattle.tc_machine.specs.Fetching.{fetched_instruction}
+use Rattle.tc_machine.specs.Handlers.{at_handler_entry, interrupt}
+use Rattle.tc_machine.specs.Stepping.{is_interrupt_taken, after_found_instruction, machine_after_event, step}
 use Rattle.tcd_plan.specs.MappedAddresses.{IsInAreas}
-use Rattle.tc_machine.specs.PlanAreas.{area_links_up, first_link, plan_areas}
+use Rattle.tc_machine.specs.PlanAreas.{consecutive_links, first_link, plan_areas}
 use Rattle.tc_machine.proofs.Saves.{save-is, then_-running}
 use Rattle.tc_machine.proofs.Steps.{with_event, step-is, step_does, does-call}
 use Rattle.tc_machine.proofs.PlanLaws.{link_address-area}
@@ -53,13 +53,13 @@ pub record Alike (plan : PlanData) (n u : ℕ) (word_of : ℕ → ℕ) (chain_of
 
 -- ---- where areas lie
 -- a link in the list of areas is that of an area
-pub area_at : (l n f : ℕ) → times_in_list f (area_links_up l n) ≢ 0 → (i : ℕ) × (i < n) × (f ≡ l + i)
+pub area_at : (l n f : ℕ) → times_in_list f (consecutive_links l n) ≢ 0 → (i : ℕ) × (i < n) × (f ≡ l + i)
 area_at l zero f some = absurd (some refl)
 area_at l (suc n) f some =
     elim (cases_eq l f) [
       | inl same ↦ (0, omega arith, omega arith)
       | inr apart ↦
-          let rest = area_at (l + 1) n f (λ none. some (times-other f l (area_links_up (l + 1) n) apart ∙ none)) in
+          let rest = area_at (l + 1) n f (λ none. some (times-other f l (consecutive_links (l + 1) n) apart ∙ none)) in
           let at = rest.2 in
           (suc rest.0, (let lt = rest.1 in omega arith), omega arith)
     ]
@@ -104,15 +104,15 @@ module _ {plan : PlanData} (ok : IsPlan plan) (Kept : ℕ → Type 0) (kept : (x
   free = has_free ok (plan.areas - plan.reserve) (omega arith) view fcx m.lcx seen t.view_free t.view_areas view_room
 
   -- both save
-  pub saves : (upper : Bool) → save m upper ≡ saved m upper
+  pub saves : (upper : Bool) → save m upper ≡ with_context_saved m upper
   saves upper = let h = has_shared ok t room in save-is m upper h.some h.area h.not_last
 
-  pub view_saves : (upper : Bool) → save v upper ≡ saved v upper
+  pub view_saves : (upper : Bool) → save v upper ≡ with_context_saved v upper
   view_saves upper = let h = free in save-is v upper h.some h.area h.not_last
 
   -- the steps are alike for whatever else they do to the registers
-  pub Alike-saved : (upper : Bool) (m2 : Machine) → m2.mem ≡ (saved m upper).mem → m2.pcxi ≡ (saved m upper).pcxi → m2.fcx ≡ (saved m upper).fcx → m2.lcx ≡ m.lcx
-      → Alike plan n u word_of chain_of Kept view m m2 (seen_as m2 (saved v upper).mem (saved v upper).pcxi (saved v upper).fcx)
+  pub Alike-saved : (upper : Bool) (m2 : Machine) → m2.mem ≡ (with_context_saved m upper).mem → m2.pcxi ≡ (with_context_saved m upper).pcxi → m2.fcx ≡ (with_context_saved m upper).fcx → m2.lcx ≡ m.lcx
+      → Alike plan n u word_of chain_of Kept view m m2 (seen_as m2 (with_context_saved v upper).mem (with_context_saved v upper).pcxi (with_context_saved v upper).fcx)
   Alike-saved upper m2 mem_is pcxi_is fcx_is lcx_is =
       let h = has_shared ok t room in
       let vf = free in
@@ -124,17 +124,17 @@ module _ {plan : PlanData} (ok : IsPlan plan) (Kept : ℕ → Type 0) (kept : (x
       let first = times-first (link_in m.fcx) rest in
       let at = area_at (first_link plan) plan.areas (link_in m.fcx) (λ none. omega arith) in
       record {
-        words = with_chain_word word_of u (saved m upper).pcxi;
+        words = with_chain_word word_of u (with_context_saved m upper).pcxi;
         chains = with_chain chain_of u (link_in m.fcx ∷ chain_of u);
         seen = link_in fcx ∷ seen;
-        view = (saved v upper).mem;
-        view_pcxi = (saved v upper).pcxi;
-        view_fcx = (saved v upper).fcx;
+        view = (with_context_saved v upper).mem;
+        view_pcxi = (with_context_saved v upper).pcxi;
+        view_fcx = (with_context_saved v upper).fcx;
         is = refl;
         twins = rw (mem_is, pcxi_is, fcx_is, lcx_is)
             (Twins-saved ok t room view_room (context_of m upper) (context_of v upper) long view_long (context_first m upper) (context_first v upper) (context_alike m view pcxi fcx upper) m.core m.ccpn m.ie upper words.ccpn);
         others = λ w lt apart. (
-          cond_other w u (saved m upper).pcxi (word_of w) apart,
+          cond_other w u (with_context_saved m upper).pcxi (word_of w) apart,
           cond_other w u (link_in m.fcx ∷ chain_of u) (chain_of w) apart,
           subst (λ x. SameAreas m.mem x (chain_of w)) (sym mem_is)
               (SameAreas-written m.mem (link_in m.fcx) (chain_of w) (context_of m upper) (let l = long.0 in omega arith) (first_avoids n chain_of (link_in m.fcx) rest (plan_areas plan) h.share once w lt)),
@@ -149,36 +149,36 @@ module _ {plan : PlanData} (ok : IsPlan plan) (Kept : ℕ → Type 0) (kept : (x
 
   -- ---- an interrupt
   abbrev interrupted : ℕ → Machine
-  interrupted irq = record (at_handler m (saved m true) m.pc (bit_or m.biv (irq * 2 ^ 5))) { ccpn = irq }
+  interrupted irq = record (at_handler_entry m (with_context_saved m true) m.pc (bit_or m.biv (irq * 2 ^ 5))) { ccpn = irq }
 
   interrupt-is : (irq : ℕ) → interrupt m irq ≡ interrupted irq
   interrupt-is irq =
-      ap (λ s. then_ s (λ s. record (at_handler m s m.pc (bit_or m.biv (irq * 2 ^ 5))) { ccpn = irq })) (saves true)
-      ∙ then_-running (saved m true) (λ s. record (at_handler m s m.pc (bit_or m.biv (irq * 2 ^ 5))) { ccpn = irq }) running
+      ap (λ s. if_running s (λ s. record (at_handler_entry m s m.pc (bit_or m.biv (irq * 2 ^ 5))) { ccpn = irq })) (saves true)
+      ∙ then_-running (with_context_saved m true) (λ s. record (at_handler_entry m s m.pc (bit_or m.biv (irq * 2 ^ 5))) { ccpn = irq }) running
 
-  view_interrupt-is : (irq : ℕ) → interrupt v irq ≡ seen_as (interrupted irq) (saved v true).mem (saved v true).pcxi (saved v true).fcx
+  view_interrupt-is : (irq : ℕ) → interrupt v irq ≡ seen_as (interrupted irq) (with_context_saved v true).mem (with_context_saved v true).pcxi (with_context_saved v true).fcx
   view_interrupt-is irq =
-      ap (λ s. then_ s (λ s. record (at_handler v s v.pc (bit_or v.biv (irq * 2 ^ 5))) { ccpn = irq })) (view_saves true)
-      ∙ then_-running (saved v true) (λ s. record (at_handler v s v.pc (bit_or v.biv (irq * 2 ^ 5))) { ccpn = irq }) running
+      ap (λ s. if_running s (λ s. record (at_handler_entry v s v.pc (bit_or v.biv (irq * 2 ^ 5))) { ccpn = irq })) (view_saves true)
+      ∙ then_-running (with_context_saved v true) (λ s. record (at_handler_entry v s v.pc (bit_or v.biv (irq * 2 ^ 5))) { ccpn = irq }) running
 
-  pub Alike-interrupt : (e e2 : Event) → is_taken m e ≡ true → e2.irq ≡ e.irq → e2.status ≡ e.status → Alike plan n u word_of chain_of Kept view m (step m e) (step v e2)
+  pub Alike-interrupt : (e e2 : Event) → is_interrupt_taken m e ≡ true → e2.irq ≡ e.irq → e2.status ≡ e.status → Alike plan n u word_of chain_of Kept view m (step m e) (step v e2)
   Alike-interrupt e e2 taken same_irq same_status =
-      let here : machine_after_event m e ≡ interrupted e.irq = ap (λ b. cond b (interrupt m e.irq) (executed m e (fetched m))) taken ∙ interrupt-is e.irq in
-      let there : machine_after_event v e2 ≡ seen_as (interrupted e.irq) (saved v true).mem (saved v true).pcxi (saved v true).fcx =
-      ap (λ b. cond b (interrupt v e2.irq) (executed v e2 (fetched v))) (ap (λ q. is_taken m (record e { irq = q })) same_irq ∙ taken) ∙ view_interrupt-is e2.irq
-      ∙ ap (λ q. seen_as (interrupted q) (saved v true).mem (saved v true).pcxi (saved v true).fcx) same_irq
+      let here : machine_after_event m e ≡ interrupted e.irq = ap (λ b. cond b (interrupt m e.irq) (after_found_instruction m e (fetched_instruction m))) taken ∙ interrupt-is e.irq in
+      let there : machine_after_event v e2 ≡ seen_as (interrupted e.irq) (with_context_saved v true).mem (with_context_saved v true).pcxi (with_context_saved v true).fcx =
+      ap (λ b. cond b (interrupt v e2.irq) (after_found_instruction v e2 (fetched_instruction v))) (ap (λ q. is_interrupt_taken m (record e { irq = q })) same_irq ∙ taken) ∙ view_interrupt-is e2.irq
+      ∙ ap (λ q. seen_as (interrupted q) (with_context_saved v true).mem (with_context_saved v true).pcxi (with_context_saved v true).fcx) same_irq
       in
       let m_is : step m e ≡ with_event (interrupted e.irq) e = step-is m e running (ap (λ x. x.end) here ∙ running) ∙ ap (λ x. with_event x e) here in
-      let v_is : step v e2 ≡ seen_as (with_event (interrupted e.irq) e) (saved v true).mem (saved v true).pcxi (saved v true).fcx =
+      let v_is : step v e2 ≡ seen_as (with_event (interrupted e.irq) e) (with_context_saved v true).mem (with_context_saved v true).pcxi (with_context_saved v true).fcx =
       step-is v e2 running (ap (λ x. x.end) there ∙ running) ∙ ap (λ x. with_event x e2) there
-      ∙ ap (λ s. seen_as (with_event (interrupted e.irq) (record e { status = s })) (saved v true).mem (saved v true).pcxi (saved v true).fcx) same_status
+      ∙ ap (λ s. seen_as (with_event (interrupted e.irq) (record e { status = s })) (with_context_saved v true).mem (with_context_saved v true).pcxi (with_context_saved v true).fcx) same_status
       in
       subst (λ x. Alike plan n u word_of chain_of Kept view m x (step v e2)) (sym m_is)
       (subst (λ y. Alike plan n u word_of chain_of Kept view m (with_event (interrupted e.irq) e) y) (sym v_is) (Alike-saved true (with_event (interrupted e.irq) e) refl refl refl refl))
 
   -- ---- a call
   abbrev entered : Target → ℕ → Machine
-  entered to k = record (saved m true) { a = set m.a 11 (machine_address_ahead m.pc k); pc = target_of m to }
+  entered to k = record (with_context_saved m true) { a = set m.a 11 (machine_address_ahead m.pc k); pc = target_of m to }
 
   target_same : (to : Target) → target_of v to ≡ target_of m to
   target_same (target.Rel by) = refl
@@ -187,24 +187,24 @@ module _ {plan : PlanData} (ok : IsPlan plan) (Kept : ℕ → Type 0) (kept : (x
 
   call-is : (e : Event) (to : Target) (k : ℕ) → does m e (Call to) k ≡ entered to k
   call-is e to k =
-      does-call m e to k ∙ ap (λ s. then_ s (λ s. record s { a = set s.a 11 (machine_address_ahead m.pc k); pc = target_of m to })) (saves true)
-      ∙ then_-running (saved m true) (λ s. record s { a = set s.a 11 (machine_address_ahead m.pc k); pc = target_of m to }) running
+      does-call m e to k ∙ ap (λ s. if_running s (λ s. record s { a = set s.a 11 (machine_address_ahead m.pc k); pc = target_of m to })) (saves true)
+      ∙ then_-running (with_context_saved m true) (λ s. record s { a = set s.a 11 (machine_address_ahead m.pc k); pc = target_of m to }) running
 
-  view_call-is : (e : Event) (to : Target) (k : ℕ) → does v e (Call to) k ≡ seen_as (entered to k) (saved v true).mem (saved v true).pcxi (saved v true).fcx
+  view_call-is : (e : Event) (to : Target) (k : ℕ) → does v e (Call to) k ≡ seen_as (entered to k) (with_context_saved v true).mem (with_context_saved v true).pcxi (with_context_saved v true).fcx
   view_call-is e to k =
-      does-call v e to k ∙ ap (λ s. then_ s (λ s. record s { a = set s.a 11 (machine_address_ahead v.pc k); pc = target_of v to })) (view_saves true)
-      ∙ then_-running (saved v true) (λ s. record s { a = set s.a 11 (machine_address_ahead v.pc k); pc = target_of v to }) running
-      ∙ ap (λ q. record (seen_as (entered to k) (saved v true).mem (saved v true).pcxi (saved v true).fcx) { pc = q }) (target_same to)
+      does-call v e to k ∙ ap (λ s. if_running s (λ s. record s { a = set s.a 11 (machine_address_ahead v.pc k); pc = target_of v to })) (view_saves true)
+      ∙ then_-running (with_context_saved v true) (λ s. record s { a = set s.a 11 (machine_address_ahead v.pc k); pc = target_of v to }) running
+      ∙ ap (λ q. record (seen_as (entered to k) (with_context_saved v true).mem (with_context_saved v true).pcxi (with_context_saved v true).fcx) { pc = q }) (target_same to)
 
-  pub Alike-call : (e e2 : Event) (to : Target) (k : ℕ) → is_taken m e ≡ false → e2.irq ≡ e.irq → e2.status ≡ e.status → fetched m ≡ Ok (Call to, k) → fetched v ≡ Ok (Call to, k) → Alike plan n u word_of chain_of Kept view m (step m e) (step v e2)
+  pub Alike-call : (e e2 : Event) (to : Target) (k : ℕ) → is_interrupt_taken m e ≡ false → e2.irq ≡ e.irq → e2.status ≡ e.status → fetched_instruction m ≡ Ok (Call to, k) → fetched_instruction v ≡ Ok (Call to, k) → Alike plan n u word_of chain_of Kept view m (step m e) (step v e2)
   Alike-call e e2 to k none same_irq same_status at view_at =
-      let view_none : is_taken v e2 ≡ false = ap (λ q. is_taken m (record e { irq = q })) same_irq ∙ none in
+      let view_none : is_interrupt_taken v e2 ≡ false = ap (λ q. is_interrupt_taken m (record e { irq = q })) same_irq ∙ none in
       let here = call-is e to k in
       let there = view_call-is e2 to k in
       let m_is : step m e ≡ with_event (entered to k) e = step_does m e (Call to) k running none at (ap (λ x. x.end) here ∙ running) ∙ ap (λ x. with_event x e) here in
-      let v_is : step v e2 ≡ seen_as (with_event (entered to k) e) (saved v true).mem (saved v true).pcxi (saved v true).fcx =
+      let v_is : step v e2 ≡ seen_as (with_event (entered to k) e) (with_context_saved v true).mem (with_context_saved v true).pcxi (with_context_saved v true).fcx =
       step_does v e2 (Call to) k running view_none view_at (ap (λ x. x.end) there ∙ running) ∙ ap (λ x. with_event x e2) there
-      ∙ ap (λ s. seen_as (with_event (entered to k) (record e { status = s })) (saved v true).mem (saved v true).pcxi (saved v true).fcx) same_status
+      ∙ ap (λ s. seen_as (with_event (entered to k) (record e { status = s })) (with_context_saved v true).mem (with_context_saved v true).pcxi (with_context_saved v true).fcx) same_status
       in
       subst (λ x. Alike plan n u word_of chain_of Kept view m x (step v e2)) (sym m_is)
       (subst (λ y. Alike plan n u word_of chain_of Kept view m (with_event (entered to k) e) y) (sym v_is) (Alike-saved true (with_event (entered to k) e) refl refl refl refl))

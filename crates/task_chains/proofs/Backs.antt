@@ -19,11 +19,11 @@ use Rattle.tc_machine.specs.declared.events.Cause.{Cause}
 use Rattle.tc_machine.specs.declared.events.Cause.TheVariants.{Csu, Ctyp, NoArea}
 use Rattle.tc_machine.specs.declared.events.End.TheVariants.{Running, Dead}
 use Rattle.tc_machine.specs.declared.state.Machine.{Machine}
-use Rattle.tc_machine.specs.Machine.{a11, died, then_, IsMachine}
-use Rattle.tc_machine.specs.Instructions.{advanced, does}
-use Rattle.tc_machine.specs.SavesAndRestores.{has_kind, saved_area_words, last_context, released, restored, restore}
-use Rattle.tc_machine.specs.Fetching.{fetched}
-use Rattle.tc_machine.specs.Stepping.{is_taken, step}
+use Rattle.tc_machine.specs.Machine.{a11, dead_machine, if_running, IsMachine}
+use Rattle.tc_machine.specs.Instructions.{with_pc_advanced, does}
+use Rattle.tc_machine.specs.SavesAndRestores.{has_kind, saved_area_words, last_context, with_area_released, with_context_restored, restore}
+use Rattle.tc_machine.specs.Fetching.{fetched_instruction}
+use Rattle.tc_machine.specs.Stepping.{is_interrupt_taken, step}
 use Rattle.tcd_plan.specs.MappedAddresses.{IsInAreas}
 use Rattle.tc_machine.specs.PlanAreas.{first_link, plan_areas}
 use Rattle.tc_machine.proofs.Saves.{restore-is, then_-running}
@@ -48,15 +48,15 @@ pub restores_from : (m : Machine) (upper : Bool) → (restore m upper).end ≡ R
 unfolding restore
 restores_from m upper e =
     elim (cases_Bool (link_in m.pcxi == 0)) [
-      | inl none ↦ absurd (running≢dead Csu (sym (ap (λ t. (cond t (died Csu m) (cond (has_kind m upper) (cond (is_area m.mem (link_in m.pcxi)) (restored m upper) (died NoArea m)) (died Ctyp m))).end) none) ∙ e))
+      | inl none ↦ absurd (running≢dead Csu (sym (ap (λ t. (cond t (dead_machine Csu m) (cond (has_kind m upper) (cond (is_area m.mem (link_in m.pcxi)) (with_context_restored m upper) (dead_machine NoArea m)) (dead_machine Ctyp m))).end) none) ∙ e))
       | inr some ↦
-          let e1 = sym (ap (λ t. (cond t (died Csu m) (cond (has_kind m upper) (cond (is_area m.mem (link_in m.pcxi)) (restored m upper) (died NoArea m)) (died Ctyp m))).end) some) ∙ e in
+          let e1 = sym (ap (λ t. (cond t (dead_machine Csu m) (cond (has_kind m upper) (cond (is_area m.mem (link_in m.pcxi)) (with_context_restored m upper) (dead_machine NoArea m)) (dead_machine Ctyp m))).end) some) ∙ e in
           elim (cases_Bool (has_kind m upper)) [
-            | inr other ↦ absurd (running≢dead Ctyp (sym (ap (λ t. (cond t (cond (is_area m.mem (link_in m.pcxi)) (restored m upper) (died NoArea m)) (died Ctyp m)).end) other) ∙ e1))
+            | inr other ↦ absurd (running≢dead Ctyp (sym (ap (λ t. (cond t (cond (is_area m.mem (link_in m.pcxi)) (with_context_restored m upper) (dead_machine NoArea m)) (dead_machine Ctyp m)).end) other) ∙ e1))
             | inl kind ↦
-                let e2 = sym (ap (λ t. (cond t (cond (is_area m.mem (link_in m.pcxi)) (restored m upper) (died NoArea m)) (died Ctyp m)).end) kind) ∙ e1 in
+                let e2 = sym (ap (λ t. (cond t (cond (is_area m.mem (link_in m.pcxi)) (with_context_restored m upper) (dead_machine NoArea m)) (dead_machine Ctyp m)).end) kind) ∙ e1 in
                 elim (cases_Bool (is_area m.mem (link_in m.pcxi))) [
-                  | inr gone ↦ absurd (running≢dead NoArea (sym (ap (λ t. (cond t (restored m upper) (died NoArea m)).end) gone) ∙ e2))
+                  | inr gone ↦ absurd (running≢dead NoArea (sym (ap (λ t. (cond t (with_context_restored m upper) (dead_machine NoArea m)).end) gone) ∙ e2))
                   | inl here ↦ record { some = eqb-false _ _ some; kind = kind; area = here }
                 ]
           ]
@@ -121,7 +121,7 @@ pub same_area_words : (mem view : Memory) (l k : ℕ) → ((i : ℕ) → i < 15 
 same_area_words mem view l k same i lt = area_words-at mem l (suc i) (omega arith) ∙ same i lt ∙ sym (area_words-at view k (suc i) (omega arith))
 
 -- ---- both restore
-pub restored_end : (m : Machine) (upper : Bool) → (restored m upper).end ≡ m.end
+pub restored_end : (m : Machine) (upper : Bool) → (with_context_restored m upper).end ≡ m.end
 restored_end m true = refl
 restored_end m false = refl
 
@@ -148,31 +148,31 @@ module _ {plan : PlanData} (ok : IsPlan plan) (Kept : ℕ → Type 0) (kept : (x
   kind_from false same kind = ap not same ∙ kind
 
   -- if the view restores a context, so does the machine
-  pub restores : (upper : Bool) → has_kind v upper ≡ true → restore m upper ≡ restored m upper
+  pub restores : (upper : Bool) → has_kind v upper ≡ true → restore m upper ≡ with_context_restored m upper
   restores upper kind =
       let ls = links_before ok l used is words.bytes view_words.bytes t in
       restore-is m upper (λ e. ls.0 (sym here ∙ e)) (kind_from upper (same_ul m.core m.pcxi pcxi high) kind) (ap (is_area m.mem) here ∙ ls.2)
 
-  pub view_restores : (upper : Bool) → has_kind v upper ≡ true → restore v upper ≡ restored v upper
+  pub view_restores : (upper : Bool) → has_kind v upper ≡ true → restore v upper ≡ with_context_restored v upper
   view_restores upper kind = restore-is v upper (λ e. (t.view_links).0 (sym there ∙ e)) kind (ap (is_area view) there ∙ (t.view_links).2)
 
   behind : SameBehindFirst (last_context m) (last_context v)
   behind = same_area_words m.mem view (link_in m.pcxi) (link_in pcxi) (λ i lt. ap (λ x. area_word m.mem x (suc i)) here ∙ own.1 i lt ∙ ap (λ x. area_word view x (suc i)) (sym there))
 
   -- the view and the machine are alike again
-  pub restored_same : (upper : Bool) → restored v upper ≡ seen_as (restored m upper) (released v).mem (released v).pcxi (released v).fcx
-  restored_same true = λ i. record (released v) {
+  pub restored_same : (upper : Bool) → with_context_restored v upper ≡ seen_as (with_context_restored m upper) (with_area_released v).mem (with_area_released v).pcxi (with_area_released v).fcx
+  restored_same true = λ i. record (with_area_released v) {
     psw = (ap (λ x. area_word view x 1) there ∙ sym (own.1 0 (omega arith)) ∙ ap (λ x. area_word m.mem x 1) (sym here)) i;
     d = sym (same_d_upper (last_context m) (last_context v) m.d behind) i;
     a = sym (same_a_upper (last_context m) (last_context v) m.a behind) i;
   }
-  restored_same false = λ i. record (released v) {
+  restored_same false = λ i. record (with_area_released v) {
     d = sym (same_d_lower (last_context m) (last_context v) m.d behind) i;
     a = sym (same_a_lower (last_context m) (last_context v) m.a behind) i;
   }
 
-  pub Alike-restored : (m2 : Machine) → m2.mem ≡ (released m).mem → m2.pcxi ≡ (released m).pcxi → m2.fcx ≡ (released m).fcx → m2.lcx ≡ m.lcx
-      → Alike plan n u word_of chain_of Kept view m m2 (seen_as m2 (released v).mem (released v).pcxi (released v).fcx)
+  pub Alike-restored : (m2 : Machine) → m2.mem ≡ (with_area_released m).mem → m2.pcxi ≡ (with_area_released m).pcxi → m2.fcx ≡ (with_area_released m).fcx → m2.lcx ≡ m.lcx
+      → Alike plan n u word_of chain_of Kept view m m2 (seen_as m2 (with_area_released v).mem (with_area_released v).pcxi (with_area_released v).fcx)
   Alike-restored m2 mem_is pcxi_is fcx_is lcx_is =
       let once = areas_once plan in
       let all = (t.share).each l in
@@ -185,9 +185,9 @@ module _ {plan : PlanData} (ok : IsPlan plan) (Kept : ℕ → Type 0) (kept : (x
         words = with_chain_word word_of u (area_word m.mem l 0);
         chains = with_chain chain_of u used;
         seen = seen;
-        view = (released v).mem;
-        view_pcxi = (released v).pcxi;
-        view_fcx = (released v).fcx;
+        view = (with_area_released v).mem;
+        view_pcxi = (with_area_released v).pcxi;
+        view_fcx = (with_area_released v).fcx;
         is = refl;
         twins = rw (mem_is, pcxi_is, fcx_is, lcx_is, here, there) (Twins-restored ok l used is words.bytes view_words.bytes t);
         others = λ w lt apart. (
@@ -210,39 +210,39 @@ module _ {plan : PlanData} (ok : IsPlan plan) (Kept : ℕ → Type 0) (kept : (x
 
   -- if both do the same with the restored context, and end alike, the steps are alike
   pub Alike-back : (upper : Bool) (shape : Shape) (size : ℕ) (after : Machine → Machine) (e e2 : Event) → has_kind v upper ≡ true
-      → does m e shape size ≡ then_ (restore m upper) after → does v e2 shape size ≡ then_ (restore v upper) after
+      → does m e shape size ≡ if_running (restore m upper) after → does v e2 shape size ≡ if_running (restore v upper) after
       → ((r : Machine) → (after r).end ≡ r.end) → ((r : Machine) (mem : Memory) (p f : ℕ) → after (seen_as r mem p f) ≡ seen_as (after r) mem p f)
-      → (after (restored m upper)).mem ≡ (released m).mem → (after (restored m upper)).pcxi ≡ (released m).pcxi → (after (restored m upper)).fcx ≡ (released m).fcx → (after (restored m upper)).lcx ≡ m.lcx
-      → is_taken m e ≡ false → e2.irq ≡ e.irq → e2.status ≡ e.status → fetched m ≡ Ok (shape, size) → fetched v ≡ Ok (shape, size)
+      → (after (with_context_restored m upper)).mem ≡ (with_area_released m).mem → (after (with_context_restored m upper)).pcxi ≡ (with_area_released m).pcxi → (after (with_context_restored m upper)).fcx ≡ (with_area_released m).fcx → (after (with_context_restored m upper)).lcx ≡ m.lcx
+      → is_interrupt_taken m e ≡ false → e2.irq ≡ e.irq → e2.status ≡ e.status → fetched_instruction m ≡ Ok (shape, size) → fetched_instruction v ≡ Ok (shape, size)
       → Alike plan n u word_of chain_of Kept view m (step m e) (step v e2)
   Alike-back upper shape size after e e2 kind m_does v_does ends commutes mem_is pcxi_is fcx_is lcx_is none same_irq same_status at view_at =
-      let end_is : (restored m upper).end ≡ Running = restored_end m upper ∙ running in
-      let view_end : (restored v upper).end ≡ Running = restored_end v upper ∙ running in
-      let view_none : is_taken v e2 ≡ false = ap (λ q. is_taken m (record e { irq = q })) same_irq ∙ none in
-      let m_after : does m e shape size ≡ after (restored m upper) = m_does ∙ ap (λ r. then_ r after) (restores upper kind) ∙ then_-running (restored m upper) after end_is in
-      let v_after : does v e2 shape size ≡ seen_as (after (restored m upper)) (released v).mem (released v).pcxi (released v).fcx =
-      v_does ∙ ap (λ r. then_ r after) (view_restores upper kind) ∙ then_-running (restored v upper) after view_end ∙ ap after (restored_same upper) ∙ commutes (restored m upper) (released v).mem (released v).pcxi (released v).fcx
+      let end_is : (with_context_restored m upper).end ≡ Running = restored_end m upper ∙ running in
+      let view_end : (with_context_restored v upper).end ≡ Running = restored_end v upper ∙ running in
+      let view_none : is_interrupt_taken v e2 ≡ false = ap (λ q. is_interrupt_taken m (record e { irq = q })) same_irq ∙ none in
+      let m_after : does m e shape size ≡ after (with_context_restored m upper) = m_does ∙ ap (λ r. if_running r after) (restores upper kind) ∙ then_-running (with_context_restored m upper) after end_is in
+      let v_after : does v e2 shape size ≡ seen_as (after (with_context_restored m upper)) (with_area_released v).mem (with_area_released v).pcxi (with_area_released v).fcx =
+      v_does ∙ ap (λ r. if_running r after) (view_restores upper kind) ∙ then_-running (with_context_restored v upper) after view_end ∙ ap after (restored_same upper) ∙ commutes (with_context_restored m upper) (with_area_released v).mem (with_area_released v).pcxi (with_area_released v).fcx
       in
-      let after_end : (after (restored m upper)).end ≡ Running = ends (restored m upper) ∙ end_is in
-      let m_is : step m e ≡ with_event (after (restored m upper)) e = step_does m e shape size running none at (ap (λ x. x.end) m_after ∙ after_end) ∙ ap (λ x. with_event x e) m_after in
-      let v_is : step v e2 ≡ seen_as (with_event (after (restored m upper)) e) (released v).mem (released v).pcxi (released v).fcx =
+      let after_end : (after (with_context_restored m upper)).end ≡ Running = ends (with_context_restored m upper) ∙ end_is in
+      let m_is : step m e ≡ with_event (after (with_context_restored m upper)) e = step_does m e shape size running none at (ap (λ x. x.end) m_after ∙ after_end) ∙ ap (λ x. with_event x e) m_after in
+      let v_is : step v e2 ≡ seen_as (with_event (after (with_context_restored m upper)) e) (with_area_released v).mem (with_area_released v).pcxi (with_area_released v).fcx =
       step_does v e2 shape size running view_none view_at (ap (λ x. x.end) v_after ∙ after_end) ∙ ap (λ x. with_event x e2) v_after
-      ∙ ap (λ s. seen_as (with_event (after (restored m upper)) (record e { status = s })) (released v).mem (released v).pcxi (released v).fcx) same_status
+      ∙ ap (λ s. seen_as (with_event (after (with_context_restored m upper)) (record e { status = s })) (with_area_released v).mem (with_area_released v).pcxi (with_area_released v).fcx) same_status
       in
       subst (λ x. Alike plan n u word_of chain_of Kept view m x (step v e2)) (sym m_is)
-      (subst (λ y. Alike plan n u word_of chain_of Kept view m (with_event (after (restored m upper)) e) y) (sym v_is) (Alike-restored (with_event (after (restored m upper)) e) mem_is pcxi_is fcx_is lcx_is))
+      (subst (λ y. Alike plan n u word_of chain_of Kept view m (with_event (after (with_context_restored m upper)) e) y) (sym v_is) (Alike-restored (with_event (after (with_context_restored m upper)) e) mem_is pcxi_is fcx_is lcx_is))
 
-  module _ (e e2 : Event) (size : ℕ) (none : is_taken m e ≡ false) (same_irq : e2.irq ≡ e.irq) (same_status : e2.status ≡ e.status) where
-    pub Alike-ret : has_kind v true ≡ true → fetched m ≡ Ok (Ret, size) → fetched v ≡ Ok (Ret, size) → Alike plan n u word_of chain_of Kept view m (step m e) (step v e2)
+  module _ (e e2 : Event) (size : ℕ) (none : is_interrupt_taken m e ≡ false) (same_irq : e2.irq ≡ e.irq) (same_status : e2.status ≡ e.status) where
+    pub Alike-ret : has_kind v true ≡ true → fetched_instruction m ≡ Ok (Ret, size) → fetched_instruction v ≡ Ok (Ret, size) → Alike plan n u word_of chain_of Kept view m (step m e) (step v e2)
     Alike-ret kind at view_at =
         Alike-back true Ret size back_to e e2 kind (does-ret m e size) (does-ret v e2 size) (λ r. refl) (λ r mem p f. refl) refl refl refl refl none same_irq same_status at view_at
 
-    pub Alike-rslcx : has_kind v false ≡ true → fetched m ≡ Ok (Rslcx, size) → fetched v ≡ Ok (Rslcx, size) → Alike plan n u word_of chain_of Kept view m (step m e) (step v e2)
+    pub Alike-rslcx : has_kind v false ≡ true → fetched_instruction m ≡ Ok (Rslcx, size) → fetched_instruction v ≡ Ok (Rslcx, size) → Alike plan n u word_of chain_of Kept view m (step m e) (step v e2)
     Alike-rslcx kind at view_at =
-        Alike-back false Rslcx size (advanced size) e e2 kind (does-rslcx m e size) (does-rslcx v e2 size) (λ r. refl) (λ r mem p f. refl) refl refl refl refl none same_irq same_status at view_at
+        Alike-back false Rslcx size (with_pc_advanced size) e e2 kind (does-rslcx m e size) (does-rslcx v e2 size) (λ r. refl) (λ r mem p f. refl) refl refl refl refl none same_irq same_status at view_at
 
-    pub Alike-rfe : has_kind v true ≡ true → fetched m ≡ Ok (Rfe, size) → fetched v ≡ Ok (Rfe, size) → Alike plan n u word_of chain_of Kept view m (step m e) (step v e2)
+    pub Alike-rfe : has_kind v true ≡ true → fetched_instruction m ≡ Ok (Rfe, size) → fetched_instruction v ≡ Ok (Rfe, size) → Alike plan n u word_of chain_of Kept view m (step m e) (step v e2)
     Alike-rfe kind at view_at =
         Alike-back true Rfe size (λ r. record (back_to r) { ie = pie_of m.core m.pcxi; ccpn = pcpn_of m.core m.pcxi }) e e2 kind (does-rfe m e size)
-        (does-rfe v e2 size ∙ (λ i. then_ (restore v true) (λ r. record (back_to r) { ie = sym (same_pie m.core m.pcxi pcxi high) i; ccpn = sym (same_pcpn m.core m.pcxi pcxi high) i })))
+        (does-rfe v e2 size ∙ (λ i. if_running (restore v true) (λ r. record (back_to r) { ie = sym (same_pie m.core m.pcxi pcxi high) i; ccpn = sym (same_pcpn m.core m.pcxi pcxi high) i })))
         (λ r. refl) (λ r mem p f. refl) refl refl refl refl none same_irq same_status at view_at

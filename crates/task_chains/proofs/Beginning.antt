@@ -25,11 +25,11 @@ use Rattle.tc_isa.specs.declared.shapes.Shape.TheVariants.{Ret, Rslcx, Nothing}
 use Rattle.tc_machine.specs.declared.events.Event.{Event}
 use Rattle.tc_machine.specs.declared.events.End.TheVariants.{Running}
 use Rattle.tc_machine.specs.declared.state.Machine.{Machine}
-use Rattle.tc_machine.specs.Machine.{a11, is_interrupt_stack_used, then_, psw_with_status, IsMachine}
-use Rattle.tc_machine.specs.Instructions.{machine_address_ahead, advanced, does}
-use Rattle.tc_machine.specs.SavesAndRestores.{has_kind, released, restored, restore}
-use Rattle.tc_machine.specs.Fetching.{fetched}
-use Rattle.tc_machine.specs.Stepping.{is_taken, step}
+use Rattle.tc_machine.specs.Machine.{a11, is_interrupt_stack_used, if_running, psw_with_status, IsMachine}
+use Rattle.tc_machine.specs.Instructions.{machine_address_ahead, with_pc_advanced, does}
+use Rattle.tc_machine.specs.SavesAndRestores.{has_kind, with_area_released, with_context_restored, restore}
+use Rattle.tc_machine.specs.Fetching.{fetched_instruction}
+use Rattle.tc_machine.specs.Stepping.{is_interrupt_taken, step}
 use Rattle.tc_machine.specs.PlanAreas.{first_link, plan_areas}
 use Rattle.tc_machine.specs.Safe.{Fits}
 use Rattle.tc_machine.specs.Starting.{HasGlobals, Starts}
@@ -46,7 +46,7 @@ use Rattle.depth_cert.specs.Certs.{CertData}
 use Rattle.task_chains.specs.Tasks.{TasksData, AreTasks, count, task_at}
 use Rattle.task_chains.specs.SwitchRoutine.{HasRoutine}
 use Rattle.task_chains.specs.Views.{view_image_of, view_plan_of}
-use Rattle.task_chains.specs.TaskStarts.{current_task, task_upper_area, task_lower_area, IsReady}
+use Rattle.task_chains.specs.TaskStarts.{current_task, task_upper_area, task_lower_area, IsTaskReady}
 use Rattle.task_chains.proofs.Alike.{seen_as, area_at, outside_area}
 use Rattle.task_chains.proofs.Backs.{restored_end}
 use Rattle.task_chains.proofs.Going.{Goes}
@@ -124,10 +124,10 @@ module _ {plan : PlanData} (ok : IsPlan plan) {n u : ℕ} {word_of : ℕ → ℕ
   small : l < 2 ^ 20
   small = subst (λ x. x < 2 ^ 20) here (link_in-lt m.pcxi)
 
-  stands : (upper : Bool) → has_kind m upper ≡ true → restore m upper ≡ restored m upper
+  stands : (upper : Bool) → has_kind m upper ≡ true → restore m upper ≡ with_context_restored m upper
   stands upper kind = restore-is m upper (λ e. links_here.0 (sym here ∙ e)) kind (ap (is_area m.mem) here ∙ links_here.2)
 
-  given_back : (x : Machine) → x.mem ≡ (released m).mem → x.pcxi ≡ (released m).pcxi → x.fcx ≡ (released m).fcx → x.lcx ≡ m.lcx → GivenBack plan n u word_of chain_of m x l used
+  given_back : (x : Machine) → x.mem ≡ (with_area_released m).mem → x.pcxi ≡ (with_area_released m).pcxi → x.fcx ≡ (with_area_released m).fcx → x.lcx ≡ m.lcx → GivenBack plan n u word_of chain_of m x l used
   given_back x mem_is pcxi_is fcx_is lcx_is =
       let to_l = link_in-with_link m.fcx l small in
       let once = areas_once plan in
@@ -169,7 +169,7 @@ module _ {plan : PlanData} (ok : IsPlan plan) {n u : ℕ} {word_of : ℕ → ℕ
       }
 
   -- the words of another area
-  other_area : (x : Machine) → x.mem ≡ (released m).mem → (k i : ℕ) → k ≢ l → i < 16 → area_word x.mem k i ≡ area_word m.mem k i
+  other_area : (x : Machine) → x.mem ≡ (with_area_released m).mem → (k i : ℕ) → k ≢ l → i < 16 → area_word x.mem k i ≡ area_word m.mem k i
   other_area x mem_is k i apart lt =
       let mem_at : x.mem ≡ with_words m.mem (link_address l) (m.fcx ∷ []) = mem_is ∙ ap (λ y. with_words m.mem (link_address y) (m.fcx ∷ [])) here in
       ap (λ q. area_word q k i) mem_at ∙ area_word_same (SameArea-written m.mem l k (m.fcx ∷ []) (omega arith) apart) i lt
@@ -220,10 +220,10 @@ module _ {image : ImageData} {plan : PlanData} {tasks : TasksData} {certs : ℕ 
     abbrev own : u < count tasks
     own = (k.shared).own
 
-    none : is_taken m e ≡ false
+    none : is_interrupt_taken m e ≡ false
     none = none_when_off m e off
 
-    at_code : (i : ℕ) → m.pc ≡ tasks.switch + 4 * i → (shape : Shape) → IsCode image plan (tasks.switch + 4 * i) shape 4 → fetched m ≡ Ok (shape, 4)
+    at_code : (i : ℕ) → m.pc ≡ tasks.switch + 4 * i → (shape : Shape) → IsCode image plan (tasks.switch + 4 * i) shape 4 → fetched_instruction m ≡ Ok (shape, 4)
     at_code i pc shape c = fetched_code image plan m shape 4 wd.ok k.rom (subst (λ x. IsCode image plan x shape 4) (sym pc) c)
 
     next_pc : (i : ℕ) → i < 17 → m.pc ≡ tasks.switch + 4 * i → machine_address_ahead m.pc 4 ≡ tasks.switch + 4 * suc i
@@ -233,12 +233,12 @@ module _ {image : ImageData} {plan : PlanData} {tasks : TasksData} {certs : ℕ 
     after_machine = stays_step m e k.words (irq_lt wd.ok m e fits) fits.input fits.status
 
     -- instruction 15 does nothing
-    pub begins_on : m.pc ≡ tasks.switch + 4 * 15 → IsReady m.core plan tasks m.mem u → m.pcxi ≡ pcxi_word_of m.core 0 false false (task_lower_area plan u) → chain_of u ≡ task_lower_area plan u ∷ task_upper_area plan u ∷ [] → Goes image plan tasks needs (step m e)
+    pub begins_on : m.pc ≡ tasks.switch + 4 * 15 → IsTaskReady m.core plan tasks m.mem u → m.pcxi ≡ pcxi_word_of m.core 0 false false (task_lower_area plan u) → chain_of u ≡ task_lower_area plan u ∷ task_upper_area plan u ∷ [] → Goes image plan tasks needs (step m e)
     begins_on pc is word links =
-        let m_is : step m e ≡ with_event (advanced 4 m) e =
+        let m_is : step m e ≡ with_event (with_pc_advanced 4 m) e =
         step_does m e Nothing 4 k.running none (at_code 15 pc Nothing (code_15 image plan tasks wd.are wd.has)) (ap (λ (y : Machine). y.end) (does-nothing m e 4) ∙ k.running) ∙ ap (λ (y : Machine). with_event y e) (does-nothing m e 4)
         in
-        let turn : Turn image plan tasks u word_of chain_of (with_event (advanced 4 m) e) =
+        let turn : Turn image plan tasks u word_of chain_of (with_event (with_pc_advanced 4 m) e) =
         begins 16 (omega arith) (omega arith) (next_pc 15 (omega arith) pc) off level later (λ _. (is, word, links)) (λ a. absurd (omega arith)) now
         in
         subst (Goes image plan tasks needs) (sym m_is)
@@ -246,7 +246,7 @@ module _ {image : ImageData} {plan : PlanData} {tasks : TasksData} {certs : ℕ 
           owner = u;
           words = word_of;
           chains = chain_of;
-          kept = all_from wd m (with_event (advanced 4 m) e) k word_of chain_of k.shared (subst IsMachine m_is after_machine) k.running (record { lcx = k.lcx; biv = k.biv; btv = k.btv; isp = k.isp; core = k.core }) k.globals (λ y. refl) (λ y in_rom. refl)
+          kept = all_from wd m (with_event (with_pc_advanced 4 m) e) k word_of chain_of k.shared (subst IsMachine m_is after_machine) k.running (record { lcx = k.lcx; biv = k.biv; btv = k.btv; isp = k.isp; core = k.core }) k.globals (λ y. refl) (λ y in_rom. refl)
               (λ j lt apart. (refl, refl, areas_same m.mem (chain_of j))) (λ j lt apart. refl) (k.needs_kept u own) turn;
         })
 
@@ -254,7 +254,7 @@ module _ {image : ImageData} {plan : PlanData} {tasks : TasksData} {certs : ℕ 
     is_kept : (x : ℕ) → IsKept plan tasks x → IsInAreas plan x → ⊥
     is_kept = kept wd.ok wd.fit
 
-    module _ (l : ℕ) (used : List ℕ) (is_l : chain_of u ≡ l ∷ used) (x : Machine) (mem_is : x.mem ≡ (released m).mem) (pcxi_is : x.pcxi ≡ (released m).pcxi) (fcx_is : x.fcx ≡ (released m).fcx) (lcx_is : x.lcx ≡ m.lcx) where
+    module _ (l : ℕ) (used : List ℕ) (is_l : chain_of u ≡ l ∷ used) (x : Machine) (mem_is : x.mem ≡ (with_area_released m).mem) (pcxi_is : x.pcxi ≡ (with_area_released m).pcxi) (fcx_is : x.fcx ≡ (with_area_released m).fcx) (lcx_is : x.lcx ≡ m.lcx) where
       gives : GivenBack plan (count tasks) u word_of chain_of m x l used
       gives = given_back wd.ok m k.shared (k.words).bytes l used is_l x mem_is pcxi_is fcx_is lcx_is
 
@@ -281,7 +281,7 @@ module _ {image : ImageData} {plan : PlanData} {tasks : TasksData} {certs : ℕ 
           }
 
     -- instruction 16 restores the lower context
-    pub begins_lower : m.pc ≡ tasks.switch + 4 * 16 → IsReady m.core plan tasks m.mem u → m.pcxi ≡ pcxi_word_of m.core 0 false false (task_lower_area plan u) → chain_of u ≡ task_lower_area plan u ∷ task_upper_area plan u ∷ [] → Goes image plan tasks needs (step m e)
+    pub begins_lower : m.pc ≡ tasks.switch + 4 * 16 → IsTaskReady m.core plan tasks m.mem u → m.pcxi ≡ pcxi_word_of m.core 0 false false (task_lower_area plan u) → chain_of u ≡ task_lower_area plan u ∷ task_upper_area plan u ∷ [] → Goes image plan tasks needs (step m e)
     begins_lower pc is word links =
         let low = task_lower_area plan u in
         let up = task_upper_area plan u in
@@ -289,17 +289,17 @@ module _ {image : ImageData} {plan : PlanData} {tasks : TasksData} {certs : ℕ 
         let at = here wd.ok m k.shared (k.words).bytes (task_lower_area plan u) (task_upper_area plan u ∷ []) links in
         let low_small = small wd.ok m k.shared (k.words).bytes (task_lower_area plan u) (task_upper_area plan u ∷ []) links in
         let kind : has_kind m false ≡ true = ap (λ w. not (ul_of m.core w)) word ∙ ap not (ul_of-pcxi_word m.core 0 false false (task_lower_area plan u) low_small) in
-        let m_does : does m e Rslcx 4 ≡ advanced 4 (restored m false) =
-        does-rslcx m e 4 ∙ ap (λ s. then_ s (advanced 4)) (stands wd.ok m k.shared (k.words).bytes (task_lower_area plan u) (task_upper_area plan u ∷ []) links false kind) ∙ then_-running (restored m false) (advanced 4) (restored_end m false ∙ k.running)
+        let m_does : does m e Rslcx 4 ≡ with_pc_advanced 4 (with_context_restored m false) =
+        does-rslcx m e 4 ∙ ap (λ s. if_running s (with_pc_advanced 4)) (stands wd.ok m k.shared (k.words).bytes (task_lower_area plan u) (task_upper_area plan u ∷ []) links false kind) ∙ then_-running (with_context_restored m false) (with_pc_advanced 4) (restored_end m false ∙ k.running)
         in
-        let m_is : step m e ≡ with_event (advanced 4 (restored m false)) e =
+        let m_is : step m e ≡ with_event (with_pc_advanced 4 (with_context_restored m false)) e =
         step_does m e Rslcx 4 k.running none (at_code 16 pc Rslcx (code_16 image plan tasks wd.are wd.has)) (ap (λ (y : Machine). y.end) m_does ∙ k.running) ∙ ap (λ (y : Machine). with_event y e) m_does
         in
-        let x : Machine = with_event (advanced 4 (restored m false)) e in
-        let word_same : (i : ℕ) → i < 16 → area_word (released m).mem (task_upper_area plan u) i ≡ area_word m.mem (task_upper_area plan u) i =
-        λ i lt. other_area wd.ok m k.shared (k.words).bytes (task_lower_area plan u) (task_upper_area plan u ∷ []) links (released m) refl (task_upper_area plan u) i (λ e. omega arith) lt
+        let x : Machine = with_event (with_pc_advanced 4 (with_context_restored m false)) e in
+        let word_same : (i : ℕ) → i < 16 → area_word (with_area_released m).mem (task_upper_area plan u) i ≡ area_word m.mem (task_upper_area plan u) i =
+        λ i lt. other_area wd.ok m k.shared (k.words).bytes (task_lower_area plan u) (task_upper_area plan u ∷ []) links (with_area_released m) refl (task_upper_area plan u) i (λ e. omega arith) lt
         in
-        let turn : Turn image plan tasks u (with_chain_word word_of u (area_word m.mem (task_lower_area plan u) 0)) (with_chain chain_of u (task_upper_area plan u ∷ [])) (with_event (advanced 4 (restored m false)) e) =
+        let turn : Turn image plan tasks u (with_chain_word word_of u (area_word m.mem (task_lower_area plan u) 0)) (with_chain chain_of u (task_upper_area plan u ∷ [])) (with_event (with_pc_advanced 4 (with_context_restored m false)) e) =
         begins 17 (omega arith) (omega arith) (next_pc 16 (omega arith) pc) off level later (λ a. absurd (omega arith))
         (λ _. (
           cond_same u u (task_upper_area plan u ∷ []) (chain_of u) refl,
@@ -310,10 +310,10 @@ module _ {image : ImageData} {plan : PlanData} {tasks : TasksData} {certs : ℕ 
           ap is_interrupt_stack_used (word_same 1 (omega arith)) ∙ is.is,
           word_same 2 (omega arith) ∙ is.sp,
         ))
-        (now_back (task_lower_area plan u) (task_upper_area plan u ∷ []) links (with_event (advanced 4 (restored m false)) e) refl refl refl refl)
+        (now_back (task_lower_area plan u) (task_upper_area plan u ∷ []) links (with_event (with_pc_advanced 4 (with_context_restored m false)) e) refl refl refl refl)
         in
         subst (Goes image plan tasks needs) (sym m_is)
-        (all_back (task_lower_area plan u) (task_upper_area plan u ∷ []) links (with_event (advanced 4 (restored m false)) e) refl refl refl refl (subst IsMachine m_is after_machine) k.running
+        (all_back (task_lower_area plan u) (task_upper_area plan u ∷ []) links (with_event (with_pc_advanced 4 (with_context_restored m false)) e) refl refl refl refl (subst IsMachine m_is after_machine) k.running
         (record { lcx = k.lcx; biv = k.biv; btv = k.btv; isp = k.isp; core = k.core }) k.globals turn)
 
     -- instruction 17 returns to the task's entry, and its view starts
@@ -321,15 +321,15 @@ module _ {image : ImageData} {plan : PlanData} {tasks : TasksData} {certs : ℕ 
         → is_interrupt_stack_used (area_word m.mem (task_upper_area plan u) 1) ≡ false → area_word m.mem (task_upper_area plan u) 2 ≡ (task_at tasks u).sp → Goes image plan tasks needs (step m e)
     begins_home pc links kind entry ends io is sp =
         let at = here wd.ok m k.shared (k.words).bytes (task_upper_area plan u) [] links in
-        let m_does : does m e Ret 4 ≡ record (restored m true) { pc = a11 m / 2 * 2 } =
-        does-ret m e 4 ∙ ap (λ s. then_ s (λ r. record r { pc = a11 m / 2 * 2 })) (stands wd.ok m k.shared (k.words).bytes (task_upper_area plan u) [] links true kind) ∙ then_-running (restored m true) (λ r. record r { pc = a11 m / 2 * 2 }) (restored_end m true ∙ k.running)
+        let m_does : does m e Ret 4 ≡ record (with_context_restored m true) { pc = a11 m / 2 * 2 } =
+        does-ret m e 4 ∙ ap (λ s. if_running s (λ r. record r { pc = a11 m / 2 * 2 })) (stands wd.ok m k.shared (k.words).bytes (task_upper_area plan u) [] links true kind) ∙ then_-running (with_context_restored m true) (λ r. record r { pc = a11 m / 2 * 2 }) (restored_end m true ∙ k.running)
         in
-        let m_is : step m e ≡ with_event (record (restored m true) { pc = a11 m / 2 * 2 }) e =
+        let m_is : step m e ≡ with_event (record (with_context_restored m true) { pc = a11 m / 2 * 2 }) e =
         step_does m e Ret 4 k.running none (at_code 17 pc Ret (code_17 image plan tasks wd.are wd.has)) (ap (λ (y : Machine). y.end) m_does ∙ k.running) ∙ ap (λ (y : Machine). with_event y e) m_does
         in
-        let words : IsMachine (with_event (record (restored m true) { pc = a11 m / 2 * 2 }) e) = subst IsMachine m_is after_machine in
+        let words : IsMachine (with_event (record (with_context_restored m true) { pc = a11 m / 2 * 2 }) e) = subst IsMachine m_is after_machine in
         let entry_lt : (task_at tasks u).entry < 2 ^ 32 = subst (λ y. y < 2 ^ 32) entry (reg_lt m k.words 27) in
-        let begun : (q : ℕ) → q ≡ (task_at tasks u).entry → Begun plan tasks u (with_event (record (restored m true) { pc = q }) e) =
+        let begun : (q : ℕ) → q ≡ (task_at tasks u).entry → Begun plan tasks u (with_event (record (with_context_restored m true) { pc = q }) e) =
         λ q q_is.
         record {
           words = record { d = words.d; a = words.a; pc = subst (λ y. y < 2 ^ 32) (sym q_is) entry_lt; psw = words.psw; pcxi = words.pcxi; fcx = words.fcx; lcx = words.lcx; ccpn = words.ccpn; biv = words.biv; btv = words.btv; isp = words.isp; bytes = words.bytes };
@@ -348,15 +348,15 @@ module _ {image : ImageData} {plan : PlanData} {tasks : TasksData} {certs : ℕ 
           core = k.core;
         }
         in
-        let x0 : Machine = with_event (record (restored m true) { pc = (task_at tasks u).entry }) e in
-        let x : Machine = with_event (record (restored m true) { pc = a11 m / 2 * 2 }) e in
+        let x0 : Machine = with_event (record (with_context_restored m true) { pc = (task_at tasks u).entry }) e in
+        let x : Machine = with_event (record (with_context_restored m true) { pc = a11 m / 2 * 2 }) e in
         let memory = memory_back (task_upper_area plan u) [] links x refl refl refl refl in
         let rom = rom_back (task_upper_area plan u) [] links x refl refl refl refl in
         let s0 = view_begins wd.ok image tasks wd.fit u later x0 (begun (task_at tasks u).entry refl) (start_memory own x0 memory rom words.bytes) (start_is own x0 memory rom words.bytes) in
         let even : (task_at tasks u).entry % 2 ≡ 0 = entry_even own x0 memory rom words.bytes s0 in
         let home : a11 m / 2 * 2 ≡ (task_at tasks u).entry = omega arith in
         let s = view_begins wd.ok image tasks wd.fit u later x (begun (a11 m / 2 * 2) home) (start_memory own x memory rom words.bytes) (start_is own x memory rom words.bytes) in
-        let turn : Turn image plan tasks u (with_chain_word word_of u (area_word m.mem (task_upper_area plan u) 0)) (with_chain chain_of u []) (with_event (record (restored m true) { pc = a11 m / 2 * 2 }) e) =
+        let turn : Turn image plan tasks u (with_chain_word word_of u (area_word m.mem (task_upper_area plan u) 0)) (with_chain chain_of u []) (with_event (record (with_context_restored m true) { pc = a11 m / 2 * 2 }) e) =
         start_turn own x memory rom words.bytes (with_chain_word word_of u (area_word m.mem (task_upper_area plan u) 0)) (with_chain chain_of u []) s (cond_same u u [] (chain_of u) refl) (ap (λ y. area_word m.mem y 0) at ∙ ends)
         (now_back (task_upper_area plan u) [] links x refl refl refl refl)
         in

@@ -11,12 +11,12 @@ use Rattle.tc_machine.specs.declared.events.End.{End}
 use Rattle.tc_machine.specs.declared.events.End.TheVariants.{Running, Dead}
 use Rattle.tc_machine.specs.declared.events.Event.{Event}
 use Rattle.tc_machine.specs.declared.state.Machine.{Machine}
-use Rattle.tc_machine.specs.Machine.{a11, died, goes_on, then_, psw_with_status}
-use Rattle.tc_machine.specs.Instructions.{machine_address_ahead, advanced, access_address, is_trapping_access, target_of, does}
-use Rattle.tc_machine.specs.Handlers.{at_handler, trap, interrupt}
-use Rattle.tc_machine.specs.Stepping.{is_taken, executed, machine_after_event, step}
-use Rattle.tc_machine.specs.SavesAndRestores.{has_kind, saved, save, restored, restore}
-use Rattle.tc_machine.specs.Fetching.{fetched}
+use Rattle.tc_machine.specs.Machine.{a11, dead_machine, if_end_running, if_running, psw_with_status}
+use Rattle.tc_machine.specs.Instructions.{machine_address_ahead, with_pc_advanced, access_address, is_trapping_access, target_of, does}
+use Rattle.tc_machine.specs.Handlers.{at_handler_entry, trap, interrupt}
+use Rattle.tc_machine.specs.Stepping.{is_interrupt_taken, after_found_instruction, machine_after_event, step}
+use Rattle.tc_machine.specs.SavesAndRestores.{has_kind, with_context_saved, save, with_context_restored, restore}
+use Rattle.tc_machine.specs.Fetching.{fetched_instruction}
 use Rattle.tc_machine.proofs.Steps.{done-is, does-call, does-ret}
 use Rattle.vd_transfer.specs.Registers.{WritesNoFixedRegister}
 use Rattle.cfg_recover.proofs.Points.{does-rfe, does-svlcx, does-rslcx, does-bisr, does-syscall, does-trapped}
@@ -30,62 +30,62 @@ pub record SameCore (m n : Machine) : Type 0 where
   pub isp : n.isp ≡ m.isp
   pub core : n.core ≡ m.core
 
-core_then : (m s : Machine) (next : Machine → Machine) → SameCore m s → ((r : Machine) → SameCore m r → SameCore m (next r)) → SameCore m (then_ s next)
+core_then : (m s : Machine) (next : Machine → Machine) → SameCore m s → ((r : Machine) → SameCore m r → SameCore m (next r)) → SameCore m (if_running s next)
 core_then m s next here on = by_end s.end
   where
-    by_end : (end : End) → SameCore m (goes_on end s next)
+    by_end : (end : End) → SameCore m (if_end_running end s next)
     by_end Running = on s here
     by_end (Dead cause) = here
 
 itself : (m : Machine) → SameCore m m
 itself m = record { lcx = refl; biv = refl; btv = refl; isp = refl; core = refl }
 
-core_saved : (m : Machine) (upper : Bool) → SameCore m (saved m upper)
+core_saved : (m : Machine) (upper : Bool) → SameCore m (with_context_saved m upper)
 core_saved m upper = record { lcx = refl; biv = refl; btv = refl; isp = refl; core = refl }
 
 core_save : (m : Machine) (upper : Bool) → SameCore m (save m upper)
 unfolding save
 core_save m upper =
-    cond_both (link_in m.fcx == 0) (died Fcu m) (cond (is_area m.mem (link_in m.fcx)) (cond (link_in m.fcx == link_in m.lcx) (died Fcd (saved m upper)) (saved m upper)) (died NoArea m)) (SameCore m)
+    cond_both (link_in m.fcx == 0) (dead_machine Fcu m) (cond (is_area m.mem (link_in m.fcx)) (cond (link_in m.fcx == link_in m.lcx) (dead_machine Fcd (with_context_saved m upper)) (with_context_saved m upper)) (dead_machine NoArea m)) (SameCore m)
     (λ _. record { lcx = refl; biv = refl; btv = refl; isp = refl; core = refl })
     (λ _.
-    cond_both (is_area m.mem (link_in m.fcx)) (cond (link_in m.fcx == link_in m.lcx) (died Fcd (saved m upper)) (saved m upper)) (died NoArea m) (SameCore m)
-    (λ _. cond_both (link_in m.fcx == link_in m.lcx) (died Fcd (saved m upper)) (saved m upper) (SameCore m) (λ _. record { lcx = refl; biv = refl; btv = refl; isp = refl; core = refl }) (λ _. core_saved m upper))
+    cond_both (is_area m.mem (link_in m.fcx)) (cond (link_in m.fcx == link_in m.lcx) (dead_machine Fcd (with_context_saved m upper)) (with_context_saved m upper)) (dead_machine NoArea m) (SameCore m)
+    (λ _. cond_both (link_in m.fcx == link_in m.lcx) (dead_machine Fcd (with_context_saved m upper)) (with_context_saved m upper) (SameCore m) (λ _. record { lcx = refl; biv = refl; btv = refl; isp = refl; core = refl }) (λ _. core_saved m upper))
     (λ _. record { lcx = refl; biv = refl; btv = refl; isp = refl; core = refl }))
 
 -- a save doesn't change them
 pub save_place : (m : Machine) (upper : Bool) → ((save m upper).pc ≡ m.pc) × ((save m upper).ie ≡ m.ie)
 unfolding save
 save_place m upper =
-    cond_both (link_in m.fcx == 0) (died Fcu m) (cond (is_area m.mem (link_in m.fcx)) (cond (link_in m.fcx == link_in m.lcx) (died Fcd (saved m upper)) (saved m upper)) (died NoArea m)) (λ (n : Machine). (n.pc ≡ m.pc) × (n.ie ≡ m.ie))
+    cond_both (link_in m.fcx == 0) (dead_machine Fcu m) (cond (is_area m.mem (link_in m.fcx)) (cond (link_in m.fcx == link_in m.lcx) (dead_machine Fcd (with_context_saved m upper)) (with_context_saved m upper)) (dead_machine NoArea m)) (λ (n : Machine). (n.pc ≡ m.pc) × (n.ie ≡ m.ie))
     (λ _. (refl, refl))
     (λ _.
-    cond_both (is_area m.mem (link_in m.fcx)) (cond (link_in m.fcx == link_in m.lcx) (died Fcd (saved m upper)) (saved m upper)) (died NoArea m) (λ (n : Machine). (n.pc ≡ m.pc) × (n.ie ≡ m.ie))
-    (λ _. cond_both (link_in m.fcx == link_in m.lcx) (died Fcd (saved m upper)) (saved m upper) (λ (n : Machine). (n.pc ≡ m.pc) × (n.ie ≡ m.ie)) (λ _. (refl, refl)) (λ _. (refl, refl)))
+    cond_both (is_area m.mem (link_in m.fcx)) (cond (link_in m.fcx == link_in m.lcx) (dead_machine Fcd (with_context_saved m upper)) (with_context_saved m upper)) (dead_machine NoArea m) (λ (n : Machine). (n.pc ≡ m.pc) × (n.ie ≡ m.ie))
+    (λ _. cond_both (link_in m.fcx == link_in m.lcx) (dead_machine Fcd (with_context_saved m upper)) (with_context_saved m upper) (λ (n : Machine). (n.pc ≡ m.pc) × (n.ie ≡ m.ie)) (λ _. (refl, refl)) (λ _. (refl, refl)))
     (λ _. (refl, refl)))
 
-core_restored : (m : Machine) (upper : Bool) → SameCore m (restored m upper)
+core_restored : (m : Machine) (upper : Bool) → SameCore m (with_context_restored m upper)
 core_restored m true = record { lcx = refl; biv = refl; btv = refl; isp = refl; core = refl }
 core_restored m false = record { lcx = refl; biv = refl; btv = refl; isp = refl; core = refl }
 
 core_restore : (m : Machine) (upper : Bool) → SameCore m (restore m upper)
 unfolding restore
 core_restore m upper =
-    cond_both (link_in m.pcxi == 0) (died Csu m) (cond (has_kind m upper) (cond (is_area m.mem (link_in m.pcxi)) (restored m upper) (died NoArea m)) (died Ctyp m)) (SameCore m)
+    cond_both (link_in m.pcxi == 0) (dead_machine Csu m) (cond (has_kind m upper) (cond (is_area m.mem (link_in m.pcxi)) (with_context_restored m upper) (dead_machine NoArea m)) (dead_machine Ctyp m)) (SameCore m)
     (λ _. record { lcx = refl; biv = refl; btv = refl; isp = refl; core = refl })
     (λ _.
-    cond_both (has_kind m upper) (cond (is_area m.mem (link_in m.pcxi)) (restored m upper) (died NoArea m)) (died Ctyp m) (SameCore m)
-    (λ _. cond_both (is_area m.mem (link_in m.pcxi)) (restored m upper) (died NoArea m) (SameCore m) (λ _. core_restored m upper) (λ _. record { lcx = refl; biv = refl; btv = refl; isp = refl; core = refl }))
+    cond_both (has_kind m upper) (cond (is_area m.mem (link_in m.pcxi)) (with_context_restored m upper) (dead_machine NoArea m)) (dead_machine Ctyp m) (SameCore m)
+    (λ _. cond_both (is_area m.mem (link_in m.pcxi)) (with_context_restored m upper) (dead_machine NoArea m) (SameCore m) (λ _. core_restored m upper) (λ _. record { lcx = refl; biv = refl; btv = refl; isp = refl; core = refl }))
     (λ _. record { lcx = refl; biv = refl; btv = refl; isp = refl; core = refl }))
 
 core_interrupt : (m : Machine) (irq : ℕ) → SameCore m (interrupt m irq)
 core_interrupt m irq =
-    core_then m (save m true) (λ s. record (at_handler m s m.pc (bit_or m.biv (irq * 2 ^ 5))) { ccpn = irq }) (core_save m true)
+    core_then m (save m true) (λ s. record (at_handler_entry m s m.pc (bit_or m.biv (irq * 2 ^ 5))) { ccpn = irq }) (core_save m true)
     (λ r h. record { lcx = h.lcx; biv = h.biv; btv = h.btv; isp = h.isp; core = h.core })
 
 core_trap : (m : Machine) (class tin back : ℕ) → SameCore m (trap m class tin back)
 core_trap m class tin back =
-    core_then m (save m true) (λ s. record (at_handler m s back (bit_or m.btv (class * 2 ^ 5))) { d = set s.d 15 tin }) (core_save m true)
+    core_then m (save m true) (λ s. record (at_handler_entry m s back (bit_or m.btv (class * 2 ^ 5))) { d = set s.d 15 tin }) (core_save m true)
     (λ r h. record { lcx = h.lcx; biv = h.biv; btv = h.btv; isp = h.isp; core = h.core })
 
 module _ (m : Machine) (e : Event) (size : ℕ) where
@@ -115,9 +115,9 @@ module _ (m : Machine) (e : Event) (size : ℕ) where
   core_does Rfe w n =
       through Rfe _ (does-rfe m e size)
       (core_then m (restore m true) (λ r. record r { pc = a11 m / 2 * 2; ie = pie_of m.core m.pcxi; ccpn = pcpn_of m.core m.pcxi }) (core_restore m true) (λ r h. record { lcx = h.lcx; biv = h.biv; btv = h.btv; isp = h.isp; core = h.core }))
-  core_does Svlcx w n = through Svlcx _ (does-svlcx m e size) (core_then m (save m false) (advanced size) (core_save m false) (λ r h. record { lcx = h.lcx; biv = h.biv; btv = h.btv; isp = h.isp; core = h.core }))
-  core_does Rslcx w n = through Rslcx _ (does-rslcx m e size) (core_then m (restore m false) (advanced size) (core_restore m false) (λ r h. record { lcx = h.lcx; biv = h.biv; btv = h.btv; isp = h.isp; core = h.core }))
-  core_does (Bisr c) w n = through (Bisr c) _ (does-bisr m e size c) (core_then m (save m false) (λ s. record (advanced size s) { ccpn = c; ie = true }) (core_save m false) (λ r h. record { lcx = h.lcx; biv = h.biv; btv = h.btv; isp = h.isp; core = h.core }))
+  core_does Svlcx w n = through Svlcx _ (does-svlcx m e size) (core_then m (save m false) (with_pc_advanced size) (core_save m false) (λ r h. record { lcx = h.lcx; biv = h.biv; btv = h.btv; isp = h.isp; core = h.core }))
+  core_does Rslcx w n = through Rslcx _ (does-rslcx m e size) (core_then m (restore m false) (with_pc_advanced size) (core_restore m false) (λ r h. record { lcx = h.lcx; biv = h.biv; btv = h.btv; isp = h.isp; core = h.core }))
+  core_does (Bisr c) w n = through (Bisr c) _ (does-bisr m e size c) (core_then m (save m false) (λ s. record (with_pc_advanced size s) { ccpn = c; ie = true }) (core_save m false) (λ r h. record { lcx = h.lcx; biv = h.biv; btv = h.btv; isp = h.isp; core = h.core }))
   core_does Enable w n = plainly Enable (plain-enable m m.mem m.pcxi m.fcx e e size)
   core_does Disable w n = plainly Disable (plain-disable m m.mem m.pcxi m.fcx e e size)
   core_does (Syscall tin) w n = through (Syscall tin) (trap m 6 tin (machine_address_ahead m.pc size)) (does-syscall m e size tin) (core_trap m 6 tin (machine_address_ahead m.pc size))
@@ -130,12 +130,12 @@ core_of_done : (m : Machine) (e : Event) → SameCore m (machine_after_event m e
 unfolding step
 core_of_done m e h = by_end m.end
   where
-    by_end : (end : End) → SameCore m (goes_on end m (λ m. then_ (machine_after_event m e) (λ n. record n { psw = psw_with_status n.psw e.status })))
+    by_end : (end : End) → SameCore m (if_end_running end m (λ m. if_running (machine_after_event m e) (λ n. record n { psw = psw_with_status n.psw e.status })))
     by_end Running = core_then m (machine_after_event m e) (λ n. record n { psw = psw_with_status n.psw e.status }) h (λ r k. record { lcx = k.lcx; biv = k.biv; btv = k.btv; isp = k.isp; core = k.core })
     by_end (Dead cause) = itself m
 
-pub core_taken : (m : Machine) (e : Event) → is_taken m e ≡ true → SameCore m (step m e)
-core_taken m e taken = core_of_done m e (subst (λ t. SameCore m (cond t (interrupt m e.irq) (executed m e (fetched m)))) (sym taken) (core_interrupt m e.irq))
+pub core_taken : (m : Machine) (e : Event) → is_interrupt_taken m e ≡ true → SameCore m (step m e)
+core_taken m e taken = core_of_done m e (subst (λ t. SameCore m (cond t (interrupt m e.irq) (after_found_instruction m e (fetched_instruction m)))) (sym taken) (core_interrupt m e.irq))
 
-pub core_step : (m : Machine) (e : Event) (shape : Shape) (size : ℕ) → is_taken m e ≡ false → fetched m ≡ Ok (shape, size) → WritesNoFixedRegister shape → StoresNothing m e shape → SameCore m (step m e)
+pub core_step : (m : Machine) (e : Event) (shape : Shape) (size : ℕ) → is_interrupt_taken m e ≡ false → fetched_instruction m ≡ Ok (shape, size) → WritesNoFixedRegister shape → StoresNothing m e shape → SameCore m (step m e)
 core_step m e shape size none at writes nothing = core_of_done m e (subst (SameCore m) (sym (done-is m e shape size none at)) (core_does m e size shape writes nothing))

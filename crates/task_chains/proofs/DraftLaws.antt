@@ -10,20 +10,20 @@ use Rattle.task_chains.specs.declared.lines.Places.{Places}
 use Rattle.task_chains.specs.declared.drafts.TasksDraft.{TasksDraft}
 use Rattle.task_chains.specs.declared.task_lists.Task.{Task}
 use Rattle.task_chains.specs.Tasks.{TasksData}
-use Rattle.task_chains.specs.TaskListText.{task_of, written_task_lines, AreSaid, IsEighthTaskLine, tasks_with, TellsEighth, IsDraftBy, IsTasksDraft, TakesTaskLine}
+use Rattle.task_chains.specs.TaskListText.{task_of, nonempty_task_lines, AreNamedTasks, IsEighthTaskLine, tasks_with, IsEighthTaskLineIfAny, IsTasksDraftOfParts, IsTasksDraftOf, IsTasksDraftAfterLine}
 
 abbrev some_task : Task → Option Task
 some_task t = Some t
 
 -- ---- what is written
 module _ (before : List (List ℕ)) where
-  written_more : (line : List ℕ) → written_task_lines (before ++ line ∷ []) ≡ written_task_lines before ++ written_task_lines (line ∷ [])
+  written_more : (line : List ℕ) → nonempty_task_lines (before ++ line ∷ []) ≡ nonempty_task_lines before ++ nonempty_task_lines (line ∷ [])
   written_more line = filter-append is_nonempty_line before (line ∷ [])
 
-  written_empty : written_task_lines (before ++ [] ∷ []) ≡ written_task_lines before
-  written_empty = written_more [] ∙ append-nil (written_task_lines before)
+  written_empty : nonempty_task_lines (before ++ [] ∷ []) ≡ nonempty_task_lines before
+  written_empty = written_more [] ∙ append-nil (nonempty_task_lines before)
 
-  written_line : (line : List ℕ) → 0 < length line → written_task_lines (before ++ line ∷ []) ≡ written_task_lines before ++ line ∷ []
+  written_line : (line : List ℕ) → 0 < length line → nonempty_task_lines (before ++ line ∷ []) ≡ nonempty_task_lines before ++ line ∷ []
   written_line [] lt = absurd (omega arith)
   written_line (x ∷ xs) lt = written_more (x ∷ xs)
 
@@ -49,22 +49,22 @@ eighth_more before line n e = record {
   many = e.many;
 }
 
-tells_same : (before : List (List ℕ)) (line : List ℕ) (tasks : TasksData) (eighth : Option ℕ) → TellsEighth before tasks eighth → TellsEighth (before ++ line ∷ []) tasks eighth
+tells_same : (before : List (List ℕ)) (line : List ℕ) (tasks : TasksData) (eighth : Option ℕ) → IsEighthTaskLineIfAny before tasks eighth → IsEighthTaskLineIfAny (before ++ line ∷ []) tasks eighth
 tells_same before line tasks None few = few
 tells_same before line tasks (Some n) e = eighth_more before line n e
 
 -- ---- one line more
 module _ (before : List (List ℕ)) where
   -- an empty line
-  said_empty : (tasks : TasksData) → AreSaid before tasks → AreSaid (before ++ [] ∷ []) tasks
+  said_empty : (tasks : TasksData) → AreNamedTasks before tasks → AreNamedTasks (before ++ [] ∷ []) tasks
   said_empty tasks s = record { first = s.first; behind = s.behind; split = written_empty before ∙ s.split; places = s.places; named = s.named }
 
-  draft_empty : (places : Option Places) (list : List Task) (eighth : Option ℕ) → IsDraftBy before places list eighth → IsDraftBy (before ++ [] ∷ []) places list eighth
+  draft_empty : (places : Option Places) (list : List Task) (eighth : Option ℕ) → IsTasksDraftOfParts before places list eighth → IsTasksDraftOfParts (before ++ [] ∷ []) places list eighth
   draft_empty None list eighth d = (written_empty before ∙ d.0, d.1, d.2)
   draft_empty (Some p) list eighth d = record { all = d.all; said = said_empty (tasks_with p d.all) d.said; seven = d.seven; more = tells_same before [] (tasks_with p d.all) eighth d.more }
 
   -- a line that names a task
-  said_more : (line : List ℕ) (p : Places) (t : Task) (all : List Task) → 0 < length line → task_of line ≡ Some t → AreSaid before (tasks_with p all) → AreSaid (before ++ line ∷ []) (tasks_with p (all ++ t ∷ []))
+  said_more : (line : List ℕ) (p : Places) (t : Task) (all : List Task) → 0 < length line → task_of line ≡ Some t → AreNamedTasks before (tasks_with p all) → AreNamedTasks (before ++ line ∷ []) (tasks_with p (all ++ t ∷ []))
   said_more line p t all lt is s = record {
     first = s.first;
     behind = s.behind ++ line ∷ [];
@@ -73,17 +73,17 @@ module _ (before : List (List ℕ)) where
     named = map-append task_of s.behind (line ∷ []) ∙ ap (λ l. l ++ task_of line ∷ []) s.named ∙ ap (λ o. map some_task all ++ o ∷ []) is ∙ sym (map-append some_task all (t ∷ []));
   }
 
-  tells_few : (line : List ℕ) (p : Places) (t : Task) (all : List Task) (eighth : Option ℕ) → length all < 7 → TellsEighth before (tasks_with p all) eighth → TellsEighth (before ++ line ∷ []) (tasks_with p (all ++ t ∷ [])) eighth
+  tells_few : (line : List ℕ) (p : Places) (t : Task) (all : List Task) (eighth : Option ℕ) → length all < 7 → IsEighthTaskLineIfAny before (tasks_with p all) eighth → IsEighthTaskLineIfAny (before ++ line ∷ []) (tasks_with p (all ++ t ∷ [])) eighth
   tells_few line p t all None lt few = omega (arith, length-append all (t ∷ []))
   tells_few line p t all (Some n) lt e = eighth_more before line n e
 
-  tells_many : (n : ℕ) (line : List ℕ) (p : Places) (t : Task) (all : List Task) (eighth : Option ℕ) → n ≡ length before + 1 → 0 < length line → 7 ≤ length all → AreSaid before (tasks_with p all) → TellsEighth before (tasks_with p all) eighth
-      → TellsEighth (before ++ line ∷ []) (tasks_with p (all ++ t ∷ [])) (option_or eighth (Some n))
+  tells_many : (n : ℕ) (line : List ℕ) (p : Places) (t : Task) (all : List Task) (eighth : Option ℕ) → n ≡ length before + 1 → 0 < length line → 7 ≤ length all → AreNamedTasks before (tasks_with p all) → IsEighthTaskLineIfAny before (tasks_with p all) eighth
+      → IsEighthTaskLineIfAny (before ++ line ∷ []) (tasks_with p (all ++ t ∷ [])) (option_or eighth (Some n))
   tells_many n line p t all None at lt many s few = record { before = before; line = line; behind = []; split = refl; at = at; some = not_empty line lt; seven = tasks_with p all; said = s; many = omega arith }
   tells_many n line p t all (Some k) at lt many s e = eighth_more before line k e
 
   pub draft_task : (n : ℕ) (line : List ℕ) (p : Places) (t : Task) (list more : List Task) (eighth next : Option ℕ) → n ≡ length before + 1 → 0 < length line → task_of line ≡ Some t
-      → (length list < 7 → (more ≡ list ++ t ∷ []) × (next ≡ eighth)) → (7 ≤ length list → (more ≡ list) × (next ≡ option_or eighth (Some n))) → IsDraftBy before (Some p) list eighth → IsDraftBy (before ++ line ∷ []) (Some p) more next
+      → (length list < 7 → (more ≡ list ++ t ∷ []) × (next ≡ eighth)) → (7 ≤ length list → (more ≡ list) × (next ≡ option_or eighth (Some n))) → IsTasksDraftOfParts before (Some p) list eighth → IsTasksDraftOfParts (before ++ line ∷ []) (Some p) more next
   draft_task n line p t list more eighth next at lt is room full d =
       let size : length list ≡ length (take 7 d.all) = ap (λ (l : List Task). length l) d.seven in
       elim (cases_lt (length d.all) 7) [
@@ -94,7 +94,7 @@ module _ (before : List (List ℕ)) where
               all = d.all ++ t ∷ [];
               said = said_more line p t d.all lt is d.said;
               seven = r.0 ∙ ap (λ l. l ++ t ∷ []) (d.seven ∙ whole) ∙ sym (take_all 7 (d.all ++ t ∷ []) (omega (arith, length-append d.all (t ∷ []))));
-              more = subst (TellsEighth (before ++ line ∷ []) (tasks_with p (d.all ++ t ∷ []))) (sym r.1) (tells_few line p t d.all eighth few d.more);
+              more = subst (IsEighthTaskLineIfAny (before ++ line ∷ []) (tasks_with p (d.all ++ t ∷ []))) (sym r.1) (tells_few line p t d.all eighth few d.more);
             }
         | inr many ↦
             let f = full (omega (arith, size, length-take 7 d.all)) in
@@ -102,28 +102,28 @@ module _ (before : List (List ℕ)) where
               all = d.all ++ t ∷ [];
               said = said_more line p t d.all lt is d.said;
               seven = f.0 ∙ d.seven ∙ sym (take-append-le 7 d.all (t ∷ []) many);
-              more = subst (TellsEighth (before ++ line ∷ []) (tasks_with p (d.all ++ t ∷ []))) (sym f.1) (tells_many n line p t d.all eighth at lt many d.said d.more);
+              more = subst (IsEighthTaskLineIfAny (before ++ line ∷ []) (tasks_with p (d.all ++ t ∷ []))) (sym f.1) (tells_many n line p t d.all eighth at lt many d.said d.more);
             }
       ]
 
-pub draft_nothing : (before : List (List ℕ)) (line : List ℕ) (d : TasksDraft) → length line ≡ 0 → IsTasksDraft before d → IsTasksDraft (before ++ line ∷ []) d
+pub draft_nothing : (before : List (List ℕ)) (line : List ℕ) (d : TasksDraft) → length line ≡ 0 → IsTasksDraftOf before d → IsTasksDraftOf (before ++ line ∷ []) d
 draft_nothing before [] d none is = draft_empty before d.places d.list.items d.eighth is
 draft_nothing before (x ∷ xs) d none is = absurd (omega arith)
 
 -- ---- a draft and one line more
-pub takes_nothing : (d : TasksDraft) (n : ℕ) (line : List ℕ) → length line ≡ 0 → TakesTaskLine d n line d
+pub takes_nothing : (d : TasksDraft) (n : ℕ) (line : List ℕ) → length line ≡ 0 → IsTasksDraftAfterLine d n line d
 takes_nothing d n line none before made at = draft_nothing before line d none made
 
 module _ (old : TasksDraft) (n : ℕ) (line : List ℕ) (some : 0 < length line) where
   takes_by : (o : Option Places) (t : Task) (list more : List Task) (eighth next : Option ℕ) → IsSome o → task_of line ≡ Some t → (length list < 7 → (more ≡ list ++ t ∷ []) × (next ≡ eighth)) → (7 ≤ length list → (more ≡ list) × (next ≡ option_or eighth (Some n)))
-      → (before : List (List ℕ)) → IsDraftBy before o list eighth → n ≡ length before + 1 → IsDraftBy (before ++ line ∷ []) o more next
+      → (before : List (List ℕ)) → IsTasksDraftOfParts before o list eighth → n ≡ length before + 1 → IsTasksDraftOfParts (before ++ line ∷ []) o more next
   takes_by None t list more eighth next there is room full before made at = absurd (let f : false ≡ true = there in cc)
   takes_by (Some p) t list more eighth next there is room full before made at = draft_task before n line p t list more eighth next at some is room full made
 
   pub takes_task : (new : TasksDraft) (t : Task) → IsSome old.places → task_of line ≡ Some t → new.places ≡ old.places → (length old.list.items < 7 → (new.list.items ≡ old.list.items ++ t ∷ []) × (new.eighth ≡ old.eighth))
-      → (7 ≤ length old.list.items → (new.list.items ≡ old.list.items) × (new.eighth ≡ option_or old.eighth (Some n))) → TakesTaskLine old n line new
+      → (7 ≤ length old.list.items → (new.list.items ≡ old.list.items) × (new.eighth ≡ option_or old.eighth (Some n))) → IsTasksDraftAfterLine old n line new
   takes_task new t there is same room full before made at =
-      subst (λ o. IsDraftBy (before ++ line ∷ []) o new.list.items new.eighth) (sym same)
+      subst (λ o. IsTasksDraftOfParts (before ++ line ∷ []) o new.list.items new.eighth) (sym same)
       (takes_by old.places t old.list.items new.list.items old.eighth new.eighth there is room full before made at)
 
 -- ---- a text
@@ -132,9 +132,9 @@ pub record IsDraftSoFar (bytes rest : List ℕ) (number : ℕ) (d : TasksDraft) 
   pub before : List (List ℕ)
   pub split : text_lines bytes ≡ before ++ text_lines rest
   pub count : number ≡ length before
-  pub made : IsTasksDraft before d
+  pub made : IsTasksDraftOf before d
 
-pub drafted_all : (bytes rest : List ℕ) (number : ℕ) (d : TasksDraft) → length rest ≡ 0 → IsDraftSoFar bytes rest number d → IsTasksDraft (text_lines bytes) d
+pub drafted_all : (bytes rest : List ℕ) (number : ℕ) (d : TasksDraft) → length rest ≡ 0 → IsDraftSoFar bytes rest number d → IsTasksDraftOf (text_lines bytes) d
 unfolding text_lines
-drafted_all bytes [] number d none so = subst (λ ls. IsTasksDraft ls d) (sym (so.split ∙ append-nil so.before)) so.made
+drafted_all bytes [] number d none so = subst (λ ls. IsTasksDraftOf ls d) (sym (so.split ∙ append-nil so.before)) so.made
 drafted_all bytes (x ∷ xs) number d none so = absurd (omega arith)

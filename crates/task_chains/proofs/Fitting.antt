@@ -6,14 +6,14 @@ use Rattle.std.specs.List.{list_all}
 use Rattle.csa_chain.specs.Chain.{link_in, is_area}
 use Rattle.tcd_base.specs.declared.range.Range.{Range}
 use Rattle.tcd_plan.specs.declared.plans.Device.{Device}
-use Rattle.tcd_plan.specs.PlanData.{PlanData, IsPlan, is_range, is_device, areas_range, are_all_ranges_apart}
+use Rattle.tcd_plan.specs.PlanData.{PlanData, IsPlan, is_plan_range, is_plan_device, areas_range, are_all_ranges_apart}
 use Rattle.tc_machine.specs.declared.events.Event.{Event}
 use Rattle.tc_machine.specs.declared.events.Cause.{Cause}
 use Rattle.tc_machine.specs.declared.events.Cause.TheVariants.{Fcd, Fcu, NoArea}
 use Rattle.tc_machine.specs.declared.events.End.TheVariants.{Running, Dead}
 use Rattle.tc_machine.specs.declared.state.Machine.{Machine}
-use Rattle.tc_machine.specs.Machine.{died}
-use Rattle.tc_machine.specs.SavesAndRestores.{saved, save}
+use Rattle.tc_machine.specs.Machine.{dead_machine}
+use Rattle.tc_machine.specs.SavesAndRestores.{with_context_saved, save}
 use Rattle.tc_machine.specs.Stepping.{load_at_pc}
 use Rattle.tcd_base.specs.Ranges.{IsWithinRange, IsInOneRange}
 use Rattle.tc_machine.specs.PlanAreas.{first_link}
@@ -43,10 +43,10 @@ All-none P i d lt = absurd (omega arith)
 abbrev Answered : ℕ → ℕ → Device → Type 0
 Answered x input d = IsWithinRange x 4 d.range → (d.lo ≤ input) × (input ≤ d.hi)
 
-device_bounds : (d : Device) → is_device d ≡ true → (d.lo ≤ d.hi) × (d.hi < 2 ^ 32)
+device_bounds : (d : Device) → is_plan_device d ≡ true → (d.lo ≤ d.hi) × (d.hi < 2 ^ 32)
 device_bounds d h =
-    let a = and_parts (is_range d.range && nat_le d.lo d.hi) (nat_lt d.hi (2 ^ 32)) h in
-    (leb-true d.lo d.hi (and_parts (is_range d.range) (nat_le d.lo d.hi) a.0).1, ltb-true d.hi (2 ^ 32) a.1)
+    let a = and_parts (is_plan_range d.range && nat_le d.lo d.hi) (nat_lt d.hi (2 ^ 32)) h in
+    (leb-true d.lo d.hi (and_parts (is_plan_range d.range) (nat_le d.lo d.hi) a.0).1, ltb-true d.hi (2 ^ 32) a.1)
 
 -- if no peripheral of the list has the word, each input fits
 none_within : (ds : List Device) (x input : ℕ) → (IsInOneRange x 1 (map (λ (d : Device). d.range) ds) → ⊥) → AnswersAt x input ds
@@ -54,10 +54,10 @@ none_within [] x input none = All-none (Answered x input)
 none_within (d ∷ ds) x input none = All-cons (Answered x input) d ds (λ there. absurd (none (inl (there.0, (let h = there.1 in omega arith))))) (none_within ds x input (λ h. none (inr h)))
 
 -- the peripheral that has the word answers in its bounds, and no other has it
-answers : (ds : List Device) (x : ℕ) (rest : List Range) → list_all is_device ds ≡ true → are_all_ranges_apart (map (λ (d : Device). d.range) ds ++ rest) ≡ true → AnswersAt x (answer ds x) ds × (answer ds x < 2 ^ 32)
+answers : (ds : List Device) (x : ℕ) (rest : List Range) → list_all is_plan_device ds ≡ true → are_all_ranges_apart (map (λ (d : Device). d.range) ds ++ rest) ≡ true → AnswersAt x (answer ds x) ds × (answer ds x < 2 ^ 32)
 answers [] x rest are apart = (All-none (Answered x 0), omega arith)
 answers (d ∷ ds) x rest are apart =
-    let parts = and_parts (is_device d) (list_all is_device ds) are in
+    let parts = and_parts (is_plan_device d) (list_all is_plan_device ds) are in
     let bounds = device_bounds d parts.0 in
     let more = answers ds x rest parts.1 (all_apart-behind (d.range ∷ []) (map (λ (d : Device). d.range) ds ++ rest) apart) in
     elim (has_word d x) as (λ t. has_word d x ≡ t → AnswersAt x (cond t d.lo (answer ds x)) (d ∷ ds) × (cond t d.lo (answer ds x) < 2 ^ 32)) [
@@ -116,15 +116,15 @@ pub saves_from : (m : Machine) (upper : Bool) → (save m upper).end ≡ Running
 unfolding save
 saves_from m upper e =
     elim (cases_Bool (link_in m.fcx == 0)) [
-      | inl none ↦ absurd (running≢dead Fcu (sym (ap (λ t. (cond t (died Fcu m) (cond (is_area m.mem (link_in m.fcx)) (cond (link_in m.fcx == link_in m.lcx) (died Fcd (saved m upper)) (saved m upper)) (died NoArea m))).end) none) ∙ e))
+      | inl none ↦ absurd (running≢dead Fcu (sym (ap (λ t. (cond t (dead_machine Fcu m) (cond (is_area m.mem (link_in m.fcx)) (cond (link_in m.fcx == link_in m.lcx) (dead_machine Fcd (with_context_saved m upper)) (with_context_saved m upper)) (dead_machine NoArea m))).end) none) ∙ e))
       | inr some ↦
-          let e1 = sym (ap (λ t. (cond t (died Fcu m) (cond (is_area m.mem (link_in m.fcx)) (cond (link_in m.fcx == link_in m.lcx) (died Fcd (saved m upper)) (saved m upper)) (died NoArea m))).end) some) ∙ e in
+          let e1 = sym (ap (λ t. (cond t (dead_machine Fcu m) (cond (is_area m.mem (link_in m.fcx)) (cond (link_in m.fcx == link_in m.lcx) (dead_machine Fcd (with_context_saved m upper)) (with_context_saved m upper)) (dead_machine NoArea m))).end) some) ∙ e in
           elim (cases_Bool (is_area m.mem (link_in m.fcx))) [
-            | inr gone ↦ absurd (running≢dead NoArea (sym (ap (λ t. (cond t (cond (link_in m.fcx == link_in m.lcx) (died Fcd (saved m upper)) (saved m upper)) (died NoArea m)).end) gone) ∙ e1))
+            | inr gone ↦ absurd (running≢dead NoArea (sym (ap (λ t. (cond t (cond (link_in m.fcx == link_in m.lcx) (dead_machine Fcd (with_context_saved m upper)) (with_context_saved m upper)) (dead_machine NoArea m)).end) gone) ∙ e1))
             | inl area ↦
-                let e2 = sym (ap (λ t. (cond t (cond (link_in m.fcx == link_in m.lcx) (died Fcd (saved m upper)) (saved m upper)) (died NoArea m)).end) area) ∙ e1 in
+                let e2 = sym (ap (λ t. (cond t (cond (link_in m.fcx == link_in m.lcx) (dead_machine Fcd (with_context_saved m upper)) (with_context_saved m upper)) (dead_machine NoArea m)).end) area) ∙ e1 in
                 elim (cases_Bool (link_in m.fcx == link_in m.lcx)) [
-                  | inl last ↦ absurd (running≢dead Fcd (sym (ap (λ t. (cond t (died Fcd (saved m upper)) (saved m upper)).end) last) ∙ e2))
+                  | inl last ↦ absurd (running≢dead Fcd (sym (ap (λ t. (cond t (dead_machine Fcd (with_context_saved m upper)) (with_context_saved m upper)).end) last) ∙ e2))
                   | inr not_last ↦ record { some = eqb-false _ _ some; not_last = eqb-false _ _ not_last }
                 ]
           ]

@@ -14,12 +14,12 @@ use Rattle.tc_machine.specs.declared.events.Event.{Event}
 use Rattle.tc_machine.specs.declared.events.End.TheVariants.{Running, Dead}
 use Rattle.tc_machine.specs.declared.state.Machine.{Machine}
 use Rattle.tc_machine.specs.Machine.{reg}
-use Rattle.tc_machine.specs.Instructions.{machine_address_ahead, advanced, access_address, is_trapping_access, does}
+use Rattle.tc_machine.specs.Instructions.{machine_address_ahead, with_pc_advanced, access_address, is_trapping_access, does}
 use Rattle.tc_machine.specs.SavesAndRestores.{save}
-use Rattle.tc_machine.specs.Fetching.{fetched, fetched_size}
+use Rattle.tc_machine.specs.Fetching.{fetched_instruction, fetched_size}
 use Rattle.std.specs.Prelude.{IfSome}
 use Rattle.tc_machine.specs.declared.events.End.{End}
-use Rattle.tc_machine.specs.Stepping.{is_taken, where_running, store_in, stored, step}
+use Rattle.tc_machine.specs.Stepping.{is_interrupt_taken, none_if_dead, store_of_fetched, stored, step}
 use Rattle.tc_machine.specs.Safe.{Fits}
 use Rattle.tc_machine.proofs.Kept.{none_when_off}
 use Rattle.tc_machine.proofs.Saves.{then_-running}
@@ -30,14 +30,14 @@ use Rattle.value_domain.specs.Limits.{Limits}
 use Rattle.depth_cert.specs.Certs.{CertData}
 use Rattle.cfg_recover.specs.RulesHoldOrFail.{limits_in}
 use Rattle.cfg_recover.specs.Code.{IsCode, HasCode}
-use Rattle.cfg_recover.specs.Frames.{Standing, frames_left, frames_by, frames_after}
+use Rattle.cfg_recover.specs.Frames.{RunFrame, frames_left, frames_after_edge, frames_after}
 use Rattle.cfg_recover.specs.StepEdges.{to, irq, edge_way_by_trap, edge_way_in_fetch}
 use Rattle.cfg_recover.proofs.CodeLaws.{IsCode-bounded, IsCode-one, IsCode-sized}
 use Rattle.task_chains.specs.Tasks.{TasksData, count}
 use Rattle.task_chains.specs.SwitchRoutine.{routine_size, IsInRoutine}
 use Rattle.task_chains.specs.Views.{view_image_of, view_plan_of}
 use Rattle.task_chains.specs.TaskStarts.{block_word, current_task}
-use Rattle.task_chains.specs.SafeTasks.{IsTaskStore}
+use Rattle.task_chains.specs.SafeTasks.{IsAllowedTaskStore}
 use Rattle.task_chains.proofs.Alike.{seen_as, Alike}
 use Rattle.task_chains.proofs.FramesKept.{AreFirst, AreFirst-left, first_next, first_interrupt}
 use Rattle.task_chains.proofs.Invariant.{ViewOf, Turn, runs, switches, AllKept}
@@ -67,14 +67,14 @@ pub code_to : (image : ImageData) (plan : PlanData) (tasks : TasksData) (u p : �
 code_to image plan tasks u p shape size c = record { even = c.even; bytes = c.bytes; inst = c.inst; spells = record { spelled = c.spells.spelled; in_rom = c.spells.in_rom; held = c.spells.held }; shaped = c.shaped; sized = c.sized }
 
 -- an instruction that stays in its frame leaves the older frames as they are
-pub first_stays : (tasks : TasksData) (v : Machine) (e : Event) (f : Standing) (fs : List Standing) (shape : Shape) (size : ℕ) → is_taken v e ≡ false → fetched v ≡ Ok (shape, size) → edge_way_by_trap v e shape (step v e).pc ≡ to (step v e).pc → AreFirst tasks fs
+pub first_stays : (tasks : TasksData) (v : Machine) (e : Event) (f : RunFrame) (fs : List RunFrame) (shape : Shape) (size : ℕ) → is_interrupt_taken v e ≡ false → fetched_instruction v ≡ Ok (shape, size) → edge_way_by_trap v e shape (step v e).pc ≡ to (step v e).pc → AreFirst tasks fs
     → AreFirst tasks (frames_left (frames_after v e (f ∷ fs)))
 first_stays tasks v e f fs shape size none at is first =
     let q = (step v e).pc in
-    let way : cond (is_taken v e) (irq q) (edge_way_in_fetch v e (fetched v) q) ≡ to q = ap (λ t. cond t (irq q) (edge_way_in_fetch v e (fetched v) q)) none ∙ ap (λ (r : Result (Shape × ℕ) Cause). edge_way_in_fetch v e r q) at ∙ is in
-    subst (λ w. AreFirst tasks (frames_left (frames_by v.pc (machine_address_ahead v.pc (fetched_size (fetched v))) e.irq w (f ∷ fs)))) (sym way) first
+    let way : cond (is_interrupt_taken v e) (irq q) (edge_way_in_fetch v e (fetched_instruction v) q) ≡ to q = ap (λ t. cond t (irq q) (edge_way_in_fetch v e (fetched_instruction v) q)) none ∙ ap (λ (r : Result (Shape × ℕ) Cause). edge_way_in_fetch v e r q) at ∙ is in
+    subst (λ w. AreFirst tasks (frames_left (frames_after_edge v.pc (machine_address_ahead v.pc (fetched_size (fetched_instruction v))) e.irq w (f ∷ fs)))) (sym way) first
 
-disable_is : (m : Machine) (e : Event) → does m e Disable 4 ≡ record (advanced 4 m) { ie = false }
+disable_is : (m : Machine) (e : Event) → does m e Disable 4 ≡ record (with_pc_advanced 4 m) { ie = false }
 unfolding does
 disable_is m e = refl
 
@@ -135,7 +135,7 @@ module _ {image : ImageData} {plan : PlanData} {tasks : TasksData} {certs : ℕ 
         to_turn (runs a.view a.view_pcxi a.view_fcx a.seen of2 paused2 still_now (subst (λ (x : Machine). IsInRoutine tasks x.pc → x.pc ≡ tasks.switch) a.is enters))
 
   -- ---- an interrupt
-  goes_interrupt : (IsInRoutine tasks m.pc → m.pc ≡ tasks.switch) → is_taken m e ≡ true → Goes image plan tasks needs (step m e)
+  goes_interrupt : (IsInRoutine tasks m.pc → m.pc ≡ tasks.switch) → is_interrupt_taken m e ≡ true → Goes image plan tasks needs (step m e)
   goes_interrupt at_first taken =
       let fits2 : Fits plan2 v e = fits_interrupt wd.ok tasks wd.are wd.fit u m mem pcxi fcx b e fits taken in
       let a = interrupt_step wd.ok (view_ok wd u own) (IsKept plan tasks) is_kept m mem pcxi fcx b limits p.state e taken e refl refl
@@ -169,11 +169,11 @@ module _ {image : ImageData} {plan : PlanData} {tasks : TasksData} {certs : ℕ 
       )
   store_is _ size h = tt
 
-  module _ (none : is_taken m e ≡ false) (same : HasCodeOf image (view_image_of image tasks u) m.pc p.size) where
-    here : fetched m ≡ Ok (p.shape, p.size)
+  module _ (none : is_interrupt_taken m e ≡ false) (same : HasCodeOf image (view_image_of image tasks u) m.pc p.size) where
+    here : fetched_instruction m ≡ Ok (p.shape, p.size)
     here = fetched_code image plan m p.shape p.size wd.ok k.rom (same_code image view plan m.pc p.size p.shape same (code_of view plan tasks u m.pc p.shape p.size p.code))
 
-    there : fetched (seen_as m mem pcxi fcx) ≡ Ok (p.shape, p.size)
+    there : fetched_instruction (seen_as m mem pcxi fcx) ≡ Ok (p.shape, p.size)
     there = view_fetched wd.ok wd.are wd.fit own (certs u) (wd.judged u own) (view_few wd u own) v of.run k.running of.rom
 
     fits2 : Fits (view_plan_of plan tasks u) (seen_as m mem pcxi fcx) e2
@@ -198,8 +198,8 @@ module _ {image : ImageData} {plan : PlanData} {tasks : TasksData} {certs : ℕ 
     goes_in : m.pc ≡ tasks.switch → p.shape ≡ Disable → p.size ≡ 4 → Goes image plan tasks needs (step m e)
     goes_in start is long =
         let first = first_stays tasks v e2 (of.run).frame (of.run).behind p.shape p.size none there (ap (λ (s : Shape). edge_way_by_trap v e2 s (step v e2).pc) is) (of.run).first in
-        let at_4 : fetched m ≡ Ok (Disable, 4) = here ∙ (λ i. Ok (is i, long i)) in
-        let next_is : step m e ≡ with_event (record (advanced 4 m) { ie = false }) e =
+        let at_4 : fetched_instruction m ≡ Ok (Disable, 4) = here ∙ (λ i. Ok (is i, long i)) in
+        let next_is : step m e ≡ with_event (record (with_pc_advanced 4 m) { ie = false }) e =
         step_does m e Disable 4 k.running none at_4 (ap (λ (x : Machine). x.end) (disable_is m e) ∙ k.running) ∙ ap (λ (x : Machine). with_event x e) (disable_is m e)
         in
         let small : tasks.switch + 72 ≤ 2 ^ 32 = rom_fits wd.ok tasks.switch 72 (wd.has 71 (omega arith)).in_rom in
@@ -228,12 +228,12 @@ module _ {image : ImageData} {plan : PlanData} {tasks : TasksData} {certs : ℕ 
     goes_saved : m.pc ≡ tasks.switch + 4 * 1 → m.ie ≡ false → p.shape ≡ Svlcx → p.size ≡ 4 → Goes image plan tasks needs (step m e)
     goes_saved here_1 off is long =
         let first = first_stays tasks v e2 (of.run).frame (of.run).behind p.shape p.size none there (ap (λ (s : Shape). edge_way_by_trap v e2 s (step v e2).pc) is) (of.run).first in
-        let at_4 : fetched m ≡ Ok (Svlcx, 4) = here ∙ (λ i. Ok (is i, long i)) in
+        let at_4 : fetched_instruction m ≡ Ok (Svlcx, 4) = here ∙ (λ i. Ok (is i, long i)) in
         let after_runs : (step m e).end ≡ Running = sym (ap (λ (x : Machine). x.end) alike.is) ∙ runs_too wd m k mem pcxi fcx seen of paused e e2 fits2 in
         let does_runs : (does m e Svlcx 4).end ≡ Running = sym (ap (λ (x : Machine). x.end) (done-is m e Svlcx 4 none at_4)) ∙ done_runs m e k.running after_runs in
-        let save_runs : (save m false).end ≡ Running = dead≢running (save m false).end (save m false) (advanced 4) refl (sym (ap (λ (x : Machine). x.end) (does-svlcx m e 4)) ∙ does_runs) in
-        let does_is : does m e Svlcx 4 ≡ advanced 4 (save m false) = does-svlcx m e 4 ∙ then_-running (save m false) (advanced 4) save_runs in
-        let next_is : step m e ≡ with_event (advanced 4 (save m false)) e = step_does m e Svlcx 4 k.running none at_4 does_runs ∙ ap (λ (x : Machine). with_event x e) does_is in
+        let save_runs : (save m false).end ≡ Running = dead≢running (save m false).end (save m false) (with_pc_advanced 4) refl (sym (ap (λ (x : Machine). x.end) (does-svlcx m e 4)) ∙ does_runs) in
+        let does_is : does m e Svlcx 4 ≡ with_pc_advanced 4 (save m false) = does-svlcx m e 4 ∙ then_-running (save m false) (with_pc_advanced 4) save_runs in
+        let next_is : step m e ≡ with_event (with_pc_advanced 4 (save m false)) e = step_does m e Svlcx 4 k.running none at_4 does_runs ∙ ap (λ (x : Machine). with_event x e) does_is in
         let place = save_place m false in
         let small : tasks.switch + 72 ≤ 2 ^ 32 = rom_fits wd.ok tasks.switch 72 (wd.has 71 (omega arith)).in_rom in
         let next = next_by first in
@@ -278,7 +278,7 @@ module _ {image : ImageData} {plan : PlanData} {tasks : TasksData} {certs : ℕ 
   pub goes_runs : (IsInRoutine tasks m.pc → m.pc ≡ tasks.switch) → Goes image plan tasks needs (step m e)
   goes_runs at_first =
       let code = own_code (λ i. let is = at_first i in omega arith) in
-      elim (cases_Bool (is_taken m e)) [
+      elim (cases_Bool (is_interrupt_taken m e)) [
         | inl taken ↦ goes_interrupt at_first taken
         | inr none ↦ elim (in_or_out tasks m.pc) [
           | inr out ↦ goes_outside none code out
@@ -297,25 +297,25 @@ module _ {image : ImageData} {plan : PlanData} {tasks : TasksData} {certs : ℕ 
       goes_saved (none_when_off m e off) (own_code (λ i. omega arith)) here_1 off one.0 one.1
 
   -- ---- its stores
-  stored_taken : (m : Machine) (e : Event) → is_taken m e ≡ true → stored m e ≡ None
+  stored_taken : (m : Machine) (e : Event) → is_interrupt_taken m e ≡ true → stored m e ≡ None
   unfolding stored
-  stored_taken m e taken = ap (λ t. where_running m.end (cond t None (store_in m e (fetched m)))) taken ∙ by_end m.end
+  stored_taken m e taken = ap (λ t. none_if_dead m.end (cond t None (store_of_fetched m e (fetched_instruction m)))) taken ∙ by_end m.end
     where
-      by_end : (end : End) → where_running end None ≡ None
+      by_end : (end : End) → none_if_dead end None ≡ None
       by_end Running = refl
       by_end (Dead cause) = refl
 
-  store_by : (shape : Shape) (size : ℕ) → AtPoint (limits_in (view_plan_of plan tasks u) (certs u)) (view_image_of image tasks u) plan tasks u (seen_as m mem pcxi fcx) e p.state shape size → IfSome (store_in m e (Ok (shape, size))) (IsTaskStore plan tasks m.pc)
+  store_by : (shape : Shape) (size : ℕ) → AtPoint (limits_in (view_plan_of plan tasks u) (certs u)) (view_image_of image tasks u) plan tasks u (seen_as m mem pcxi fcx) e p.state shape size → IfSome (store_of_fetched m e (Ok (shape, size))) (IsAllowedTaskStore plan tasks m.pc)
   store_by (Store src base offset width after) size h =
       let x = access_address m base offset after in
       let same = address-same m mem pcxi fcx e e base offset after in
       let some : 0 < width = size_some width (IsCode-bounded view plan2 m.pc (Store src base offset width after) size h.code).3 in
       elim (cases_Bool (is_trapping_access e x width)) [
-        | inl trapped ↦ subst (λ t. IfSome (cond t None (Some (x, width))) (IsTaskStore plan tasks m.pc)) (sym trapped) tt
+        | inl trapped ↦ subst (λ t. IfSome (cond t None (Some (x, width))) (IsAllowedTaskStore plan tasks m.pc)) (sym trapped) tt
         | inr none ↦
             let range : IsStoreInRange plan2 (x, width) = subst (λ y. IsStoreInRange plan2 (y, width)) same (h.store_at (ap (λ y. is_trapping_access e y width) same ∙ none)) in
             let s = view_store wd.ok tasks wd.are wd.fit u x width some range in
-            subst (λ t. IfSome (cond t None (Some (x, width))) (IsTaskStore plan tasks m.pc)) (sym none) (s.0, λ out. s.1)
+            subst (λ t. IfSome (cond t None (Some (x, width))) (IsAllowedTaskStore plan tasks m.pc)) (sym none) (s.0, λ out. s.1)
       ]
   store_by _ size h = tt
 
@@ -324,9 +324,9 @@ module _ {image : ImageData} {plan : PlanData} {tasks : TasksData} {certs : ℕ 
   goes_code at_first = record { shape = p.shape; size = p.size; code = same_code image view plan m.pc p.size p.shape (own_code at_first) (code_of view plan tasks u m.pc p.shape p.size p.code) }
 
   -- they are in range and miss the block
-  pub goes_store : (IsInRoutine tasks m.pc → m.pc ≤ tasks.switch + 4) → IfSome (stored m e) (IsTaskStore plan tasks m.pc)
+  pub goes_store : (IsInRoutine tasks m.pc → m.pc ≤ tasks.switch + 4) → IfSome (stored m e) (IsAllowedTaskStore plan tasks m.pc)
   goes_store at_first =
-      elim (cases_Bool (is_taken m e)) [
-        | inl taken ↦ subst (λ o. IfSome o (IsTaskStore plan tasks m.pc)) (sym (stored_taken m e taken)) tt
-        | inr none ↦ subst (λ o. IfSome o (IsTaskStore plan tasks m.pc)) (sym (stored-is m e (Ok (p.shape, p.size)) k.running none (here none (own_code at_first)))) (store_by p.shape p.size at)
+      elim (cases_Bool (is_interrupt_taken m e)) [
+        | inl taken ↦ subst (λ o. IfSome o (IsAllowedTaskStore plan tasks m.pc)) (sym (stored_taken m e taken)) tt
+        | inr none ↦ subst (λ o. IfSome o (IsAllowedTaskStore plan tasks m.pc)) (sym (stored-is m e (Ok (p.shape, p.size)) k.running none (here none (own_code at_first)))) (store_by p.shape p.size at)
       ]

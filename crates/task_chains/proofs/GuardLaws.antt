@@ -13,13 +13,13 @@ use Rattle.tcd_base.specs.Ranges.{IsInOneRange}
 use Rattle.tcd_plan.specs.declared.plans.Device.{Device}
 use Rattle.tcd_plan.specs.PlanData.{are_ranges_apart, are_all_ranges_apart, areas_range}
 use Rattle.tcd_plan.proofs.ApartLaws.{all_apart-behind, all_apart-front}
-use Rattle.tc_machine.specs.PlanAreas.{first_link, link_or_end}
+use Rattle.tc_machine.specs.PlanAreas.{first_link, area_link_or_zero}
 use Rattle.tc_machine.specs.Machine.{is_interrupt_stack_used}
 use Rattle.tc_machine.proofs.PlanLaws.{link_lt}
 use Rattle.task_chains.specs.declared.task_lists.Task.{Task}
 use Rattle.tcd_plan.specs.Cutting.{cut_range_parts, cut_plan_ranges}
 use Rattle.tcd_plan.proofs.CutLaws.{two_left, one_left}
-use Rattle.task_chains.specs.TaskStarts.{task_upper_area, task_lower_area, held_at_start, IsReady}
+use Rattle.task_chains.specs.TaskStarts.{task_upper_area, task_lower_area, areas_held_at_start, IsTaskReady}
 use Rattle.task_chains.specs.TaskGuardLaws.{EveryTaskIsReady, EveryPlanFits, EveryTasksStart}
 use Rattle.task_chains.proofs.DeviceLaws.{length-devices}
 
@@ -126,7 +126,7 @@ pub every_tasks_start : EveryTasksStart
 every_tasks_start image plan switch block t ts d a psw fcx mem ok are d_count d_words a_count a_words psw_word small mapped rom room current ready next last more none sp globals is io =
     let first : first_link plan < 2 ^ 20 = let some = ok.areas.some in let lt = link_lt ok 0 (omega arith) in omega arith in
     let limit : first_link plan + (plan.areas - plan.reserve) < 2 ^ 20 = let some = ok.areas.some in let r = ok.areas.reserved in link_lt ok (plan.areas - plan.reserve) (omega arith) in
-    let held : held_at_start (record { switch = switch; block = block; list = t ∷ ts }) ≡ 2 * length ts = omega arith in
+    let held : areas_held_at_start (record { switch = switch; block = block; list = t ∷ ts }) ≡ 2 * length ts = omega arith in
     record {
       machine = record {
         d = record { count = d_count; words = d_words };
@@ -148,7 +148,7 @@ every_tasks_start image plan switch block t ts d a psw fcx mem ok are d_count d_
       first = subst (λ k. word_at mem (block + 4 * k) ≡ 0) (add-one (length ts)) current;
       ready = λ u some lt. ready_at u some lt;
       linked = λ i from lt. linked_up i (subst (λ k. k ≤ i) held from) lt;
-      fcx = fcx_is ∙ ap (λ k. link_or_end plan k) (sym held);
+      fcx = fcx_is ∙ ap (λ k. area_link_or_zero plan k) (sym held);
       lcx = refl;
       pcxi = refl;
       pc = refl;
@@ -165,7 +165,7 @@ every_tasks_start image plan switch block t ts d a psw fcx mem ok are d_count d_
       core = refl;
     }
   where
-    fcx_is : fcx ≡ link_or_end plan (2 * length ts)
+    fcx_is : fcx ≡ area_link_or_zero plan (2 * length ts)
     fcx_is =
         elim (cases_lt (2 * length ts) plan.areas) [
           | inl lt ↦ more lt ∙ sym (ap (λ t. cond t (first_link plan + 2 * length ts) 0) (lt-ltb (2 * length ts) plan.areas lt))
@@ -179,11 +179,11 @@ every_tasks_start image plan switch block t ts d a psw fcx mem ok are d_count d_
           | inr past ↦ let is = none (omega arith) in omega arith
         ]
 
-    ready_at : (u : ℕ) → 1 ≤ u → u < suc (length ts) → IsReady plan.core plan (record { switch = switch; block = block; list = t ∷ ts }) mem u
+    ready_at : (u : ℕ) → 1 ≤ u → u < suc (length ts) → IsTaskReady plan.core plan (record { switch = switch; block = block; list = t ∷ ts }) mem u
     ready_at zero some lt = absurd (omega arith)
-    ready_at (suc i) some lt = subst (IsReady plan.core plan (record { switch = switch; block = block; list = t ∷ ts }) mem) (add-one i) (ready i (omega arith))
+    ready_at (suc i) some lt = subst (IsTaskReady plan.core plan (record { switch = switch; block = block; list = t ∷ ts }) mem) (add-one i) (ready i (omega arith))
 
-    linked_up : (i : ℕ) → 2 * length ts ≤ i → i < plan.areas → area_word mem (first_link plan + i) 0 ≡ link_or_end plan (i + 1)
+    linked_up : (i : ℕ) → 2 * length ts ≤ i → i < plan.areas → area_word mem (first_link plan + i) 0 ≡ area_link_or_zero plan (i + 1)
     linked_up i from lt =
         elim (cases_lt (i + 1) plan.areas) [
           | inl less ↦ next i from less ∙ sym (ap (λ t. cond t (first_link plan + (i + 1)) 0) (lt-ltb (i + 1) plan.areas less))

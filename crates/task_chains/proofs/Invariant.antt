@@ -15,7 +15,7 @@ use Rattle.tc_machine.specs.PlanAreas.{first_link}
 use Rattle.task_chains.specs.Tasks.{TasksData, count, task_at}
 use Rattle.tc_isa.specs.NamedInstructions.{upper_half}
 use Rattle.task_chains.specs.Views.{view_image_of, view_plan_of}
-use Rattle.task_chains.specs.TaskStarts.{block_word, current_task, task_upper_area, task_lower_area, IsReady}
+use Rattle.task_chains.specs.TaskStarts.{block_word, current_task, task_upper_area, task_lower_area, IsTaskReady}
 use Rattle.task_chains.specs.SwitchRoutine.{IsInRoutine}
 use Rattle.task_chains.proofs.Alike.{seen_as}
 use Rattle.task_chains.proofs.Switch.{Paused, Shared, Beside, SameLower}
@@ -38,7 +38,7 @@ pub record ViewOf (image : ImageData) (plan : PlanData) (tasks : TasksData) (u :
 -- A task that waits, with the links of its chain: it is ready for its first turn, or its view is at
 -- the instruction that it has instead of the one that gives PCXI to the next task.
 pub data Waits (image : ImageData) (plan : PlanData) (tasks : TasksData) (u : ℕ) (m : Machine) (word : ℕ) (links : List ℕ) : Type 0 where
-  ready : 1 ≤ u → IsReady m.core plan tasks m.mem u → links ≡ task_lower_area plan u ∷ task_upper_area plan u ∷ [] → Waits image plan tasks u m word links
+  ready : 1 ≤ u → IsTaskReady m.core plan tasks m.mem u → links ≡ task_lower_area plan u ∷ task_upper_area plan u ∷ [] → Waits image plan tasks u m word links
   paused :
       (v : Machine) (seen : List ℕ) → ViewOf image plan tasks u m.mem v → v.pc ≡ tasks.switch + 56 → v.ie ≡ false → v.ccpn ≡ plan.start_ccpn
       → Paused plan m.mem word links seen m.lcx v.mem v.pcxi v.fcx → Waits image plan tasks u m word links
@@ -78,7 +78,7 @@ pub data Turn (image : ImageData) (plan : PlanData) (tasks : TasksData) (u : ℕ
       → Paused plan m.mem m.pcxi (chain_of u) seen m.lcx v.mem v.pcxi v.fcx → current_task tasks m.mem ≡ u → Turn image plan tasks u word_of chain_of m
   begins :
       (i : ℕ) → 15 ≤ i → i ≤ 17 → m.pc ≡ tasks.switch + 4 * i → m.ie ≡ false → m.ccpn ≡ plan.start_ccpn → 1 ≤ u
-      → (i ≤ 16 → IsReady m.core plan tasks m.mem u × (m.pcxi ≡ pcxi_word_of m.core 0 false false (task_lower_area plan u)) × (chain_of u ≡ task_lower_area plan u ∷ task_upper_area plan u ∷ []))
+      → (i ≤ 16 → IsTaskReady m.core plan tasks m.mem u × (m.pcxi ≡ pcxi_word_of m.core 0 false false (task_lower_area plan u)) × (chain_of u ≡ task_lower_area plan u ∷ task_upper_area plan u ∷ []))
       → (i ≡ 17 → (chain_of u ≡ task_upper_area plan u ∷ []) × (ul_of m.core m.pcxi ≡ true) × (a11 m ≡ (task_at tasks u).entry) × (area_word m.mem (task_upper_area plan u) 0 ≡ 0) × (area_word m.mem (task_upper_area plan u) 1 / 2 ^ 10 % 4 ≡ 2)
       × (is_interrupt_stack_used (area_word m.mem (task_upper_area plan u) 1) ≡ false) × (area_word m.mem (task_upper_area plan u) 2 ≡ (task_at tasks u).sp))
       → current_task tasks m.mem ≡ u → Turn image plan tasks u word_of chain_of m

@@ -17,7 +17,7 @@ use Rattle.tcd_plan.proofs.ApartLaws.{all_apart-before, rom_apart}
 use Rattle.tc_machine.specs.declared.events.Event.{Event}
 use Rattle.tc_machine.specs.declared.events.End.TheVariants.{Running}
 use Rattle.tc_machine.specs.declared.state.Machine.{Machine}
-use Rattle.tc_machine.specs.SavesAndRestores.{save, saved}
+use Rattle.tc_machine.specs.SavesAndRestores.{save, with_context_saved}
 use Rattle.tc_machine.specs.Stepping.{step}
 use Rattle.tc_machine.specs.Safe.{Fits}
 use Rattle.tc_machine.specs.Starting.{HasGlobals}
@@ -29,7 +29,7 @@ use Rattle.task_chains.specs.Tasks.{TasksData, AreTasks, count, block_size}
 use Rattle.task_chains.specs.SwitchRoutine.{routine_size, HasRoutine, IsInRoutine}
 use Rattle.task_chains.specs.Views.{view_image_of, view_plan_of, FitPlan}
 use Rattle.task_chains.specs.TaskStarts.{block_word}
-use Rattle.task_chains.specs.SafeTasks.{IsJudged}
+use Rattle.task_chains.specs.SafeTasks.{IsSoundTaskCert}
 use Rattle.task_chains.proofs.Alike.{seen_as, Alike}
 use Rattle.task_chains.proofs.Fitting.{fitting}
 use Rattle.task_chains.proofs.Invariant.{ViewOf, Waits, Turn, AllKept}
@@ -48,7 +48,7 @@ pub record World (image : ImageData) (plan : PlanData) (tasks : TasksData) (cert
   pub are : AreTasks tasks
   pub fit : FitPlan plan tasks
   pub has : HasRoutine image plan tasks
-  pub judged : (w : ℕ) → w < count tasks → IsJudged image plan tasks (certs w) w
+  pub judged : (w : ℕ) → w < count tasks → IsSoundTaskCert image plan tasks (certs w) w
   pub enough : (w : ℕ) → w < count tasks → certified_need (view_image_of image tasks w) (view_plan_of plan tasks w) (certs w) ≤ needs w
   pub two : (w : ℕ) → 1 ≤ w → w < count tasks → 2 ≤ needs w
   pub sum : sum_over_chains (count tasks) needs ≤ plan.areas - plan.reserve
@@ -156,7 +156,7 @@ module _ {image : ImageData} {plan : PlanData} {tasks : TasksData} {certs : ℕ 
       pub own_room : (upper : Bool) → (save (seen_as m mem pcxi fcx) upper).end ≡ Running → length seen < plan.areas - plan.reserve
       own_room = view_room wd.ok wd.are wd.fit own (certs u) (wd.judged u own) (view_few u own) v of.run k.running of.rom seen paused.view_free paused.view_links paused.view_areas e2 fits2
 
-      pub room_for_all : (upper : Bool) → length seen < plan.areas - plan.reserve → (step (seen_as m mem pcxi fcx) e2).mem ≡ (saved (seen_as m mem pcxi fcx) upper).mem → (step (seen_as m mem pcxi fcx) e2).pcxi ≡ (saved (seen_as m mem pcxi fcx) upper).pcxi
+      pub room_for_all : (upper : Bool) → length seen < plan.areas - plan.reserve → (step (seen_as m mem pcxi fcx) e2).mem ≡ (with_context_saved (seen_as m mem pcxi fcx) upper).mem → (step (seen_as m mem pcxi fcx) e2).pcxi ≡ (with_context_saved (seen_as m mem pcxi fcx) upper).pcxi
           → sum_over_chains (count tasks) (λ w. length (chain_of w)) < plan.areas - plan.reserve
       room_for_all upper room mem_is pcxi_is =
           view_all_room wd.ok wd.are wd.fit own (certs u) (wd.judged u own) (view_few u own) v of.run k.running of.rom seen paused.view_free paused.view_links paused.view_areas e2 fits2 (count tasks) u chain_of needs own k.needs_kept

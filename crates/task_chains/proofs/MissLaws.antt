@@ -5,7 +5,7 @@ use Rattle.std.proofs.lemmas.Bool.{cases_lt, leb-true, le-leb}
 use Rattle.value_domain.specs.declared.values.Val.{Val}
 use Rattle.value_domain.specs.declared.values.Val.TheVariants.{Set, Span}
 use Rattle.value_domain.specs.Sets.{Among}
-use Rattle.value_domain.specs.Values.{IsMember, IsWell}
+use Rattle.value_domain.specs.Values.{IsMember, IsWellFormed}
 use Rattle.value_domain.proofs.CoverLaws.{step_cases, in_units, from_units}
 use Rattle.store_ranges.specs.Accesses.{IsAccessSize}
 use Rattle.task_chains.specs.Rule17.{AreAccessesApart, HasAccessBetween}
@@ -62,7 +62,7 @@ module _ (lo last step low high : ℕ) (small : step ≤ 2) where
   )
 
 -- ---- accesses
-member_small : (v : Val) → IsWell v → (x : ℕ) → IsMember x v → x < 2 ^ 32
+member_small : (v : Val) → IsWellFormed v → (x : ℕ) → IsMember x v → x < 2 ^ 32
 member_small (Set ws) well x m = well.below x m
 member_small (Span lo last step) well x m = let a = m.1 in let b = well.2 in omega arith
 
@@ -71,7 +71,7 @@ size_some n (inl e) = (omega arith, omega arith)
 size_some n (inr (inl e)) = (omega arith, omega arith)
 size_some n (inr (inr e)) = (omega arith, omega arith)
 
-module _ (v : Val) (n from len low last : ℕ) (well : IsWell v) (size : IsAccessSize n) (some : 0 < len) (word : from < 2 ^ 32) (lowest : low ≡ from - (n - 1)) (end : last ≡ min (from + (len - 1)) (2 ^ 32 - 1)) where
+module _ (v : Val) (n from len low last : ℕ) (well : IsWellFormed v) (size : IsAccessSize n) (some : 0 < len) (word : from < 2 ^ 32) (lowest : low ≡ from - (n - 1)) (end : last ≡ min (from + (len - 1)) (2 ^ 32 - 1)) where
   -- an access from between them touches the range
   touched : HasAccessBetween v low last → AreAccessesApart v n from len → ⊥
   touched (x, member, above, below) all =

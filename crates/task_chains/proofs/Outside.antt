@@ -3,7 +3,7 @@ use Rattle.std.proofs.Common.{◌≡◌, ◌≢◌, ℕ, suc, ◌+◌, ◌-◌, 
 use Rattle.std.proofs.lemmas.Bool.{cases_Bool, false≢true, ne_eqb}
 use Rattle.std.specs.Prelude.{is_some}
 use Rattle.std.specs.FinMap as finite
-use Rattle.csa_chain.specs.MemoryBytes.{Memory, is_mapped, load_number, with_bytes}
+use Rattle.csa_chain.specs.MemoryBytes.{Memory, is_mapped, loaded_number, with_bytes}
 use Rattle.csa_chain.specs.Chain.{link_in}
 use Rattle.csa_chain.proofs.ChainLaws.{Links}
 use Rattle.csa_chain.specs.ContextWords.{pie_of, pcpn_of}
@@ -20,12 +20,12 @@ use Rattle.tc_machine.specs.declared.events.Event.{Event}
 use Rattle.tc_machine.specs.declared.events.End.{End}
 use Rattle.tc_machine.specs.declared.events.End.TheVariants.{Running, Dead}
 use Rattle.tc_machine.specs.declared.state.Machine.{Machine}
-use Rattle.tc_machine.specs.Machine.{reg, a11, then_, goes_on, IsMachine, core_register}
-use Rattle.tc_machine.specs.Instructions.{machine_address_ahead, advanced, access_address, is_trapping_access, target_of, does, is_trapping_instruction}
-use Rattle.tc_machine.specs.Handlers.{at_handler, interrupt}
-use Rattle.tc_machine.specs.Stepping.{is_taken, executed, machine_after_event, step}
-use Rattle.tc_machine.specs.SavesAndRestores.{has_kind, restore, saved, save}
-use Rattle.tc_machine.specs.Fetching.{fetched}
+use Rattle.tc_machine.specs.Machine.{reg, a11, if_running, if_end_running, IsMachine, core_register}
+use Rattle.tc_machine.specs.Instructions.{machine_address_ahead, with_pc_advanced, access_address, is_trapping_access, target_of, does, is_trapping_instruction}
+use Rattle.tc_machine.specs.Handlers.{at_handler_entry, interrupt}
+use Rattle.tc_machine.specs.Stepping.{is_interrupt_taken, after_found_instruction, machine_after_event, step}
+use Rattle.tc_machine.specs.SavesAndRestores.{has_kind, restore, with_context_saved, save}
+use Rattle.tc_machine.specs.Fetching.{fetched_instruction}
 use Rattle.tcd_plan.specs.MappedAddresses.{IsInAreas, IsStoreInRange}
 use Rattle.tc_mem.specs.PlanMemory.{HoldsRom, IsPlanMemory}
 use Rattle.tc_machine.proofs.Steps.{with_event, done-is, step-is, step_does, does-call, does-ret}
@@ -43,7 +43,7 @@ use Rattle.csa_chain.specs.SeveralChains.{sum_over_chains}
 use Rattle.task_chains.specs.Tasks.{TasksData}
 use Rattle.task_chains.specs.SwitchRoutine.{routine_size}
 use Rattle.task_chains.specs.Views.{view_plan_of}
-use Rattle.task_chains.specs.Rule17.{IsAccessApart, LoadsElsewhere, ReadsNoLink}
+use Rattle.task_chains.specs.Rule17.{IsAccessApart, LoadMissesAreasAndRoutine, ReadsNoContextRegister}
 use Rattle.task_chains.proofs.Twins.{Twins, SameContexts-length}
 use Rattle.task_chains.proofs.Alike.{seen_as, Alike, Alike-interrupt, Alike-call}
 use Rattle.task_chains.proofs.Backs.{restores_from, Alike-ret, Alike-rfe, Alike-rslcx}
@@ -70,14 +70,14 @@ pub record Both (image view : ImageData) (plan : PlanData) (tasks : TasksData) (
 pub record AtPoint (b : Limits) (view : ImageData) (plan : PlanData) (tasks : TasksData) (u : ℕ) (v : Machine) (e : Event) (s : State) (shape : Shape) (size : ℕ) : Type 0 where
   pub code : IsCode view (view_plan_of plan tasks u) v.pc shape size
   pub writes : WritesNoFixedRegister shape
-  pub loads : LoadsElsewhere b (view_plan_of plan tasks u) tasks s shape
-  pub links : ReadsNoLink shape
+  pub loads : LoadMissesAreasAndRoutine b (view_plan_of plan tasks u) tasks s shape
+  pub links : ReadsNoContextRegister shape
   pub load_at : LoadsAt b (view_plan_of plan tasks u) s v shape
   pub store_at : StoresAt (view_plan_of plan tasks u) v e shape
 
 -- the input of the view: what the machine loads
 abbrev pub input_for : Machine → Event → Shape → ℕ
-input_for m e (Load dst base offset size signed after) = load_number m.mem e.input (access_address m base offset after) size
+input_for m e (Load dst base offset size signed after) = loaded_number m.mem e.input (access_address m base offset after) size
 input_for m e _ = e.input
 
 abbrev pub event_for : Machine → Event → Shape → Event
@@ -97,22 +97,22 @@ same_code image view plan p size shape same c = record {
   sized = c.sized;
 }
 
-pub fetched_code : (image : ImageData) (plan : PlanData) (m : Machine) (shape : Shape) (size : ℕ) → IsPlan plan → HoldsRom image plan m.mem → IsCode image plan m.pc shape size → fetched m ≡ Ok (shape, size)
+pub fetched_code : (image : ImageData) (plan : PlanData) (m : Machine) (shape : Shape) (size : ℕ) → IsPlan plan → HoldsRom image plan m.mem → IsCode image plan m.pc shape size → fetched_instruction m ≡ Ok (shape, size)
 fetched_code image plan m shape size ok rom c =
     fetched-is image ok m rom c.even c.bytes c.inst c.spells ∙ ap (λ (t : Shape). Ok (t, length c.bytes)) c.shaped ∙ ap (λ (k : ℕ). Ok (shape, k)) c.sized
 
 -- if the machine runs after a step, it runs after the instruction
-pub dead≢running : (end : End) (m : Machine) (next : Machine → Machine) → m.end ≡ end → (then_ m next).end ≡ Running → m.end ≡ Running
+pub dead≢running : (end : End) (m : Machine) (next : Machine → Machine) → m.end ≡ end → (if_running m next).end ≡ Running → m.end ≡ Running
 dead≢running Running m next is e = is
-dead≢running (Dead cause) m next is e = sym (ap (λ x. (goes_on x m next).end) is) ∙ e
+dead≢running (Dead cause) m next is e = sym (ap (λ x. (if_end_running x m next).end) is) ∙ e
 
 pub done_runs : (m : Machine) (e : Event) → m.end ≡ Running → (step m e).end ≡ Running → (machine_after_event m e).end ≡ Running
 unfolding step
 done_runs m e running after =
-    let inner : (then_ (machine_after_event m e) (λ n. with_event n e)).end ≡ Running = sym (ap (λ x. (goes_on x m (λ m. then_ (machine_after_event m e) (λ n. with_event n e))).end) running) ∙ after in
+    let inner : (if_running (machine_after_event m e) (λ n. with_event n e)).end ≡ Running = sym (ap (λ x. (if_end_running x m (λ m. if_running (machine_after_event m e) (λ n. with_event n e))).end) running) ∙ after in
     dead≢running (machine_after_event m e).end (machine_after_event m e) (λ n. with_event n e) refl inner
 
-pub back_runs : (m : Machine) (upper : Bool) (next : Machine → Machine) → (then_ (restore m upper) next).end ≡ Running → (restore m upper).end ≡ Running
+pub back_runs : (m : Machine) (upper : Bool) (next : Machine → Machine) → (if_running (restore m upper) next).end ≡ Running → (restore m upper).end ≡ Running
 back_runs m upper next e = dead≢running (restore m upper).end (restore m upper) next refl e
 
 module _ {image view : ImageData} {plan : PlanData} (ok : IsPlan plan) {tasks : TasksData} {n u : ℕ} (view_ok : IsPlan (view_plan_of plan tasks u)) (Kept : ℕ → Type 0) (kept : (x : ℕ) → Kept x → IsInAreas plan x → ⊥)
@@ -142,7 +142,7 @@ module _ {image view : ImageData} {plan : PlanData} (ok : IsPlan plan) {tasks : 
     load_misses : IsAccessApart (access_address v base offset after) size plan.csa_at (64 * plan.areas) × IsAccessApart (access_address v base offset after) size tasks.switch routine_size
     load_misses = ((at.loads).0 (access_address v base offset after) at.load_at, (at.loads).1 (access_address v base offset after) at.load_at)
 
-    pub same_load : access_address m base offset after < 2 ^ 32 → load_number mem (load_number m.mem e.input (access_address m base offset after) size) (access_address m base offset after) size ≡ load_number m.mem e.input (access_address m base offset after) size
+    pub same_load : access_address m base offset after < 2 ^ 32 → loaded_number mem (loaded_number m.mem e.input (access_address m base offset after) size) (access_address m base offset after) size ≡ loaded_number m.mem e.input (access_address m base offset after) size
     same_load lt =
         let is = address-same m mem pcxi fcx e e base offset after in
         load_again mem m.mem (k.words).bytes size (access_address m base offset after) e.input
@@ -168,9 +168,9 @@ module _ {image view : ImageData} {plan : PlanData} (ok : IsPlan plan) {tasks : 
   -- does, so have all tasks
   pub record Rooms (e2 : Event) : Type 0 where
     pub own_room : (upper : Bool) → (save v upper).end ≡ Running → length seen < plan.areas - plan.reserve
-    pub all_room : (upper : Bool) → length seen < plan.areas - plan.reserve → (step v e2).mem ≡ (saved v upper).mem → (step v e2).pcxi ≡ (saved v upper).pcxi → sum_over_chains n (λ w. length (chain_of w)) < plan.areas - plan.reserve
+    pub all_room : (upper : Bool) → length seen < plan.areas - plan.reserve → (step v e2).mem ≡ (with_context_saved v upper).mem → (step v e2).pcxi ≡ (with_context_saved v upper).pcxi → sum_over_chains n (λ w. length (chain_of w)) < plan.areas - plan.reserve
 
-  view_stands : (upper : Bool) → length seen < plan.areas - plan.reserve → save v upper ≡ saved v upper
+  view_stands : (upper : Bool) → length seen < plan.areas - plan.reserve → save v upper ≡ with_context_saved v upper
   view_stands upper room =
       let h : HasFree plan mem fcx m.lcx seen = has_free ok (plan.areas - plan.reserve) (omega arith) mem fcx m.lcx seen (k.twins).view_free (k.twins).view_areas room in
       save-is v upper h.some h.area h.not_last
@@ -178,32 +178,32 @@ module _ {image view : ImageData} {plan : PlanData} (ok : IsPlan plan) {tasks : 
   abbrev pub AlikeStep : Event → Type 0
   AlikeStep e2 = Alike plan n u word_of chain_of Kept mem m (step m e) (step v e2)
 
-  save_runs : (upper : Bool) (next : Machine → Machine) → (then_ (save v upper) next).end ≡ Running → (save v upper).end ≡ Running
+  save_runs : (upper : Bool) (next : Machine → Machine) → (if_running (save v upper) next).end ≡ Running → (save v upper).end ≡ Running
   save_runs upper next g = dead≢running (save v upper).end (save v upper) next refl g
 
   -- an interrupt
-  pub interrupt_step : is_taken m e ≡ true → (e2 : Event) → e2.irq ≡ e.irq → e2.status ≡ e.status → Rooms e2 → (step v e2).end ≡ Running → AlikeStep e2
+  pub interrupt_step : is_interrupt_taken m e ≡ true → (e2 : Event) → e2.irq ≡ e.irq → e2.status ≡ e.status → Rooms e2 → (step v e2).end ≡ Running → AlikeStep e2
   interrupt_step taken e2 same_irq same_status rooms runs =
-      let next : Machine → Machine = λ s. record (at_handler v s v.pc (bit_or v.biv (e2.irq * 2 ^ 5))) { ccpn = e2.irq } in
-      let view_taken : is_taken v e2 ≡ true = ap (λ q. is_taken m (record e { irq = q })) same_irq ∙ taken in
-      let done_is : machine_after_event v e2 ≡ then_ (save v true) next = ap (λ t. cond t (interrupt v e2.irq) (executed v e2 (fetched v))) view_taken in
+      let next : Machine → Machine = λ s. record (at_handler_entry v s v.pc (bit_or v.biv (e2.irq * 2 ^ 5))) { ccpn = e2.irq } in
+      let view_taken : is_interrupt_taken v e2 ≡ true = ap (λ q. is_interrupt_taken m (record e { irq = q })) same_irq ∙ taken in
+      let done_is : machine_after_event v e2 ≡ if_running (save v true) next = ap (λ t. cond t (interrupt v e2.irq) (after_found_instruction v e2 (fetched_instruction v))) view_taken in
       let room = rooms.own_room true (save_runs true next (sym (ap (λ (x : Machine). x.end) done_is) ∙ done_runs v e2 k.running runs)) in
-      let is : machine_after_event v e2 ≡ next (saved v true) = done_is ∙ ap (λ s. then_ s next) (view_stands true room) ∙ then_-running (saved v true) next k.running in
-      let step_at : step v e2 ≡ with_event (next (saved v true)) e2 = step-is v e2 k.running (ap (λ (x : Machine). x.end) is ∙ k.running) ∙ ap (λ (x : Machine). with_event x e2) is in
+      let is : machine_after_event v e2 ≡ next (with_context_saved v true) = done_is ∙ ap (λ s. if_running s next) (view_stands true room) ∙ then_-running (with_context_saved v true) next k.running in
+      let step_at : step v e2 ≡ with_event (next (with_context_saved v true)) e2 = step-is v e2 k.running (ap (λ (x : Machine). x.end) is ∙ k.running) ∙ ap (λ (x : Machine). with_event x e2) is in
       Alike-interrupt ok Kept kept m mem pcxi fcx k.words k.view_words k.running k.twins (rooms.all_room true room (ap (λ (x : Machine). x.mem) step_at) (ap (λ (x : Machine). x.pcxi) step_at)) room e e2 taken same_irq same_status
 
   -- the same instruction in both, and no interrupt
-  module _ (shape : Shape) (size : ℕ) (at : AtPoint b view plan tasks u v e s shape size) (same : HasCodeOf image view m.pc size) (none : is_taken m e ≡ false) where
+  module _ (shape : Shape) (size : ℕ) (at : AtPoint b view plan tasks u v e s shape size) (same : HasCodeOf image view m.pc size) (none : is_interrupt_taken m e ≡ false) where
     abbrev e2 : Event
     e2 = event_for m e shape
 
     in_plan : IsCode view (view_plan_of plan tasks u) m.pc shape size → IsCode view plan m.pc shape size
     in_plan c = record { even = c.even; bytes = c.bytes; inst = c.inst; spells = record { spelled = c.spells.spelled; in_rom = c.spells.in_rom; held = c.spells.held }; shaped = c.shaped; sized = c.sized }
 
-    here : fetched m ≡ Ok (shape, size)
+    here : fetched_instruction m ≡ Ok (shape, size)
     here = fetched_code image plan m shape size ok k.rom (same_code image (view) plan m.pc size shape same (in_plan at.code))
 
-    there : fetched v ≡ Ok (shape, size)
+    there : fetched_instruction v ≡ Ok (shape, size)
     there = fetched_code view (view_plan_of plan tasks u) v shape size view_ok k.view_rom at.code
 
     runs_on : (step v e2).end ≡ Running → (does v e2 shape size).end ≡ Running
@@ -216,17 +216,17 @@ module _ {image view : ImageData} {plan : PlanData} (ok : IsPlan plan) {tasks : 
     same_memory : Plainly m v (does m e shape size) (does v e2 shape size) m.mem mem → AlikeStep e2
     same_memory p = plainly m.mem (λ x at. refl) (λ x. refl) p (λ x is. refl)
 
-    rooms_for : Rooms e2 → (upper : Bool) (next : Machine → Machine) → does v e2 shape size ≡ then_ (save v upper) next → (next (saved v upper)).mem ≡ (saved v upper).mem → (next (saved v upper)).pcxi ≡ (saved v upper).pcxi → (step v e2).end ≡ Running
+    rooms_for : Rooms e2 → (upper : Bool) (next : Machine → Machine) → does v e2 shape size ≡ if_running (save v upper) next → (next (with_context_saved v upper)).mem ≡ (with_context_saved v upper).mem → (next (with_context_saved v upper)).pcxi ≡ (with_context_saved v upper).pcxi → (step v e2).end ≡ Running
         → (sum_over_chains n (λ w. length (chain_of w)) < plan.areas - plan.reserve) × (length seen < plan.areas - plan.reserve)
     rooms_for rooms upper next is mem_is pcxi_is runs =
         let room = rooms.own_room upper (save_runs upper next (sym (ap (λ (x : Machine). x.end) is) ∙ runs_on runs)) in
-        let does_is : does v e2 shape size ≡ next (saved v upper) = is ∙ ap (λ s. then_ s next) (view_stands upper room) ∙ then_-running (saved v upper) next k.running in
-        let step_at : step v e2 ≡ with_event (next (saved v upper)) e2 = step_does v e2 shape size k.running none there (runs_on runs) ∙ ap (λ (x : Machine). with_event x e2) does_is in
+        let does_is : does v e2 shape size ≡ next (with_context_saved v upper) = is ∙ ap (λ s. if_running s next) (view_stands upper room) ∙ then_-running (with_context_saved v upper) next k.running in
+        let step_at : step v e2 ≡ with_event (next (with_context_saved v upper)) e2 = step_does v e2 shape size k.running none there (runs_on runs) ∙ ap (λ (x : Machine). with_event x e2) does_is in
         (rooms.all_room upper room (ap (λ (x : Machine). x.mem) step_at ∙ mem_is) (ap (λ (x : Machine). x.pcxi) step_at ∙ pcxi_is), room)
 
     -- ---- restores
     -- the view restores a context, so both have one
-    with_context : (upper : Bool) (next : Machine → Machine) → does v e2 shape size ≡ then_ (restore v upper) next → (step v e2).end ≡ Running
+    with_context : (upper : Bool) (next : Machine → Machine) → does v e2 shape size ≡ if_running (restore v upper) next → (step v e2).end ≡ Running
         → ((l : ℕ) (used : List ℕ) → chain_of u ≡ l ∷ used → (j : ℕ) (seen2 : List ℕ) → Twins plan n u word_of chain_of (j ∷ seen2) m.mem m.pcxi m.fcx m.lcx mem pcxi fcx → has_kind v upper ≡ true → AlikeStep e2) → AlikeStep e2
     with_context upper next is runs step_of =
         let r = restores_from v upper (back_runs v upper next (sym (ap (λ (x : Machine). x.end) is) ∙ runs_on runs)) in
@@ -242,7 +242,7 @@ module _ {image view : ImageData} {plan : PlanData} (ok : IsPlan plan) {tasks : 
   core_same number apart = rw (ne_eqb number 0xfe00 apart.0, ne_eqb number 0xfe38 apart.1) refl
 
   -- ---- by the instruction
-  pub outside_step : (shape : Shape) (size : ℕ) → AtPoint b view plan tasks u v e s shape size → HasCodeOf image view m.pc size → is_taken m e ≡ false → Rooms (event_for m e shape) → StoreIs shape → (step v (event_for m e shape)).end ≡ Running
+  pub outside_step : (shape : Shape) (size : ℕ) → AtPoint b view plan tasks u v e s shape size → HasCodeOf image view m.pc size → is_interrupt_taken m e ≡ false → Rooms (event_for m e shape) → StoreIs shape → (step v (event_for m e shape)).end ≡ Running
       → AlikeStep (event_for m e shape)
   outside_step (Compute op dst x y) size at same none rooms store runs = same_memory (Compute op dst x y) size at same none (plain-compute m mem pcxi fcx e e op dst x y size)
   outside_step (Scaled dst base index j) size at same none rooms store runs = same_memory (Scaled dst base index j) size at same none (plain-scaled m mem pcxi fcx e e dst base index j size)
@@ -254,7 +254,7 @@ module _ {image view : ImageData} {plan : PlanData} (ok : IsPlan plan) {tasks : 
       elim (cases_Bool (is_trapping_access e (access_address m base offset after) width)) [
         | inl trapped ↦
             let view_yes : is_trapping_instruction v e2 shape ≡ true = ap (λ x. is_trapping_access e x width) is ∙ trapped in
-            let r = rooms_for shape size at same none rooms true (λ s. record (at_handler v s v.pc (bit_or v.btv (2 * 2 ^ 5))) { d = set s.d 15 4 }) (does-trapped v e2 size shape view_yes) refl refl runs in
+            let r = rooms_for shape size at same none rooms true (λ s. record (at_handler_entry v s v.pc (bit_or v.btv (2 * 2 ^ 5))) { d = set s.d 15 4 }) (does-trapped v e2 size shape view_yes) refl refl runs in
             Alike-misaligned ok Kept kept m mem pcxi fcx k.words k.view_words k.running k.twins r.0 r.1 e e2 none refl refl shape size trapped view_yes (here shape size at same none) (there shape size at same none)
         | inr free_of ↦ same_memory shape size at same none (plain-load m mem pcxi fcx e e2 dst base offset width signed after size free_of refl (same_load dst base offset width signed after size at (access_lt base offset after bounded.1)))
       ]
@@ -264,7 +264,7 @@ module _ {image view : ImageData} {plan : PlanData} (ok : IsPlan plan) {tasks : 
       elim (cases_Bool (is_trapping_access e (access_address m base offset after) width)) [
         | inl trapped ↦
             let view_yes : is_trapping_instruction v e shape ≡ true = ap (λ x. is_trapping_access e x width) is ∙ trapped in
-            let r = rooms_for shape size at same none rooms true (λ s. record (at_handler v s v.pc (bit_or v.btv (2 * 2 ^ 5))) { d = set s.d 15 4 }) (does-trapped v e size shape view_yes) refl refl runs in
+            let r = rooms_for shape size at same none rooms true (λ s. record (at_handler_entry v s v.pc (bit_or v.btv (2 * 2 ^ 5))) { d = set s.d 15 4 }) (does-trapped v e size shape view_yes) refl refl runs in
             Alike-misaligned ok Kept kept m mem pcxi fcx k.words k.view_words k.running k.twins r.0 r.1 e e none refl refl shape size trapped view_yes (here shape size at same none) (there shape size at same none)
         | inr free_of ↦
             let st = store free_of in
@@ -285,18 +285,18 @@ module _ {image view : ImageData} {plan : PlanData} (ok : IsPlan plan) {tasks : 
       with_context Rfe size at same none true (λ r. record r { pc = a11 v / 2 * 2; ie = pie_of v.core v.pcxi; ccpn = pcpn_of v.core v.pcxi }) (does-rfe v e size) runs
       (λ l used is j seen2 t kind. Alike-rfe ok Kept kept m mem pcxi fcx k.words k.view_words k.running l used is j seen2 t e e size none refl refl kind (here Rfe size at same none) (there Rfe size at same none))
   outside_step Svlcx size at same none rooms store runs =
-      let r = rooms_for Svlcx size at same none rooms false (advanced size) (does-svlcx v e size) refl refl runs in
+      let r = rooms_for Svlcx size at same none rooms false (with_pc_advanced size) (does-svlcx v e size) refl refl runs in
       Alike-svlcx ok Kept kept m mem pcxi fcx k.words k.view_words k.running k.twins r.0 r.1 e e none refl refl size (here Svlcx size at same none) (there Svlcx size at same none)
   outside_step Rslcx size at same none rooms store runs =
-      with_context Rslcx size at same none false (advanced size) (does-rslcx v e size) runs
+      with_context Rslcx size at same none false (with_pc_advanced size) (does-rslcx v e size) runs
       (λ l used is j seen2 t kind. Alike-rslcx ok Kept kept m mem pcxi fcx k.words k.view_words k.running l used is j seen2 t e e size none refl refl kind (here Rslcx size at same none) (there Rslcx size at same none))
   outside_step (Bisr c) size at same none rooms store runs =
-      let r = rooms_for (Bisr c) size at same none rooms false (λ s. record (advanced size s) { ccpn = c; ie = true }) (does-bisr v e size c) refl refl runs in
+      let r = rooms_for (Bisr c) size at same none rooms false (λ s. record (with_pc_advanced size s) { ccpn = c; ie = true }) (does-bisr v e size c) refl refl runs in
       Alike-bisr ok Kept kept m mem pcxi fcx k.words k.view_words k.running k.twins r.0 r.1 e e none refl refl c size (here (Bisr c) size at same none) (there (Bisr c) size at same none)
   outside_step Enable size at same none rooms store runs = same_memory Enable size at same none (plain-enable m mem pcxi fcx e e size)
   outside_step Disable size at same none rooms store runs = same_memory Disable size at same none (plain-disable m mem pcxi fcx e e size)
   outside_step (Syscall tin) size at same none rooms store runs =
-      let r = rooms_for (Syscall tin) size at same none rooms true (λ s. record (at_handler v s (machine_address_ahead v.pc size) (bit_or v.btv (6 * 2 ^ 5))) { d = set s.d 15 tin }) (does-syscall v e size tin) refl refl runs in
+      let r = rooms_for (Syscall tin) size at same none rooms true (λ s. record (at_handler_entry v s (machine_address_ahead v.pc size) (bit_or v.btv (6 * 2 ^ 5))) { d = set s.d 15 tin }) (does-syscall v e size tin) refl refl runs in
       Alike-syscall ok Kept kept m mem pcxi fcx k.words k.view_words k.running k.twins r.0 r.1 e e none refl refl tin size (here (Syscall tin) size at same none) (there (Syscall tin) size at same none)
   outside_step (Mfcr dst number) size at same none rooms store runs = same_memory (Mfcr dst number) size at same none (plain-mfcr m mem pcxi fcx e e dst number size (core_same number at.links))
   outside_step (Mtcr src number) size at same none rooms store runs = absurd at.writes

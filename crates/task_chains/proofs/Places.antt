@@ -2,12 +2,12 @@
 use Rattle.std.proofs.Common.{◌≡◌, ◌≢◌, ℕ, zero, suc, ◌+◌, ◌<◌, ◌≤◌, inl, inr, List, [], ◌∷◌, slice_get, Some, refl, sym, ap, ◌∙◌, subst, arith}
 use Rattle.std.proofs.lemmas.Bool.{cases_lt, cases_eq}
 use Rattle.std.proofs.lemmas.Option.{slice_get-get_or}
-use Rattle.csa_chain.specs.SeveralChains.{times_in_list, sum_over_chains, Share, AreLinksOnce}
+use Rattle.csa_chain.specs.SeveralChains.{times_in_list, sum_over_chains, ChainsShareAreas, AreLinksOnce}
 use Rattle.csa_chain.proofs.SeveralLaws.{sum_below-at, times-there, times-other}
 use Rattle.tcd_plan.specs.PlanData.{PlanData}
 use Rattle.tc_machine.specs.PlanAreas.{first_link, plan_areas}
 use Rattle.tc_machine.proofs.PlanLaws.{length-links_up, get_or-links_up}
-use Rattle.task_chains.specs.SafeTasksInWords.{LinkStandsInTask}
+use Rattle.task_chains.specs.SafeTasksInWords.{IsLinkAtPlaceOfList}
 use Rattle.task_chains.proofs.Alike.{area_at}
 use Rattle.task_chains.proofs.Twins.{areas_once}
 
@@ -103,8 +103,8 @@ sum_below-less (suc n) f g less =
     omega arith
 
 -- ---- from counts to places
-module _ (n : ℕ) (used : ℕ → List ℕ) (free areas : List ℕ) (share : Share n used free areas) where
-  pub place_of : (l : ℕ) → 1 ≤ times_in_list l areas → (u : ℕ) × (place : ℕ) × LinkStandsInTask n used free l u place
+module _ (n : ℕ) (used : ℕ → List ℕ) (free areas : List ℕ) (share : ChainsShareAreas n used free areas) where
+  pub place_of : (l : ℕ) → 1 ≤ times_in_list l areas → (u : ℕ) × (place : ℕ) × IsLinkAtPlaceOfList n used free l u place
   place_of l some =
       let all = share.each l in
       elim (cases_lt 0 (times_in_list l free)) [
@@ -112,11 +112,11 @@ module _ (n : ℕ) (used : ℕ → List ℕ) (free areas : List ℕ) (share : Sh
         | inr none ↦ let t = term_of n (λ u. times_in_list l (used u)) (omega arith) in let p = place_in l (used t.0) t.2 in (t.0, p.0, inl (t.1, p.1))
       ]
 
-  pub among : (l u place : ℕ) → LinkStandsInTask n used free l u place → 1 ≤ times_in_list l areas
+  pub among : (l u place : ℕ) → IsLinkAtPlaceOfList n used free l u place → 1 ≤ times_in_list l areas
   among l u place (inl h) = omega (arith, share.each l, times-at l (used u) place h.1, sum_below-at n (λ w. times_in_list l (used w)) u h.0)
   among l u place (inr h) = let all = share.each l in let one = times-at l free place h.1 in omega arith
 
-  pub one_place : AreLinksOnce areas → (l u v i j : ℕ) → LinkStandsInTask n used free l u i → LinkStandsInTask n used free l v j → (u ≡ v) × (i ≡ j)
+  pub one_place : AreLinksOnce areas → (l u v i j : ℕ) → IsLinkAtPlaceOfList n used free l u i → IsLinkAtPlaceOfList n used free l v j → (u ≡ v) × (i ≡ j)
   one_place once l u v i j (inl a) (inl b) =
       let all = share.each l in
       let most = once l in
@@ -145,9 +145,9 @@ pub area_of : (plan : PlanData) (l : ℕ) → 1 ≤ times_in_list l (plan_areas 
 area_of plan l some = area_at (first_link plan) plan.areas l (λ none. absurd (omega arith))
 
 -- ---- from places to counts
-module _ (plan : PlanData) (n : ℕ) (used : ℕ → List ℕ) (free : List ℕ) (places : (i : ℕ) → i < plan.areas → (u : ℕ) × (place : ℕ) × LinkStandsInTask n used free (first_link plan + i) u place)
-    (once : (l u v i j : ℕ) → LinkStandsInTask n used free l u i → LinkStandsInTask n used free l v j → (u ≡ v) × (i ≡ j))
-    (areas : (l u place : ℕ) → LinkStandsInTask n used free l u place → (i : ℕ) × (i < plan.areas) × (l ≡ first_link plan + i)) where
+module _ (plan : PlanData) (n : ℕ) (used : ℕ → List ℕ) (free : List ℕ) (places : (i : ℕ) → i < plan.areas → (u : ℕ) × (place : ℕ) × IsLinkAtPlaceOfList n used free (first_link plan + i) u place)
+    (once : (l u v i j : ℕ) → IsLinkAtPlaceOfList n used free l u i → IsLinkAtPlaceOfList n used free l v j → (u ≡ v) × (i ≡ j))
+    (areas : (l u place : ℕ) → IsLinkAtPlaceOfList n used free l u place → (i : ℕ) × (i < plan.areas) × (l ≡ first_link plan + i)) where
   few_all : (l : ℕ) → sum_over_chains n (λ u. times_in_list l (used u)) + times_in_list l free ≤ 1
   few_all l =
       let few_used =
@@ -171,7 +171,7 @@ module _ (plan : PlanData) (n : ℕ) (used : ℕ → List ℕ) (free : List ℕ)
       ]
 
   -- what has a place is counted
-  counted : (l u place : ℕ) → LinkStandsInTask n used free l u place → 1 ≤ sum_over_chains n (λ u. times_in_list l (used u)) + times_in_list l free
+  counted : (l u place : ℕ) → IsLinkAtPlaceOfList n used free l u place → 1 ≤ sum_over_chains n (λ u. times_in_list l (used u)) + times_in_list l free
   counted l u place (inl h) = omega (arith, times-at l (used u) place h.1, sum_below-at n (λ w. times_in_list l (used w)) u h.0)
   counted l u place (inr h) = let one = times-at l free place h.1 in omega arith
 

@@ -2,7 +2,7 @@
 -- context.
 use Rattle.std.proofs.Common.{◌≡◌, ℕ, ◌+◌, ◌-◌, ◌*◌, ◌^◌, ◌<◌, ◌≤◌, Bool, true, false, cond, List, [], ◌∷◌, set, Ok, refl, sym, ap, ◌∙◌, subst, arith, ltb}
 use Rattle.std.specs.FinMap as map
-use Rattle.csa_chain.specs.MemoryBytes.{Memory, is_mapped, load_number, extend_loaded_bytes, with_bytes}
+use Rattle.csa_chain.specs.MemoryBytes.{Memory, is_mapped, loaded_number, extend_loaded_bytes, with_bytes}
 use Rattle.csa_chain.specs.Chain.{link_address}
 use Rattle.csa_chain.proofs.ChainLaws.{SameAreas, Links-same}
 use Rattle.tcd_plan.specs.PlanData.{PlanData, IsPlan}
@@ -19,9 +19,9 @@ use Rattle.tc_machine.specs.declared.events.Event.{Event}
 use Rattle.tc_machine.specs.declared.events.End.TheVariants.{Running}
 use Rattle.tc_machine.specs.declared.state.Machine.{Machine}
 use Rattle.tc_machine.specs.Machine.{reg, with_reg, core_register}
-use Rattle.tc_machine.specs.Instructions.{machine_address_ahead, arg, advanced, access_address, with_base, is_trapping_access, misaligned, target_of, does}
-use Rattle.tc_machine.specs.Fetching.{fetched}
-use Rattle.tc_machine.specs.Stepping.{is_taken, step}
+use Rattle.tc_machine.specs.Instructions.{machine_address_ahead, operand_value, with_pc_advanced, access_address, with_base_incremented, is_trapping_access, misaligned_access_trap, target_of, does}
+use Rattle.tc_machine.specs.Fetching.{fetched_instruction}
+use Rattle.tc_machine.specs.Stepping.{is_interrupt_taken, step}
 use Rattle.tcd_plan.specs.MappedAddresses.{IsInAreas}
 use Rattle.tc_machine.specs.PlanAreas.{first_link, plan_areas}
 use Rattle.tc_machine.proofs.Steps.{with_event, step_does}
@@ -59,7 +59,7 @@ module _ (m : Machine) (view : Memory) (pcxi fcx : ℕ) (e e2 : Event) where
   abbrev v : Machine
   v = seen_as m view pcxi fcx
 
-  arg-same : (x : Arg) → arg v x ≡ arg m x
+  arg-same : (x : Arg) → operand_value v x ≡ operand_value m x
   arg-same (Reg r) = refl
   arg-same (Word w) = refl
 
@@ -67,19 +67,19 @@ module _ (m : Machine) (view : Memory) (pcxi fcx : ℕ) (e e2 : Event) where
   address-same base offset after = ap (λ x. cond after x (machine_address_ahead x offset)) (arg-same base)
 
   -- registers of m with one set
-  pub set_one : (k r w w2 : ℕ) → w2 ≡ w → Plainly m v (advanced k (with_reg m r w)) (advanced k (with_reg v r w2)) m.mem view
+  pub set_one : (k r w w2 : ℕ) → w2 ≡ w → Plainly m v (with_pc_advanced k (with_reg m r w)) (with_pc_advanced k (with_reg v r w2)) m.mem view
   set_one k r w w2 same = record {
     d = d_with m.d r w;
     a = a_with m.a r w;
     pc = machine_address_ahead m.pc k;
     ie = m.ie;
-    is = ap (advanced k) (with_reg-is m r w);
-    view_is = ap (advanced k) (ap (with_reg v r) same ∙ with_reg-is v r w);
+    is = ap (with_pc_advanced k) (with_reg-is m r w);
+    view_is = ap (with_pc_advanced k) (ap (with_reg v r) same ∙ with_reg-is v r w);
   }
 
   pub plain-compute : (op : Op) (dst : ℕ) (x y : Arg) (k : ℕ) → Plainly m v (does m e (Compute op dst x y) k) (does v e2 (Compute op dst x y) k) m.mem view
   unfolding does
-  plain-compute op dst x y k = set_one k dst (alu_of op (arg m x) (arg m y)) (alu_of op (arg v x) (arg v y)) (λ i. alu_of op (arg-same x i) (arg-same y i))
+  plain-compute op dst x y k = set_one k dst (alu_of op (operand_value m x) (operand_value m y)) (alu_of op (operand_value v x) (operand_value v y)) (λ i. alu_of op (arg-same x i) (arg-same y i))
 
   pub plain-scaled : (dst base index j k : ℕ) → Plainly m v (does m e (Scaled dst base index j) k) (does v e2 (Scaled dst base index j) k) m.mem view
   unfolding does
@@ -115,7 +115,7 @@ module _ (m : Machine) (view : Memory) (pcxi fcx : ℕ) (e e2 : Event) where
   plain-branch test x y by false k = record {
     d = m.d;
     a = m.a;
-    pc = cond (taken_of test (reg m x) (arg m y)) (machine_address_ahead m.pc by) (machine_address_ahead m.pc k);
+    pc = cond (taken_of test (reg m x) (operand_value m y)) (machine_address_ahead m.pc by) (machine_address_ahead m.pc k);
     ie = m.ie;
     is = refl;
     view_is = λ i. record v { pc = cond (taken_of test (reg m x) (arg-same y i)) (machine_address_ahead m.pc by) (machine_address_ahead m.pc k) };
@@ -123,11 +123,11 @@ module _ (m : Machine) (view : Memory) (pcxi fcx : ℕ) (e e2 : Event) where
   plain-branch test x y by true k = record {
     d = d_with m.d x (machine_address_ahead (reg m x) (2 ^ 32 - 1));
     a = a_with m.a x (machine_address_ahead (reg m x) (2 ^ 32 - 1));
-    pc = cond (taken_of test (reg m x) (arg m y)) (machine_address_ahead m.pc by) (machine_address_ahead m.pc k);
+    pc = cond (taken_of test (reg m x) (operand_value m y)) (machine_address_ahead m.pc by) (machine_address_ahead m.pc k);
     ie = m.ie;
-    is = ap (λ (b : Machine). record b { pc = cond (taken_of test (reg m x) (arg m y)) (machine_address_ahead m.pc by) (machine_address_ahead m.pc k) }) (with_reg-is m x (machine_address_ahead (reg m x) (2 ^ 32 - 1)));
+    is = ap (λ (b : Machine). record b { pc = cond (taken_of test (reg m x) (operand_value m y)) (machine_address_ahead m.pc by) (machine_address_ahead m.pc k) }) (with_reg-is m x (machine_address_ahead (reg m x) (2 ^ 32 - 1)));
     view_is = (λ i. record (with_reg v x (machine_address_ahead (reg v x) (2 ^ 32 - 1))) { pc = cond (taken_of test (reg m x) (arg-same y i)) (machine_address_ahead m.pc by) (machine_address_ahead m.pc k) })
-        ∙ ap (λ (b : Machine). record b { pc = cond (taken_of test (reg m x) (arg m y)) (machine_address_ahead m.pc by) (machine_address_ahead m.pc k) }) (with_reg-is v x (machine_address_ahead (reg m x) (2 ^ 32 - 1)));
+        ∙ ap (λ (b : Machine). record b { pc = cond (taken_of test (reg m x) (operand_value m y)) (machine_address_ahead m.pc by) (machine_address_ahead m.pc k) }) (with_reg-is v x (machine_address_ahead (reg m x) (2 ^ 32 - 1)));
   }
 
   -- ---- accesses
@@ -138,28 +138,28 @@ module _ (m : Machine) (view : Memory) (pcxi fcx : ℕ) (e e2 : Event) where
     pub is : b ≡ record m { d = d; a = a }
     pub view_is : b2 ≡ record v { d = d; a = a }
 
-  based : (base : Arg) (offset : ℕ) (after : Bool) → Based (with_base m base offset after) (with_base v base offset after)
+  based : (base : Arg) (offset : ℕ) (after : Bool) → Based (with_base_incremented m base offset after) (with_base_incremented v base offset after)
   based (Word w) offset after = record { d = m.d; a = m.a; is = refl; view_is = refl }
   based (Reg r) offset false = record { d = m.d; a = m.a; is = refl; view_is = refl }
   based (Reg r) offset true = record { d = d_with m.d r (machine_address_ahead (reg m r) offset); a = a_with m.a r (machine_address_ahead (reg m r) offset); is = with_reg-is m r _; view_is = with_reg-is v r _ }
 
   pub plain-load : (dst : ℕ) (base : Arg) (offset size : ℕ) (signed after : Bool) (k : ℕ) → is_trapping_access e (access_address m base offset after) size ≡ false → e2.aln ≡ e.aln
-      → load_number view e2.input (access_address m base offset after) size ≡ load_number m.mem e.input (access_address m base offset after) size
+      → loaded_number view e2.input (access_address m base offset after) size ≡ loaded_number m.mem e.input (access_address m base offset after) size
       → Plainly m v (does m e (Load dst base offset size signed after) k) (does v e2 (Load dst base offset size signed after) k) m.mem view
   unfolding does
   plain-load dst base offset size signed after k none same_aln same =
-      let w = extend_loaded_bytes signed size (load_number m.mem e.input (access_address m base offset after) size) in
+      let w = extend_loaded_bytes signed size (loaded_number m.mem e.input (access_address m base offset after) size) in
       let b = based base offset after in
       let view_none : is_trapping_access e2 (access_address v base offset after) size ≡ false = (λ i. is_trapping_access (record e { aln = same_aln i }) (address-same base offset after i) size) ∙ none in
-      let value : extend_loaded_bytes signed size (load_number view e2.input (access_address v base offset after) size) ≡ w = ap (λ y. extend_loaded_bytes signed size (load_number view e2.input y size)) (address-same base offset after) ∙ ap (extend_loaded_bytes signed size) same in
+      let value : extend_loaded_bytes signed size (loaded_number view e2.input (access_address v base offset after) size) ≡ w = ap (λ y. extend_loaded_bytes signed size (loaded_number view e2.input y size)) (address-same base offset after) ∙ ap (extend_loaded_bytes signed size) same in
       record {
         d = d_with b.d dst w;
         a = a_with b.a dst w;
         pc = machine_address_ahead m.pc k;
         ie = m.ie;
-        is = ap (λ t. cond t (misaligned m) (advanced k (with_reg (with_base m base offset after) dst w))) none ∙ ap (λ (y : Machine). advanced k (with_reg y dst w)) b.is ∙ ap (advanced k) (with_reg-is (record m { d = b.d; a = b.a }) dst w);
-        view_is = ap (λ t. cond t (misaligned v) (advanced k (with_reg (with_base v base offset after) dst (extend_loaded_bytes signed size (load_number view e2.input (access_address v base offset after) size))))) view_none
-            ∙ ap (λ (y : ℕ). advanced k (with_reg (with_base v base offset after) dst y)) value ∙ ap (λ (y : Machine). advanced k (with_reg y dst w)) b.view_is ∙ ap (advanced k) (with_reg-is (record v { d = b.d; a = b.a }) dst w);
+        is = ap (λ t. cond t (misaligned_access_trap m) (with_pc_advanced k (with_reg (with_base_incremented m base offset after) dst w))) none ∙ ap (λ (y : Machine). with_pc_advanced k (with_reg y dst w)) b.is ∙ ap (with_pc_advanced k) (with_reg-is (record m { d = b.d; a = b.a }) dst w);
+        view_is = ap (λ t. cond t (misaligned_access_trap v) (with_pc_advanced k (with_reg (with_base_incremented v base offset after) dst (extend_loaded_bytes signed size (loaded_number view e2.input (access_address v base offset after) size))))) view_none
+            ∙ ap (λ (y : ℕ). with_pc_advanced k (with_reg (with_base_incremented v base offset after) dst y)) value ∙ ap (λ (y : Machine). with_pc_advanced k (with_reg y dst w)) b.view_is ∙ ap (with_pc_advanced k) (with_reg-is (record v { d = b.d; a = b.a }) dst w);
       }
 
   pub plain-store : (src : ℕ) (base : Arg) (offset size : ℕ) (after : Bool) (k : ℕ) → is_trapping_access e (access_address m base offset after) size ≡ false → e2.aln ≡ e.aln
@@ -176,10 +176,10 @@ module _ (m : Machine) (view : Memory) (pcxi fcx : ℕ) (e e2 : Event) where
         a = b.a;
         pc = machine_address_ahead m.pc k;
         ie = m.ie;
-        is = ap (λ t. cond t (misaligned m) (advanced k (record (with_base m base offset after) { mem = with_bytes m.mem x (reg m src) size }))) none
-            ∙ ap (λ (y : Machine). advanced k (record y { mem = with_bytes m.mem x (reg m src) size })) b.is;
-        view_is = ap (λ t. cond t (misaligned v) (advanced k (record (with_base v base offset after) { mem = with_bytes view (access_address v base offset after) (reg v src) size }))) view_none
-            ∙ ap (λ (y : Memory). advanced k (record (with_base v base offset after) { mem = y })) stays ∙ ap (λ (y : Machine). advanced k (record y { mem = view })) b.view_is;
+        is = ap (λ t. cond t (misaligned_access_trap m) (with_pc_advanced k (record (with_base_incremented m base offset after) { mem = with_bytes m.mem x (reg m src) size }))) none
+            ∙ ap (λ (y : Machine). with_pc_advanced k (record y { mem = with_bytes m.mem x (reg m src) size })) b.is;
+        view_is = ap (λ t. cond t (misaligned_access_trap v) (with_pc_advanced k (record (with_base_incremented v base offset after) { mem = with_bytes view (access_address v base offset after) (reg v src) size }))) view_none
+            ∙ ap (λ (y : Memory). with_pc_advanced k (record (with_base_incremented v base offset after) { mem = y })) stays ∙ ap (λ (y : Machine). with_pc_advanced k (record y { mem = view })) b.view_is;
       }
 
 -- ---- what they share stays
@@ -235,11 +235,11 @@ module _ {plan : PlanData} (ok : IsPlan plan) (Kept : ℕ → Type 0) {n u : ℕ
     }
 
     pub Alike-plain : (e e2 : Event) (shape shape2 : Shape) (size : ℕ) → Plainly m (seen_as m view pcxi fcx) (does m e shape size) (does (seen_as m view pcxi fcx) e2 shape2 size) mem view → ((x : ℕ) → Kept x → map.get mem x ≡ map.get m.mem x)
-        → is_taken m e ≡ false → e2.irq ≡ e.irq → e2.status ≡ e.status → fetched m ≡ Ok (shape, size) → fetched (seen_as m view pcxi fcx) ≡ Ok (shape2, size)
+        → is_interrupt_taken m e ≡ false → e2.irq ≡ e.irq → e2.status ≡ e.status → fetched_instruction m ≡ Ok (shape, size) → fetched_instruction (seen_as m view pcxi fcx) ≡ Ok (shape2, size)
         → Alike plan n u word_of chain_of Kept view m (step m e) (step (seen_as m view pcxi fcx) e2)
     Alike-plain e e2 shape shape2 size p keeps none same_irq same_status at view_at =
         let v = seen_as m view pcxi fcx in
-        let view_none : is_taken v e2 ≡ false = ap (λ q. is_taken m (record e { irq = q })) same_irq ∙ none in
+        let view_none : is_interrupt_taken v e2 ≡ false = ap (λ q. is_interrupt_taken m (record e { irq = q })) same_irq ∙ none in
         let n1 = changed m p.d p.a p.pc p.ie mem in
         let m_is : step m e ≡ with_event n1 e = step_does m e shape size running none at (ap (λ (x : Machine). x.end) p.is ∙ running) ∙ ap (λ (x : Machine). with_event x e) p.is in
         let v_is : step v e2 ≡ seen_as (with_event n1 e) view pcxi fcx =

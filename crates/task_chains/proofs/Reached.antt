@@ -34,15 +34,15 @@ use Rattle.cfg_recover.specs.Entries.{start_key}
 use Rattle.cfg_recover.specs.LocalRules.{LocalRule}
 use Rattle.cfg_recover.specs.LocalFaults.{IsFaultless}
 use Rattle.cfg_recover.specs.RulesHoldOrFail.{limits_in, RuleHolds, HoldsAtNode, Accepts}
-use Rattle.cfg_recover.specs.MovesAreOwed.{InState}
-use Rattle.cfg_recover.specs.Frames.{Standing, frames_after, frames_from, frames, HoldFrames}
+use Rattle.cfg_recover.specs.MovesAreOwed.{IsInState}
+use Rattle.cfg_recover.specs.Frames.{RunFrame, frames_after, frames_from, frames, HoldFrames}
 use Rattle.cfg_recover.specs.EdgeAndFrameLaws.{FramesHeld}
 use Rattle.depth_cert.proofs.KeyLaws.{found_in}
 use Rattle.cfg_recover.proofs.CodeLaws.{IsCode-bounded}
 use Rattle.cfg_recover.proofs.PointLaws.{limits_are}
 use Rattle.cfg_recover.proofs.Went.{address-is}
 use Rattle.task_chains.specs.Tasks.{TasksData}
-use Rattle.task_chains.specs.Rule17.{StaysApart, HoldsApart, KeepsApart}
+use Rattle.task_chains.specs.Rule17.{KeepsRule17ByShape, KeepsRule17AtCertPoint, KeepsRule17}
 
 -- ---- runs, one event longer
 run-snoc : (m : Machine) (es : List Event) (e : Event) → run m (es ++ e ∷ []) ≡ step (run m es) e
@@ -53,12 +53,12 @@ AllFit-snoc : (plan : PlanData) (m : Machine) (es : List Event) (e : Event) → 
 AllFit-snoc plan m [] e all fit = (fit, tt)
 AllFit-snoc plan m (d ∷ es) e all fit = (all.0, AllFit-snoc plan (step m d) es e all.1 fit)
 
-frames-snoc : (m : Machine) (es : List Event) (e : Event) (fs : List Standing) → frames_from m (es ++ e ∷ []) fs ≡ frames_after (run m es) e (frames_from m es fs)
+frames-snoc : (m : Machine) (es : List Event) (e : Event) (fs : List RunFrame) → frames_from m (es ++ e ∷ []) fs ≡ frames_after (run m es) e (frames_from m es fs)
 frames-snoc m [] e fs = refl
 frames-snoc m (d ∷ es) e fs = frames-snoc (step m d) es e (frames_after m d fs)
 
 -- a run reaches this state, in these frames
-pub record Reached (image : ImageData) (plan : PlanData) (v : Machine) (fs : List Standing) : Type 0 where
+pub record Reached (image : ImageData) (plan : PlanData) (v : Machine) (fs : List RunFrame) : Type 0 where
   pub from : Machine
   pub events : List Event
   pub starts : Starts image plan from
@@ -69,7 +69,7 @@ pub record Reached (image : ImageData) (plan : PlanData) (v : Machine) (fs : Lis
 pub Reached-start : (image : ImageData) (plan : PlanData) (v : Machine) → Starts image plan v → Reached image plan v (record { key = start_key image plan; at = v.pc } ∷ [])
 Reached-start image plan v starts = record { from = v; events = []; starts = starts; fit = tt; is = refl; frames_are = refl }
 
-pub Reached-step : (image : ImageData) (plan : PlanData) (v : Machine) (fs : List Standing) (e : Event) → Reached image plan v fs → Fits plan v e → Reached image plan (step v e) (frames_after v e fs)
+pub Reached-step : (image : ImageData) (plan : PlanData) (v : Machine) (fs : List RunFrame) (e : Event) → Reached image plan v fs → Fits plan v e → Reached image plan (step v e) (frames_after v e fs)
 Reached-step image plan v fs e r fits = record {
   from = r.from;
   events = r.events ++ e ∷ [];
@@ -99,21 +99,21 @@ pub record PointOf (plan : PlanData) (image : ImageData) (cert : CertData) (task
   pub size : ℕ
   pub code : IsCode image plan v.pc shape size
   pub own : (r : ℕ) → LocalRule (limits_in plan cert) plan node.key v.pc state shape r
-  pub apart : StaysApart (limits_in plan cert) plan tasks node.key v.pc state shape
-  pub inside : InState plan v state
+  pub apart : KeepsRule17ByShape (limits_in plan cert) plan tasks node.key v.pc state shape
+  pub inside : IsInState plan v state
   pub load_at : LoadsAt (limits_in plan cert) plan state v shape
   pub same_key : number_of_key node.key ≡ number_of_key key
   pub is_key : IsKey node.key
 
-module _ (image : ImageData) (plan : PlanData) (ok : IsPlan plan) (cert : CertData) (is_cert : IsCert cert) (accepted : Accepts image plan cert) (tasks : TasksData) (apart : KeepsApart image plan tasks cert) where
-  load_at : (v : Machine) (s : State) (shape : Shape) (size : ℕ) → IsCode image plan v.pc shape size → length s.regs ≡ 27 → AreValues (limits_in plan cert) s.regs → InState plan v s → LoadsAt (limits_in plan cert) plan s v shape
+module _ (image : ImageData) (plan : PlanData) (ok : IsPlan plan) (cert : CertData) (is_cert : IsCert cert) (accepted : Accepts image plan cert) (tasks : TasksData) (apart : KeepsRule17 image plan tasks cert) where
+  load_at : (v : Machine) (s : State) (shape : Shape) (size : ℕ) → IsCode image plan v.pc shape size → length s.regs ≡ 27 → AreValues (limits_in plan cert) s.regs → IsInState plan v s → LoadsAt (limits_in plan cert) plan s v shape
   load_at v s (Load dst base offset size signed after) n code regs values inside =
       let bounded = IsCode-bounded image plan v.pc (Load dst base offset size signed after) n code in
       let setting : IsSoundSetting (limits_in plan cert) plan s = record { limits = limits_are plan cert.version; plan = ok; regs = regs; values = values } in
       rw (address-is v base offset after) (address_holds.load (limits_in plan cert) plan dst base offset size signed after s (reg v) v.ie v.ccpn setting bounded.1 bounded.2 inside)
   load_at v s _ n code regs values inside = tt
 
-  by_point : (v : Machine) (key : Key) (node : NodeData) (point : Point) → find_node key cert.nodes ≡ Some node → find_point v.pc node.points ≡ Some point → InState plan v point.state → PointOf plan image cert tasks v key
+  by_point : (v : Machine) (key : Key) (node : NodeData) (point : Point) → find_node key cert.nodes ≡ Some node → find_point v.pc node.points ≡ Some point → IsInState plan v point.state → PointOf plan image cert tasks v key
   by_point v key node point found at inside =
       let there = found_in (λ n. number_of_key n.key == number_of_key key) cert.nodes node found in
       let holds = All-contains (HoldsAtNode image plan cert) cert.nodes node accepted.nodes there.0 in
@@ -124,7 +124,7 @@ module _ (image : ImageData) (plan : PlanData) (ok : IsPlan plan) (cert : CertDa
       let faultless : IsFaultless (limits_in plan cert) image plan node.key point.addr point.state = λ r. (all r).own values in
       let has : HasCode image plan point.addr = (faultless 3).code refl in
       let is_node = All-contains (IsNode cert.version) cert.nodes node is_cert.nodes there.0 in
-      let keeps : HoldsApart image plan tasks cert node point = All-contains (HoldsApart image plan tasks cert node) node.points point (All-contains (λ n. All (HoldsApart image plan tasks cert n) n.points) cert.nodes node apart there.0) here.0 in
+      let keeps : KeepsRule17AtCertPoint image plan tasks cert node point = All-contains (KeepsRule17AtCertPoint image plan tasks cert node) node.points point (All-contains (λ n. All (KeepsRule17AtCertPoint image plan tasks cert n) n.points) cert.nodes node apart there.0) here.0 in
       let code : IsCode image plan v.pc has.shape has.size = subst (λ x. IsCode image plan x has.shape has.size) addr has.code in
       record {
         node = node;
@@ -134,7 +134,7 @@ module _ (image : ImageData) (plan : PlanData) (ok : IsPlan plan) (cert : CertDa
         size = has.size;
         code = code;
         own = λ r. subst (λ x. LocalRule (limits_in plan cert) plan node.key x point.state has.shape r) addr ((faultless r).own has.shape has.size has.code);
-        apart = subst (λ x. StaysApart (limits_in plan cert) plan tasks node.key x point.state has.shape) addr (keeps has.shape has.size has.code);
+        apart = subst (λ x. KeepsRule17ByShape (limits_in plan cert) plan tasks node.key x point.state has.shape) addr (keeps has.shape has.size has.code);
         inside = inside;
         load_at = load_at v point.state has.shape has.size code ((All-contains (IsPoint cert.version) node.points point is_node.points here.0).state).regs values inside;
         same_key = eqb-true _ _ there.1;
@@ -146,29 +146,29 @@ module _ (image : ImageData) (plan : PlanData) (ok : IsPlan plan) (cert : CertDa
   some_and (Some x) P h = (x, refl, h)
 
   -- a state that is reached has a point
-  pub point_of : (v : Machine) (f : Standing) (fs : List Standing) → FramesHeld image plan cert → Reached image plan v (f ∷ fs) → PointOf plan image cert tasks v f.key
+  pub point_of : (v : Machine) (f : RunFrame) (fs : List RunFrame) → FramesHeld image plan cert → Reached image plan v (f ∷ fs) → PointOf plan image cert tasks v f.key
   point_of v f fs held r =
       let h0 = held r.from r.events r.starts r.fit in
       let h : HoldFrames plan cert v (f ∷ fs) = subst (λ (x : Machine). HoldFrames plan cert x (f ∷ fs)) (sym r.is) (subst (HoldFrames plan cert (run r.from r.events)) (sym r.frames_are) h0) in
-      let node = some_and (find_node f.key cert.nodes) (λ n. IsSomeAnd (find_point f.at n.points) (λ p. InState plan v p.state)) h.point in
-      let point = some_and (find_point f.at (node.0).points) (λ p. InState plan v p.state) node.2 in
+      let node = some_and (find_node f.key cert.nodes) (λ n. IsSomeAnd (find_point f.at n.points) (λ p. IsInState plan v p.state)) h.point in
+      let point = some_and (find_point f.at (node.0).points) (λ p. IsInState plan v p.state) node.2 in
       by_point v f.key node.0 point.0 node.1 (ap (λ x. find_point x (node.0).points) (sym h.at) ∙ point.1) point.2
 
   -- the newest frame is where the machine is
-  pub frame_at : (v : Machine) (f : Standing) (fs : List Standing) → FramesHeld image plan cert → Reached image plan v (f ∷ fs) → f.at ≡ v.pc
+  pub frame_at : (v : Machine) (f : RunFrame) (fs : List RunFrame) → FramesHeld image plan cert → Reached image plan v (f ∷ fs) → f.at ≡ v.pc
   frame_at v f fs held r =
       let h0 = held r.from r.events r.starts r.fit in
       (subst (λ (x : Machine). HoldFrames plan cert x (f ∷ fs)) (sym r.is) (subst (HoldFrames plan cert (run r.from r.events)) (sym r.frames_are) h0)).at
 
   -- there is one
-  pub some_frame : (v : Machine) (fs : List Standing) → FramesHeld image plan cert → Reached image plan v fs → (f : Standing) × (gs : List Standing) × (fs ≡ f ∷ gs)
+  pub some_frame : (v : Machine) (fs : List RunFrame) → FramesHeld image plan cert → Reached image plan v fs → (f : RunFrame) × (gs : List RunFrame) × (fs ≡ f ∷ gs)
   some_frame v [] held r =
       let h0 = held r.from r.events r.starts r.fit in
       absurd (subst (λ (x : Machine). HoldFrames plan cert x []) (sym r.is) (subst (HoldFrames plan cert (run r.from r.events)) (sym r.frames_are) h0))
   some_frame v (f ∷ fs) held r = (f, fs, refl)
 
-  pub safe_at : (most : ℕ) (v : Machine) (fs : List Standing) (e : Event) → Safe image plan most → Reached image plan v fs → Fits plan v e → IsSafeAt image plan most v e
+  pub safe_at : (most : ℕ) (v : Machine) (fs : List RunFrame) (e : Event) → Safe image plan most → Reached image plan v fs → Fits plan v e → IsSafeAt image plan most v e
   safe_at most v fs e safe r fits = subst (λ (x : Machine). IsSafeAt image plan most x e) (sym r.is) (safe r.from r.events e r.starts r.fit (subst (λ (x : Machine). Fits plan x e) r.is fits))
 
-  pub words_of : (v : Machine) (fs : List Standing) → Reached image plan v fs → IsMachine v
+  pub words_of : (v : Machine) (fs : List RunFrame) → Reached image plan v fs → IsMachine v
   words_of v fs r = subst IsMachine (sym r.is) (stays_run ok r.from r.events (r.starts).machine r.fit)

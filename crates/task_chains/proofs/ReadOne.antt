@@ -9,7 +9,7 @@ use Rattle.task_chains.specs.declared.task_lists.Task.{Task}
 use Rattle.task_chains.specs.declared.task_lists.TasksErr.{TasksErr}
 use Rattle.task_chains.specs.declared.task_lists.TasksErr.TheVariants.{BadLine, TooMany, TooFew, NotRam, NoRoom, OnIsp, Count}
 use Rattle.task_chains.specs.Tasks.{TasksData, count}
-use Rattle.task_chains.specs.TaskListText.{places_of, task_of, written_task_lines, AreSaid, BreaksTaskForm, FirstBadTaskLine, IsBadTaskLine, IsEighthTaskLine, IsAgainst, IsRefused, Reads, TaskTextReadsOne}
+use Rattle.task_chains.specs.TaskListText.{switch_places_of, task_of, nonempty_task_lines, AreNamedTasks, BreaksTaskForm, IsFirstBadTaskLine, IsBadTaskLine, IsEighthTaskLine, IsTaskErr, IsErrOfTaskText, IsResultOfTaskText, TaskTextHasOneResult}
 use Rattle.tcd_text.specs.Lines.{is_nonempty_line}
 
 abbrev some_task : Task → Option Task
@@ -47,12 +47,12 @@ cut (b ∷ bs) (a ∷ rest) ys ws x z e lt =
     (c.0, cons_same a b rest (bs ++ x ∷ c.0) (sym (front_same b a (bs ++ x ∷ ys) (rest ++ z ∷ ws) e)) c.1)
 
 -- ---- lines
-written_line : (line : List ℕ) (behind : List (List ℕ)) → line ≢ [] → written_task_lines (line ∷ behind) ≡ line ∷ written_task_lines behind
+written_line : (line : List ℕ) (behind : List (List ℕ)) → line ≢ [] → nonempty_task_lines (line ∷ behind) ≡ line ∷ nonempty_task_lines behind
 written_line [] behind some = absurd (some refl)
 written_line (c ∷ cs) behind some = refl
 
-written_split : (before behind : List (List ℕ)) (line : List ℕ) → line ≢ [] → written_task_lines (before ++ line ∷ behind) ≡ written_task_lines before ++ line ∷ written_task_lines behind
-written_split before behind line some = filter-append is_nonempty_line before (line ∷ behind) ∙ ap (λ l. written_task_lines before ++ l) (written_line line behind some)
+written_split : (before behind : List (List ℕ)) (line : List ℕ) → line ≢ [] → nonempty_task_lines (before ++ line ∷ behind) ≡ nonempty_task_lines before ++ line ∷ nonempty_task_lines behind
+written_split before behind line some = filter-append is_nonempty_line before (line ∷ behind) ∙ ap (λ l. nonempty_task_lines before ++ l) (written_line line behind some)
 
 -- each of the lines that name tasks names one, and there are more tasks than lines before it
 named_at : (xs ys : List (List ℕ)) (line : List ℕ) (list : List Task) → map task_of (xs ++ line ∷ ys) ≡ map some_task list → (task_of line ≡ None → ⊥) × (length xs < length list)
@@ -65,12 +65,12 @@ named_at (x ∷ xs) ys line (t ∷ ts) e =
     (rest.0, omega (arith, rest.1))
 
 -- lines name one list of tasks
-said_one : (lines : List (List ℕ)) (t s : TasksData) → AreSaid lines t → AreSaid lines s → t ≡ s
+said_one : (lines : List (List ℕ)) (t s : TasksData) → AreNamedTasks lines t → AreNamedTasks lines s → t ≡ s
 said_one lines t s a b =
     let e = sym a.split ∙ b.split in
     let first = front_same a.first b.first a.behind b.behind e in
     let behind = rest_same a.first b.first a.behind b.behind e in
-    let places = sym a.places ∙ ap places_of first ∙ b.places in
+    let places = sym a.places ∙ ap switch_places_of first ∙ b.places in
     let same = places_same (record { switch = t.switch; block = t.block }) (record { switch = s.switch; block = s.block }) places in
     let switch : t.switch ≡ s.switch = ap (λ (r : Places). r.switch) same in
     let block : t.block ≡ s.block = ap (λ (r : Places). r.block) same in
@@ -79,37 +79,37 @@ said_one lines t s a b =
     places_same : (p q : Places) → Some p ≡ Some q → p ≡ q
     places_same p q e = cc
 
-module _ (before behind : List (List ℕ)) (line : List ℕ) (some : line ≢ []) (t : TasksData) (said : AreSaid (before ++ line ∷ behind) t) where
+module _ (before behind : List (List ℕ)) (line : List ℕ) (some : line ≢ []) (t : TasksData) (said : AreNamedTasks (before ++ line ∷ behind) t) where
   -- the lines after the first, if the lines before this one name tasks
-  behind_is : (s : TasksData) (front : AreSaid before s) → said.behind ≡ front.behind ++ line ∷ written_task_lines behind
+  behind_is : (s : TasksData) (front : AreNamedTasks before s) → said.behind ≡ front.behind ++ line ∷ nonempty_task_lines behind
   behind_is s front =
-      rest_same said.first front.first said.behind (front.behind ++ line ∷ written_task_lines behind)
-      (sym said.split ∙ written_split before behind line some ∙ ap (λ l. l ++ line ∷ written_task_lines behind) front.split)
+      rest_same said.first front.first said.behind (front.behind ++ line ∷ nonempty_task_lines behind)
+      (sym said.split ∙ written_split before behind line some ∙ ap (λ l. l ++ line ∷ nonempty_task_lines behind) front.split)
 
-  named_here : (s : TasksData) (front : AreSaid before s) → (task_of line ≡ None → ⊥) × (length front.behind < length t.list)
-  named_here s front = named_at front.behind (written_task_lines behind) line t.list (ap (λ (l : List (List ℕ)). map task_of l) (sym (behind_is s front)) ∙ said.named)
+  named_here : (s : TasksData) (front : AreNamedTasks before s) → (task_of line ≡ None → ⊥) × (length front.behind < length t.list)
+  named_here s front = named_at front.behind (nonempty_task_lines behind) line t.list (ap (λ (l : List (List ℕ)). map task_of l) (sym (behind_is s front)) ∙ said.named)
 
-  good_front : ((written_task_lines before ≡ []) × (places_of line ≡ None)) ⊎ (((s : TasksData) × AreSaid before s) × (task_of line ≡ None)) → ⊥
+  good_front : ((nonempty_task_lines before ≡ []) × (switch_places_of line ≡ None)) ⊎ (((s : TasksData) × AreNamedTasks before s) × (task_of line ≡ None)) → ⊥
   good_front (inl (none, bad)) =
-      let first = front_same said.first line said.behind (written_task_lines behind) (sym said.split ∙ written_split before behind line some ∙ ap (λ l. l ++ line ∷ written_task_lines behind) none) in
-      absurd (let f : None ≡ Some (record { switch = t.switch; block = t.block }) = sym bad ∙ ap places_of (sym first) ∙ said.places in cc)
+      let first = front_same said.first line said.behind (nonempty_task_lines behind) (sym said.split ∙ written_split before behind line some ∙ ap (λ l. l ++ line ∷ nonempty_task_lines behind) none) in
+      absurd (let f : None ≡ Some (record { switch = t.switch; block = t.block }) = sym bad ∙ ap switch_places_of (sym first) ∙ said.places in cc)
   good_front (inr ((s, front), bad)) = (named_here s front).0 bad
 
-  eight_said : (s : TasksData) → AreSaid before s → count s ≡ 7 → 8 ≤ count t
+  eight_said : (s : TasksData) → AreNamedTasks before s → count s ≡ 7 → 8 ≤ count t
   eight_said s front seven =
       omega (arith, (named_here s front).1, ap (λ (l : List (Option Task)). length l) front.named, length-map front.behind task_of, length-map s.list some_task)
 
 -- ---- one bad line
-said_or_bad : (lines : List (List ℕ)) (t : TasksData) (n : ℕ) → AreSaid lines t → IsBadTaskLine lines n → ⊥
+said_or_bad : (lines : List (List ℕ)) (t : TasksData) (n : ℕ) → AreNamedTasks lines t → IsBadTaskLine lines n → ⊥
 said_or_bad lines t n said (inl (none, at)) = absurd (let f : said.first ∷ said.behind ≡ [] = sym said.split ∙ none in cc)
-said_or_bad lines t n said (inr bad) = good_front bad.before bad.behind bad.line (bad.breaks).0 t (subst (λ l. AreSaid l t) bad.split said) (bad.breaks).1
+said_or_bad lines t n said (inr bad) = good_front bad.before bad.behind bad.line (bad.breaks).0 t (subst (λ l. AreNamedTasks l t) bad.split said) (bad.breaks).1
 
 -- lines that are of the right form so far
 not_before : (before mid : List (List ℕ)) (line other : List ℕ) → BreaksTaskForm (before ++ line ∷ mid) other → BreaksTaskForm before line → ⊥
-not_before before mid line other (some, inl (none, bad)) breaks = not_nothing (written_task_lines before) (written_task_lines mid) line (sym (written_split before mid line breaks.0) ∙ none)
+not_before before mid line other (some, inl (none, bad)) breaks = not_nothing (nonempty_task_lines before) (nonempty_task_lines mid) line (sym (written_split before mid line breaks.0) ∙ none)
 not_before before mid line other (some, inr ((s, said), bad)) breaks = good_front before mid line breaks.0 s said breaks.1
 
-first_one : (lines : List (List ℕ)) (n m : ℕ) → FirstBadTaskLine lines n → FirstBadTaskLine lines m → n ≡ m
+first_one : (lines : List (List ℕ)) (n m : ℕ) → IsFirstBadTaskLine lines n → IsFirstBadTaskLine lines m → n ≡ m
 first_one lines n m a b =
     elim (cases_lt (length a.before) (length b.before)) [
       | inl less ↦
@@ -125,19 +125,19 @@ first_one lines n m a b =
 
 bad_one : (lines : List (List ℕ)) (n m : ℕ) → IsBadTaskLine lines n → IsBadTaskLine lines m → n ≡ m
 bad_one lines n m (inl a) (inl b) = a.1 ∙ sym b.1
-bad_one lines n m (inl a) (inr b) = absurd (not_nothing (written_task_lines b.before) (written_task_lines b.behind) b.line (sym (written_split b.before b.behind b.line (b.breaks).0) ∙ ap written_task_lines (sym b.split) ∙ a.0))
-bad_one lines n m (inr a) (inl b) = absurd (not_nothing (written_task_lines a.before) (written_task_lines a.behind) a.line (sym (written_split a.before a.behind a.line (a.breaks).0) ∙ ap written_task_lines (sym a.split) ∙ b.0))
+bad_one lines n m (inl a) (inr b) = absurd (not_nothing (nonempty_task_lines b.before) (nonempty_task_lines b.behind) b.line (sym (written_split b.before b.behind b.line (b.breaks).0) ∙ ap nonempty_task_lines (sym b.split) ∙ a.0))
+bad_one lines n m (inr a) (inl b) = absurd (not_nothing (nonempty_task_lines a.before) (nonempty_task_lines a.behind) a.line (sym (written_split a.before a.behind a.line (a.breaks).0) ∙ ap nonempty_task_lines (sym a.split) ∙ b.0))
 bad_one lines n m (inr a) (inr b) = first_one lines n m a b
 
 -- ---- one thing against tasks
 module _ (lines : List (List ℕ)) where
-  many : (t : TasksData) (n : ℕ) → AreSaid lines t → IsEighthTaskLine lines n → 8 ≤ count t
-  many t n said e = eight_said e.before e.behind e.line e.some t (subst (λ l. AreSaid l t) e.split said) e.seven e.said e.many
+  many : (t : TasksData) (n : ℕ) → AreNamedTasks lines t → IsEighthTaskLine lines n → 8 ≤ count t
+  many t n said e = eight_said e.before e.behind e.line e.some t (subst (λ l. AreNamedTasks l t) e.split said) e.seven e.said e.many
 
   longer : (n m : ℕ) (a : IsEighthTaskLine lines n) (b : IsEighthTaskLine lines m) → length a.before < length b.before → ⊥
   longer n m a b less =
       let c = cut a.before b.before a.behind b.behind a.line b.line (sym a.split ∙ b.split) less in
-      absurd (omega (arith, eight_said a.before c.0 a.line a.some b.seven (subst (λ l. AreSaid l b.seven) c.1 b.said) a.seven a.said a.many, b.many))
+      absurd (omega (arith, eight_said a.before c.0 a.line a.some b.seven (subst (λ l. AreNamedTasks l b.seven) c.1 b.said) a.seven a.said a.many, b.many))
 
   eighth_one : (n m : ℕ) → IsEighthTaskLine lines n → IsEighthTaskLine lines m → n ≡ m
   eighth_one n m a b =
@@ -149,11 +149,11 @@ module _ (lines : List (List ℕ)) where
         ]
       ]
 
-module _ (plan : PlanData) (lines : List (List ℕ)) (t : TasksData) (said : AreSaid lines t) where
+module _ (plan : PlanData) (lines : List (List ℕ)) (t : TasksData) (said : AreNamedTasks lines t) where
   many_few : (n : ℕ) → IsEighthTaskLine lines n → count t ≤ 7 → ⊥
   many_few n e few = let le = many lines t n said e in absurd (omega arith)
 
-  one_against : (e f : TasksErr) → IsAgainst plan lines t e → IsAgainst plan lines t f → e ≡ f
+  one_against : (e f : TasksErr) → IsTaskErr plan lines t e → IsTaskErr plan lines t f → e ≡ f
   one_against (BadLine n) f a b = absurd a
   one_against Count f a b = absurd a
   one_against (TooMany n) (BadLine m) a b = absurd b
@@ -194,11 +194,11 @@ module _ (plan : PlanData) (lines : List (List ℕ)) (t : TasksData) (said : Are
 
 -- ---- one answer
 module _ (plan : PlanData) (lines : List (List ℕ)) where
-  refusal : (e : TasksErr) → IsRefused plan lines e → ((n : ℕ) × (e ≡ BadLine n) × IsBadTaskLine lines n) ⊎ ((t : TasksData) × AreSaid lines t × IsAgainst plan lines t e)
+  refusal : (e : TasksErr) → IsErrOfTaskText plan lines e → ((n : ℕ) × (e ≡ BadLine n) × IsBadTaskLine lines n) ⊎ ((t : TasksData) × AreNamedTasks lines t × IsTaskErr plan lines t e)
   refusal (BadLine n) bad = inl (n, refl, bad)
   refusal _ bad = inr bad
 
-  one_refusal : (e f : TasksErr) → IsRefused plan lines e → IsRefused plan lines f → e ≡ f
+  one_refusal : (e f : TasksErr) → IsErrOfTaskText plan lines e → IsErrOfTaskText plan lines f → e ≡ f
   one_refusal e f a b =
       elim (refusal e a) [
         | inl (n, is, bad) ↦ elim (refusal f b) [
@@ -207,18 +207,18 @@ module _ (plan : PlanData) (lines : List (List ℕ)) where
         ]
         | inr (s, first, rest) ↦ elim (refusal f b) [
           | inl (m, at, worse) ↦ absurd (said_or_bad lines s m first worse)
-          | inr (t, said, more) ↦ one_against plan lines s first e f rest (subst (λ u. IsAgainst plan lines u f) (said_one lines t s said first) more)
+          | inr (t, said, more) ↦ one_against plan lines s first e f rest (subst (λ u. IsTaskErr plan lines u f) (said_one lines t s said first) more)
         ]
       ]
 
-  good_or_not : (t : TasksData) (e : TasksErr) → Reads plan lines (Ok t) → IsRefused plan lines e → ⊥
+  good_or_not : (t : TasksData) (e : TasksErr) → IsResultOfTaskText plan lines (Ok t) → IsErrOfTaskText plan lines e → ⊥
   good_or_not t e good bad =
       elim (refusal e bad) [
         | inl (n, is, line) ↦ said_or_bad lines t n good.said line
-        | inr (s, said, against) ↦ by_error e (subst (λ u. IsAgainst plan lines u e) (said_one lines s t said good.said) against)
+        | inr (s, said, against) ↦ by_error e (subst (λ u. IsTaskErr plan lines u e) (said_one lines s t said good.said) against)
       ]
     where
-      by_error : (e : TasksErr) → IsAgainst plan lines t e → ⊥
+      by_error : (e : TasksErr) → IsTaskErr plan lines t e → ⊥
       by_error (BadLine n) a = a
       by_error (TooMany n) a = many_few plan lines t good.said n a (good.are).few
       by_error TooFew a = absurd (let lt : count t < 2 = a in let some = (good.are).some in omega arith)
@@ -227,7 +227,7 @@ module _ (plan : PlanData) (lines : List (List ℕ)) where
       by_error OnIsp a = absurd (let f : true ≡ false = sym a.3 ∙ (good.fit).own_stack in cc)
       by_error Count a = a
 
-pub reads_one : TaskTextReadsOne
+pub reads_one : TaskTextHasOneResult
 reads_one plan lines (Ok t) (Ok s) a b = ap Ok (said_one lines t s a.said b.said)
 reads_one plan lines (Ok t) (Err f) a b = absurd (good_or_not plan lines t f a b)
 reads_one plan lines (Err e) (Ok s) a b = absurd (good_or_not plan lines s e b a)

@@ -9,17 +9,17 @@ use Rattle.task_chains.specs.declared.task_lists.TasksErr.{TasksErr}
 use Rattle.task_chains.specs.declared.task_lists.TasksErr.TheVariants.{BadLine, NotRam, NoRoom, OnIsp, Count}
 use Rattle.task_chains.specs.Tasks.{TasksData, AreTasks, count}
 use Rattle.task_chains.specs.Views.{FitPlan}
-use Rattle.task_chains.specs.TaskListText.{AreSaid, IsBlockInRam, HaveViewsRoom, IsAgainst, Reads, tasks_with, IsKept, IsDraftBy}
+use Rattle.task_chains.specs.TaskListText.{AreNamedTasks, IsBlockInRam, HasRoomForViews, IsTaskErr, IsResultOfTaskText, tasks_with, HasFirstSevenTasks, IsTasksDraftOfParts}
 
 -- ---- what a draft says
 module _ (plan : PlanData) (lines : List (List ℕ)) where
-  pub all_said : (p : Places) (list : List Task) → IsKept lines p list None → AreSaid lines (tasks_with p list)
-  all_said p list k = subst (λ l. AreSaid lines (tasks_with p l)) (sym (k.seven ∙ take_all 7 k.all (let few : length k.all ≤ 7 = k.more in omega arith))) k.said
+  pub all_said : (p : Places) (list : List Task) → HasFirstSevenTasks lines p list None → AreNamedTasks lines (tasks_with p list)
+  all_said p list k = subst (λ l. AreNamedTasks lines (tasks_with p l)) (sym (k.seven ∙ take_all 7 k.all (let few : length k.all ≤ 7 = k.more in omega arith))) k.said
 
-  pub drafted_said : (places : Option Places) (p : Places) (list : List Task) (eighth : Option ℕ) → IsDraftBy lines places list eighth → places ≡ Some p → eighth ≡ None → AreSaid lines (tasks_with p list)
-  drafted_said places p list eighth d is none = all_said p list (subst (λ o. IsDraftBy lines (Some p) list o) none (subst (λ o. IsDraftBy lines o list eighth) is d))
+  pub drafted_said : (places : Option Places) (p : Places) (list : List Task) (eighth : Option ℕ) → IsTasksDraftOfParts lines places list eighth → places ≡ Some p → eighth ≡ None → AreNamedTasks lines (tasks_with p list)
+  drafted_said places p list eighth d is none = all_said p list (subst (λ o. IsTasksDraftOfParts lines (Some p) list o) none (subst (λ o. IsTasksDraftOfParts lines o list eighth) is d))
 
-  pub against : (tasks : TasksData) (e : TasksErr) → AreSaid lines tasks → IsAgainst plan lines tasks e → Reads plan lines (Err e)
+  pub against : (tasks : TasksData) (e : TasksErr) → AreNamedTasks lines tasks → IsTaskErr plan lines tasks e → IsResultOfTaskText plan lines (Err e)
   against tasks (BadLine n) said bad = absurd bad
   against tasks Count said bad = absurd bad
   against tasks _ said bad = (tasks, said, bad)
@@ -33,16 +33,16 @@ module _ (plan : PlanData) (tasks : TasksData) (are : AreTasks tasks) where
   few : (2 ≤ count tasks) × (count tasks ≤ 7)
   few = (are.some, are.few)
 
-  pub not_ram : (lines : List (List ℕ)) → (IsBlockInRam plan tasks → ⊥) → IsAgainst plan lines tasks NotRam
+  pub not_ram : (lines : List (List ℕ)) → (IsBlockInRam plan tasks → ⊥) → IsTaskErr plan lines tasks NotRam
   not_ram lines none = (few, none)
 
-  pub no_room : (lines : List (List ℕ)) → IsBlockInRam plan tasks → (HaveViewsRoom plan tasks → ⊥) → IsAgainst plan lines tasks NoRoom
+  pub no_room : (lines : List (List ℕ)) → IsBlockInRam plan tasks → (HasRoomForViews plan tasks → ⊥) → IsTaskErr plan lines tasks NoRoom
   no_room lines ram none = (few, ram, none)
 
-  pub on_isp : (lines : List (List ℕ)) (fields : PlanData) → fields ≡ plan → IsBlockInRam plan tasks → HaveViewsRoom plan tasks → fields.start_is ≡ true → IsAgainst plan lines tasks OnIsp
+  pub on_isp : (lines : List (List ℕ)) (fields : PlanData) → fields ≡ plan → IsBlockInRam plan tasks → HasRoomForViews plan tasks → fields.start_is ≡ true → IsTaskErr plan lines tasks OnIsp
   on_isp lines fields same ram room is = (few, ram, room, sym (ap (λ (p : PlanData). p.start_is) same) ∙ is)
 
-  pub they_fit : (fields : PlanData) → fields ≡ plan → IsBlockInRam plan tasks → HaveViewsRoom plan tasks → fields.start_is ≡ false → FitPlan plan tasks
+  pub they_fit : (fields : PlanData) → fields ≡ plan → IsBlockInRam plan tasks → HasRoomForViews plan tasks → fields.start_is ≡ false → FitPlan plan tasks
   they_fit fields same ram room is = record { in_ram = ram; room = room; own_stack = sym (ap (λ (p : PlanData). p.start_is) same) ∙ is }
 
 -- ---- tasks read one after another

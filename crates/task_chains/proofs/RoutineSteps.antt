@@ -3,14 +3,14 @@ use Rattle.std.proofs.Common.{◌≡◌, ◌≢◌, ℕ, ◌+◌, ◌*◌, ◌/�
 use Rattle.std.proofs.lemmas.Bool.{false≢true, cases_order}
 use Rattle.std.specs.Prelude.{is_some, unwrap_or}
 use Rattle.std.specs.FinMap as map
-use Rattle.csa_chain.specs.MemoryBytes.{Memory, is_mapped, word_at, with_byte, with_word, load_number, with_bytes}
+use Rattle.csa_chain.specs.MemoryBytes.{Memory, is_mapped, word_at, with_byte, with_word, loaded_number, with_bytes}
 use Rattle.csa_chain.proofs.MemoryLaws.{word_at-with_word_same, word_at-with_word_other}
 use Rattle.tc_isa.specs.declared.shapes.Arg.TheVariants.{Reg}
 use Rattle.tc_isa.specs.declared.shapes.Shape.TheVariants.{Load, Store, Mfcr, Nothing}
 use Rattle.tc_machine.specs.declared.events.Event.{Event}
 use Rattle.tc_machine.specs.declared.state.Machine.{Machine}
 use Rattle.tc_machine.specs.Machine.{reg, with_reg, core_register}
-use Rattle.tc_machine.specs.Instructions.{machine_address_ahead, advanced, is_trapping_access, misaligned, does}
+use Rattle.tc_machine.specs.Instructions.{machine_address_ahead, with_pc_advanced, is_trapping_access, misaligned_access_trap, does}
 use Rattle.task_chains.specs.Tasks.{TasksData, count, block_size}
 use Rattle.task_chains.specs.TaskStarts.{block_word}
 use Rattle.task_chains.proofs.Alike.{seen_as}
@@ -22,8 +22,8 @@ mapped_byte (Some b) d h = refl
 mapped_byte None d h = absurd (false≢true h)
 
 -- a load gives the word whose bytes are mapped
-pub loaded_word_at : (m : Memory) (input x : ℕ) → x + 4 ≤ 2 ^ 32 → ((i : ℕ) → i < 4 → is_mapped m (x + i) ≡ true) → load_number m input x 4 ≡ word_at m x
-unfolding load_number word_at
+pub loaded_word_at : (m : Memory) (input x : ℕ) → x + 4 ≤ 2 ^ 32 → ((i : ℕ) → i < 4 → is_mapped m (x + i) ≡ true) → loaded_number m input x 4 ≡ word_at m x
+unfolding loaded_number word_at
 loaded_word_at m input x fits here =
     let n1 : (x + 1) % 2 ^ 32 ≡ x + 1 = omega arith in
     let n2 : ((x + 1) % 2 ^ 32 + 1) % 2 ^ 32 ≡ x + 2 = omega arith in
@@ -59,7 +59,7 @@ module _ (tasks : TasksData) (mem : Memory) (fits : tasks.block + block_size tas
   word_here u le i lt = subst (λ y. is_mapped mem y ≡ true) (let e : tasks.block + (4 * u + i) ≡ tasks.block + 4 * u + i = omega arith in e) (here (4 * u + i) (omega arith))
 
   -- a word of the block is read
-  pub block_read : (input u : ℕ) → u ≤ count tasks → load_number mem input (tasks.block + 4 * u) 4 ≡ block_word tasks mem u
+  pub block_read : (input u : ℕ) → u ≤ count tasks → loaded_number mem input (tasks.block + 4 * u) 4 ≡ block_word tasks mem u
   block_read input u le = loaded_word_at mem input (tasks.block + 4 * u) (omega arith) (word_here u le)
 
   -- a word of the block is written: it is there, and the others are unchanged
@@ -86,17 +86,17 @@ module _ (m : Machine) (view : Memory) (pcxi fcx : ℕ) (e e2 : Event) where
   v = seen_as m view pcxi fcx
 
   -- the machine loads a word; the view reads a core register that is an input
-  pub plain-taken : (dst r offset number k : ℕ) → is_trapping_access e (machine_address_ahead (reg m r) offset) 4 ≡ false → core_register v e2 number ≡ load_number m.mem e.input (machine_address_ahead (reg m r) offset) 4
+  pub plain-taken : (dst r offset number k : ℕ) → is_trapping_access e (machine_address_ahead (reg m r) offset) 4 ≡ false → core_register v e2 number ≡ loaded_number m.mem e.input (machine_address_ahead (reg m r) offset) 4
       → Plainly m v (does m e (Load dst (Reg r) offset 4 false false) k) (does v e2 (Mfcr dst number) k) m.mem view
   unfolding does
   plain-taken dst r offset number k none same =
-      let p = set_one m view pcxi fcx e e2 k dst (load_number m.mem e.input (machine_address_ahead (reg m r) offset) 4) (core_register v e2 number) same in
+      let p = set_one m view pcxi fcx e e2 k dst (loaded_number m.mem e.input (machine_address_ahead (reg m r) offset) 4) (core_register v e2 number) same in
       record {
         d = p.d;
         a = p.a;
         pc = p.pc;
         ie = p.ie;
-        is = ap (λ t. cond t (misaligned m) (advanced k (with_reg m dst (load_number m.mem e.input (machine_address_ahead (reg m r) offset) 4)))) none ∙ p.is;
+        is = ap (λ t. cond t (misaligned_access_trap m) (with_pc_advanced k (with_reg m dst (loaded_number m.mem e.input (machine_address_ahead (reg m r) offset) 4)))) none ∙ p.is;
         view_is = p.view_is;
       }
 
@@ -114,6 +114,6 @@ module _ (m : Machine) (view : Memory) (pcxi fcx : ℕ) (e e2 : Event) where
     a = m.a;
     pc = machine_address_ahead m.pc k;
     ie = m.ie;
-    is = ap (λ t. cond t (misaligned m) (advanced k (record m { mem = with_bytes m.mem (machine_address_ahead (reg m r) offset) (reg m src) 4 }))) none;
+    is = ap (λ t. cond t (misaligned_access_trap m) (with_pc_advanced k (record m { mem = with_bytes m.mem (machine_address_ahead (reg m r) offset) (reg m src) 4 }))) none;
     view_is = refl;
   }

@@ -26,7 +26,7 @@ use Rattle.tc_machine.proofs.PlanLaws.{length-links_up}
 use Rattle.task_chains.specs.declared.task_lists.Task.{Task}
 use Rattle.task_chains.specs.Tasks.{TasksData}
 use Rattle.task_chains.specs.TaskStarts.{block_word, current_task}
-use Rattle.task_chains.specs.SafeTasks.{task_before, owner, chain_word, IsTaskStore, AreSafeAt}
+use Rattle.task_chains.specs.SafeTasks.{task_before, owner, chain_word, IsAllowedTaskStore, AreTasksSafeAt}
 use Rattle.task_chains.specs.SafeTasksInWords.{OwnsChain, IsSafeTaskStore, HasSafeTaskParts, SafeTasksSay, TaskPartsAreSafe}
 use Rattle.task_chains.proofs.Places.{sum_below-less, place_of, among, one_place, area_times, area_of, each_of}
 use Rattle.task_chains.proofs.Together.{owner_now, place_here}
@@ -182,9 +182,9 @@ module _ (image : ImageData) {plan : PlanData} (ok : IsPlan plan) (switch block 
   abbrev n : ℕ
   n = length list
 
-  store_apart : (o : Option (ℕ × ℕ)) → IfSome o (IsTaskStore plan group m.pc) → (x size : ℕ) → o ≡ Some (x, size) → IsSafeTaskStore plan switch block n m.pc x size
+  store_apart : (o : Option (ℕ × ℕ)) → IfSome o (IsAllowedTaskStore plan group m.pc) → (x size : ℕ) → o ≡ Some (x, size) → IsSafeTaskStore plan switch block n m.pc x size
   store_apart o h x size is =
-      let at : IsTaskStore plan group m.pc (x, size) = subst (λ (p : Option (ℕ × ℕ)). IfSome p (IsTaskStore plan group m.pc)) is h in
+      let at : IsAllowedTaskStore plan group m.pc (x, size) = subst (λ (p : Option (ℕ × ℕ)). IfSome p (IsAllowedTaskStore plan group m.pc)) is h in
       record {
         fits = at.0.0;
         in_range = in_region ok x size at.0;
@@ -193,7 +193,7 @@ module _ (image : ImageData) {plan : PlanData} (ok : IsPlan plan) (switch block 
         off_block = λ out. at.1 (λ inside. elim out [ inl low ↦ (let from = inside.0 in omega arith) | inr high ↦ (let to_ = inside.1 in omega arith) ]);
       }
 
-  pub parts_of : AreSafeAt image plan group needs m e → HasSafeTaskParts image plan switch block n needs m e
+  pub parts_of : AreTasksSafeAt image plan group needs m e → HasSafeTaskParts image plan switch block n needs m e
   parts_of safe =
       let a = safe.areas in
       let c = safe.code_in_rom in
@@ -243,7 +243,7 @@ module _ (image : ImageData) {plan : PlanData} (ok : IsPlan plan) (switch block 
               subst (λ w. IsAreaWalk m.mem w (p.used u)) (sym (cond_other u (owner group m) m.pcxi (block_word group m.mem u) (λ e. apart (e ∙ is)))) (p.other_walks u lt apart)
         ]
 
-    store_at : (o : Option (ℕ × ℕ)) → stored m e ≡ o → IfSome o (IsTaskStore plan group m.pc)
+    store_at : (o : Option (ℕ × ℕ)) → stored m e ≡ o → IfSome o (IsAllowedTaskStore plan group m.pc)
     store_at None is = tt
     store_at (Some at) is =
         let s = p.store at.0 at.1 is in (
@@ -257,7 +257,7 @@ module _ (image : ImageData) {plan : PlanData} (ok : IsPlan plan) (switch block 
           λ out. s.off_block (elim (cases_lt m.pc switch) [ inl low ↦ inl low | inr from ↦ elim (cases_lt m.pc (switch + 72)) [ inl within ↦ absurd (out (from, within)) | inr high ↦ inr high ] ]),
         )
 
-    pub safe_of : AreSafeAt image plan group needs m e
+    pub safe_of : AreTasksSafeAt image plan group needs m e
     safe_of = record {
       running = p.running;
       owner = subst (λ u. u < n) (sym (owner_is switch block list m p.own p.owns)) (p.owns).one;
@@ -287,7 +287,7 @@ pub safe_tasks_say : SafeTasksSay
 safe_tasks_say image plan switch block list needs states events n e ok safe walk start fits last =
     let r = every_run plan states events n walk fits in
     let here = safe (states 0) (first_events n events) e start r.0 (subst (λ (m : Machine). Fits plan m e) (sym r.1) last) in
-    parts_of image ok switch block list needs (states n) e (subst (λ (m : Machine). AreSafeAt image plan (record { switch = switch; block = block; list = list }) needs m e) r.1 here)
+    parts_of image ok switch block list needs (states n) e (subst (λ (m : Machine). AreTasksSafeAt image plan (record { switch = switch; block = block; list = list }) needs m e) r.1 here)
 
 -- the states of a run by the number of events: those of a list, and after them always the same
 -- event

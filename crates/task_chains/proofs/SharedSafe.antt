@@ -4,11 +4,11 @@ use Rattle.csa_chain.specs.Chain.{link_in}
 use Rattle.csa_chain.proofs.ChainLaws.{Links, Avoids, chain_within-Links}
 use Rattle.tcd_plan.specs.PlanData.{PlanData, IsPlan}
 use Rattle.tc_machine.specs.declared.state.Machine.{Machine}
-use Rattle.tc_machine.specs.PlanAreas.{area_links_up, first_link, plan_areas}
+use Rattle.tc_machine.specs.PlanAreas.{consecutive_links, first_link, plan_areas}
 use Rattle.tc_machine.proofs.PlanLaws.{length-links_up}
-use Rattle.csa_chain.specs.SeveralChains.{sum_over_chains, Share}
+use Rattle.csa_chain.specs.SeveralChains.{sum_over_chains, ChainsShareAreas}
 use Rattle.task_chains.specs.Tasks.{TasksData, count}
-use Rattle.task_chains.specs.SafeTasks.{chain_word, AreAreasShared}
+use Rattle.task_chains.specs.SafeTasks.{chain_word, AreAreasPartitioned}
 use Rattle.csa_chain.proofs.SeveralLaws.{sum_below-at, first_avoids_rest}
 use Rattle.task_chains.proofs.Twins.{areas_once, reserve_of}
 use Rattle.task_chains.proofs.Switch.{Shared}
@@ -25,7 +25,7 @@ module _ {plan : PlanData} (ok : IsPlan plan) (tasks : TasksData) (m : Machine) 
   behind f [] ys h = h
   behind f (x ∷ xs) ys h = behind f xs ys h.1
 
-  head_of : (k x f : ℕ) → 1 ≤ k → Avoids f (area_links_up x k) → f ≢ x
+  head_of : (k x f : ℕ) → 1 ≤ k → Avoids f (consecutive_links x k) → f ≢ x
   head_of zero x f some h = absurd (omega arith)
   head_of (suc k) x f some h = λ e. h.0 (sym e)
 
@@ -37,7 +37,7 @@ module _ {plan : PlanData} (ok : IsPlan plan) (tasks : TasksData) (m : Machine) 
   to_limit [] is full =
       by_reserve plan.reserve (first_link plan + (plan.areas - plan.reserve)) ((ok.areas).reserved) (subst (Links m.mem m.fcx) is s.free_links) ∙ sym s.lcx_is
     where
-      by_reserve : (k x : ℕ) → 1 ≤ k → Links m.mem m.fcx (area_links_up x k) → link_in m.fcx ≡ x
+      by_reserve : (k x : ℕ) → 1 ≤ k → Links m.mem m.fcx (consecutive_links x k) → link_in m.fcx ≡ x
       by_reserve zero x some l = absurd (omega arith)
       by_reserve (suc k) x some l = l.1
   to_limit (f ∷ front) is full =
@@ -50,11 +50,11 @@ module _ {plan : PlanData} (ok : IsPlan plan) (tasks : TasksData) (m : Machine) 
       omega (arith, all, ap length is ∙ length-links_up (first_link plan + (plan.areas - plan.reserve)) plan.reserve, (ok.areas).reserve_within)
   from_limit (f ∷ front) is at =
       let l : Links m.mem m.fcx (f ∷ front ++ reserve_of plan) = subst (Links m.mem m.fcx) is s.free_links in
-      let share : Share n chain_of (f ∷ front ++ reserve_of plan) (plan_areas plan) = subst (λ ls. Share n chain_of ls (plan_areas plan)) is s.share in
+      let share : ChainsShareAreas n chain_of (f ∷ front ++ reserve_of plan) (plan_areas plan) = subst (λ ls. ChainsShareAreas n chain_of ls (plan_areas plan)) is s.share in
       let avoids = first_avoids_rest n chain_of f (front ++ reserve_of plan) (plan_areas plan) share (areas_once plan) in
       absurd (head_of plan.reserve (first_link plan + (plan.areas - plan.reserve)) f ((ok.areas).reserved) (behind f front (reserve_of plan) avoids) (sym l.1 ∙ at ∙ s.lcx_is))
 
-  pub areas_shared : ((w : ℕ) → w < n → chain_word tasks m w ≡ word_of w) → ((w : ℕ) → w < n → length (chain_of w) ≤ needs w) → AreAreasShared plan tasks needs m
+  pub areas_shared : ((w : ℕ) → w < n → chain_word tasks m w ≡ word_of w) → ((w : ℕ) → w < n → length (chain_of w) ≤ needs w) → AreAreasPartitioned plan tasks needs m
   areas_shared words within = record {
     chain_of = chain_of;
     free = s.free;

@@ -10,16 +10,16 @@ use Rattle.tc_isa.specs.declared.shapes.Shape.TheVariants.{Mtcr, Ret}
 use Rattle.tc_machine.specs.declared.events.Event.{Event}
 use Rattle.tc_machine.specs.declared.events.End.TheVariants.{Running}
 use Rattle.tc_machine.specs.declared.state.Machine.{Machine}
-use Rattle.tc_machine.specs.Machine.{reg, a11, then_, IsMachine}
-use Rattle.tc_machine.specs.Instructions.{advanced, does}
-use Rattle.tc_machine.specs.SavesAndRestores.{has_kind, last_context, released, restored, restore}
-use Rattle.tc_machine.specs.Fetching.{fetched}
-use Rattle.tc_machine.specs.Stepping.{is_taken, step}
+use Rattle.tc_machine.specs.Machine.{reg, a11, if_running, IsMachine}
+use Rattle.tc_machine.specs.Instructions.{with_pc_advanced, does}
+use Rattle.tc_machine.specs.SavesAndRestores.{has_kind, last_context, with_area_released, with_context_restored, restore}
+use Rattle.tc_machine.specs.Fetching.{fetched_instruction}
+use Rattle.tc_machine.specs.Stepping.{is_interrupt_taken, step}
 use Rattle.tc_machine.proofs.Saves.{restore-is, then_-running}
 use Rattle.tc_machine.proofs.Steps.{with_event, step_does, does-ret}
 use Rattle.tc_machine.proofs.Areas.{Areas}
 use Rattle.tc_machine.specs.PlanAreas.{first_link, plan_areas}
-use Rattle.csa_chain.specs.SeveralChains.{Share}
+use Rattle.csa_chain.specs.SeveralChains.{ChainsShareAreas}
 use Rattle.csa_chain.proofs.SeveralLaws.{AllLinks}
 use Rattle.task_chains.proofs.Twins.{SameContexts, SameBehindFirst, reserve_of, Twins, same_before, links_before, named}
 use Rattle.task_chains.proofs.Alike.{seen_as}
@@ -41,7 +41,7 @@ pub record Shared (plan : PlanData) (n u : ℕ) (word_of : ℕ → ℕ) (chain_o
   pub links : AllLinks n mem word_of chain_of
   pub free : List ℕ
   pub free_links : Links mem fcx free
-  pub share : Share n chain_of free (plan_areas plan)
+  pub share : ChainsShareAreas n chain_of free (plan_areas plan)
   pub front : List ℕ
   pub reserved : free ≡ front ++ reserve_of plan
   pub lcx_is : link_in lcx ≡ first_link plan + (plan.areas - plan.reserve)
@@ -85,7 +85,7 @@ Shared-from t = record {
   fcx_word = t.fcx_word;
 }
 
-pub does-mtcr_pcxi : (m : Machine) (e : Event) (src k : ℕ) → does m e (Mtcr src 0xfe00) k ≡ record (advanced k m) { pcxi = reg m src }
+pub does-mtcr_pcxi : (m : Machine) (e : Event) (src k : ℕ) → does m e (Mtcr src 0xfe00) k ≡ record (with_pc_advanced k m) { pcxi = reg m src }
 unfolding does
 does-mtcr_pcxi m e src k = refl
 
@@ -147,30 +147,30 @@ module _ {plan : PlanData} (ok : IsPlan plan) {n u : ℕ} {word_of : ℕ → ℕ
   kind_from true kind = same_ul m.core m.pcxi v.pcxi own.0 ∙ ap (λ c. ul_of c v.pcxi) (sym beside.core) ∙ kind
   kind_from false kind = ap not (same_ul m.core m.pcxi v.pcxi own.0 ∙ ap (λ c. ul_of c v.pcxi) (sym beside.core)) ∙ kind
 
-  pub comes_back : (upper : Bool) → has_kind v upper ≡ true → restore m upper ≡ restored m upper
+  pub comes_back : (upper : Bool) → has_kind v upper ≡ true → restore m upper ≡ with_context_restored m upper
   comes_back upper kind =
       let ls = links_before ok l used is words.bytes view_words.bytes t in
       restore-is m upper (λ e. ls.0 (sym here ∙ e)) (kind_from upper kind) (ap (is_area m.mem) here ∙ ls.2)
 
-  pub view_comes_back : (upper : Bool) → has_kind v upper ≡ true → restore v upper ≡ restored v upper
+  pub view_comes_back : (upper : Bool) → has_kind v upper ≡ true → restore v upper ≡ with_context_restored v upper
   view_comes_back upper kind = restore-is v upper (λ e. (t.view_links).0 (sym there ∙ e)) kind (ap (is_area v.mem) there ∙ (t.view_links).2)
 
   behind : SameBehindFirst (last_context m) (last_context v)
   behind = same_area_words m.mem v.mem (link_in m.pcxi) (link_in v.pcxi) (λ i lt. ap (λ x. area_word m.mem x (suc i)) here ∙ own.1 i lt ∙ ap (λ x. area_word v.mem x (suc i)) (sym there))
 
   -- after the lower context is restored, the lower registers are the same
-  pub lower_back : SameGlobals m v → SameLower (restored m false) (restored v false)
+  pub lower_back : SameGlobals m v → SameLower (with_context_restored m false) (with_context_restored v false)
   lower_back g = record {
-    d = λ i lt. below_8 (λ i. get_or (restored v false).d i 0 ≡ get_or (restored m false).d i 0) (sym (behind 3 (omega arith))) (sym (behind 4 (omega arith))) (sym (behind 5 (omega arith))) (sym (behind 6 (omega arith)))
+    d = λ i lt. below_8 (λ i. get_or (with_context_restored v false).d i 0 ≡ get_or (with_context_restored m false).d i 0) (sym (behind 3 (omega arith))) (sym (behind 4 (omega arith))) (sym (behind 5 (omega arith))) (sym (behind 6 (omega arith)))
         (sym (behind 11 (omega arith))) (sym (behind 12 (omega arith))) (sym (behind 13 (omega arith))) (sym (behind 14 (omega arith))) i lt;
-    a = λ i lt. below_10 (λ i. get_or (restored v false).a i 0 ≡ get_or (restored m false).a i 0) g.a0 g.a1 (sym (behind 1 (omega arith))) (sym (behind 2 (omega arith))) (sym (behind 7 (omega arith))) (sym (behind 8 (omega arith)))
+    a = λ i lt. below_10 (λ i. get_or (with_context_restored v false).a i 0 ≡ get_or (with_context_restored m false).a i 0) g.a0 g.a1 (sym (behind 1 (omega arith))) (sym (behind 2 (omega arith))) (sym (behind 7 (omega arith))) (sym (behind 8 (omega arith)))
         (sym (behind 9 (omega arith))) (sym (behind 10 (omega arith))) g.a8 g.a9 i lt;
     back = sym (behind 0 (omega arith));
   }
 
   -- after the upper context is restored too, the view and the machine are alike
-  pub upper_back : SameLower m v → restored v true ≡ seen_as (record (restored m true) { pc = v.pc; ie = v.ie; ccpn = v.ccpn; biv = v.biv; btv = v.btv; isp = v.isp; core = v.core; end = v.end; lcx = v.lcx }) (released v).mem (released v).pcxi (released v).fcx
-  upper_back s = λ i. record (released v) {
+  pub upper_back : SameLower m v → with_context_restored v true ≡ seen_as (record (with_context_restored m true) { pc = v.pc; ie = v.ie; ccpn = v.ccpn; biv = v.biv; btv = v.btv; isp = v.isp; core = v.core; end = v.end; lcx = v.lcx }) (with_area_released v).mem (with_area_released v).pcxi (with_area_released v).fcx
+  upper_back s = λ i. record (with_area_released v) {
     psw = (ap (λ x. area_word v.mem x 1) there ∙ sym (own.1 0 (omega arith)) ∙ ap (λ x. area_word m.mem x 1) (sym here)) i;
     d = s.d 0 (omega arith) i ∷ s.d 1 (omega arith) i ∷ s.d 2 (omega arith) i ∷ s.d 3 (omega arith) i ∷ s.d 4 (omega arith) i ∷ s.d 5 (omega arith) i ∷ s.d 6 (omega arith) i ∷ s.d 7 (omega arith) i
         ∷ sym (behind 3 (omega arith)) i ∷ sym (behind 4 (omega arith)) i ∷ sym (behind 5 (omega arith)) i ∷ sym (behind 6 (omega arith)) i
@@ -180,22 +180,22 @@ module _ {plan : PlanData} (ok : IsPlan plan) {n u : ℕ} {word_of : ℕ → ℕ
   }
 
   -- the return: both go to the same address, and the view and the machine are alike
-  pub switched_back : SameLower m v → has_kind v true ≡ true → (e e2 : Event) → is_taken m e ≡ false → e2.irq ≡ e.irq → e2.status ≡ e.status → (size : ℕ) → fetched m ≡ Ok (Ret, size) → fetched v ≡ Ok (Ret, size)
-      → step v e2 ≡ seen_as (step m e) (released v).mem (released v).pcxi (released v).fcx
+  pub switched_back : SameLower m v → has_kind v true ≡ true → (e e2 : Event) → is_interrupt_taken m e ≡ false → e2.irq ≡ e.irq → e2.status ≡ e.status → (size : ℕ) → fetched_instruction m ≡ Ok (Ret, size) → fetched_instruction v ≡ Ok (Ret, size)
+      → step v e2 ≡ seen_as (step m e) (with_area_released v).mem (with_area_released v).pcxi (with_area_released v).fcx
   switched_back s kind e e2 none same_irq same_status size at view_at =
-      let view_none : is_taken v e2 ≡ false = (λ i. is_taken (record m { ie = beside.ie i; ccpn = beside.ccpn i }) (record e { irq = same_irq i })) ∙ none in
+      let view_none : is_interrupt_taken v e2 ≡ false = (λ i. is_interrupt_taken (record m { ie = beside.ie i; ccpn = beside.ccpn i }) (record e { irq = same_irq i })) ∙ none in
       let view_running : v.end ≡ Running = beside.end ∙ running in
-      let m_after : does m e Ret size ≡ record (restored m true) { pc = a11 m / 2 * 2 } =
-      does-ret m e size ∙ ap (λ r. then_ r (λ r. record r { pc = a11 m / 2 * 2 })) (comes_back true kind) ∙ then_-running (restored m true) (λ r. record r { pc = a11 m / 2 * 2 }) (restored_end m true ∙ running)
+      let m_after : does m e Ret size ≡ record (with_context_restored m true) { pc = a11 m / 2 * 2 } =
+      does-ret m e size ∙ ap (λ r. if_running r (λ r. record r { pc = a11 m / 2 * 2 })) (comes_back true kind) ∙ then_-running (with_context_restored m true) (λ r. record r { pc = a11 m / 2 * 2 }) (restored_end m true ∙ running)
       in
-      let v_after : does v e2 Ret size ≡ seen_as (record (restored m true) { pc = a11 m / 2 * 2 }) (released v).mem (released v).pcxi (released v).fcx =
-      does-ret v e2 size ∙ ap (λ r. then_ r (λ r. record r { pc = a11 v / 2 * 2 })) (view_comes_back true kind) ∙ then_-running (restored v true) (λ r. record r { pc = a11 v / 2 * 2 }) (restored_end v true ∙ view_running)
+      let v_after : does v e2 Ret size ≡ seen_as (record (with_context_restored m true) { pc = a11 m / 2 * 2 }) (with_area_released v).mem (with_area_released v).pcxi (with_area_released v).fcx =
+      does-ret v e2 size ∙ ap (λ r. if_running r (λ r. record r { pc = a11 v / 2 * 2 })) (view_comes_back true kind) ∙ then_-running (with_context_restored v true) (λ r. record r { pc = a11 v / 2 * 2 }) (restored_end v true ∙ view_running)
       ∙ ap (λ (r : Machine). record r { pc = a11 v / 2 * 2 }) (upper_back s)
-      ∙ (λ i. seen_as (record (restored m true) { pc = s.back i / 2 * 2; ie = beside.ie i; ccpn = beside.ccpn i; biv = beside.biv i; btv = beside.btv i; isp = beside.isp i; core = beside.core i; end = beside.end i; lcx = beside.lcx i }) (released v).mem (released v).pcxi (released v).fcx)
+      ∙ (λ i. seen_as (record (with_context_restored m true) { pc = s.back i / 2 * 2; ie = beside.ie i; ccpn = beside.ccpn i; biv = beside.biv i; btv = beside.btv i; isp = beside.isp i; core = beside.core i; end = beside.end i; lcx = beside.lcx i }) (with_area_released v).mem (with_area_released v).pcxi (with_area_released v).fcx)
       in
-      let m_is : step m e ≡ with_event (record (restored m true) { pc = a11 m / 2 * 2 }) e = step_does m e Ret size running none at (ap (λ (x : Machine). x.end) m_after ∙ running) ∙ ap (λ (x : Machine). with_event x e) m_after in
-      let v_is : step v e2 ≡ seen_as (with_event (record (restored m true) { pc = a11 m / 2 * 2 }) e) (released v).mem (released v).pcxi (released v).fcx =
+      let m_is : step m e ≡ with_event (record (with_context_restored m true) { pc = a11 m / 2 * 2 }) e = step_does m e Ret size running none at (ap (λ (x : Machine). x.end) m_after ∙ running) ∙ ap (λ (x : Machine). with_event x e) m_after in
+      let v_is : step v e2 ≡ seen_as (with_event (record (with_context_restored m true) { pc = a11 m / 2 * 2 }) e) (with_area_released v).mem (with_area_released v).pcxi (with_area_released v).fcx =
       step_does v e2 Ret size view_running view_none view_at (ap (λ (x : Machine). x.end) v_after ∙ running) ∙ ap (λ (x : Machine). with_event x e2) v_after
-      ∙ ap (λ q. seen_as (with_event (record (restored m true) { pc = a11 m / 2 * 2 }) (record e { status = q })) (released v).mem (released v).pcxi (released v).fcx) same_status
+      ∙ ap (λ q. seen_as (with_event (record (with_context_restored m true) { pc = a11 m / 2 * 2 }) (record e { status = q })) (with_area_released v).mem (with_area_released v).pcxi (with_area_released v).fcx) same_status
       in
-      v_is ∙ ap (λ (x : Machine). seen_as x (released v).mem (released v).pcxi (released v).fcx) (sym m_is)
+      v_is ∙ ap (λ (x : Machine). seen_as x (with_area_released v).mem (with_area_released v).pcxi (with_area_released v).fcx) (sym m_is)

@@ -19,8 +19,8 @@ use Rattle.cfg_recover.specs.Code.{HasCode}
 use Rattle.cfg_recover.specs.RulesHoldOrFail.{certified_need}
 use Rattle.task_chains.specs.Tasks.{TasksData, count}
 use Rattle.task_chains.specs.Views.{view_image_of, view_plan_of}
-use Rattle.task_chains.specs.TaskStarts.{block_word, current_task, task_upper_area, task_lower_area, IsReady, TasksStart}
-use Rattle.task_chains.specs.SafeTasks.{task_before, owner, IsTaskStore, AreSafeAt, need_of_task, TasksAreSafe}
+use Rattle.task_chains.specs.TaskStarts.{block_word, current_task, task_upper_area, task_lower_area, IsTaskReady, TasksStart}
+use Rattle.task_chains.specs.SafeTasks.{task_before, owner, IsAllowedTaskStore, AreTasksSafeAt, need_of_task, TasksAreSafe}
 use Rattle.task_chains.proofs.Alike.{seen_as}
 use Rattle.task_chains.proofs.Beginning.{start_memory, start_is, start_turn, begins_on, begins_lower, begins_home}
 use Rattle.task_chains.proofs.Coming.{goes_switch, comes_on, comes_lower, comes_home}
@@ -117,7 +117,7 @@ module _ {image : ImageData} {plan : PlanData} {tasks : TasksData} {certs : ℕ 
     owner_by (comes_back v seen i some most pc off of beside low pause now) = away i pc (inr some) ∙ now
     owner_by (begins i some most pc off level later early late now) = away i pc (inr some) ∙ now
 
-    returns_store : (i : ℕ) → 15 ≤ i → i ≤ 17 → m.pc ≡ tasks.switch + 4 * i → m.ie ≡ false → IfSome (stored m e) (IsTaskStore plan tasks m.pc)
+    returns_store : (i : ℕ) → 15 ≤ i → i ≤ 17 → m.pc ≡ tasks.switch + 4 * i → m.ie ≡ false → IfSome (stored m e) (IsAllowedTaskStore plan tasks m.pc)
     returns_store i some most pc off =
         elim (cases_eq i 15) [
           | inl first ↦ no_store wd m k e 15 (pc ∙ ap (λ j. tasks.switch + 4 * j) first) off _ (code_15 image plan tasks wd.are wd.has) refl
@@ -127,7 +127,7 @@ module _ {image : ImageData} {plan : PlanData} {tasks : TasksData} {certs : ℕ 
           ]
         ]
 
-    store_by : Turn image plan tasks u word_of chain_of m → IfSome (stored m e) (IsTaskStore plan tasks m.pc)
+    store_by : Turn image plan tasks u word_of chain_of m → IfSome (stored m e) (IsAllowedTaskStore plan tasks m.pc)
     store_by (runs view pcxi fcx seen of pause now first) = goes_store wd m k view pcxi fcx seen of pause now e fits (λ i. let at = first i in omega arith)
     store_by (switches view pcxi fcx seen i some most of pause r) = turning_store wd m k view pcxi fcx seen of pause e fits i some most r
     store_by (comes_back v seen i some most pc off of beside low pause now) = returns_store i some most pc off
@@ -142,7 +142,7 @@ module _ {image : ImageData} {plan : PlanData} {tasks : TasksData} {certs : ℕ 
     code_by (comes_back v seen i some most pc off of beside low pause now) = code_in i most pc
     code_by (begins i some most pc off level later early late now) = code_in i most pc
 
-    pub safe_now : AreSafeAt image plan tasks needs m e
+    pub safe_now : AreTasksSafeAt image plan tasks needs m e
     safe_now =
         let own = owner_by k.turn in
         let c = (code_by k.turn).code in
@@ -226,7 +226,7 @@ module _ {image : ImageData} {plan : PlanData} {tasks : TasksData} {certs : ℕ 
               let later : 1 ≤ w = omega arith in
               let chain_is : start_chain plan w ≡ task_lower_area plan w ∷ task_upper_area plan w ∷ [] = cond_other w 0 [] (task_lower_area plan w ∷ task_upper_area plan w ∷ []) apart in (
                 sym (cond_other w 0 0 (block_word tasks m.mem w) apart),
-                ready later (subst (λ c. IsReady c plan tasks m.mem w) (sym start.core) (start.ready w later lt)) chain_is,
+                ready later (subst (λ c. IsTaskReady c plan tasks m.mem w) (sym start.core) (start.ready w later lt)) chain_is,
               );
           needs_kept = λ w lt.
               elim (cases_eq w 0) [

@@ -3,7 +3,7 @@
 use Rattle.std.proofs.Common.{◌≡◌, ◌≢◌, ℕ, zero, suc, ◌+◌, ◌*◌, ◌%◌, ◌^◌, ◌<◌, ◌≤◌, inl, inr, true, false, cond, List, [], ◌∷◌, ◌++◌, length, map, Some, None, Ok, Result, refl, sym, ap, ◌∙◌, subst, arith}
 use Rattle.std.proofs.lemmas.Bool.{cases_lt, cases_eq}
 use Rattle.std.specs.FinMap as finite
-use Rattle.csa_chain.specs.MemoryBytes.{Memory, is_mapped, load_number, with_bytes}
+use Rattle.csa_chain.specs.MemoryBytes.{Memory, is_mapped, loaded_number, with_bytes}
 use Rattle.csa_chain.proofs.MemoryLaws.{get-with_bytes_other, is_mapped-with_bytes}
 use Rattle.csa_chain.proofs.SeveralLaws.{cond_same, cond_other}
 use Rattle.elf_image.specs.Images.{ImageData}
@@ -24,13 +24,13 @@ use Rattle.tc_machine.specs.declared.events.Event.{Event}
 use Rattle.tc_machine.specs.declared.state.Machine.{Machine}
 use Rattle.tc_machine.specs.Machine.{reg}
 use Rattle.tc_machine.specs.Instructions.{machine_address_ahead, is_trapping_access, does}
-use Rattle.tc_machine.specs.Fetching.{fetched}
+use Rattle.tc_machine.specs.Fetching.{fetched_instruction}
 use Rattle.std.specs.Prelude.{IfSome}
-use Rattle.tc_machine.specs.Stepping.{is_taken, load_in, store_in, stored, step}
+use Rattle.tc_machine.specs.Stepping.{is_interrupt_taken, load_of_fetched, store_of_fetched, stored, step}
 use Rattle.tc_machine.specs.Safe.{Fits}
 use Rattle.tc_machine.proofs.Kept.{none_when_off}
 use Rattle.tc_machine.proofs.Steps.{step_does, stored-is}
-use Rattle.task_chains.specs.SafeTasks.{IsTaskStore}
+use Rattle.task_chains.specs.SafeTasks.{IsAllowedTaskStore}
 use Rattle.task_chains.specs.SwitchRoutine.{IsInRoutine}
 use Rattle.tc_machine.proofs.Words.{load_lt}
 use Rattle.depth_cert.specs.Certs.{CertData}
@@ -108,10 +108,10 @@ module _ {image : ImageData} {plan : PlanData} {tasks : TasksData} {certs : ℕ 
 
   -- an instruction of the routine that is no store
   pub no_store : (m : Machine) {u : ℕ} {word_of : ℕ → ℕ} {chain_of : ℕ → List ℕ} → AllKept image plan tasks needs m u word_of chain_of → (e : Event) (i : ℕ) → m.pc ≡ tasks.switch + 4 * i → m.ie ≡ false → (shape : Shape) → IsCode image plan (tasks.switch + 4 * i) shape 4
-      → store_in m e (Ok (shape, 4)) ≡ None → IfSome (stored m e) (IsTaskStore plan tasks m.pc)
+      → store_of_fetched m e (Ok (shape, 4)) ≡ None → IfSome (stored m e) (IsAllowedTaskStore plan tasks m.pc)
   no_store m k e i pc off shape c none =
-      let at : fetched m ≡ Ok (shape, 4) = fetched_code image plan m shape 4 wd.ok k.rom (subst (λ x. IsCode image plan x shape 4) (sym pc) c) in
-      subst (λ o. IfSome o (IsTaskStore plan tasks m.pc)) (sym (stored-is m e (Ok (shape, 4)) k.running (none_when_off m e off) at ∙ none)) tt
+      let at : fetched_instruction m ≡ Ok (shape, 4) = fetched_code image plan m shape 4 wd.ok k.rom (subst (λ x. IsCode image plan x shape 4) (sym pc) c) in
+      subst (λ o. IfSome o (IsAllowedTaskStore plan tasks m.pc)) (sym (stored-is m e (Ok (shape, 4)) k.running (none_when_off m e off) at ∙ none)) tt
 
   module _ (m : Machine) {u : ℕ} {word_of : ℕ → ℕ} {chain_of : ℕ → List ℕ} (k : AllKept image plan tasks needs m u word_of chain_of) (mem : Memory) (pcxi fcx : ℕ) (seen : List ℕ)
       (of : ViewOf image plan tasks u m.mem (seen_as m mem pcxi fcx)) (paused : Paused plan m.mem m.pcxi (chain_of u) seen m.lcx mem pcxi fcx) (e : Event) (fits : Fits plan m e) where
@@ -132,26 +132,26 @@ module _ {image : ImageData} {plan : PlanData} {tasks : TasksData} {certs : ℕ 
       abbrev e2 : Event
       e2 = record e { input = input }
 
-      here : fetched m ≡ Ok (shape, 4)
+      here : fetched_instruction m ≡ Ok (shape, 4)
       here = fetched_code image plan m shape 4 wd.ok k.rom code
 
-      there : fetched (seen_as m mem pcxi fcx) ≡ Ok (shape2, 4)
+      there : fetched_instruction (seen_as m mem pcxi fcx) ≡ Ok (shape2, 4)
       there = fetched_code (view_image_of image tasks u) (view_plan_of plan tasks u) v shape2 4 (view_ok wd u own) of.rom (code_to (view_image_of image tasks u) plan tasks u m.pc shape2 4 code2)
 
       -- both are alike again, and the machine is at the routine's next instruction
-      turns : (j : ℕ) → 1 ≤ j → j ≤ 14 → AnswersLoad (view_plan_of plan tasks u) input (load_in (seen_as m mem pcxi fcx) (Ok (shape2, 4))) → ((q : ℕ) → edge_way_by_trap (seen_as m mem pcxi fcx) (record e { input = input }) shape2 q ≡ to q)
+      turns : (j : ℕ) → 1 ≤ j → j ≤ 14 → AnswersLoad (view_plan_of plan tasks u) input (load_of_fetched (seen_as m mem pcxi fcx) (Ok (shape2, 4))) → ((q : ℕ) → edge_way_by_trap (seen_as m mem pcxi fcx) (record e { input = input }) shape2 q ≡ to q)
           → (mem2 : Memory) → Plainly m (seen_as m mem pcxi fcx) (does m e shape 4) (does (seen_as m mem pcxi fcx) (record e { input = input }) shape2 4) mem2 mem
           → ((x : ℕ) → IsInAreas plan x → finite.get mem2 x ≡ finite.get m.mem x) → ((x : ℕ) → is_mapped mem2 x ≡ is_mapped m.mem x) → ((x : ℕ) → IsInOneRange x 1 plan.rom → finite.get mem2 x ≡ finite.get m.mem x)
           → ((w : ℕ) → w < count tasks → w ≢ u → block_word tasks mem2 w ≡ block_word tasks m.mem w)
           → InRoutine tasks (step m e) u j word_of → Goes image plan tasks needs (step m e)
       turns j some most answers way mem2 p areas maps roms blocks r =
-          let none : is_taken m e ≡ false = none_when_off m e off in
+          let none : is_interrupt_taken m e ≡ false = none_when_off m e off in
           let fits2 : Fits (view_plan_of plan tasks u) v e2 =
           record {
             irq = fits.irq;
             input = small;
             status = fits.status;
-            answers = λ _. subst (λ (r : Result (Shape × ℕ) Cause). AnswersLoad (view_plan_of plan tasks u) input (load_in v r)) (sym there) answers;
+            answers = λ _. subst (λ (r : Result (Shape × ℕ) Cause). AnswersLoad (view_plan_of plan tasks u) input (load_of_fetched v r)) (sym there) answers;
           }
           in
           let a : Alike plan (count tasks) u word_of chain_of (λ x. IsInOneRange x 1 plan.rom) mem m (step m e) (step v e2) =
@@ -198,12 +198,12 @@ module _ {image : ImageData} {plan : PlanData} {tasks : TasksData} {certs : ℕ 
       view_here : (shape : Shape) → IsCode (view_image_of image tasks u) plan (tasks.switch + 4 * i) shape 4 → IsCode (view_image_of image tasks u) plan m.pc shape 4
       view_here shape c = subst (λ x. IsCode (view_image_of image tasks u) plan x shape 4) (sym r.pc) c
 
-      fetched_here : (shape : Shape) → IsCode image plan (tasks.switch + 4 * i) shape 4 → fetched m ≡ Ok (shape, 4)
+      fetched_here : (shape : Shape) → IsCode image plan (tasks.switch + 4 * i) shape 4 → fetched_instruction m ≡ Ok (shape, 4)
       fetched_here shape c = fetched_code image plan m shape 4 wd.ok k.rom (at_here shape c)
 
       -- an instruction that both have, and that doesn't change memory
       same_turn : (j : ℕ) → 1 ≤ j → j ≤ 14 → (shape : Shape) → IsCode image plan (tasks.switch + 4 * i) shape 4 → IsCode (view_image_of image tasks u) plan (tasks.switch + 4 * i) shape 4
-          → AnswersLoad (view_plan_of plan tasks u) e.input (load_in (seen_as m mem pcxi fcx) (Ok (shape, 4))) → ((q : ℕ) → edge_way_by_trap (seen_as m mem pcxi fcx) e shape q ≡ to q)
+          → AnswersLoad (view_plan_of plan tasks u) e.input (load_of_fetched (seen_as m mem pcxi fcx) (Ok (shape, 4))) → ((q : ℕ) → edge_way_by_trap (seen_as m mem pcxi fcx) e shape q ≡ to q)
           → Plainly m (seen_as m mem pcxi fcx) (does m e shape 4) (does (seen_as m mem pcxi fcx) e shape 4) m.mem mem → InRoutine tasks (step m e) u j word_of → Goes image plan tasks needs (step m e)
       same_turn j some most shape c c2 answers way p next =
           turns r.off shape shape e.input fits.input (at_here shape c) (view_here shape c2) j some most answers way m.mem p (λ x at. refl) (λ x. refl) (λ x at. refl) (λ w lt apart. refl) next
@@ -221,7 +221,7 @@ module _ {image : ImageData} {plan : PlanData} {tasks : TasksData} {certs : ℕ 
           → is_trapping_access e (machine_address_ahead (reg m base) offset) 4 ≡ false → InRoutine tasks (step m e) u j word_of → Goes image plan tasks needs (step m e)
       get_turn j some most dst base offset c c2 no_trap_here next =
           let x = machine_address_ahead (reg m base) offset in
-          let w = load_number m.mem e.input x 4 in
+          let w = loaded_number m.mem e.input x 4 in
           turns r.off (Load dst (Reg base) offset 4 false false) (Mfcr dst 0) w (load_lt m.mem (k.words).bytes false e.input x 4 (inr (inr refl))) (at_here (Load dst (Reg base) offset 4 false false) c) (view_here (Mfcr dst 0) c2) j some most tt (λ q. refl) m.mem
           (plain-taken m mem pcxi fcx e (record e { input = w }) dst base offset 0 4 no_trap_here refl) (λ x at. refl) (λ x. refl) (λ x at. refl) (λ w lt apart. refl) next
 
@@ -350,17 +350,17 @@ module _ {image : ImageData} {plan : PlanData} {tasks : TasksData} {certs : ℕ 
     not_out i lt pc = (omega arith, omega arith)
 
     block_store : (i : ℕ) → i < 18 → m.pc ≡ tasks.switch + 4 * i → m.ie ≡ false → (src base offset j : ℕ) → IsCode image plan (tasks.switch + 4 * i) (Store src (Reg base) offset 4 false) 4 → machine_address_ahead (reg m base) offset ≡ tasks.block + 4 * j → j ≤ count tasks
-        → IfSome (stored m e) (IsTaskStore plan tasks m.pc)
+        → IfSome (stored m e) (IsAllowedTaskStore plan tasks m.pc)
     block_store i lt pc off src base offset j c place le =
         let shape = Store src (Reg base) offset 4 false in
-        let at : fetched m ≡ Ok (Store src (Reg base) offset 4 false, 4) = fetched_code image plan m shape 4 wd.ok k.rom (subst (λ x. IsCode image plan x shape 4) (sym pc) c) in
+        let at : fetched_instruction m ≡ Ok (Store src (Reg base) offset 4 false, 4) = fetched_code image plan m shape 4 wd.ok k.rom (subst (λ x. IsCode image plan x shape 4) (sym pc) c) in
         let free : is_trapping_access e (machine_address_ahead (reg m base) offset) 4 ≡ false = no_trap_at (machine_address_ahead (reg m base) offset) j place in
         let range : IsStoreInRange plan (machine_address_ahead (reg m base) offset, 4) = subst (λ y. IsStoreInRange plan (y, 4)) (sym place) (block_range j le) in
         let inside = not_out i lt pc in
-        subst (λ o. IfSome o (IsTaskStore plan tasks m.pc)) (sym (stored-is m e (Ok (shape, 4)) k.running (none_when_off m e off) at))
-        (subst (λ t. IfSome (cond t None (Some (machine_address_ahead (reg m base) offset, 4))) (IsTaskStore plan tasks m.pc)) (sym free) (range, λ out. absurd (out inside)))
+        subst (λ o. IfSome o (IsAllowedTaskStore plan tasks m.pc)) (sym (stored-is m e (Ok (shape, 4)) k.running (none_when_off m e off) at))
+        (subst (λ t. IfSome (cond t None (Some (machine_address_ahead (reg m base) offset, 4))) (IsAllowedTaskStore plan tasks m.pc)) (sym free) (range, λ out. absurd (out inside)))
 
-    pub turning_store : (i : ℕ) → 1 ≤ i → i ≤ 14 → InRoutine tasks m u i word_of → IfSome (stored m e) (IsTaskStore plan tasks m.pc)
+    pub turning_store : (i : ℕ) → 1 ≤ i → i ≤ 14 → InRoutine tasks m u i word_of → IfSome (stored m e) (IsAllowedTaskStore plan tasks m.pc)
     turning_store zero some most r = absurd (omega arith)
     turning_store (suc zero) some most r = no_store m k e 1 r.pc r.off _ (code_1 image plan tasks wd.are wd.has) refl
     turning_store (suc (suc zero)) some most r = no_store m k e 2 r.pc r.off _ (code_2 image plan tasks wd.are wd.has) refl

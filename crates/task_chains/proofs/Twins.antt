@@ -12,10 +12,10 @@ use Rattle.csa_chain.proofs.ContextLaws.{link_in-with_link, with_link-lt, link_i
 use Rattle.tcd_base.specs.declared.core_version.Core.{Core}
 use Rattle.tcd_base.specs.declared.core_version.Core.TheVariants.{V13, V16}
 use Rattle.tcd_plan.specs.PlanData.{PlanData, IsPlan}
-use Rattle.tc_machine.specs.PlanAreas.{area_links_up, first_link, plan_areas}
+use Rattle.tc_machine.specs.PlanAreas.{consecutive_links, first_link, plan_areas}
 use Rattle.tc_machine.proofs.PlanLaws.{length-links_up, Distinct-links_up}
 use Rattle.tc_machine.proofs.Areas.{Areas, HasFree, has_free, Areas-saved, is_freed, Areas-restored}
-use Rattle.csa_chain.specs.SeveralChains.{times_in_list, sum_over_chains, with_chain, with_chain_word, Share, AreLinksOnce}
+use Rattle.csa_chain.specs.SeveralChains.{times_in_list, sum_over_chains, with_chain, with_chain_word, ChainsShareAreas, AreLinksOnce}
 use Rattle.csa_chain.proofs.SeveralLaws.{cond_same, AllLinks, first_avoids, first_avoids_rest, Share-saved, saved_links, saved_free, times-there, times-other, owned_avoids_rest, Share-restored, restored_links, restored_free}
 
 -- ---- contexts
@@ -62,7 +62,7 @@ SameBehindFirst ws ws2 = (i : ℕ) → i < 15 → get_or ws (suc i) 0 ≡ get_or
 
 -- ---- the shared areas
 -- each of the plan's areas once
-first_of_reserve : (reserve x f : ℕ) → 1 ≤ reserve → Avoids f (area_links_up x reserve) → f ≢ x
+first_of_reserve : (reserve x f : ℕ) → 1 ≤ reserve → Avoids f (consecutive_links x reserve) → f ≢ x
 first_of_reserve zero x f some h = absurd (omega arith)
 first_of_reserve (suc r) x f some h = λ e. h.0 (sym e)
 
@@ -83,7 +83,7 @@ areas_once plan = AreOnce-Distinct (plan_areas plan) (Distinct-links_up (first_l
 
 -- the links of the reserve
 abbrev pub reserve_of : PlanData → List ℕ
-reserve_of plan = area_links_up (first_link plan + (plan.areas - plan.reserve)) plan.reserve
+reserve_of plan = consecutive_links (first_link plan + (plan.areas - plan.reserve)) plan.reserve
 
 -- What n tasks share, one of which owns PCXI, and what the owner's view has.
 pub record Twins (plan : PlanData) (n u : ℕ) (word_of : ℕ → ℕ) (chain_of : ℕ → List ℕ) (seen : List ℕ) (mem : Memory) (pcxi fcx lcx : ℕ) (view : Memory) (view_pcxi view_fcx : ℕ) : Type 0 where
@@ -92,7 +92,7 @@ pub record Twins (plan : PlanData) (n u : ℕ) (word_of : ℕ → ℕ) (chain_of
   pub links : AllLinks n mem word_of chain_of
   pub free : List ℕ
   pub free_links : Links mem fcx free
-  pub share : Share n chain_of free (plan_areas plan)
+  pub share : ChainsShareAreas n chain_of free (plan_areas plan)
   pub front : List ℕ
   pub reserved : free ≡ front ++ reserve_of plan
   pub lcx_is : link_in lcx ≡ first_link plan + (plan.areas - plan.reserve)
@@ -115,27 +115,27 @@ pub record HasShared (plan : PlanData) (n : ℕ) (chain_of : ℕ → List ℕ) (
   pub area : is_area mem (link_in fcx) ≡ true
   pub not_last : link_in fcx ≢ link_in lcx
   pub links : Links mem fcx (link_in fcx ∷ front ++ reserve_of plan)
-  pub share : Share n chain_of (link_in fcx ∷ front ++ reserve_of plan) (plan_areas plan)
+  pub share : ChainsShareAreas n chain_of (link_in fcx ∷ front ++ reserve_of plan) (plan_areas plan)
 
 module _ {plan : PlanData} (ok : IsPlan plan) {n u : ℕ} {word_of : ℕ → ℕ} {chain_of : ℕ → List ℕ} {seen : List ℕ} {mem : Memory} {pcxi fcx lcx : ℕ} {view : Memory} {view_pcxi view_fcx : ℕ}
     (t : Twins plan n u word_of chain_of seen mem pcxi fcx lcx view view_pcxi view_fcx) where
   not_reserved : (f : ℕ) (front : List ℕ) → Avoids f (front ++ reserve_of plan) → f ≢ first_link plan + (plan.areas - plan.reserve)
   not_reserved f front h = first_of_reserve plan.reserve (first_link plan + (plan.areas - plan.reserve)) f ((ok.areas).reserved) (Avoids-behind f front (reserve_of plan) h)
 
-  shared_from : (free front : List ℕ) → free ≡ front ++ reserve_of plan → Links mem fcx free → Share n chain_of free (plan_areas plan) → sum_over_chains n (λ w. length (chain_of w)) < plan.areas - plan.reserve
+  shared_from : (free front : List ℕ) → free ≡ front ++ reserve_of plan → Links mem fcx free → ChainsShareAreas n chain_of free (plan_areas plan) → sum_over_chains n (λ w. length (chain_of w)) < plan.areas - plan.reserve
       → HasShared plan n chain_of mem fcx lcx
   shared_from free [] is links share room =
       absurd (omega (arith, share.count, ap length is ∙ length-links_up _ plan.reserve, length-links_up (first_link plan) plan.areas, (ok.areas).reserve_within))
   shared_from free (f ∷ front) is links share room =
       let l : Links mem fcx (f ∷ front ++ reserve_of plan) = subst (Links mem fcx) is links in
-      let s : Share n chain_of (f ∷ front ++ reserve_of plan) (plan_areas plan) = subst (λ ls. Share n chain_of ls (plan_areas plan)) is share in
+      let s : ChainsShareAreas n chain_of (f ∷ front ++ reserve_of plan) (plan_areas plan) = subst (λ ls. ChainsShareAreas n chain_of ls (plan_areas plan)) is share in
       record {
         front = front;
         some = rw l.1 l.0;
         area = rw l.1 l.2;
         not_last = λ e. not_reserved f front (first_avoids_rest n chain_of f (front ++ reserve_of plan) (plan_areas plan) s (areas_once plan)) (sym l.1 ∙ e ∙ t.lcx_is);
         links = subst (λ x. Links mem fcx (x ∷ front ++ reserve_of plan)) (sym l.1) l;
-        share = subst (λ x. Share n chain_of (x ∷ front ++ reserve_of plan) (plan_areas plan)) (sym l.1) s;
+        share = subst (λ x. ChainsShareAreas n chain_of (x ∷ front ++ reserve_of plan) (plan_areas plan)) (sym l.1) s;
       }
 
   pub has_shared : sum_over_chains n (λ w. length (chain_of w)) < plan.areas - plan.reserve → HasShared plan n chain_of mem fcx lcx

@@ -4,7 +4,7 @@ use Rattle.std.proofs.lemmas.Bool.{cases_Bool, cases_lt, false≢true, both_ways
 use Rattle.std.specs.Prelude.{is_some, unwrap_or}
 use Rattle.std.specs.List.{slice_index_or}
 use Rattle.std.specs.FinMap as finite
-use Rattle.csa_chain.specs.MemoryBytes.{Memory, is_mapped, load_number, with_bytes}
+use Rattle.csa_chain.specs.MemoryBytes.{Memory, is_mapped, loaded_number, with_bytes}
 use Rattle.elf_image.specs.Images.{ImageData}
 use Rattle.tcd_base.specs.declared.range.Range.{Range}
 use Rattle.tcd_plan.specs.declared.plans.Device.{Device}
@@ -14,9 +14,9 @@ use Rattle.tc_isa.specs.declared.shapes.Shape.TheVariants.{Load}
 use Rattle.tc_machine.specs.declared.events.Cause.{Cause}
 use Rattle.tc_machine.specs.declared.events.Event.{Event}
 use Rattle.tc_machine.specs.declared.state.Machine.{Machine}
-use Rattle.tc_machine.specs.Fetching.{fetched}
+use Rattle.tc_machine.specs.Fetching.{fetched_instruction}
 use Rattle.tc_machine.specs.Instructions.{access_address}
-use Rattle.tc_machine.specs.Stepping.{is_taken, load_in}
+use Rattle.tc_machine.specs.Stepping.{is_interrupt_taken, load_of_fetched}
 use Rattle.tcd_base.specs.Ranges.{IsWithinRange, IsInOneRange}
 use Rattle.tc_machine.specs.Safe.{Fits}
 use Rattle.tc_mem.specs.PlanMemory.{IsPlanMemory}
@@ -31,7 +31,7 @@ use Rattle.cfg_recover.proofs.CodeLaws.{IsCode-suits}
 use Rattle.csa_chain.proofs.MemoryLaws.{get-with_bytes_other}
 use Rattle.task_chains.specs.Tasks.{TasksData, AreTasks, block_size}
 use Rattle.task_chains.specs.Views.{view_plan_of, FitPlan}
-use Rattle.task_chains.specs.Devices.{any_view_device, view_devices}
+use Rattle.task_chains.specs.Devices.{any_word_device, view_devices}
 use Rattle.task_chains.proofs.Alike.{seen_as}
 use Rattle.task_chains.proofs.Plain.{address-same}
 use Rattle.task_chains.proofs.Accesses.{store_gone}
@@ -60,7 +60,7 @@ nth_in (x ∷ ds) zero d lt y h = inl h
 nth_in (x ∷ ds) (suc i) d lt y h = inr (nth_in ds i d (omega arith) y h)
 
 -- a range that answers with any word
-any_answer : (x w : ℕ) → w < 2 ^ 32 → (rs : List Range) → AnswersAt x w (map any_view_device rs)
+any_answer : (x w : ℕ) → w < 2 ^ 32 → (rs : List Range) → AnswersAt x w (map any_word_device rs)
 any_answer x w lt [] i d less = absurd (omega arith)
 any_answer x w lt (r ∷ rs) zero d less = λ within. (omega arith, omega arith)
 any_answer x w lt (r ∷ rs) (suc i) d less = any_answer x w lt rs i d (omega arith)
@@ -71,8 +71,8 @@ no_byte None d h = refl
 no_byte (Some b) d h = absurd (false≢true (sym h))
 
 -- a word is an input if none of its bytes is mapped
-pub loaded_outside : (m : Memory) (input x : ℕ) → input < 2 ^ 32 → x + 4 ≤ 2 ^ 32 → ((i : ℕ) → i < 4 → is_mapped m (x + i) ≡ false) → load_number m input x 4 ≡ input
-unfolding load_number
+pub loaded_outside : (m : Memory) (input x : ℕ) → input < 2 ^ 32 → x + 4 ≤ 2 ^ 32 → ((i : ℕ) → i < 4 → is_mapped m (x + i) ≡ false) → loaded_number m input x 4 ≡ input
+unfolding loaded_number
 loaded_outside m input x small fits gone =
     let n1 : (x + 1) % 2 ^ 32 ≡ x + 1 = omega arith in
     let n2 : ((x + 1) % 2 ^ 32 + 1) % 2 ^ 32 ≡ x + 2 = omega arith in
@@ -165,42 +165,42 @@ module _ {plan : PlanData} (ok : IsPlan plan) (tasks : TasksData) (are : AreTask
     v = seen_as m mem pcxi fcx
 
     -- an interrupt asks nothing of the input
-    pub fits_interrupt : is_taken m e ≡ true → Fits (view_plan_of plan tasks u) v e
-    fits_interrupt taken = record { irq = fits.irq; input = fits.input; status = fits.status; answers = λ none. absurd (both_ways (is_taken m e) none taken) }
+    pub fits_interrupt : is_interrupt_taken m e ≡ true → Fits (view_plan_of plan tasks u) v e
+    fits_interrupt taken = record { irq = fits.irq; input = fits.input; status = fits.status; answers = λ none. absurd (both_ways (is_interrupt_taken m e) none taken) }
 
     -- a word that the view loads from a peripheral is in its bounds
-    answered : (x : ℕ) → AnswersAt x e.input plan.devices → AnswersAt x (load_number m.mem e.input x 4) (view_devices plan tasks)
+    answered : (x : ℕ) → AnswersAt x e.input plan.devices → AnswersAt x (loaded_number m.mem e.input x 4) (view_devices plan tasks)
     answered x own =
-        All-append (λ (d : Device). IsWithinRange x 4 d.range → (d.lo ≤ load_number m.mem e.input x 4) × (load_number m.mem e.input x 4 ≤ d.hi)) plan.devices (map any_view_device (left ok tasks are fit))
+        All-append (λ (d : Device). IsWithinRange x 4 d.range → (d.lo ≤ loaded_number m.mem e.input x 4) × (loaded_number m.mem e.input x 4 ≤ d.hi)) plan.devices (map any_word_device (left ok tasks are fit))
         (λ i d less within.
         let there = own i d less within in
         let lo = there.0 in
         let hi = there.1 in
-        let same : load_number m.mem e.input x 4 ≡ e.input = from_outside (slice_index_or plan.devices i d).range within (nth_in plan.devices i d less) in
+        let same : loaded_number m.mem e.input x 4 ≡ e.input = from_outside (slice_index_or plan.devices i d).range within (nth_in plan.devices i d less) in
         (omega arith, omega arith))
-        (any_answer x (load_number m.mem e.input x 4) (load_lt m.mem (k.words).bytes false e.input x 4 (inr (inr refl))) (left ok tasks are fit))
+        (any_answer x (loaded_number m.mem e.input x 4) (load_lt m.mem (k.words).bytes false e.input x 4 (inr (inr refl))) (left ok tasks are fit))
       where
-        from_outside : (r : Range) → IsWithinRange x 4 r → ((y : ℕ) → IsWithinRange y 1 r → IsInOneRange y 1 devs) → load_number m.mem e.input x 4 ≡ e.input
+        from_outside : (r : Range) → IsWithinRange x 4 r → ((y : ℕ) → IsWithinRange y 1 r → IsInOneRange y 1 devs) → loaded_number m.mem e.input x 4 ≡ e.input
         from_outside r within inside =
             let low = within.0 in
             let high = within.1 in
             loaded_outside m.mem e.input x fits.input (let top = fits_word (x + 3) (inside (x + 3) (omega arith, omega arith)) in omega arith) (λ i lt. device_unmapped m.mem k.memory (x + i) (inside (x + i) (omega arith, omega arith)))
 
-    pub view_fits : (b : Limits) (s : State) (shape : Shape) (size : ℕ) → AtPoint b view plan tasks u v e s shape size → is_taken m e ≡ false → fetched m ≡ Ok (shape, size) → fetched v ≡ Ok (shape, size) → Fits (view_plan_of plan tasks u) v (event_for m e shape)
+    pub view_fits : (b : Limits) (s : State) (shape : Shape) (size : ℕ) → AtPoint b view plan tasks u v e s shape size → is_interrupt_taken m e ≡ false → fetched_instruction m ≡ Ok (shape, size) → fetched_instruction v ≡ Ok (shape, size) → Fits (view_plan_of plan tasks u) v (event_for m e shape)
     view_fits b s shape size at none here there = record {
       irq = fits.irq;
       input = input_lt shape (IsCode-suits view (view_plan_of plan tasks u) m.pc shape size at.code);
       status = fits.status;
-      answers = λ _. subst (λ (r : Result (Shape × ℕ) Cause). AnswersLoad (view_plan_of plan tasks u) (input_for m e shape) (load_in v r)) (sym there)
-          (by_shape shape (subst (λ (r : Result (Shape × ℕ) Cause). AnswersLoad plan e.input (load_in m r)) here (fits.answers none)));
+      answers = λ _. subst (λ (r : Result (Shape × ℕ) Cause). AnswersLoad (view_plan_of plan tasks u) (input_for m e shape) (load_of_fetched v r)) (sym there)
+          (by_shape shape (subst (λ (r : Result (Shape × ℕ) Cause). AnswersLoad plan e.input (load_of_fetched m r)) here (fits.answers none)));
     }
       where
         input_lt : (shape : Shape) → IsShape shape → input_for m e shape < 2 ^ 32
         input_lt (Load dst base offset width signed after) is = load_lt m.mem (k.words).bytes false e.input (access_address m base offset after) width is
         input_lt _ is = fits.input
 
-        by_shape : (shape : Shape) → AnswersLoad plan e.input (load_in m (Ok (shape, size))) → AnswersLoad (view_plan_of plan tasks u) (input_for m e shape) (load_in v (Ok (shape, size)))
+        by_shape : (shape : Shape) → AnswersLoad plan e.input (load_of_fetched m (Ok (shape, size))) → AnswersLoad (view_plan_of plan tasks u) (input_for m e shape) (load_of_fetched v (Ok (shape, size)))
         by_shape (Load dst base offset width signed after) own =
-            λ four. subst (λ w. AnswersAt (access_address v base offset after) (load_number m.mem e.input (access_address m base offset after) w) (view_devices plan tasks)) (sym four)
-            (subst (λ x. AnswersAt x (load_number m.mem e.input (access_address m base offset after) 4) (view_devices plan tasks)) (sym (address-same m mem pcxi fcx e e base offset after)) (answered (access_address m base offset after) (own four)))
+            λ four. subst (λ w. AnswersAt (access_address v base offset after) (loaded_number m.mem e.input (access_address m base offset after) w) (view_devices plan tasks)) (sym four)
+            (subst (λ x. AnswersAt x (loaded_number m.mem e.input (access_address m base offset after) 4) (view_devices plan tasks)) (sym (address-same m mem pcxi fcx e e base offset after)) (answered (access_address m base offset after) (own four)))
         by_shape _ own = tt

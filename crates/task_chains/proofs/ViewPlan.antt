@@ -7,7 +7,7 @@ use Rattle.std.specs.Prelude.{max}
 use Rattle.std.specs.List.{list_all}
 use Rattle.tcd_base.specs.declared.range.Range.{Range}
 use Rattle.tcd_plan.specs.declared.plans.Device.{Device}
-use Rattle.tcd_plan.specs.PlanData.{PlanData, IsPlan, is_range, is_device, areas_range, are_all_ranges_apart}
+use Rattle.tcd_plan.specs.PlanData.{PlanData, IsPlan, is_plan_range, is_plan_device, areas_range, are_all_ranges_apart}
 use Rattle.tcd_base.specs.Ranges.{IsInOneRange}
 use Rattle.tcd_plan.specs.MappedAddresses.{IsInDevice, IsStoreInRange}
 use Rattle.tcd_plan.specs.Cutting.{cut_plan_ranges}
@@ -16,11 +16,11 @@ use Rattle.tcd_plan.proofs.ApartLaws.{device_ranges, HaveBytes, HaveBytes-ranges
 use Rattle.tcd_plan.proofs.CutLaws.{IsInOne-parts, in_ranges_without, ranges_without_ranges, ranges_without_apart}
 use Rattle.task_chains.specs.Tasks.{TasksData, AreTasks, count, block_size}
 use Rattle.task_chains.specs.Views.{view_plan_of, FitPlan}
-use Rattle.task_chains.specs.Devices.{any_view_device, view_devices}
+use Rattle.task_chains.specs.Devices.{any_word_device, view_devices}
 use Rattle.task_chains.specs.SafeTasks.{MissesBlock}
 
 -- ---- peripherals
-pub in_devices : (ds : List Device) (rs : List Range) (x n : ℕ) → IsInDevice x n (ds ++ map any_view_device rs) → IsInDevice x n ds ⊎ IsInOneRange x n rs
+pub in_devices : (ds : List Device) (rs : List Range) (x n : ℕ) → IsInDevice x n (ds ++ map any_word_device rs) → IsInDevice x n ds ⊎ IsInOneRange x n rs
 in_devices [] [] x n h = absurd h
 in_devices [] (r ∷ rs) x n (inl here) = inr (inl here)
 in_devices [] (r ∷ rs) x n (inr rest) = elim (in_devices [] rs x n rest) [ inl none ↦ absurd none | inr at ↦ inr (inr at) ]
@@ -32,11 +32,11 @@ ranges_of [] x n h = h
 ranges_of (d ∷ ds) x n (inl h) = inl h
 ranges_of (d ∷ ds) x n (inr h) = inr (ranges_of ds x n h)
 
-any_devices : (rs : List Range) → list_all is_range rs ≡ true → list_all is_device (map any_view_device rs) ≡ true
+any_devices : (rs : List Range) → list_all is_plan_range rs ≡ true → list_all is_plan_device (map any_word_device rs) ≡ true
 any_devices [] h = refl
-any_devices (r ∷ rs) h = let p = and_parts (is_range r) (list_all is_range rs) h in and_from _ _ (and_from _ _ (and_from _ _ p.0 refl) refl) (any_devices rs p.1)
+any_devices (r ∷ rs) h = let p = and_parts (is_plan_range r) (list_all is_plan_range rs) h in and_from _ _ (and_from _ _ (and_from _ _ p.0 refl) refl) (any_devices rs p.1)
 
-ranges_of_any : (rs : List Range) → map (λ (d : Device). d.range) (map any_view_device rs) ≡ rs
+ranges_of_any : (rs : List Range) → map (λ (d : Device). d.range) (map any_word_device rs) ≡ rs
 ranges_of_any [] = refl
 ranges_of_any (r ∷ rs) = ap (λ ss. r ∷ ss) (ranges_of_any rs)
 
@@ -60,7 +60,7 @@ module _ {plan : PlanData} (ok : IsPlan plan) (tasks : TasksData) (are : AreTask
   whole_block : block_size tasks % 4 ≡ 0
   whole_block = omega arith
 
-  left_range : list_all is_range left ≡ true
+  left_range : list_all is_plan_range left ≡ true
   left_range = ranges_without_ranges tasks.block (block_size tasks) are.whole whole_block plan.ram (ok.ranges).ram
 
   pub in_left : (y : ℕ) → IsInOneRange y 1 left → IsInOneRange y 1 plan.ram
@@ -95,7 +95,7 @@ module _ {plan : PlanData} (ok : IsPlan plan) (tasks : TasksData) (are : AreTask
       ])
 
   pub device_list : map (λ (d : Device). d.range) (view_devices plan tasks) ≡ dev ++ left
-  device_list = map-append (λ (d : Device). d.range) plan.devices (map any_view_device left) ∙ ap (λ rs. dev ++ rs) (ranges_of_any left)
+  device_list = map-append (λ (d : Device). d.range) plan.devices (map any_word_device left) ∙ ap (λ rs. dev ++ rs) (ranges_of_any left)
 
   pub view_is_plan : (u : ℕ) → u < count tasks → IsPlan (view_plan_of plan tasks u)
   view_is_plan u lt = record {
@@ -106,7 +106,7 @@ module _ {plan : PlanData} (ok : IsPlan plan) (tasks : TasksData) (are : AreTask
       few_devices = fit.room;
       rom = (ok.ranges).rom;
       ram = refl;
-      devices = list_all-append is_device plan.devices (map any_view_device left) ∙ and_from _ _ (ok.ranges).devices (any_devices left left_range);
+      devices = list_all-append is_plan_device plan.devices (map any_word_device left) ∙ and_from _ _ (ok.ranges).devices (any_devices left left_range);
       small_rom = (ok.ranges).small_rom;
       small_ram = omega arith;
     };

@@ -14,10 +14,10 @@ use Rattle.tc_machine.specs.declared.events.Event.{Event}
 use Rattle.tc_machine.specs.declared.events.End.TheVariants.{Running}
 use Rattle.tc_machine.specs.declared.state.Machine.{Machine}
 use Rattle.tc_machine.specs.Machine.{reg, IsMachine}
-use Rattle.tc_machine.specs.SavesAndRestores.{saved, save}
-use Rattle.tc_machine.specs.Fetching.{fetched}
+use Rattle.tc_machine.specs.SavesAndRestores.{with_context_saved, save}
+use Rattle.tc_machine.specs.Fetching.{fetched_instruction}
 use Rattle.tc_machine.specs.Instructions.{access_address}
-use Rattle.tc_machine.specs.Stepping.{is_taken, store_in, step}
+use Rattle.tc_machine.specs.Stepping.{is_interrupt_taken, store_of_fetched, step}
 use Rattle.tc_machine.specs.PlanAreas.{first_link}
 use Rattle.tc_machine.specs.Safe.{Fits, IsSafeAt}
 use Rattle.tc_machine.specs.Starting.{HasGlobals, Starts}
@@ -31,14 +31,14 @@ use Rattle.depth_cert.specs.declared.keys.Key.{Key}
 use Rattle.depth_cert.specs.Certs.{CertData}
 use Rattle.cfg_recover.specs.RulesHoldOrFail.{limits_in, certified_need}
 use Rattle.cfg_recover.specs.Entries.{start_key}
-use Rattle.cfg_recover.specs.Frames.{Standing, frames_left, frames_after}
+use Rattle.cfg_recover.specs.Frames.{RunFrame, frames_left, frames_after}
 use Rattle.cfg_recover.specs.LocalRules.{LocalRule}
 use Rattle.cfg_recover.proofs.CodeLaws.{IsCode-bounded}
 use Rattle.task_chains.specs.Tasks.{TasksData, AreTasks, count}
 use Rattle.task_chains.specs.Views.{view_image_of, view_plan_of, FitPlan}
-use Rattle.task_chains.specs.Rule17.{StaysApart}
+use Rattle.task_chains.specs.Rule17.{KeepsRule17ByShape}
 use Rattle.task_chains.specs.SwitchRoutine.{switch_key, IsInRoutine}
-use Rattle.task_chains.specs.SafeTasks.{IsJudged}
+use Rattle.task_chains.specs.SafeTasks.{IsSoundTaskCert}
 use Rattle.depth_cert.proofs.KeyLaws.{one_number}
 use Rattle.task_chains.proofs.FramesKept.{AreKeys, AreFirst, keys_next}
 use Rattle.task_chains.proofs.Fitting.{quiet}
@@ -62,8 +62,8 @@ pub record HasCore (plan : PlanData) (v : Machine) : Type 0 where
 -- A state that a run of task u's view has reached, with its frames. Frames of the routine, except
 -- the newest frame, are at the routine's first instruction.
 pub record ViewRun (image : ImageData) (plan : PlanData) (tasks : TasksData) (u : ℕ) (v : Machine) : Type 0 where
-  pub frame : Standing
-  pub behind : List Standing
+  pub frame : RunFrame
+  pub behind : List RunFrame
   pub reached : Reached (view_image_of image tasks u) (view_plan_of plan tasks u) v (frame ∷ behind)
   pub leveled : Leveled plan.start_ccpn v (frame ∷ behind)
   pub keys : AreKeys (frame ∷ behind)
@@ -71,7 +71,7 @@ pub record ViewRun (image : ImageData) (plan : PlanData) (tasks : TasksData) (u 
   pub core : HasCore plan v
 
 -- a run in these frames
-pub record NextRun (image : ImageData) (plan : PlanData) (tasks : TasksData) (u : ℕ) (v : Machine) (fs : List Standing) : Type 0 where
+pub record NextRun (image : ImageData) (plan : PlanData) (tasks : TasksData) (u : ℕ) (v : Machine) (fs : List RunFrame) : Type 0 where
   pub run : ViewRun image plan tasks u v
   pub frames_are : run.frame ∷ run.behind ≡ fs
 
@@ -104,7 +104,7 @@ four_of (a ∷ b ∷ []) e = absurd (omega arith)
 four_of (a ∷ b ∷ c ∷ []) e = absurd (omega arith)
 four_of (a ∷ b ∷ c ∷ d ∷ x ∷ g) e = absurd (omega arith)
 
-module _ {image : ImageData} {plan : PlanData} (ok : IsPlan plan) {tasks : TasksData} (are : AreTasks tasks) (fit : FitPlan plan tasks) {u : ℕ} (lt : u < count tasks) (cert : CertData) (judged : IsJudged image plan tasks cert u)
+module _ {image : ImageData} {plan : PlanData} (ok : IsPlan plan) {tasks : TasksData} (are : AreTasks tasks) (fit : FitPlan plan tasks) {u : ℕ} (lt : u < count tasks) (cert : CertData) (judged : IsSoundTaskCert image plan tasks cert u)
     (few : certified_need (view_image_of image tasks u) (view_plan_of plan tasks u) cert ≤ plan.areas - plan.reserve) (v : Machine) (r : ViewRun image plan tasks u v) where
   abbrev view : ImageData
   view = view_image_of image tasks u
@@ -124,8 +124,8 @@ module _ {image : ImageData} {plan : PlanData} (ok : IsPlan plan) {tasks : Tasks
   same_key : (view_point.node).key ≡ (r.frame).key
   same_key = one_number (view_point.node).key (r.frame).key view_point.is_key (r.keys).0 view_point.same_key
 
-  apart_at : StaysApart (limits_in plan2 cert) plan2 tasks (r.frame).key v.pc view_point.state view_point.shape
-  apart_at = subst (λ (k : Key). StaysApart (limits_in plan2 cert) plan2 tasks k v.pc view_point.state view_point.shape) same_key view_point.apart
+  apart_at : KeepsRule17ByShape (limits_in plan2 cert) plan2 tasks (r.frame).key v.pc view_point.state view_point.shape
+  apart_at = subst (λ (k : Key). KeepsRule17ByShape (limits_in plan2 cert) plan2 tasks k v.pc view_point.state view_point.shape) same_key view_point.apart
 
   own_at : (q : ℕ) → LocalRule (limits_in plan2 cert) plan2 (r.frame).key v.pc view_point.state view_point.shape q
   own_at q = subst (λ (k : Key). LocalRule (limits_in plan2 cert) plan2 k v.pc view_point.state view_point.shape q) same_key (view_point.own q)
@@ -168,17 +168,17 @@ module _ {image : ImageData} {plan : PlanData} (ok : IsPlan plan) {tasks : Tasks
 
   -- ---- where it loads and stores
   module _ (running : v.end ≡ Running) (rom : HoldsRom (view_image_of image tasks u) (view_plan_of plan tasks u) v.mem) where
-    pub view_fetched : fetched v ≡ Ok (view_point.shape, view_point.size)
+    pub view_fetched : fetched_instruction v ≡ Ok (view_point.shape, view_point.size)
     view_fetched = fetched_code view plan2 v view_point.shape view_point.size view_ok rom view_point.code
 
     pub stores_at : (e : Event) → StoresAt (view_plan_of plan tasks u) v e view_point.shape
     stores_at e =
         let q = quiet view_ok v in
-        let none : is_taken v q.event ≡ false = none_when_low v q.event (let z = q.irq in omega arith) in
+        let none : is_interrupt_taken v q.event ≡ false = none_when_low v q.event (let z = q.irq in omega arith) in
         let safe : IsSafeAt view plan2 most v q.event = safe_at view plan2 view_ok cert judged.is_cert judged.accepted tasks judged.apart most v (r.frame ∷ r.behind) q.event judged.safe r.reached q.fits in
         by_shape q.event q.aln view_point.shape view_point.size (subst (λ o. IfSome o (IsStoreInRange plan2)) (stored-is v q.event (Ok (view_point.shape, view_point.size)) running none view_fetched) safe.stores_in_range)
       where
-        by_shape : (d : Event) → d.aln ≡ false → (shape : Shape) (size : ℕ) → IfSome (store_in v d (Ok (shape, size))) (IsStoreInRange (view_plan_of plan tasks u)) → StoresAt (view_plan_of plan tasks u) v e shape
+        by_shape : (d : Event) → d.aln ≡ false → (shape : Shape) (size : ℕ) → IfSome (store_of_fetched v d (Ok (shape, size))) (IsStoreInRange (view_plan_of plan tasks u)) → StoresAt (view_plan_of plan tasks u) v e shape
         by_shape d off (Store src base offset width after) size h =
             λ none. subst (λ a. IfSome (cond (a && not (access_address v base offset after % width == 0)) None (Some (access_address v base offset after, width))) (IsStoreInRange (view_plan_of plan tasks u))) off h
         by_shape d off (Compute op dst x y) size h = tt
@@ -248,7 +248,7 @@ module _ {image : ImageData} {plan : PlanData} (ok : IsPlan plan) {tasks : Tasks
 
       pub view_all_room : (n w : ℕ) (chain_of : ℕ → List ℕ) (needs : ℕ → ℕ) → w < n → ((j : ℕ) → j < n → length (chain_of j) ≤ needs j) → length (chain_of w) ≡ length seen
           → certified_need (view_image_of image tasks u) (view_plan_of plan tasks u) cert ≤ needs w → sum_over_chains n needs ≤ plan.areas - plan.reserve
-          → (upper : Bool) → length seen < plan.areas - plan.reserve → (step v e).mem ≡ (saved v upper).mem → (step v e).pcxi ≡ (saved v upper).pcxi → sum_over_chains n (λ j. length (chain_of j)) < plan.areas - plan.reserve
+          → (upper : Bool) → length seen < plan.areas - plan.reserve → (step v e).mem ≡ (with_context_saved v upper).mem → (step v e).pcxi ≡ (with_context_saved v upper).pcxi → sum_over_chains n (λ j. length (chain_of j)) < plan.areas - plan.reserve
       view_all_room n w chain_of needs = all_room view plan2 view_ok cert judged.is_cert judged.accepted tasks judged.apart most judged.safe few v (r.frame ∷ r.behind) r.reached view_words seen links free view_areas e fits n w chain_of needs
 
       same_seen : seen ≡ (r.leveled).seen
@@ -268,7 +268,7 @@ module _ {image : ImageData} {plan : PlanData} (ok : IsPlan plan) {tasks : Tasks
           let k = irq_lt view_ok v e fits in
           keys_next v e r.frame r.behind r.keys k (stays_step v e view_words k fits.input fits.status).pc
 
-      from_frames : (gs : List Standing) → frames_after v e (r.frame ∷ r.behind) ≡ gs → Leveled plan.start_ccpn (step v e) gs → AreFirst tasks (frames_left gs) → SameCore v (step v e) → NextRun image plan tasks u (step v e) gs
+      from_frames : (gs : List RunFrame) → frames_after v e (r.frame ∷ r.behind) ≡ gs → Leveled plan.start_ccpn (step v e) gs → AreFirst tasks (frames_left gs) → SameCore v (step v e) → NextRun image plan tasks u (step v e) gs
       from_frames [] is level first core =
           let s = some_frame view plan2 view_ok cert judged.is_cert judged.accepted tasks judged.apart (step v e) [] judged.frames (subst (Reached view plan2 (step v e)) is next_reached) in
           absurd (let no_frame : [] ≡ s.0 ∷ s.1 = s.2 in cc)
@@ -286,7 +286,7 @@ module _ {image : ImageData} {plan : PlanData} (ok : IsPlan plan) {tasks : Tasks
       }
 
       -- by an interrupt
-      pub view_run_interrupt : is_taken v e ≡ true → AreFirst tasks (frames_left (frames_after v e (r.frame ∷ r.behind))) → NextRun image plan tasks u (step v e) (frames_after v e (r.frame ∷ r.behind))
+      pub view_run_interrupt : is_interrupt_taken v e ≡ true → AreFirst tasks (frames_left (frames_after v e (r.frame ∷ r.behind))) → NextRun image plan tasks u (step v e) (frames_after v e (r.frame ∷ r.behind))
       view_run_interrupt taken first =
           from_frames (frames_after v e (r.frame ∷ r.behind)) refl (level_interrupt ok plan.start_ccpn v view_words running r.frame r.behind r.leveled free own_areas e own_rooms view_runs taken) first (core_taken v e taken)
 
@@ -296,7 +296,7 @@ module _ {image : ImageData} {plan : PlanData} (ok : IsPlan plan) {tasks : Tasks
       ends_by _ o6 o7 = tt
 
       -- by its instruction
-      pub view_run_step : IsPlanMemory (view_plan_of plan tasks u) v.mem → is_taken v e ≡ false → AreFirst tasks (frames_left (frames_after v e (r.frame ∷ r.behind))) → NextRun image plan tasks u (step v e) (frames_after v e (r.frame ∷ r.behind))
+      pub view_run_step : IsPlanMemory (view_plan_of plan tasks u) v.mem → is_interrupt_taken v e ≡ false → AreFirst tasks (frames_left (frames_after v e (r.frame ∷ r.behind))) → NextRun image plan tasks u (step v e) (frames_after v e (r.frame ∷ r.behind))
       view_run_step memory none first =
           let writes : WritesNoFixedRegister view_point.shape = (view_point.own 13).writes refl in
           let nothing = stores_nothing memory e in

@@ -12,7 +12,7 @@ use Rattle.tcd_plan.specs.PlanData.{PlanData, IsPlan, areas_range, are_all_range
 use Rattle.tcd_base.specs.Ranges.{is_address_in_ranges, IsInOneRange}
 use Rattle.tcd_plan.specs.MappedAddresses.{IsInAreas, IsMappedBy}
 use Rattle.tc_machine.specs.PlanAreas.{first_link}
-use Rattle.tc_machine.specs.Starting.{IsLinkedUp, with_images, next_start_link, with_area_links}
+use Rattle.tc_machine.specs.Starting.{AreAreasLinked, with_image_in_ranges, next_start_link, with_area_links}
 use Rattle.tc_mem.specs.PlanMemory.{HoldsRom, IsPlanMemory}
 use Rattle.tc_machine.proofs.Filled.{images_put, images_mapped, images_none, images_outside, links_mapped, links_bytes, links_outside}
 use Rattle.tc_machine.proofs.PlanLaws.{link_address-area, link_lt}
@@ -34,7 +34,7 @@ SameRom plan tasks mem view = (x : ℕ) → IsInOneRange x 1 plan.rom → IsOuts
 pub record IsViewStart (view : ImageData) (plan : PlanData) (tasks : TasksData) (u : ℕ) (mem start : Memory) : Type 0 where
   pub memory : IsPlanMemory (view_plan_of plan tasks u) start
   pub rom : HoldsRom view (view_plan_of plan tasks u) start
-  pub linked : IsLinkedUp (view_plan_of plan tasks u) start
+  pub linked : AreAreasLinked (view_plan_of plan tasks u) start
   pub bytes : HasBytes start
   pub same : SameRom plan tasks mem start
 
@@ -77,7 +77,7 @@ module _ {plan : PlanData} (ok : IsPlan plan) (image view : ImageData) (tasks : 
   base = finite.retain_keys mem keeps
 
   abbrev pub view_memory : Memory
-  view_memory = with_area_links plan.csa_at (first_link plan) plan.areas (with_images view (finite.retain_keys mem keeps) plan.rom) plan.areas
+  view_memory = with_area_links plan.csa_at (first_link plan) plan.areas (with_image_in_ranges view (finite.retain_keys mem keeps) plan.rom) plan.areas
 
   base_get : (x : ℕ) → finite.get base x ≡ cond (keeps x) (finite.get mem x) None
   base_get x = finite.get-retain_keys mem keeps x (λ y e. ap keeps (sym (finite.nat_cmp-IsAntisymmetric x y e)))
@@ -114,11 +114,11 @@ module _ {plan : PlanData} (ok : IsPlan plan) (image view : ImageData) (tasks : 
         ]
       ]
 
-  get_out : (x : ℕ) → (IsInAreas plan x → ⊥) → finite.get view_memory x ≡ finite.get (with_images view base plan.rom) x
-  get_out x out = links_outside plan.csa_at (first_link plan) plan.areas (with_images view base plan.rom) plan.areas x (out_of_areas x out)
+  get_out : (x : ℕ) → (IsInAreas plan x → ⊥) → finite.get view_memory x ≡ finite.get (with_image_in_ranges view base plan.rom) x
+  get_out x out = links_outside plan.csa_at (first_link plan) plan.areas (with_image_in_ranges view base plan.rom) plan.areas x (out_of_areas x out)
 
   mapped : (x : ℕ) → is_mapped view_memory x ≡ is_mapped base x
-  mapped x = links_mapped plan.csa_at (first_link plan) plan.areas (with_images view base plan.rom) plan.areas x ∙ images_mapped view base plan.rom x
+  mapped x = links_mapped plan.csa_at (first_link plan) plan.areas (with_image_in_ranges view base plan.rom) plan.areas x ∙ images_mapped view base plan.rom x
 
   rom_there : (x : ℕ) → IsInOneRange x 1 plan.rom → is_mapped base x ≡ true
   rom_there x in_rom = ap is_some (not_ram x (rom_and_ram x in_rom)) ∙ (memory x).1 (inl in_rom)
@@ -148,7 +148,7 @@ module _ {plan : PlanData} (ok : IsPlan plan) (image view : ImageData) (tasks : 
       none_some : (b : ℕ) → None ≡ Some b → ⊥
       none_some b e = cc
 
-  image_bytes : HasBytes (with_images view base plan.rom)
+  image_bytes : HasBytes (with_image_in_ranges view base plan.rom)
   image_bytes x b at =
       elim (cases_Bool (is_address_in_ranges plan.rom x)) [
         | inl there ↦ by_byte (is_in-one x plan.rom there) (image_byte view x) refl
@@ -184,7 +184,7 @@ module _ {plan : PlanData} (ok : IsPlan plan) (image view : ImageData) (tasks : 
   view_starts = record {
     memory = λ x. (λ here. mapped_by x (sym (mapped x) ∙ here), λ by. mapped x ∙ from_mapped x by);
     rom = λ x b in_rom held. rom_held x b in_rom held;
-    linked = λ i lt. linked_at ok (with_images view base plan.rom) (λ x at. images_mapped view base plan.rom x ∙ areas_there x at) plan.areas i lt (omega arith);
-    bytes = links_bytes plan.csa_at (first_link plan) plan.areas (with_images view base plan.rom) image_bytes plan.areas;
+    linked = λ i lt. linked_at ok (with_image_in_ranges view base plan.rom) (λ x at. images_mapped view base plan.rom x ∙ areas_there x at) plan.areas i lt (omega arith);
+    bytes = links_bytes plan.csa_at (first_link plan) plan.areas (with_image_in_ranges view base plan.rom) image_bytes plan.areas;
     same = same_rom;
   }

@@ -13,13 +13,13 @@ use Rattle.tc_machine.specs.Machine.{is_interrupt_stack_used}
 use Rattle.tcd_base.specs.Ranges.{IsInOneRange}
 use Rattle.tc_machine.proofs.Areas.{Areas}
 use Rattle.task_chains.specs.Tasks.{TasksData}
-use Rattle.task_chains.specs.TaskStarts.{block_word, task_upper_area, task_lower_area, IsReady}
+use Rattle.task_chains.specs.TaskStarts.{block_word, task_upper_area, task_lower_area, IsTaskReady}
 use Rattle.task_chains.proofs.Twins.{SameContexts-kept}
 use Rattle.task_chains.proofs.Invariant.{Waits, ready, paused}
 use Rattle.task_chains.proofs.Levels.{areas_same}
 
 -- a task that is ready, if its areas and its word are unchanged
-ready_kept : (core : Core) (plan : PlanData) (tasks : TasksData) (m n : Memory) (w : ℕ) → SameArea m n (task_lower_area plan w) → SameArea m n (task_upper_area plan w) → block_word tasks n w ≡ block_word tasks m w → IsReady core plan tasks m w → IsReady core plan tasks n w
+ready_kept : (core : Core) (plan : PlanData) (tasks : TasksData) (m n : Memory) (w : ℕ) → SameArea m n (task_lower_area plan w) → SameArea m n (task_upper_area plan w) → block_word tasks n w ≡ block_word tasks m w → IsTaskReady core plan tasks m w → IsTaskReady core plan tasks n w
 ready_kept core plan tasks m n w low up word r =
     let u0 = area_word_same up 0 (omega arith) in
     let u1 = area_word_same up 1 (omega arith) in
@@ -42,7 +42,7 @@ pub waits_kept : (image : ImageData) (plan : PlanData) (tasks : TasksData) (w : 
     → block_word tasks n.mem w ≡ block_word tasks m.mem w → n.core ≡ m.core → n.lcx ≡ m.lcx → Waits image plan tasks w m word links → Waits image plan tasks w n word links
 waits_kept image plan tasks w m n word links same rom block core lcx (ready later r is) =
     let areas = subst (SameAreas m.mem n.mem) is same in
-    ready later (subst (λ c. IsReady c plan tasks n.mem w) (sym core) (ready_kept m.core plan tasks m.mem n.mem w areas.0 (areas.1).0 block r)) is
+    ready later (subst (λ c. IsTaskReady c plan tasks n.mem w) (sym core) (ready_kept m.core plan tasks m.mem n.mem w areas.0 (areas.1).0 block r)) is
 waits_kept image plan tasks w m n word links same rom block core lcx (paused v seen of pc off ccpn p) =
     paused v seen
     (record { run = of.run; memory = of.memory; rom = of.rom; same_rom = λ x in_rom out. of.same_rom x in_rom out ∙ sym (rom x in_rom) })

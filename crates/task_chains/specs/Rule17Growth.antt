@@ -7,7 +7,7 @@ use Rattle.depth_cert.specs.Certs.{CertData, IsCert}
 use Rattle.cfg_recover.specs.RulesHoldOrFail.{Accepts}
 use Rattle.cfg_recover.specs.Assignments.{IsBelowAt, known_in}
 use Rattle.task_chains.specs.Tasks.{TasksData}
-use Rattle.task_chains.specs.Rule17.{KeepsApart, FailsApart}
+use Rattle.task_chains.specs.Rule17.{KeepsRule17, BreaksRule17}
 
 -- One certificate is below another if the other has all of its places and covers what is known
 -- there. If both are accepted for a view, K17 fails for the upper one wherever it fails for the
@@ -16,10 +16,10 @@ abbrev pub TaskFaultsGrow : Type 0
 TaskFaultsGrow =
     (view : ImageData) (plan : PlanData) (tasks : TasksData) (lower upper : CertData) (k : Key) (p : ℕ) → IsPlan plan → IsCert lower → IsCert upper
     → lower.version ≡ upper.version → Accepts view plan lower → Accepts view plan upper → IsBelowAt (known_in lower) (known_in upper)
-    → FailsApart view plan tasks lower k p → FailsApart view plan tasks upper k p
+    → BreaksRule17 view plan tasks lower k p → BreaksRule17 view plan tasks upper k p
 
 -- beside the law that faults of K17 grow with a certificate: a certificate for which K17 fails
 -- somewhere doesn't keep the rule
 abbrev pub TaskFaultsRefute : Type 0
 TaskFaultsRefute =
-    (view : ImageData) (plan : PlanData) (tasks : TasksData) (cert : CertData) (k : Key) (p : ℕ) → FailsApart view plan tasks cert k p → KeepsApart view plan tasks cert → ⊥
+    (view : ImageData) (plan : PlanData) (tasks : TasksData) (cert : CertData) (k : Key) (p : ℕ) → BreaksRule17 view plan tasks cert k p → KeepsRule17 view plan tasks cert → ⊥

@@ -13,11 +13,11 @@ use Rattle.tcd_plan.specs.MappedAddresses.{IsStoreInRange}
 use Rattle.depth_cert.specs.Certs.{CertData, IsCert}
 use Rattle.cfg_recover.specs.RulesHoldOrFail.{Accepts, certified_need}
 use Rattle.cfg_recover.specs.EdgeAndFrameLaws.{FramesHeld}
-use Rattle.csa_chain.specs.SeveralChains.{sum_over_chains, Share}
+use Rattle.csa_chain.specs.SeveralChains.{sum_over_chains, ChainsShareAreas}
 use Rattle.task_chains.specs.Tasks.{TasksData, AreTasks, count, block_size}
 use Rattle.task_chains.specs.SwitchRoutine.{HasRoutine, IsInRoutine}
 use Rattle.task_chains.specs.Views.{view_image_of, view_plan_of, FitPlan}
-use Rattle.task_chains.specs.Rule17.{KeepsApart}
+use Rattle.task_chains.specs.Rule17.{KeepsRule17}
 use Rattle.task_chains.specs.TaskStarts.{TasksStart, block_word, current_task}
 
 -- ---- the owner
@@ -40,12 +40,12 @@ chain_word tasks m u = if u == owner tasks m then m.pcxi else block_word tasks m
 -- ---- safe
 -- The chains of the tasks and the free list have each area of the plan once. Each task has at most
 -- its need. FCX is at the limit exactly if all areas except the reserve are in use.
-pub record AreAreasShared (plan : PlanData) (tasks : TasksData) (needs : ℕ → ℕ) (m : Machine) : Type 0 where
+pub record AreAreasPartitioned (plan : PlanData) (tasks : TasksData) (needs : ℕ → ℕ) (m : Machine) : Type 0 where
   pub chain_of : ℕ → List ℕ
   pub free : List ℕ
   pub chains : (u : ℕ) → u < count tasks → chain m.mem (chain_word tasks m u) ≡ Some (chain_of u)
   pub free_chain : chain m.mem m.fcx ≡ Some free
-  pub share : Share (count tasks) chain_of free (plan_areas plan)
+  pub share : ChainsShareAreas (count tasks) chain_of free (plan_areas plan)
   pub within_need : (u : ℕ) → u < count tasks → length (chain_of u) ≤ needs u
   pub limit : (link_in m.fcx ≡ link_in m.lcx) ↔ (sum_over_chains (count tasks) (λ u. length (chain_of u)) ≡ plan.areas - plan.reserve)
 
@@ -54,22 +54,22 @@ abbrev pub MissesBlock : TasksData → ℕ × ℕ → Type 0
 MissesBlock tasks at = (at.0 + at.1 ≤ tasks.block) ⊎ (tasks.block + block_size tasks ≤ at.0)
 
 -- where a safe run of all tasks may store: in range, and in the block only by the routine
-abbrev pub IsTaskStore : PlanData → TasksData → ℕ → ℕ × ℕ → Type 0
-IsTaskStore plan tasks pc at = IsStoreInRange plan at × ((IsInRoutine tasks pc → ⊥) → MissesBlock tasks at)
+abbrev pub IsAllowedTaskStore : PlanData → TasksData → ℕ → ℕ × ℕ → Type 0
+IsAllowedTaskStore plan tasks pc at = IsStoreInRange plan at × ((IsInRoutine tasks pc → ⊥) → MissesBlock tasks at)
 
 -- a state of a run of all tasks is safe, and so is its next event
-pub record AreSafeAt (image : ImageData) (plan : PlanData) (tasks : TasksData) (needs : ℕ → ℕ) (m : Machine) (e : Event) : Type 0 where
+pub record AreTasksSafeAt (image : ImageData) (plan : PlanData) (tasks : TasksData) (needs : ℕ → ℕ) (m : Machine) (e : Event) : Type 0 where
   pub running : m.end ≡ Running
   pub owner : owner tasks m < count tasks
-  pub areas : AreAreasShared plan tasks needs m
+  pub areas : AreAreasPartitioned plan tasks needs m
   pub code_in_rom : IsAtCode image plan m
-  pub stores : IfSome (stored m e) (IsTaskStore plan tasks m.pc)
+  pub stores : IfSome (stored m e) (IsAllowedTaskStore plan tasks m.pc)
 
 -- this holds in every run from every start state, for every list of fitting events and every next
 -- event
 abbrev pub SafeTasks : ImageData → PlanData → TasksData → (ℕ → ℕ) → Type 0
 SafeTasks image plan tasks needs =
-    (m : Machine) (es : List Event) (e : Event) → TasksStart image plan tasks m → AllFit plan m es → Fits plan (run m es) e → AreSafeAt image plan tasks needs (run m es) e
+    (m : Machine) (es : List Event) (e : Event) → TasksStart image plan tasks m → AllFit plan m es → Fits plan (run m es) e → AreTasksSafeAt image plan tasks needs (run m es) e
 
 -- ---- the theorem's premises
 -- the need that counts for a task: the first starts with no area, each other with two
@@ -80,18 +80,18 @@ need_of_task image plan tasks certs u =
 
 -- what the theorem of safe tasks needs of a task's certificate: it is accepted for the task's view
 -- and keeps K17, and the view's runs are safe and have the certificate's frames
-pub record IsJudged (image : ImageData) (plan : PlanData) (tasks : TasksData) (cert : CertData) (u : ℕ) : Type 0 where
+pub record IsSoundTaskCert (image : ImageData) (plan : PlanData) (tasks : TasksData) (cert : CertData) (u : ℕ) : Type 0 where
   pub is_cert : IsCert cert
   pub accepted : Accepts (view_image_of image tasks u) (view_plan_of plan tasks u) cert
   pub safe : Safe (view_image_of image tasks u) (view_plan_of plan tasks u) (certified_need (view_image_of image tasks u) (view_plan_of plan tasks u) cert)
   pub frames : FramesHeld (view_image_of image tasks u) (view_plan_of plan tasks u) cert
-  pub apart : KeepsApart (view_image_of image tasks u) (view_plan_of plan tasks u) tasks cert
+  pub apart : KeepsRule17 (view_image_of image tasks u) (view_plan_of plan tasks u) tasks cert
 
 -- the theorem of safe tasks: if the image has the routine, each task is judged well, and the sum of
 -- the needs is at most the areas without the reserve, all runs are safe
 abbrev pub TasksAreSafe : Type 0
 TasksAreSafe =
     (image : ImageData) (plan : PlanData) (tasks : TasksData) (certs : ℕ → CertData) → IsPlan plan → AreTasks tasks → FitPlan plan tasks → HasRoutine image plan tasks
-    → ((u : ℕ) → u < count tasks → IsJudged image plan tasks (certs u) u)
+    → ((u : ℕ) → u < count tasks → IsSoundTaskCert image plan tasks (certs u) u)
     → sum_over_chains (count tasks) (need_of_task image plan tasks certs) ≤ plan.areas - plan.reserve
     → SafeTasks image plan tasks (need_of_task image plan tasks certs)

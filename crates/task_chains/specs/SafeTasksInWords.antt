@@ -32,8 +32,8 @@ pub record OwnsChain (switch block n : ℕ) (m : Machine) (u : ℕ) : Type 0 whe
 
 -- safe tasks, in plain equations: the link has this place in list u, which is that of task u if u
 -- is below n, and the free list if u is n
-abbrev pub LinkStandsInTask : ℕ → (ℕ → List ℕ) → List ℕ → ℕ → ℕ → ℕ → Type 0
-LinkStandsInTask n used free link u place = ((u < n) × (slice_get (used u) place ≡ Some link)) ⊎ ((u ≡ n) × (slice_get free place ≡ Some link))
+abbrev pub IsLinkAtPlaceOfList : ℕ → (ℕ → List ℕ) → List ℕ → ℕ → ℕ → ℕ → Type 0
+IsLinkAtPlaceOfList n used free link u place = ((u < n) × (slice_get (used u) place ≡ Some link)) ⊎ ((u ≡ n) × (slice_get free place ≡ Some link))
 
 -- A store of these bytes by an instruction at pc is inside one range of ram or of a peripheral. It
 -- misses the save areas and all rom, where code and vectors are. It misses the block, unless pc is
@@ -62,9 +62,9 @@ pub record HasSafeTaskParts (image : ImageData) (plan : PlanData) (switch block 
   pub other_walks : (u : ℕ) → u < n → u ≢ own → IsAreaWalk m.mem (word_at m.mem (block + 4 * u)) (used u)
   pub free_walk : IsAreaWalk m.mem m.fcx free
   pub count : sum_over_chains n (λ u. length (used u)) + length free ≡ plan.areas
-  pub places : (i : ℕ) → i < plan.areas → (u : ℕ) × (place : ℕ) × LinkStandsInTask n used free (first_link plan + i) u place
-  pub once : (l u v i j : ℕ) → LinkStandsInTask n used free l u i → LinkStandsInTask n used free l v j → (u ≡ v) × (i ≡ j)
-  pub areas : (l u place : ℕ) → LinkStandsInTask n used free l u place → (i : ℕ) × (i < plan.areas) × (l ≡ first_link plan + i)
+  pub places : (i : ℕ) → i < plan.areas → (u : ℕ) × (place : ℕ) × IsLinkAtPlaceOfList n used free (first_link plan + i) u place
+  pub once : (l u v i j : ℕ) → IsLinkAtPlaceOfList n used free l u i → IsLinkAtPlaceOfList n used free l v j → (u ≡ v) × (i ≡ j)
+  pub areas : (l u place : ℕ) → IsLinkAtPlaceOfList n used free l u place → (i : ℕ) × (i < plan.areas) × (l ≡ first_link plan + i)
   pub within_need : (u : ℕ) → u < n → length (used u) ≤ needs u
   pub within_sum : sum_over_chains n (λ u. length (used u)) ≤ sum_over_chains n needs
   pub limit : (m.fcx % 2 ^ 20 ≡ m.lcx % 2 ^ 20) ↔ (sum_over_chains n (λ u. length (used u)) ≡ plan.areas - plan.reserve)

@@ -15,8 +15,8 @@ use Rattle.depth_cert.specs.declared.keys.Key.{Key}
 -- The routine of n tasks with their block at b. Interrupts are off, and the lower context is saved.
 -- PCXI goes into the word of the current task; the next task becomes the current one; its word goes
 -- into PCXI, and its contexts are restored.
-abbrev pub routine_of : ℕ → ℕ → List InstData
-routine_of n b =
+abbrev pub switch_routine_of : ℕ → ℕ → List InstData
+switch_routine_of n b =
     disable ∷
     svlcx ∷
     movh_a 2 (upper_half b) ∷
@@ -67,7 +67,7 @@ bytes_of_routine is = flat_map instruction_bytes is
 
 -- the bytes of the routine that switches these tasks
 abbrev pub routine_bytes : TasksData → List ℕ
-routine_bytes tasks = bytes_of_routine (routine_of (count tasks) tasks.block)
+routine_bytes tasks = bytes_of_routine (switch_routine_of (count tasks) tasks.block)
 
 -- the bytes that a task's view has in place of those of the switch routine: the bytes of the
 -- routine's other form
@@ -98,8 +98,8 @@ pub record IsRoutineFault (image : ImageData) (plan : PlanData) (tasks : TasksDa
 
 -- ---- the routine's frame and its points
 -- the address is that of one of the switch routine's instructions
-abbrev pub IsRoutineStep : TasksData → ℕ → Type 0
-IsRoutineStep tasks p = (i : ℕ) × (i < 18) × (p ≡ tasks.switch + 4 * i)
+abbrev pub IsRoutineInstruction : TasksData → ℕ → Type 0
+IsRoutineInstruction tasks p = (i : ℕ) × (i < 18) × (p ≡ tasks.switch + 4 * i)
 
 -- the key of the switch routine's own frame: called at priority 0, and not on the interrupt stack
 abbrev pub switch_key : TasksData → Key

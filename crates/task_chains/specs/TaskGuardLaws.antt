@@ -15,7 +15,7 @@ use Rattle.tc_machine.specs.PlanAreas.{first_link}
 use Rattle.task_chains.specs.declared.task_lists.Task.{Task}
 use Rattle.task_chains.specs.Tasks.{AreTasks}
 use Rattle.task_chains.specs.Views.{FitPlan}
-use Rattle.task_chains.specs.TaskStarts.{IsReady, TasksStart}
+use Rattle.task_chains.specs.TaskStarts.{IsTaskReady, TasksStart}
 
 -- guard law of a premise: task i + 1 is ready if areas 2 i and 2 i + 1 are its contexts (PCXI 0, IO
 -- 2, IS 0, stack pointer; link, UL 1, entry), and the block has the latter's link
@@ -30,7 +30,7 @@ EveryTaskIsReady =
     → (core ≡ V16 → area_word mem (first_link plan + (2 * i + 1)) 0 / 2 ^ 20 % 2 ≡ 1)
     → area_word mem (first_link plan + (2 * i + 1)) 1 ≡ t.entry
     → word_at mem (block + 4 * (i + 1)) ≡ first_link plan + (2 * i + 1)
-    → IsReady core plan (record { switch = switch; block = block; list = list }) mem (i + 1)
+    → IsTaskReady core plan (record { switch = switch; block = block; list = list }) mem (i + 1)
 
 -- guard law of a premise: tasks fit a plan with at most 15 peripherals and ram ranges together, the
 -- block inside one ram range (it can add one more), and no start on the interrupt stack
@@ -51,7 +51,7 @@ EveryTasksStart =
     → ((x : ℕ) → (is_mapped mem x ≡ true) ↔ (IsInOneRange x 1 plan.rom ⊎ IsInOneRange x 1 plan.ram ⊎ ((plan.csa_at ≤ x) × (x < plan.csa_at + 64 * plan.areas))))
     → ((x b : ℕ) → IsInOneRange x 1 plan.rom → image_byte image x ≡ Some b → bytes.get mem x ≡ Some b)
     → 2 * length ts ≤ plan.areas → word_at mem (block + 4 * (length ts + 1)) ≡ 0
-    → ((i : ℕ) → i < length ts → IsReady plan.core plan (record { switch = switch; block = block; list = t ∷ ts }) mem (i + 1))
+    → ((i : ℕ) → i < length ts → IsTaskReady plan.core plan (record { switch = switch; block = block; list = t ∷ ts }) mem (i + 1))
     → ((i : ℕ) → 2 * length ts ≤ i → i + 1 < plan.areas → area_word mem (first_link plan + i) 0 ≡ first_link plan + (i + 1))
     → ((i : ℕ) → 2 * length ts ≤ i → i + 1 ≡ plan.areas → area_word mem (first_link plan + i) 0 ≡ 0)
     → (2 * length ts < plan.areas → fcx ≡ first_link plan + 2 * length ts) → (2 * length ts ≡ plan.areas → fcx ≡ 0)

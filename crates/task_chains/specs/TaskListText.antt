@@ -24,12 +24,12 @@ task_pair_of_words name (word ∷ x ∷ y ∷ []) =
 task_pair_of_words name words = None
 
 -- the addresses of the routine and of the block, if the one is even and the other a multiple of 4
-abbrev pub places_of_pair : ℕ × ℕ → Option Places
-places_of_pair p = then_some (p.0 % 2 == 0 && p.1 % 4 == 0) (record { switch = p.0; block = p.1 })
+abbrev pub switch_places_of_pair : ℕ × ℕ → Option Places
+switch_places_of_pair p = then_some (p.0 % 2 == 0 && p.1 % 4 == 0) (record { switch = p.0; block = p.1 })
 
 -- the addresses of a line `switch Y B`
-abbrev pub places_of : List ℕ → Option Places
-places_of line = option_and_then places_of_pair (task_pair_of_words (codes "switch") (line_words line))
+abbrev pub switch_places_of : List ℕ → Option Places
+switch_places_of line = option_and_then switch_places_of_pair (task_pair_of_words (codes "switch") (line_words line))
 
 -- the task of a line's two numbers: its entry and its stack pointer
 abbrev pub task_of_pair : ℕ × ℕ → Task
@@ -42,15 +42,15 @@ task_of line = option_map task_of_pair (task_pair_of_words (codes "task") (line_
 -- ---- texts
 
 -- the lines of a text that aren't empty
-abbrev pub written_task_lines : List (List ℕ) → List (List ℕ)
-written_task_lines lines = filter is_nonempty_line lines
+abbrev pub nonempty_task_lines : List (List ℕ) → List (List ℕ)
+nonempty_task_lines lines = filter is_nonempty_line lines
 
 -- the first line that isn't empty names the addresses, and the later ones name the tasks
-pub record AreSaid (lines : List (List ℕ)) (tasks : TasksData) : Type 0 where
+pub record AreNamedTasks (lines : List (List ℕ)) (tasks : TasksData) : Type 0 where
   pub first : List ℕ
   pub behind : List (List ℕ)
-  pub split : written_task_lines lines ≡ first ∷ behind
-  pub places : places_of first ≡ Some (record { switch = tasks.switch; block = tasks.block })
+  pub split : nonempty_task_lines lines ≡ first ∷ behind
+  pub places : switch_places_of first ≡ Some (record { switch = tasks.switch; block = tasks.block })
   pub named : map task_of behind ≡ map (λ t. Some t) tasks.list
 
 -- ---- what may be against a text
@@ -58,10 +58,10 @@ pub record AreSaid (lines : List (List ℕ)) (tasks : TasksData) : Type 0 where
 -- later one that names no task
 abbrev pub BreaksTaskForm : List (List ℕ) → List ℕ → Type 0
 BreaksTaskForm before line =
-    (line ≢ []) × (((written_task_lines before ≡ []) × (places_of line ≡ None)) ⊎ (((tasks : TasksData) × AreSaid before tasks) × (task_of line ≡ None)))
+    (line ≢ []) × (((nonempty_task_lines before ≡ []) × (switch_places_of line ≡ None)) ⊎ (((tasks : TasksData) × AreNamedTasks before tasks) × (task_of line ≡ None)))
 
 -- line n, counted from 1, is the first of another form
-pub record FirstBadTaskLine (lines : List (List ℕ)) (n : ℕ) : Type 0 where
+pub record IsFirstBadTaskLine (lines : List (List ℕ)) (n : ℕ) : Type 0 where
   pub before : List (List ℕ)
   pub line : List ℕ
   pub behind : List (List ℕ)
@@ -71,7 +71,7 @@ pub record FirstBadTaskLine (lines : List (List ℕ)) (n : ℕ) : Type 0 where
 
 -- if all lines are empty, line 1 is of another form
 abbrev pub IsBadTaskLine : List (List ℕ) → ℕ → Type 0
-IsBadTaskLine lines n = ((written_task_lines lines ≡ []) × (n ≡ 1)) ⊎ FirstBadTaskLine lines n
+IsBadTaskLine lines n = ((nonempty_task_lines lines ≡ []) × (n ≡ 1)) ⊎ IsFirstBadTaskLine lines n
 
 -- line n names an eighth task
 pub record IsEighthTaskLine (lines : List (List ℕ)) (n : ℕ) : Type 0 where
@@ -82,12 +82,12 @@ pub record IsEighthTaskLine (lines : List (List ℕ)) (n : ℕ) : Type 0 where
   pub at : n ≡ length before + 1
   pub some : line ≢ []
   pub seven : TasksData
-  pub said : AreSaid before seven
+  pub said : AreNamedTasks before seven
   pub many : count seven ≡ 7
 
 -- for the errors of a text of tasks: it names two to seven tasks
-abbrev pub AreTasksFew : TasksData → Type 0
-AreTasksFew tasks = (2 ≤ count tasks) × (count tasks ≤ 7)
+abbrev pub AreTwoToSevenTasks : TasksData → Type 0
+AreTwoToSevenTasks tasks = (2 ≤ count tasks) × (count tasks ≤ 7)
 
 -- for the errors of a text of tasks: the block that it names is inside one ram range of the plan
 abbrev pub IsBlockInRam : PlanData → TasksData → Type 0
@@ -95,36 +95,36 @@ IsBlockInRam plan tasks = IsInOneRange tasks.block (block_size tasks) plan.ram
 
 -- for the errors of a text of tasks: the plan of a task's view has at most 16 peripherals, a plan's
 -- limit
-abbrev pub HaveViewsRoom : PlanData → TasksData → Type 0
-HaveViewsRoom plan tasks = length (view_devices plan tasks) ≤ 16
+abbrev pub HasRoomForViews : PlanData → TasksData → Type 0
+HasRoomForViews plan tasks = length (view_devices plan tasks) ≤ 16
 
 -- The error of the tasks that lines name, under a plan: the first of these that fits. A line of
 -- another form comes before all of them.
-abbrev pub IsAgainst : PlanData → List (List ℕ) → TasksData → TasksErr → Type 0
-IsAgainst plan lines tasks (BadLine n) = ⊥
-IsAgainst plan lines tasks (TooMany n) = IsEighthTaskLine lines n
-IsAgainst plan lines tasks TooFew = count tasks < 2
-IsAgainst plan lines tasks NotRam = AreTasksFew tasks × (IsBlockInRam plan tasks → ⊥)
-IsAgainst plan lines tasks NoRoom = AreTasksFew tasks × IsBlockInRam plan tasks × (HaveViewsRoom plan tasks → ⊥)
-IsAgainst plan lines tasks OnIsp = AreTasksFew tasks × IsBlockInRam plan tasks × HaveViewsRoom plan tasks × (plan.start_is ≡ true)
-IsAgainst plan lines tasks Count = ⊥
+abbrev pub IsTaskErr : PlanData → List (List ℕ) → TasksData → TasksErr → Type 0
+IsTaskErr plan lines tasks (BadLine n) = ⊥
+IsTaskErr plan lines tasks (TooMany n) = IsEighthTaskLine lines n
+IsTaskErr plan lines tasks TooFew = count tasks < 2
+IsTaskErr plan lines tasks NotRam = AreTwoToSevenTasks tasks × (IsBlockInRam plan tasks → ⊥)
+IsTaskErr plan lines tasks NoRoom = AreTwoToSevenTasks tasks × IsBlockInRam plan tasks × (HasRoomForViews plan tasks → ⊥)
+IsTaskErr plan lines tasks OnIsp = AreTwoToSevenTasks tasks × IsBlockInRam plan tasks × HasRoomForViews plan tasks × (plan.start_is ≡ true)
+IsTaskErr plan lines tasks Count = ⊥
 
 -- the error of lines: that of the first line of another form, or that of the tasks that all of them
 -- name
-abbrev pub IsRefused : PlanData → List (List ℕ) → TasksErr → Type 0
-IsRefused plan lines (BadLine n) = IsBadTaskLine lines n
-IsRefused plan lines e = (tasks : TasksData) × AreSaid lines tasks × IsAgainst plan lines tasks e
+abbrev pub IsErrOfTaskText : PlanData → List (List ℕ) → TasksErr → Type 0
+IsErrOfTaskText plan lines (BadLine n) = IsBadTaskLine lines n
+IsErrOfTaskText plan lines e = (tasks : TasksData) × AreNamedTasks lines tasks × IsTaskErr plan lines tasks e
 
 -- the lines name these tasks, and they fit the plan
-pub record AreRead (plan : PlanData) (lines : List (List ℕ)) (tasks : TasksData) : Type 0 where
-  pub said : AreSaid lines tasks
+pub record AreTasksOfText (plan : PlanData) (lines : List (List ℕ)) (tasks : TasksData) : Type 0 where
+  pub said : AreNamedTasks lines tasks
   pub are : AreTasks tasks
   pub fit : FitPlan plan tasks
 
 -- the answer for lines: the tasks that they name, or their error
-abbrev pub Reads : PlanData → List (List ℕ) → Result TasksData TasksErr → Type 0
-Reads plan lines (Ok tasks) = AreRead plan lines tasks
-Reads plan lines (Err e) = IsRefused plan lines e
+abbrev pub IsResultOfTaskText : PlanData → List (List ℕ) → Result TasksData TasksErr → Type 0
+IsResultOfTaskText plan lines (Ok tasks) = AreTasksOfText plan lines tasks
+IsResultOfTaskText plan lines (Err e) = IsErrOfTaskText plan lines e
 
 -- ---- lines read one after another
 -- tasks with their routine's addresses
@@ -132,35 +132,35 @@ abbrev pub tasks_with : Places → List Task → TasksData
 tasks_with places list = record { switch = places.switch; block = places.block; list = list }
 
 -- at most seven tasks, or the line of an eighth
-abbrev pub TellsEighth : List (List ℕ) → TasksData → Option ℕ → Type 0
-TellsEighth lines tasks None = count tasks ≤ 7
-TellsEighth lines tasks (Some n) = IsEighthTaskLine lines n
+abbrev pub IsEighthTaskLineIfAny : List (List ℕ) → TasksData → Option ℕ → Type 0
+IsEighthTaskLineIfAny lines tasks None = count tasks ≤ 7
+IsEighthTaskLineIfAny lines tasks (Some n) = IsEighthTaskLine lines n
 
 -- what the lines say: the draft has the first seven tasks and the line of an eighth
-pub record IsKept (lines : List (List ℕ)) (places : Places) (list : List Task) (eighth : Option ℕ) : Type 0 where
+pub record HasFirstSevenTasks (lines : List (List ℕ)) (places : Places) (list : List Task) (eighth : Option ℕ) : Type 0 where
   pub all : List Task
-  pub said : AreSaid lines (tasks_with places all)
+  pub said : AreNamedTasks lines (tasks_with places all)
   pub seven : list ≡ take 7 all
-  pub more : TellsEighth lines (tasks_with places all) eighth
+  pub more : IsEighthTaskLineIfAny lines (tasks_with places all) eighth
 
 -- the draft of the lines so far, which can all be empty
-abbrev pub IsDraftBy : List (List ℕ) → Option Places → List Task → Option ℕ → Type 0
-IsDraftBy lines None list eighth = (written_task_lines lines ≡ []) × (list ≡ []) × (eighth ≡ None)
-IsDraftBy lines (Some places) list eighth = IsKept lines places list eighth
+abbrev pub IsTasksDraftOfParts : List (List ℕ) → Option Places → List Task → Option ℕ → Type 0
+IsTasksDraftOfParts lines None list eighth = (nonempty_task_lines lines ≡ []) × (list ≡ []) × (eighth ≡ None)
+IsTasksDraftOfParts lines (Some places) list eighth = HasFirstSevenTasks lines places list eighth
 
 -- the draft of these lines of a text of tasks
-abbrev pub IsTasksDraft : List (List ℕ) → TasksDraft → Type 0
-IsTasksDraft lines d = IsDraftBy lines d.places d.list.items d.eighth
+abbrev pub IsTasksDraftOf : List (List ℕ) → TasksDraft → Type 0
+IsTasksDraftOf lines d = IsTasksDraftOfParts lines d.places d.list.items d.eighth
 
 -- the draft of a text of tasks after one line more, whose number this is
-abbrev pub TakesTaskLine : TasksDraft → ℕ → List ℕ → TasksDraft → Type 0
-TakesTaskLine old n line new = (before : List (List ℕ)) → IsTasksDraft before old → n ≡ length before + 1 → IsTasksDraft (before ++ line ∷ []) new
+abbrev pub IsTasksDraftAfterLine : TasksDraft → ℕ → List ℕ → TasksDraft → Type 0
+IsTasksDraftAfterLine old n line new = (before : List (List ℕ)) → IsTasksDraftOf before old → n ≡ length before + 1 → IsTasksDraftOf (before ++ line ∷ []) new
 
 -- the line of this number is of another form
-abbrev pub IsLineBad : TasksDraft → ℕ → List ℕ → TasksErr → Type 0
-IsLineBad old n line e = (e ≡ BadLine n) × ((before : List (List ℕ)) → IsTasksDraft before old → BreaksTaskForm before line)
+abbrev pub IsErrOfTaskLine : TasksDraft → ℕ → List ℕ → TasksErr → Type 0
+IsErrOfTaskLine old n line e = (e ≡ BadLine n) × ((before : List (List ℕ)) → IsTasksDraftOf before old → BreaksTaskForm before line)
 
 -- ---- the law
 -- For each plan the lines of a text of tasks have one answer: one list of tasks, or one error.
-abbrev pub TaskTextReadsOne : Type 0
-TaskTextReadsOne = (plan : PlanData) (lines : List (List ℕ)) (r s : Result TasksData TasksErr) → Reads plan lines r → Reads plan lines s → r ≡ s
+abbrev pub TaskTextHasOneResult : Type 0
+TaskTextHasOneResult = (plan : PlanData) (lines : List (List ℕ)) (r s : Result TasksData TasksErr) → IsResultOfTaskText plan lines r → IsResultOfTaskText plan lines s → r ≡ s

@@ -9,7 +9,7 @@ use Rattle.tcd_plan.specs.PlanData.{PlanData}
 use Rattle.tc_machine.specs.declared.events.End.TheVariants.{Running}
 use Rattle.tc_machine.specs.declared.state.Machine.{Machine}
 use Rattle.tc_machine.specs.Machine.{is_interrupt_stack_used, IsMachine}
-use Rattle.tc_machine.specs.PlanAreas.{first_link, link_or_end}
+use Rattle.tc_machine.specs.PlanAreas.{first_link, area_link_or_zero}
 use Rattle.tc_machine.specs.Starting.{HasGlobals}
 use Rattle.tc_mem.specs.PlanMemory.{HoldsRom, IsPlanMemory}
 use Rattle.task_chains.specs.Tasks.{TasksData, count, task_at}
@@ -35,13 +35,13 @@ abbrev pub task_lower_area : PlanData → ℕ → ℕ
 task_lower_area plan u = first_link plan + (2 * (u - 1) + 1)
 
 -- the number of areas of all these contexts
-abbrev pub held_at_start : TasksData → ℕ
-held_at_start tasks = 2 * (count tasks - 1)
+abbrev pub areas_held_at_start : TasksData → ℕ
+areas_held_at_start tasks = 2 * (count tasks - 1)
 
 -- The upper context has PCXI 0, a PSW with IO 2 and IS 0, and the task's stack pointer. The lower
 -- one, which links to the upper, has the task's entry as A11. The block's word names the lower one.
 -- All other words are any.
-pub record IsReady (core : Core) (plan : PlanData) (tasks : TasksData) (mem : Memory) (u : ℕ) : Type 0 where
+pub record IsTaskReady (core : Core) (plan : PlanData) (tasks : TasksData) (mem : Memory) (u : ℕ) : Type 0 where
   pub ends : area_word mem (task_upper_area plan u) 0 ≡ 0
   pub io : area_word mem (task_upper_area plan u) 1 / 2 ^ 10 % 4 ≡ 2
   pub is : is_interrupt_stack_used (area_word mem (task_upper_area plan u) 1) ≡ false
@@ -57,11 +57,11 @@ pub record TasksStart (image : ImageData) (plan : PlanData) (tasks : TasksData) 
   pub machine : IsMachine m
   pub memory : IsPlanMemory plan m.mem
   pub rom : HoldsRom image plan m.mem
-  pub room : held_at_start tasks ≤ plan.areas
+  pub room : areas_held_at_start tasks ≤ plan.areas
   pub first : current_task tasks m.mem ≡ 0
-  pub ready : (u : ℕ) → 1 ≤ u → u < count tasks → IsReady plan.core plan tasks m.mem u
-  pub linked : (i : ℕ) → held_at_start tasks ≤ i → i < plan.areas → area_word m.mem (first_link plan + i) 0 ≡ link_or_end plan (i + 1)
-  pub fcx : m.fcx ≡ link_or_end plan (held_at_start tasks)
+  pub ready : (u : ℕ) → 1 ≤ u → u < count tasks → IsTaskReady plan.core plan tasks m.mem u
+  pub linked : (i : ℕ) → areas_held_at_start tasks ≤ i → i < plan.areas → area_word m.mem (first_link plan + i) 0 ≡ area_link_or_zero plan (i + 1)
+  pub fcx : m.fcx ≡ area_link_or_zero plan (areas_held_at_start tasks)
   pub lcx : m.lcx ≡ first_link plan + (plan.areas - plan.reserve)
   pub pcxi : m.pcxi ≡ 0
   pub pc : m.pc ≡ (task_at tasks 0).entry

@@ -13,8 +13,8 @@ abbrev pub ViewsArePlans : Type 0
 ViewsArePlans = (plan : PlanData) (tasks : TasksData) (u : ℕ) → IsPlan plan → AreTasks tasks → FitPlan plan tasks → u < count tasks → IsPlan (view_plan_of plan tasks u)
 
 -- a store in range of a view is in range of the plan, and misses the block
-abbrev pub ViewStoresMiss : Type 0
-ViewStoresMiss =
+abbrev pub ViewStoresMissBlock : Type 0
+ViewStoresMissBlock =
     (plan : PlanData) (tasks : TasksData) (u x n : ℕ) → IsPlan plan → AreTasks tasks → FitPlan plan tasks → 0 < n → IsStoreInRange (view_plan_of plan tasks u) (x, n)
     → IsStoreInRange plan (x, n) × MissesBlock tasks (x, n)
 

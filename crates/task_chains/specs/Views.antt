@@ -10,14 +10,14 @@ use Rattle.task_chains.specs.Devices.{view_devices}
 -- ---- the image
 
 -- bytes from x on, with those in the routine replaced by the view's
-unfoldable pub with_routine_from : TasksData → ℕ → List ℕ → List ℕ
-with_routine_from tasks x [] = []
-with_routine_from tasks x (b ∷ bs) =
-    (if is_in_routine tasks x then slice_index_or (view_routine_bytes tasks) (x - tasks.switch) 0 else b) ∷ with_routine_from tasks (x + 1) bs
+unfoldable pub with_view_routine_from : TasksData → ℕ → List ℕ → List ℕ
+with_view_routine_from tasks x [] = []
+with_view_routine_from tasks x (b ∷ bs) =
+    (if is_in_routine tasks x then slice_index_or (view_routine_bytes tasks) (x - tasks.switch) 0 else b) ∷ with_view_routine_from tasks (x + 1) bs
 
 -- a segment with the view's bytes instead of the routine's
 abbrev pub view_segment : TasksData → SegmentData → SegmentData
-view_segment tasks s = record { at = s.at; bytes = with_routine_from tasks s.at s.bytes }
+view_segment tasks s = record { at = s.at; bytes = with_view_routine_from tasks s.at s.bytes }
 
 -- the image with the task's entry and the view's routine
 abbrev pub view_image_of : ImageData → TasksData → ℕ → ImageData

@@ -1,6 +1,6 @@
 // The peripherals of a task's view: the plan's, and the ram that isn't the block.
 ghost use Rattle.std.specs.Prelude.{◌≡◌, ◌≤◌, length};
-ghost use Rattle.task_chains.specs.Devices.{devices_beside_block};
+ghost use Rattle.task_chains.specs.Devices.{view_devices_beside_block};
 
 use arrayvec::ArrayVec;
 use tcd_plan::{Device, Plan, cut_plan_ranges};
@@ -8,8 +8,8 @@ use tcd_plan::{Device, Plan, cut_plan_ranges};
 /// Returns the plan's peripherals, and after them what is left of each ram range without the `n`
 /// bytes from `x` on, as peripherals that answer with any word.
 pub(crate) fn view_devices_beside_block(plan: &Plan, x: u32, n: u32) -> ArrayVec<Device, 16>
-    requires { length (devices_beside_block plan.now x n) ≤ 16 }
-    ensures { result.items ≡ devices_beside_block plan.now x n }
+    requires { length (view_devices_beside_block plan.now x n) ≤ 16 }
+    ensures { result.items ≡ view_devices_beside_block plan.now x n }
 {
     let _areas = plan.areas;
     let left = cut_plan_ranges(plan.ram.as_slice(), x, n);
@@ -29,7 +29,7 @@ pub(crate) fn view_devices_beside_block(plan: &Plan, x: u32, n: u32) -> ArrayVec
 
 /// Returns the number of the plan's peripherals and of the parts that are left of ram.
 pub(crate) fn count_view_devices(plan: &Plan, x: u32, n: u32) -> usize
-    ensures { result ≡ length (devices_beside_block plan.now x n) }
+    ensures { result ≡ length (view_devices_beside_block plan.now x n) }
 {
     let _areas = plan.areas;
     plan.devices.len() + cut_plan_ranges(plan.ram.as_slice(), x, n).len()

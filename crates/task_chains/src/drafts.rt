@@ -2,7 +2,7 @@
 ghost use Rattle.std.specs.Prelude.{◌≡◌, ◌≤◌, ◌^◌, ℕ, length, IfOk, OnOk, IfErr};
 ghost use Rattle.tcd_text.specs.Lines.{text_lines};
 ghost use Rattle.task_chains.specs.declared.task_lists.TasksErr.TheVariants.{BadLine};
-ghost use Rattle.task_chains.specs.TaskListText.{FirstBadTaskLine, IsTasksDraft, TakesTaskLine, IsLineBad};
+ghost use Rattle.task_chains.specs.TaskListText.{IsFirstBadTaskLine, IsTasksDraftOf, IsTasksDraftAfterLine, IsErrOfTaskLine};
 
 use crate::lines::{Places, switch_places_in, task_pair_in_line};
 use crate::{Task, TasksErr};
@@ -26,9 +26,9 @@ pub struct TasksDraft {
 /// Returns what all lines of a text say, or the error of the first line that has another form.
 pub(crate) fn read_tasks_draft(bytes: &[u8]) -> Result<TasksDraft, TasksErr>
     requires { length bytes.now ≤ 2 ^ 30 }
-    ensures ok { IfOk result (IsTasksDraft (text_lines bytes.now)) }
+    ensures ok { IfOk result (IsTasksDraftOf (text_lines bytes.now)) }
     ensures err { let lines = text_lines bytes.now in
-        IfErr result (λ e. (n : ℕ) × (e ≡ BadLine n) × FirstBadTaskLine lines n) }
+        IfErr result (λ e. (n : ℕ) × (e ≡ BadLine n) × IsFirstBadTaskLine lines n) }
 {
     let mut draft = TasksDraft {
         places: None,
@@ -50,8 +50,8 @@ pub(crate) fn read_tasks_draft(bytes: &[u8]) -> Result<TasksDraft, TasksErr>
 /// names the addresses, and each later one a task. After seven tasks, only the number of the next
 /// one's line is kept.
 fn add_tasks_text_line(draft: &mut TasksDraft, number: u32, line: &[u8]) -> Result<(), TasksErr>
-    ensures ok { OnOk result (TakesTaskLine draft.old number line.now draft.new) }
-    ensures err { IfErr result (IsLineBad draft.old number line.now) }
+    ensures ok { OnOk result (IsTasksDraftAfterLine draft.old number line.now draft.new) }
+    ensures err { IfErr result (IsErrOfTaskLine draft.old number line.now) }
 {
     if line.is_empty() {
         return Ok(());

@@ -2,7 +2,7 @@
 ghost use Rattle.std.specs.Prelude.{All, IfNone, IfSome};
 ghost use Rattle.value_domain.specs.State.{AreValues};
 ghost use Rattle.cfg_recover.specs.RulesHoldOrFail.{Accepts};
-ghost use Rattle.task_chains.specs.Rule17.{KeepsApart, IsTaskFault, HoldsApartIn, IsNodeFault};
+ghost use Rattle.task_chains.specs.Rule17.{KeepsRule17, IsRule17Fault, KeepsRule17AtPoint, IsRule17NodeFault};
 
 use crate::Tasks;
 use crate::rule_17::{TasksRule, keeps_rule_17};
@@ -19,8 +19,8 @@ use value_domain::Bounds;
 #[inline(never)]
 pub fn task_fault(view: &Image, plan: &Plan, tasks: &Tasks, cert: &Cert) -> Option<(Key, u32)>
     requires { Accepts view.now plan.now cert.now }
-    ensures none { IfNone result (KeepsApart view.now plan.now tasks.now cert.now) }
-    ensures some { IfSome result (λ f. IsTaskFault view.now plan.now tasks.now cert.now f.0 f.1) }
+    ensures none { IfNone result (KeepsRule17 view.now plan.now tasks.now cert.now) }
+    ensures some { IfSome result (λ f. IsRule17Fault view.now plan.now tasks.now cert.now f.0 f.1) }
 {
     let bounds = Bounds::of(plan, cert.version());
     let rule = TasksRule {
@@ -52,10 +52,10 @@ fn node_task_fault<'a>(
     requires { All (λ p. AreValues rule.now.bounds.now p.state.regs) node.now.points }
     ensures none { let r = rule.now in
         IfNone result
-        (All (HoldsApartIn r.bounds.now r.view.now r.plan.now r.tasks.now node.now.key)
+        (All (KeepsRule17AtPoint r.bounds.now r.view.now r.plan.now r.tasks.now node.now.key)
         node.now.points) }
     ensures some { let r = rule.now in
-        IfSome result (IsNodeFault r.bounds.now r.view.now r.plan.now r.tasks.now node.now) }
+        IfSome result (IsRule17NodeFault r.bounds.now r.view.now r.plan.now r.tasks.now node.now) }
 {
     node.walk(walk);
     while let Some(addr) = walk.step() {

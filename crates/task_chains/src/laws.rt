@@ -1,16 +1,16 @@
 // Laws of the views of tasks, and of all tasks together.
 ghost use Rattle.task_chains.specs.Rule17Growth.{TaskFaultsGrow, TaskFaultsRefute};
 ghost use Rattle.task_chains.specs.TaskGuardLaws.{EveryTaskIsReady, EveryPlanFits, EveryTasksStart};
-ghost use Rattle.task_chains.specs.TaskListText.{TaskTextReadsOne};
+ghost use Rattle.task_chains.specs.TaskListText.{TaskTextHasOneResult};
 ghost use Rattle.task_chains.specs.SafeTasks.{TasksAreSafe};
 ghost use Rattle.task_chains.specs.SafeTasksInWords.{SafeTasksSay, TaskPartsAreSafe};
-ghost use Rattle.task_chains.specs.ViewLaws.{ViewStoresMiss, ViewsArePlans, ViewsKeepBytes};
+ghost use Rattle.task_chains.specs.ViewLaws.{ViewStoresMissBlock, ViewsArePlans, ViewsKeepBytes};
 
 /// The plan of a view is a plan. Its stores are in range of the tasks' plan, and miss the block.
 /// Outside of the switch routine its image is the tasks' image.
 pub fn task_view_laws()
     ensures plans { ViewsArePlans }
-    ensures stores { ViewStoresMiss }
+    ensures stores { ViewStoresMissBlock }
     ensures bytes { ViewsKeepBytes }
 {}
 
@@ -28,7 +28,7 @@ pub fn tasks_in_words()
     ensures ready { EveryTaskIsReady }
     ensures fits { EveryPlanFits }
     ensures starts { EveryTasksStart }
-    ensures one { TaskTextReadsOne }
+    ensures one { TaskTextHasOneResult }
 {}
 
 /// What safe runs of tasks means, in plain equations: each state of a run has these parts, and they

@@ -1,7 +1,7 @@
 // Lines of a text of tasks.
 ghost use Rattle.std.specs.Prelude.{◌≡◌};
 ghost use Rattle.tcd_text.specs.Lines.{line_words};
-ghost use Rattle.task_chains.specs.TaskListText.{task_pair_of_words, places_of};
+ghost use Rattle.task_chains.specs.TaskListText.{task_pair_of_words, switch_places_of};
 
 use tcd_text::{Words, hex_number, words_in};
 
@@ -14,7 +14,7 @@ pub struct Places {
 
 /// Returns the addresses of a line `switch Y B`, if Y is even and B a multiple of 4.
 pub(crate) fn switch_places_in(line: &[u8]) -> Option<Places>
-    ensures { result ≡ places_of line.now }
+    ensures { result ≡ switch_places_of line.now }
 {
     match task_pair_in_line(b"switch".as_slice(), line) {
         Some((switch, block)) if switch % 2 == 0 && block % 4 == 0 => Some(Places {

@@ -2,7 +2,7 @@
 ghost use Rattle.std.specs.Prelude.{◌≡◌, ◌≤◌, ◌<◌, ◌+◌, ◌*◌, ◌/◌, ◌%◌, ◌^◌, ◌↔◌, IsTrue, IfNone, IfSome, slice_index, ◌-◌, ℕ};
 ghost use Rattle.std.specs.List.{flat_map};
 ghost use Rattle.tcd_base.specs.Bytes.{four_bytes};
-ghost use Rattle.task_chains.specs.SwitchRoutine.{routine_of, bytes_of_routine, routine_bytes, HasRoutineByte, HasRoutine, IsRoutineFault, view_routine_of, view_routine_bytes};
+ghost use Rattle.task_chains.specs.SwitchRoutine.{switch_routine_of, bytes_of_routine, routine_bytes, HasRoutineByte, HasRoutine, IsRoutineFault, view_routine_of, view_routine_bytes};
 ghost use Rattle.tcd_base.specs.Ranges.{IsInOneRange};
 
 use crate::Tasks;
@@ -82,7 +82,7 @@ pub(crate) fn view_routine_bytes(tasks: &Tasks) -> [u8; 72]
 /// Returns the words of the routine of `n` tasks whose block is at `b`.
 fn routine_words(n: u32, b: u32) -> [u32; 18]
     requires { n ≤ 7 }
-    ensures { flat_map four_bytes result ≡ bytes_of_routine (routine_of n b) }
+    ensures { flat_map four_bytes result ≡ bytes_of_routine (switch_routine_of n b) }
 {
     let upper = upper_half(b);
     let lower = bol_offset_bits(lower_half(b));

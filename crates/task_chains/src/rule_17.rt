@@ -1,10 +1,10 @@
 // K17: the test at a point of a view's certificate.
 ghost use Rattle.std.specs.Prelude.{◌↔◌, IsTrue, ◌≡◌, ◌≤◌, ◌<◌, ◌+◌, ◌-◌, ◌*◌, ◌/◌, ◌^◌, ℕ};
 ghost use Rattle.value_domain.specs.State.{AreValues};
-ghost use Rattle.task_chains.specs.Rule17.{HoldsApartIn, AreAccessesApart, LoadsElsewhere, ReadsNoLink, IsNoBisr, StaysApart, HasAccessBetween, IsPlaceApart};
+ghost use Rattle.task_chains.specs.Rule17.{KeepsRule17AtPoint, AreAccessesApart, LoadMissesAreasAndRoutine, ReadsNoContextRegister, IsNoBisr, KeepsRule17ByShape, HasAccessBetween, MayHavePointAt};
 ghost use Rattle.tc_isa.specs.InBounds.{IsShape};
 ghost use Rattle.value_domain.specs.Sets.{Among};
-ghost use Rattle.value_domain.specs.Values.{IsWell};
+ghost use Rattle.value_domain.specs.Values.{IsWellFormed};
 ghost use Rattle.store_ranges.specs.Accesses.{IsAccessSize};
 
 use crate::Tasks;
@@ -40,7 +40,7 @@ pub(crate) fn keeps_rule_17(
     requires { AreValues rule.now.bounds.now s.now.regs }
     ensures { let r = rule.now in
         IsTrue result
-        ↔ HoldsApartIn r.bounds.now r.view.now r.plan.now r.tasks.now key.now
+        ↔ KeepsRule17AtPoint r.bounds.now r.view.now r.plan.now r.tasks.now key.now
         (record { addr = addr; state = s.now }) }
 {
     match codes.locate(rule.view, rule.plan, addr) {
@@ -52,7 +52,7 @@ pub(crate) fn keeps_rule_17(
 /// Returns whether no access of `size` bytes (1, 2 or 4), at an address that is a word of the
 /// value, shares a byte with the `len` bytes from `from` on, as K17 asks of a load.
 pub(crate) fn are_accesses_apart(at: &Val, size: u8, from: u32, len: u32) -> bool
-    requires at { IsWell at.now }
+    requires at { IsWellFormed at.now }
     requires size { IsAccessSize size }
     requires some { 0 < len }
     ensures { IsTrue result ↔ AreAccessesApart at.now size from len }
@@ -75,7 +75,7 @@ pub(crate) fn stays_apart(rule: &TasksRule, key: &Key, addr: u32, s: &State, sha
     requires values { AreValues rule.now.bounds.now s.now.regs }
     ensures { let r = rule.now in
         IsTrue result
-        ↔ StaysApart r.bounds.now r.plan.now r.tasks.now key.now addr s.now shape }
+        ↔ KeepsRule17ByShape r.bounds.now r.plan.now r.tasks.now key.now addr s.now shape }
 {
     may_have_point_at(rule.tasks, key, addr)
         && misses_areas_and_routine(rule.bounds, rule.plan, rule.tasks, s, shape)
@@ -86,7 +86,7 @@ pub(crate) fn stays_apart(rule: &TasksRule, key: &Key, addr: u32, s: &State, sha
 /// Returns whether some word of the value, at which an access begins, is in `low..=high`, for the
 /// test of K17.
 fn has_access_between(v: &Val, low: u32, high: u32) -> bool
-    requires { IsWell v.now }
+    requires { IsWellFormed v.now }
     ensures { IsTrue result ↔ HasAccessBetween v.now low high }
 {
     match v {
@@ -129,7 +129,7 @@ fn is_between(x: u32, low: u32, high: u32) -> bool
 /// Returns whether a frame can have a point at an address: the routine's frame only at the
 /// routine's instructions, each other frame only outside of the routine.
 fn may_have_point_at(tasks: &Tasks, key: &Key, addr: u32) -> bool
-    ensures { IsTrue result ↔ IsPlaceApart tasks.now key.now addr }
+    ensures { IsTrue result ↔ MayHavePointAt tasks.now key.now addr }
 {
     let switch = Key {
         kind: CALL,
@@ -149,7 +149,7 @@ fn may_have_point_at(tasks: &Tasks, key: &Key, addr: u32) -> bool
 fn misses_areas_and_routine(b: &Bounds, plan: &Plan, tasks: &Tasks, s: &State, shape: Shape) -> bool
     requires shape { IsShape shape }
     requires values { AreValues b.now s.now.regs }
-    ensures { IsTrue result ↔ LoadsElsewhere b.now plan.now tasks.now s.now shape }
+    ensures { IsTrue result ↔ LoadMissesAreasAndRoutine b.now plan.now tasks.now s.now shape }
 {
     match shape {
         Shape::Load { size, .. } => {
@@ -163,7 +163,7 @@ fn misses_areas_and_routine(b: &Bounds, plan: &Plan, tasks: &Tasks, s: &State, s
 
 /// Returns whether the instruction reads none of PCXI, FCX and LCX, as K17 asks.
 fn reads_no_context_register(shape: Shape) -> bool
-    ensures { IsTrue result ↔ ReadsNoLink shape }
+    ensures { IsTrue result ↔ ReadsNoContextRegister shape }
 {
     match shape {
         Shape::Mfcr { number, .. } => number != PCXI && number != FCX && number != LCX,

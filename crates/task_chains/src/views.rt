@@ -2,7 +2,7 @@
 ghost use Rattle.std.specs.Prelude.{◌≡◌, ◌<◌, ◌-◌, ◌==◌, ◌&&◌, false, nat_le, nat_lt, if◌then◌else◌, set, length, IfOk, ◌+◌, ◌*◌};
 ghost use Rattle.elf_image.specs.Images.{segment_data};
 ghost use Rattle.task_chains.specs.Tasks.{count};
-ghost use Rattle.task_chains.specs.Views.{FitPlan, with_routine_from, view_segment, view_image_of, view_plan_of};
+ghost use Rattle.task_chains.specs.Views.{FitPlan, with_view_routine_from, view_segment, view_image_of, view_plan_of};
 
 use crate::Tasks;
 use crate::devices::view_devices_beside_block;
@@ -75,7 +75,7 @@ fn segment_of_view(alloc: Global, segment: &Segment, tasks: &Tasks) -> Result<Se
 
 /// Writes the view's routine over the bytes of a segment that are in the routine.
 fn write_view_routine(bytes: &mut [u8], at: u32, tasks: &Tasks)
-    ensures { bytes.new ≡ with_routine_from tasks.now at bytes.old }
+    ensures { bytes.new ≡ with_view_routine_from tasks.now at bytes.old }
 {
     let routine = view_routine_bytes(tasks);
     for (i, byte) in routine.iter().enumerate() {

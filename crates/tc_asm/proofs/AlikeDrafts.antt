@@ -7,18 +7,18 @@ use Rattle.std.proofs.lemmas.List.{length-map, length-replicate, map-append, get
 use Rattle.std.proofs.lemmas.List.Sums.{fold_more}
 use Rattle.tc_isa.specs.declared.fields.Fields.{Fields}
 use Rattle.tc_isa.specs.Rows.{RowData, listed, is_long}
-use Rattle.tc_isa.specs.Relocations.{is_reloc}
+use Rattle.tc_isa.specs.Relocations.{is_relocation_kind}
 use Rattle.tc_stmt.specs.Names.{is_source_name}
 use Rattle.tc_stmt.specs.Items.{ReferenceData, ItemData, item_of, label, section, global, code, bytes, zeros}
 use Rattle.tc_lex.proofs.Mapped.{position-map}
 use Rattle.tc_asm.specs.declared.symbols.Place.{Place}
 use Rattle.tc_stmt.specs.declared.item.Item.{Item}
 use Rattle.tc_stmt.specs.Lines.{lines_in, items_in}
-use Rattle.tc_asm.specs.Symbols.{SymbolData, seen, labelled, made_global}
-use Rattle.tc_asm.specs.Drafts.{PartData, DraftData, part, start, draft_place, has_section, has_room, here, with_label, number_of_part, with_current_section, with_global, with_part_bytes, with_bytes, with_part_use, with_use, with_reference, with_content, code_bytes, draft_after_item, part_size_at, assembled_code_size}
+use Rattle.tc_asm.specs.Symbols.{SymbolData, with_name, with_symbol_label, with_global_symbol}
+use Rattle.tc_asm.specs.Drafts.{PartData, DraftData, part, empty_draft, next_byte_offset, has_section, has_room, next_byte_place, with_label, number_of_part, with_current_section, with_global, with_part_bytes, with_bytes, with_part_use, with_use, with_reference, with_content, code_bytes, draft_after_item, part_size_at, assembled_code_size}
 use Rattle.tc_asm.specs.DraftedSources.{symbols_of, symbols_in}
 use Rattle.tc_asm.specs.ItemInvariants.{IsAddedCode, IsAddedItem}
-use Rattle.tc_asm.specs.AlikeDrafts.{PartSizeData, draft_part_size, Alike}
+use Rattle.tc_asm.specs.AlikeDrafts.{PartSizeData, draft_part_size, HasSameSizesAndSymbols}
 use Rattle.tc_asm.specs.DraftInvariants.{EachInDraft}
 use Rattle.tc_stmt.proofs.Cases.{by_test}
 use Rattle.tc_asm.proofs.ListLaws.{changed, changed-set, size_at-get}
@@ -27,16 +27,16 @@ use Rattle.tc_asm.proofs.CodeSizes.{code_length}
 use Rattle.tc_asm.proofs.LaidLaws.{lines-items}
 
 -- ---- drafts with the same symbols and sizes
-pub alike_same : (d : DraftData) → Alike d d
+pub alike_same : (d : DraftData) → HasSameSizesAndSymbols d d
 alike_same d = record { section = refl; sizes = refl; symbols = refl; total = refl }
 
-alike_then : (d e f : DraftData) → Alike d e → Alike e f → Alike d f
+alike_then : (d e f : DraftData) → HasSameSizesAndSymbols d e → HasSameSizesAndSymbols e f → HasSameSizesAndSymbols d f
 alike_then d e f h k = record { section = h.section ∙ k.section; sizes = h.sizes ∙ k.sizes; symbols = h.symbols ∙ k.symbols; total = h.total ∙ k.total }
 
-alike_back : (d e : DraftData) → Alike d e → Alike e d
+alike_back : (d e : DraftData) → HasSameSizesAndSymbols d e → HasSameSizesAndSymbols e d
 alike_back d e h = record { section = sym h.section; sizes = sym h.sizes; symbols = sym h.symbols; total = sym h.total }
 
-alike_cond : (a b : Bool) (d e x y : DraftData) → a ≡ b → Alike x y → Alike d e → Alike (cond a x d) (cond b y e)
+alike_cond : (a b : Bool) (d e x y : DraftData) → a ≡ b → HasSameSizesAndSymbols x y → HasSameSizesAndSymbols d e → HasSameSizesAndSymbols (cond a x d) (cond b y e)
 alike_cond true true d e x y same h k = h
 alike_cond true false d e x y same h k = cc
 alike_cond false true d e x y same h k = cc
@@ -73,7 +73,7 @@ same_kept f h [] n = refl
 same_kept f h (p ∷ ps) zero = ap (λ (s : PartSizeData). s ∷ map draft_part_size ps) (h p)
 same_kept f h (p ∷ ps) (suc n) = ap (λ (ss : List PartSizeData). draft_part_size p ∷ ss) (same_kept f h ps n)
 
-module _ (d e : DraftData) (h : Alike d e) where
+module _ (d e : DraftData) (h : HasSameSizesAndSymbols d e) where
   long : length d.parts ≡ length e.parts
   long = sym (length-map d.parts draft_part_size) ∙ ap length h.sizes ∙ length-map e.parts draft_part_size
 
@@ -83,12 +83,12 @@ module _ (d e : DraftData) (h : Alike d e) where
   room : (m n : ℕ) → m ≡ n → has_room d m ≡ has_room e n
   room m n same = ap (λ k. nat_le (k + m) (2 ^ 24)) h.total ∙ ap (λ k. nat_le (e.total + k) (2 ^ 24)) same
 
-  place : draft_place d ≡ draft_place e
-  unfolding draft_place
+  place : next_byte_offset d ≡ next_byte_offset e
+  unfolding next_byte_offset
   place = size_at-get d.parts d.section ∙ ap (part_size_at d.parts) h.section ∙ same_size d.parts e.parts e.section h.sizes ∙ sym (size_at-get e.parts e.section)
 
-  same_here : here d ≡ here e
-  same_here = ap (λ n. at n (draft_place d)) h.section ∙ ap (at e.section) place
+  same_here : next_byte_place d ≡ next_byte_place e
+  same_here = ap (λ n. at n (next_byte_offset d)) h.section ∙ ap (at e.section) place
     where
       at : ℕ → ℕ → Place
       at s n = record { section = s; offset = n }
@@ -99,18 +99,18 @@ module _ (d e : DraftData) (h : Alike d e) where
       ∙ ap (unwrap_or (position (λ (p : PartData). bytes_eq name p.name) e.parts)) long
 
   -- ---- a single step
-  label_alike : (name : List ℕ) → Alike (with_label d name) (with_label e name)
+  label_alike : (name : List ℕ) → HasSameSizesAndSymbols (with_label d name) (with_label e name)
   unfolding with_label
   label_alike name =
       alike_cond _ _ d e _ _ refl
       (record {
         section = h.section;
         sizes = h.sizes;
-        symbols = ap (λ (ss : List SymbolData). labelled ss name (here d)) h.symbols ∙ ap (labelled e.symbols name) same_here;
+        symbols = ap (λ (ss : List SymbolData). with_symbol_label ss name (next_byte_place d)) h.symbols ∙ ap (with_symbol_label e.symbols name) same_here;
         total = h.total;
       }) h
 
-  entered_alike : (name : List ℕ) → Alike (with_current_section d name) (with_current_section e name)
+  entered_alike : (name : List ℕ) → HasSameSizesAndSymbols (with_current_section d name) (with_current_section e name)
   unfolding with_current_section
   entered_alike name =
       alike_cond (not (is_source_name name)) (not (is_source_name name)) _ _ d e refl h
@@ -124,11 +124,11 @@ module _ (d e : DraftData) (h : Alike d e) where
         total = h.total;
       }) h))
 
-  global_alike : (name : List ℕ) → Alike (with_global d name) (with_global e name)
+  global_alike : (name : List ℕ) → HasSameSizesAndSymbols (with_global d name) (with_global e name)
   unfolding with_global
-  global_alike name = alike_cond _ _ d e _ _ refl (record { section = h.section; sizes = h.sizes; symbols = ap (λ (ss : List SymbolData). made_global ss name) h.symbols; total = h.total }) h
+  global_alike name = alike_cond _ _ d e _ _ refl (record { section = h.section; sizes = h.sizes; symbols = ap (λ (ss : List SymbolData). with_global_symbol ss name) h.symbols; total = h.total }) h
 
-  bytes_alike : (bs cs : List ℕ) → length bs ≡ length cs → Alike (with_bytes d bs) (with_bytes e cs)
+  bytes_alike : (bs cs : List ℕ) → length bs ≡ length cs → HasSameSizesAndSymbols (with_bytes d bs) (with_bytes e cs)
   unfolding with_bytes with_part_bytes
   bytes_alike bs cs same =
       alike_cond _ _ d e _ _ (ap (λ b. b && has_room d (length bs)) there ∙ ap (λ b. has_section e && b) (room (length bs) (length cs) same))
@@ -151,34 +151,34 @@ module _ (d e : DraftData) (h : Alike d e) where
           ap (λ (name : List ℕ). sized name (length (p.bytes ++ bs))) (ap (λ (s : PartSizeData). s.name) e) ∙ ap (sized q.name) size
 
 -- uses of symbols don't change symbols and sizes
-use_alike : (d : DraftData) (n : ℕ) (r : ReferenceData) → Alike (with_use d n r) d
+use_alike : (d : DraftData) (n : ℕ) (r : ReferenceData) → HasSameSizesAndSymbols (with_use d n r) d
 unfolding with_use with_part_use
 use_alike d n r =
-    by_test (λ (x : DraftData). Alike x d) _ _ _
+    by_test (λ (x : DraftData). HasSameSizesAndSymbols x d) _ _ _
     (λ b. record {
       section = refl;
-      sizes = ap (map draft_part_size) (changed-set (λ (p : PartData). record p { uses = p.uses ++ record { offset = draft_place d; reference = r } ∷ [] }) d.parts d.section) ∙ same_kept (λ (p : PartData). record p { uses = p.uses ++ record { offset = draft_place d; reference = r } ∷ [] }) (λ p. refl) d.parts d.section;
+      sizes = ap (map draft_part_size) (changed-set (λ (p : PartData). record p { uses = p.uses ++ record { offset = next_byte_offset d; reference = r } ∷ [] }) d.parts d.section) ∙ same_kept (λ (p : PartData). record p { uses = p.uses ++ record { offset = next_byte_offset d; reference = r } ∷ [] }) (λ p. refl) d.parts d.section;
       symbols = refl;
       total = refl;
     })
     (λ b. alike_same d)
 
-seen_alike : (d e : DraftData) (name : List ℕ) → Alike d e → Alike (record d { symbols = seen d.symbols name }) (record e { symbols = seen e.symbols name })
-seen_alike d e name h = record { section = h.section; sizes = h.sizes; symbols = ap (λ (ss : List SymbolData). seen ss name) h.symbols; total = h.total }
+seen_alike : (d e : DraftData) (name : List ℕ) → HasSameSizesAndSymbols d e → HasSameSizesAndSymbols (record d { symbols = with_name d.symbols name }) (record e { symbols = with_name e.symbols name })
+seen_alike d e name h = record { section = h.section; sizes = h.sizes; symbols = ap (λ (ss : List SymbolData). with_name ss name) h.symbols; total = h.total }
 
-reference_alike : (d e : DraftData) (m n : ℕ) (o : Option ReferenceData) → Alike d e → Alike (with_reference d m o) (with_reference e n o)
+reference_alike : (d e : DraftData) (m n : ℕ) (o : Option ReferenceData) → HasSameSizesAndSymbols d e → HasSameSizesAndSymbols (with_reference d m o) (with_reference e n o)
 unfolding with_reference
 reference_alike d e m n None h = h
 reference_alike d e m n (Some r) h =
-    let x : DraftData = record d { symbols = seen d.symbols r.name } in
-    let y : DraftData = record e { symbols = seen e.symbols r.name } in
+    let x : DraftData = record d { symbols = with_name d.symbols r.name } in
+    let y : DraftData = record e { symbols = with_name e.symbols r.name } in
     alike_cond (is_source_name r.name) (is_source_name r.name) d e _ _ refl
     (alike_then (with_use x m r) x (with_use y n r) (use_alike x m r) (alike_then x y (with_use y n r) (seen_alike d e r.name h) (alike_back (with_use y n r) y (use_alike y n r)))) h
 
-content_alike : (d e : DraftData) (bs cs : List ℕ) (o : Option ReferenceData) → length bs ≡ length cs → Alike d e → Alike (with_content d bs o) (with_content e cs o)
+content_alike : (d e : DraftData) (bs cs : List ℕ) (o : Option ReferenceData) → length bs ≡ length cs → HasSameSizesAndSymbols d e → HasSameSizesAndSymbols (with_content d bs o) (with_content e cs o)
 content_alike d e bs cs o same h = bytes_alike (with_reference d (length bs) o) (with_reference e (length cs) o) (reference_alike d e (length bs) (length cs) o h) bs cs same
 
-pub step_alike : (labels others : List SymbolData) (d e : DraftData) (i : ItemData) → IsAddedItem i → Alike d e → Alike (draft_after_item labels d i) (draft_after_item others e i)
+pub step_alike : (labels others : List SymbolData) (d e : DraftData) (i : ItemData) → IsAddedItem i → HasSameSizesAndSymbols d e → HasSameSizesAndSymbols (draft_after_item labels d i) (draft_after_item others e i)
 unfolding draft_after_item
 step_alike labels others d e (label name) good h = label_alike d e h name
 step_alike labels others d e (section name) good h = entered_alike d e h name
@@ -188,7 +188,7 @@ step_alike labels others d e (code k f o) good h =
 step_alike labels others d e (bytes bs o) good h = content_alike d e bs bs o refl h
 step_alike labels others d e (zeros n) good h = bytes_alike d e h (replicate n 0) (replicate n 0) refl
 
-items_alike : (labels others : List SymbolData) (is : List ItemData) (d e : DraftData) → EachInDraft IsAddedItem is → Alike d e → Alike (fold (draft_after_item labels) d is) (fold (draft_after_item others) e is)
+items_alike : (labels others : List SymbolData) (is : List ItemData) (d e : DraftData) → EachInDraft IsAddedItem is → HasSameSizesAndSymbols d e → HasSameSizesAndSymbols (fold (draft_after_item labels) d is) (fold (draft_after_item others) e is)
 items_alike labels others [] d e good h = h
 items_alike labels others (i ∷ is) d e good h = items_alike labels others is (draft_after_item labels d i) (draft_after_item others e i) good.1 (step_alike labels others d e i good.0 h)
 
@@ -196,9 +196,9 @@ items_alike labels others (i ∷ is) d e good h = items_alike labels others is (
 pub passes_agree : (source : List ℕ) → symbols_in source ≡ symbols_of (lines_in source)
 passes_agree source =
     let labels : List SymbolData = symbols_of (lines_in source) in
-    ap (λ (d : DraftData). d.symbols) (lines-items labels (lines_in source) start)
-    ∙ (items_alike labels [] (items_in (lines_in source)) start start (source_are source) (alike_same start)).symbols
-    ∙ sym (ap (λ (d : DraftData). d.symbols) (lines-items [] (lines_in source) start))
+    ap (λ (d : DraftData). d.symbols) (lines-items labels (lines_in source) empty_draft)
+    ∙ (items_alike labels [] (items_in (lines_in source)) empty_draft empty_draft (source_are source) (alike_same empty_draft)).symbols
+    ∙ sym (ap (λ (d : DraftData). d.symbols) (lines-items [] (lines_in source) empty_draft))
 
 -- ---- the first pass
 pub sized : (k : ℕ) → option_map_or (λ (row : RowData). cond (is_long row) 4 2) (slice_get listed k) 0 ≡ assembled_code_size k
@@ -207,22 +207,22 @@ sized k = refl
 
 -- zeros instead of bytes
 zeros_alike : (d e next : DraftData) (bs : List ℕ) (o : Option ReferenceData) (n : ℕ)
-    → next ≡ with_bytes (with_reference d 0 o) (replicate n 0) → n ≡ length bs → Alike d e → Alike next (with_content e bs o)
+    → next ≡ with_bytes (with_reference d 0 o) (replicate n 0) → n ≡ length bs → HasSameSizesAndSymbols d e → HasSameSizesAndSymbols next (with_content e bs o)
 zeros_alike d e next bs o n made same h =
-    subst (λ (x : DraftData). Alike x (with_content e bs o)) (sym made)
+    subst (λ (x : DraftData). HasSameSizesAndSymbols x (with_content e bs o)) (sym made)
     (bytes_alike (with_reference d 0 o) (with_reference e (length bs) o) (reference_alike d e 0 (length bs) o h) (replicate n 0) bs (length-replicate n 0 ∙ same))
 
 -- a label
-pub label_counted : (d e next : DraftData) (name : List ℕ) → next ≡ with_label d name → Alike d e → Alike next (draft_after_item [] e (label name))
+pub label_counted : (d e next : DraftData) (name : List ℕ) → next ≡ with_label d name → HasSameSizesAndSymbols d e → HasSameSizesAndSymbols next (draft_after_item [] e (label name))
 unfolding draft_after_item
-label_counted d e next name made h = subst (λ (x : DraftData). Alike x (draft_after_item [] e (label name))) (sym made) (label_alike d e h name)
+label_counted d e next name made h = subst (λ (x : DraftData). HasSameSizesAndSymbols x (draft_after_item [] e (label name))) (sym made) (label_alike d e h name)
 
 -- a symbol of the first pass, which has no use
-pub see_named : (d next : DraftData) (r : ReferenceData) → is_source_name r.name ≡ true → next ≡ record d { symbols = seen d.symbols r.name } → next ≡ with_reference d 0 (Some r)
+pub see_named : (d next : DraftData) (r : ReferenceData) → is_source_name r.name ≡ true → next ≡ record d { symbols = with_name d.symbols r.name } → next ≡ with_reference d 0 (Some r)
 unfolding with_reference with_use
 see_named d next r named made =
-    let x : DraftData = record d { symbols = seen d.symbols r.name } in
-    made ∙ unused (has_section x) (has_room x 0) (is_reloc r.kind) (nat_lt x.count 65535) _ x ∙ sym (ap (λ b. cond b (with_use x 0 r) d) named)
+    let x : DraftData = record d { symbols = with_name d.symbols r.name } in
+    made ∙ unused (has_section x) (has_room x 0) (is_relocation_kind r.kind) (nat_lt x.count 65535) _ x ∙ sym (ap (λ b. cond b (with_use x 0 r) d) named)
   where
     unused : (a b e f : Bool) (x y : DraftData) → y ≡ cond (a && b && false && e && f) x y
     unused true true e f x y = refl
@@ -231,7 +231,7 @@ see_named d next r named made =
 
 -- zeros instead of an instruction's bytes
 pub code_alike : (d e next : DraftData) (k : ℕ) (f : Fields) (o : Option ReferenceData) (n : ℕ) → IsAddedCode k f o
-    → next ≡ with_bytes (with_reference d 0 o) (replicate n 0) → n ≡ assembled_code_size k → Alike d e → Alike next (draft_after_item [] e (code k f o))
+    → next ≡ with_bytes (with_reference d 0 o) (replicate n 0) → n ≡ assembled_code_size k → HasSameSizesAndSymbols d e → HasSameSizesAndSymbols next (draft_after_item [] e (code k f o))
 unfolding draft_after_item assembled_code_size
 code_alike d e next k f o n is made size h = zeros_alike d e next (code_bytes [] e k f o) o n made (size ∙ as_many) h
   where
@@ -240,21 +240,21 @@ code_alike d e next k f o n is made size h = zeros_alike d e next (code_bytes []
 
 -- zeros instead of data
 pub data_alike : (d e next : DraftData) (bs : List ℕ) (o : Option ReferenceData) (n : ℕ)
-    → next ≡ with_bytes (with_reference d 0 o) (replicate n 0) → n ≡ length bs → Alike d e → Alike next (draft_after_item [] e (bytes bs o))
+    → next ≡ with_bytes (with_reference d 0 o) (replicate n 0) → n ≡ length bs → HasSameSizesAndSymbols d e → HasSameSizesAndSymbols next (draft_after_item [] e (bytes bs o))
 unfolding draft_after_item
 data_alike d e next bs o n made same h = zeros_alike d e next bs o n made same h
 
 -- the step of any other item
-pub step_counted : (d e next : DraftData) (labels : List SymbolData) (i : ItemData) → IsAddedItem i → labels ≡ [] → next ≡ draft_after_item labels d i → Alike d e → Alike next (draft_after_item [] e i)
+pub step_counted : (d e next : DraftData) (labels : List SymbolData) (i : ItemData) → IsAddedItem i → labels ≡ [] → next ≡ draft_after_item labels d i → HasSameSizesAndSymbols d e → HasSameSizesAndSymbols next (draft_after_item [] e i)
 step_counted d e next labels i good none made h =
-    subst (λ (x : DraftData). Alike x (draft_after_item [] e i)) (sym (made ∙ ap (λ (ls : List SymbolData). draft_after_item ls d i) none)) (step_alike [] [] d e i good h)
+    subst (λ (x : DraftData). HasSameSizesAndSymbols x (draft_after_item [] e i)) (sym (made ∙ ap (λ (ls : List SymbolData). draft_after_item ls d i) none)) (step_alike [] [] d e i good h)
 
 -- a further item
-module _ (items : List Item) (i : ℕ) (draft first : DraftData) (so_far : Alike draft (fold (draft_after_item []) first (take i (map item_of items)))) where
-  pub alike_next : (d : Item) (next : DraftData) → i < length items → ((e : DraftData) → Alike draft e → Alike next (draft_after_item [] e (item_of (get_or items i d)))) → Alike next (fold (draft_after_item []) first (take (i + 1) (map item_of items)))
+module _ (items : List Item) (i : ℕ) (draft first : DraftData) (so_far : HasSameSizesAndSymbols draft (fold (draft_after_item []) first (take i (map item_of items)))) where
+  pub alike_next : (d : Item) (next : DraftData) → i < length items → ((e : DraftData) → HasSameSizesAndSymbols draft e → HasSameSizesAndSymbols next (draft_after_item [] e (item_of (get_or items i d)))) → HasSameSizesAndSymbols next (fold (draft_after_item []) first (take (i + 1) (map item_of items)))
   alike_next d next within step =
       let there : get_or (map item_of items) i (item_of d) ≡ item_of (get_or items i d) = get_or-map item_of items i d (item_of d) within in
-      subst (λ (e : DraftData). Alike next e)
+      subst (λ (e : DraftData). HasSameSizesAndSymbols next e)
       (ap (draft_after_item [] (fold (draft_after_item []) first (take i (map item_of items)))) (sym there) ∙ sym (fold_more (draft_after_item []) first (map item_of items) i (item_of d) (rw (length-map items item_of) within)))
       (step (fold (draft_after_item []) first (take i (map item_of items))) so_far)
 

@@ -11,12 +11,12 @@ use Rattle.tc_stmt.specs.RowFields.{RowFieldsData, set_field, with_rule}
 use Rattle.tc_stmt.specs.Items.{ReferenceData, ItemData, code, bytes}
 use Rattle.tc_stmt.specs.Displacements.{displacement_rule, with_displacement}
 use Rattle.tc_asm.specs.Symbols.{SymbolData}
-use Rattle.tc_asm.specs.Drafts.{DraftData, start, label_distance, drafted_fields, fields_with_label_distance, fields_with_target, assembled_row_code, row_fields_with_target, code_bytes, draft_after_item}
+use Rattle.tc_asm.specs.Drafts.{DraftData, empty_draft, label_distance, drafted_fields, fields_with_label_distance, fields_with_target, assembled_row_code, row_fields_with_target, code_bytes, draft_after_item}
 use Rattle.tc_asm.specs.DraftInvariants.{EachInDraft}
 use Rattle.tc_stmt.specs.Lines.{lines_in, items_in}
 use Rattle.tc_asm.specs.DraftedSources.{symbols_of}
 use Rattle.tc_stmt.proofs.Cases.{by_test}
-use Rattle.tc_asm.specs.Statements.{is_open_statement}
+use Rattle.tc_asm.specs.Statements.{has_unresolved_symbol}
 use Rattle.tc_stmt.specs.StatedRows.{TakesAnySymbol}
 use Rattle.tc_stmt.proofs.StatedRows.{Sound, sound_displaced}
 use Rattle.tc_asm.specs.ItemInvariants.{IsAddedCode, IsAddedItem}
@@ -71,7 +71,7 @@ code_length labels d k f o c =
     ∙ spelled_length c.row (row_fields_with_target labels d k f o).fields (resolved_fits labels d k f o c.row c.at c.symbols c.fits)
 
 -- ---- valid items
-open_long : (row : RowData) (o : Option ReferenceData) → TakesAnySymbol row o → is_open_statement o ≡ true → is_long row ≡ true
+open_long : (row : RowData) (o : Option ReferenceData) → TakesAnySymbol row o → has_unresolved_symbol o ≡ true → is_long row ≡ true
 open_long row None s e = cc
 open_long row (Some r) s e = ((s.some r refl).long e).0
 
@@ -88,5 +88,5 @@ items_good labels d [] h = tt
 items_good labels d (i ∷ is) h = (item_good labels d i h.0, items_good labels (draft_after_item labels d i) is h.1)
 
 -- a symbol of a source's statement that waits has a name and four bytes
-pub source_good : (source : List ℕ) → GoodItems (symbols_of (lines_in source)) start (items_in (lines_in source))
-source_good source = items_good (symbols_of (lines_in source)) start (items_in (lines_in source)) (source_are source)
+pub source_good : (source : List ℕ) → GoodItems (symbols_of (lines_in source)) empty_draft (items_in (lines_in source))
+source_good source = items_good (symbols_of (lines_in source)) empty_draft (items_in (lines_in source)) (source_are source)

@@ -12,7 +12,7 @@ use Rattle.tc_asm.specs.declared.sections.Use.{Use}
 use Rattle.tc_asm.specs.Symbols.{SymbolData, symbol_names}
 use Rattle.tc_asm.specs.Drafts.{PartData, DraftData, part_names, part_size_at}
 use Rattle.tc_asm.specs.DraftViews.{use_of, part_of}
-use Rattle.tc_asm.specs.DraftInvariants.{EachInDraft, IsNewDraftName, IsPlaced, IsSmallLabelPlace, Spaced, IsPart, IsDraft}
+use Rattle.tc_asm.specs.DraftInvariants.{EachInDraft, IsNewDraftName, IsPlaced, IsSmallLabelPlace, AreUsesSpaced, IsPart, IsDraft}
 use Rattle.tc_asm.proofs.ListLaws.{each_weaker, spaced_end, all_from_each}
 
 named : (before : List (List ℕ)) (name : List ℕ) → IsNewDraftName before name → is_some (object_name_of name) ≡ true
@@ -53,7 +53,7 @@ symbols_small d h =
     all_from_each _ d.symbols (each_weaker _ _ (λ (s : SymbolData). place_small d.parts h.few_parts
     (λ n. let t = h.total in let s = size_small (symbol_names d.symbols) d.total d.parts h.parts n in omega arith) s.entry.place) d.symbols h.places)
 
-uses_small : (low : ℕ) (us : List Use) (size : ℕ) → size ≤ 2 ^ 24 → Spaced low (map use_of us) size → EachInDraft (λ (u : Use). u.offset < 2 ^ 32) us
+uses_small : (low : ℕ) (us : List Use) (size : ℕ) → size ≤ 2 ^ 24 → AreUsesSpaced low (map use_of us) size → EachInDraft (λ (u : Use). u.offset < 2 ^ 32) us
 uses_small low [] size few h = tt
 uses_small low (u ∷ us) size few h = (let ends = spaced_end (u.offset + 4) (map use_of us) size h.1 in omega arith, uses_small (u.offset + 4) us size few h.1)
 

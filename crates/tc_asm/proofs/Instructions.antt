@@ -6,11 +6,11 @@ use Rattle.tc_isa.specs.declared.fields.Fields.{Fields}
 use Rattle.tc_stmt.specs.Items.{ReferenceData, ItemData, code}
 use Rattle.tc_stmt.specs.Lines.{lines_in}
 use Rattle.tc_asm.specs.Symbols.{SymbolData}
-use Rattle.tc_asm.specs.Drafts.{DraftData, start, has_section, has_room, row_fields_with_target, code_bytes, draft_after_item}
-use Rattle.tc_asm.specs.Rules.{section_rule, bytes_room, reference_rule, content_rule, item_rule, items_rule}
+use Rattle.tc_asm.specs.Drafts.{DraftData, empty_draft, has_section, has_room, row_fields_with_target, code_bytes, draft_after_item}
+use Rattle.tc_asm.specs.Rules.{section_rule, byte_limit_rule, reference_rule, content_rule, item_rule, items_rule}
 use Rattle.tc_asm.specs.DraftedSources.{symbols_of}
 use Rattle.tc_asm.specs.DraftInvariants.{EachInDraft}
-use Rattle.tc_asm.specs.Statements.{StatementData, statement, standing_statement, statements_from}
+use Rattle.tc_asm.specs.Statements.{StatementData, statement_data, statement_with_room, statements_from}
 use Rattle.tc_asm.specs.InstructionLaws.{InstructionSpellsRow, InstructionsLaw}
 use Rattle.tc_stmt.proofs.ListItems.{get_behind}
 use Rattle.tc_asm.proofs.Uses.{statements-append, fits, fits_too, then_fifteen}
@@ -36,37 +36,37 @@ unfolding item_rule
 code_stands labels d k f o rule =
     let size : ℕ = length (code_bytes labels d k f o) in
     let content = fits_too (row_fields_with_target labels d k f o).rule (content_rule d (length (code_bytes labels d k f o)) o) rule in
-    let there : has_section d ≡ true = then_fifteen (has_section d) 8 (omega arith) (fits (section_rule d) (min (bytes_room d (length (code_bytes labels d k f o))) (reference_rule d o)) content) in
+    let there : has_section d ≡ true = then_fifteen (has_section d) 8 (omega arith) (fits (section_rule d) (min (byte_limit_rule d (length (code_bytes labels d k f o))) (reference_rule d o)) content) in
     let room : has_room d (length (code_bytes labels d k f o)) ≡ true
     = then_fifteen (has_room d (length (code_bytes labels d k f o))) 13 (omega arith)
-    (fits (bytes_room d (length (code_bytes labels d k f o))) (reference_rule d o) (fits_too (section_rule d) (min (bytes_room d (length (code_bytes labels d k f o))) (reference_rule d o)) content)) in
+    (fits (byte_limit_rule d (length (code_bytes labels d k f o))) (reference_rule d o) (fits_too (section_rule d) (min (byte_limit_rule d (length (code_bytes labels d k f o))) (reference_rule d o)) content)) in
     and_from (has_section d) (has_room d (length (code_bytes labels d k f o))) there room
 
-stands_at : (labels : List SymbolData) (before after : List ItemData) (k : ℕ) (f : Fields) (o : Option ReferenceData) → 15 ≤ item_rule labels (fold (draft_after_item labels) start before) (code k f o) →
-    slice_get (statements_from labels start (before ++ code k f o ∷ after)) (length (statements_from labels start before))
-    ≡ Some (statement (fold (draft_after_item labels) start before).section (code_bytes labels (fold (draft_after_item labels) start before) k f o) o)
+stands_at : (labels : List SymbolData) (before after : List ItemData) (k : ℕ) (f : Fields) (o : Option ReferenceData) → 15 ≤ item_rule labels (fold (draft_after_item labels) empty_draft before) (code k f o) →
+    slice_get (statements_from labels empty_draft (before ++ code k f o ∷ after)) (length (statements_from labels empty_draft before))
+    ≡ Some (statement_data (fold (draft_after_item labels) empty_draft before).section (code_bytes labels (fold (draft_after_item labels) empty_draft before) k f o) o)
 stands_at labels before after k f o rule =
-    let d : DraftData = fold (draft_after_item labels) start before in
-    let t : StatementData = statement d.section (code_bytes labels d k f o) o in
+    let d : DraftData = fold (draft_after_item labels) empty_draft before in
+    let t : StatementData = statement_data d.section (code_bytes labels d k f o) o in
     let rest : List StatementData = statements_from labels (draft_after_item labels d (code k f o)) after in
-    let none : length (statements_from labels start before) ≡ length (statements_from labels start before) + 0 = omega arith in
-    ap (λ (ts : List StatementData). slice_get ts (length (statements_from labels start before))) (statements-append 0 labels start before (code k f o ∷ after))
-    ∙ get_behind (statements_from labels start before) (standing_statement d (Some t) ++ rest) (length (statements_from labels start before)) 0 none
+    let none : length (statements_from labels empty_draft before) ≡ length (statements_from labels empty_draft before) + 0 = omega arith in
+    ap (λ (ts : List StatementData). slice_get ts (length (statements_from labels empty_draft before))) (statements-append 0 labels empty_draft before (code k f o ∷ after))
+    ∙ get_behind (statements_from labels empty_draft before) (statement_with_room d (Some t) ++ rest) (length (statements_from labels empty_draft before)) 0 none
     ∙ ap (λ b. slice_get (cond b (t ∷ []) [] ++ rest) 0) (code_stands labels d k f o rule)
 
 pub instructions_law : InstructionsLaw
 unfolding code_spells
 instructions_law source before after k f o keeps e =
     let labels : List SymbolData = symbols_of (lines_in source) in
-    let d : DraftData = fold (draft_after_item labels) start before in
+    let d : DraftData = fold (draft_after_item labels) empty_draft before in
     let E : List ItemData → Type 0 = λ xs. EachInDraft IsAddedItem xs in
-    let R : List ItemData → Type 0 = λ xs. 15 ≤ items_rule labels start xs in
+    let R : List ItemData → Type 0 = λ xs. 15 ≤ items_rule labels empty_draft xs in
     let is : IsAddedCode k f o = each_there IsAddedItem before after (code k f o) (subst E e (source_are source)) in
-    let rule = rule_there labels before after (code k f o) start (subst R e (source_items source keeps)) in
+    let rule = rule_there labels before after (code k f o) empty_draft (subst R e (source_items source keeps)) in
     record {
       bytes = code_bytes labels d k f o;
       spells = code_spells labels d k f o is;
       given = λ g. given_fields labels d k f o is.row is.at g;
       section = d.section;
-      stands = ap (λ (xs : List ItemData). slice_get (statements_from labels start xs) (length (statements_from labels start before))) e ∙ stands_at labels before after k f o rule;
+      stands = ap (λ (xs : List ItemData). slice_get (statements_from labels empty_draft xs) (length (statements_from labels empty_draft before))) e ∙ stands_at labels before after k f o rule;
     }

@@ -15,11 +15,11 @@ use Rattle.tc_stmt.specs.Items.{ReferenceData, ItemData, label, section, global,
 use Rattle.tc_asm.specs.declared.symbols.Place.{Place}
 use Rattle.tc_asm.specs.declared.symbols.Entry.{Entry}
 use Rattle.tc_stmt.specs.Lines.{LineData}
-use Rattle.tc_asm.specs.Symbols.{SymbolData, unseen, entry_in, entry_of, put_entry, place_in, seen, labelled, made_global, symbol_names}
-use Rattle.tc_isa.specs.Relocations.{is_reloc}
-use Rattle.tc_asm.specs.Drafts.{UseData, PartData, DraftData, part, start, draft_place, has_section, has_room, here, with_label, number_of_part, with_current_section, with_global, with_part_bytes, with_bytes, with_part_use, with_use, with_reference, with_content, row_fields_with_target, code_bytes, draft_after_item, part_names, part_size_at}
+use Rattle.tc_asm.specs.Symbols.{SymbolData, undefined_entry, entry_in, entry_of, put_entry, place_in, with_name, with_symbol_label, with_global_symbol, symbol_names}
+use Rattle.tc_isa.specs.Relocations.{is_relocation_kind}
+use Rattle.tc_asm.specs.Drafts.{UseData, PartData, DraftData, part, empty_draft, next_byte_offset, has_section, has_room, next_byte_place, with_label, number_of_part, with_current_section, with_global, with_part_bytes, with_bytes, with_part_use, with_use, with_reference, with_content, row_fields_with_target, code_bytes, draft_after_item, part_names, part_size_at}
 use Rattle.tc_asm.specs.DraftedSources.{with_line}
-use Rattle.tc_asm.specs.Rules.{label_rule, section_rule, name_rule, symbol_room, reloc_room, bytes_room, defined_rule, reference_rule, content_rule, item_rule, items_rule, line_rule}
+use Rattle.tc_asm.specs.Rules.{label_rule, section_rule, name_rule, symbol_limit_rule, reloc_limit_rule, byte_limit_rule, undefined_global_rule, reference_rule, content_rule, item_rule, items_rule, line_rule}
 use Rattle.tc_asm.specs.DraftInvariants.{is_drafted_name, IsNewDraftName, AreDistinctDraftNames, IsLabelPlace, IsPlaced, IsUse, IsPart, IsDraft}
 use Rattle.tc_stmt.proofs.Cases.{by_test}
 use Rattle.tc_asm.proofs.ListLaws.{each_weaker, each_push, in_turn_push, among_push, among_last, names_put, each_put, entry_has, known_among, among_known, changed, changed-set, changed-changed, length-changed, names-changed, size-changed, each_changed, count-changed, size-push, size_at-get, spaced_longer, spaced_push, any_first}
@@ -101,7 +101,7 @@ IsDraft-put d name e h good room placed = record {
 }
 
 old_placed : (d : DraftData) (name : List ℕ) → IsDraft d → IsPlaced d.parts (entry_of d.symbols name).place
-old_placed d name h = entry_has (λ (x : Entry). IsPlaced d.parts x.place) d.symbols name unseen h.places tt
+old_placed d name h = entry_has (λ (x : Entry). IsPlaced d.parts x.place) d.symbols name undefined_entry h.places tt
 
 -- ---- rules that leave room
 room_from : (b : Bool) → 15 ≤ cond b 15 13 → b ≡ true
@@ -119,23 +119,23 @@ min_right : (a b : ℕ) → 15 ≤ min a b → 15 ≤ b
 min_right a b h = omega arith
 
 -- ---- labels, sections, global names
-place_is : (d : DraftData) → draft_place d ≡ part_size_at d.parts d.section
-unfolding draft_place
+place_is : (d : DraftData) → next_byte_offset d ≡ part_size_at d.parts d.section
+unfolding next_byte_offset
 place_is d = size_at-get d.parts d.section
 
-IsDraft-label : (d : DraftData) (name : List ℕ) → IsDraft d → has_section d ≡ true → 15 ≤ symbol_room d name → IsDraft (with_label d name)
-unfolding with_label labelled
+IsDraft-label : (d : DraftData) (name : List ℕ) → IsDraft d → has_section d ≡ true → 15 ≤ symbol_limit_rule d name → IsDraft (with_label d name)
+unfolding with_label with_symbol_label
 IsDraft-label d name h there room =
     by_test IsDraft (is_source_name name) _ d
     (λ b.
-    let stands : IsLabelPlace d.parts (here d) = record { section = ltb-true d.section (length d.parts) there; offset = let e = place_is d in omega arith } in
-    IsDraft-put d name (if is_some (place_in d.symbols name) then entry_of d.symbols name else record (entry_of d.symbols name) { place = Some (here d) }) h b (room_from _ room)
-    (by_test (λ (x : Entry). IsPlaced d.parts x.place) (is_some (place_in d.symbols name)) (entry_of d.symbols name) (record (entry_of d.symbols name) { place = Some (here d) })
+    let stands : IsLabelPlace d.parts (next_byte_place d) = record { section = ltb-true d.section (length d.parts) there; offset = let e = place_is d in omega arith } in
+    IsDraft-put d name (if is_some (place_in d.symbols name) then entry_of d.symbols name else record (entry_of d.symbols name) { place = Some (next_byte_place d) }) h b (room_from _ room)
+    (by_test (λ (x : Entry). IsPlaced d.parts x.place) (is_some (place_in d.symbols name)) (entry_of d.symbols name) (record (entry_of d.symbols name) { place = Some (next_byte_place d) })
     (λ _. old_placed d name h) (λ _. stands)))
     (λ b. h)
 
-IsDraft-global : (d : DraftData) (name : List ℕ) → IsDraft d → 15 ≤ symbol_room d name → IsDraft (with_global d name)
-unfolding with_global made_global
+IsDraft-global : (d : DraftData) (name : List ℕ) → IsDraft d → 15 ≤ symbol_limit_rule d name → IsDraft (with_global d name)
+unfolding with_global with_global_symbol
 IsDraft-global d name h room =
     by_test IsDraft (is_source_name name) _ d (λ b. IsDraft-put d name (record (entry_of d.symbols name) { is_global = true }) h b (room_from _ room) (old_placed d name h)) (λ b. h)
 
@@ -246,13 +246,13 @@ with_bytes-is e bs there room =
 
 module _ (d : DraftData) (bs : List ℕ) (r : ReferenceData) (h : IsDraft d) (known : is_drafted_name (symbol_names d.symbols) r.name ≡ true) where
   abbrev added : UseData
-  added = record { offset = draft_place d; reference = r }
+  added = record { offset = next_byte_offset d; reference = r }
 
   abbrev both : PartData → PartData
-  both q = record q { bytes = q.bytes ++ bs; uses = q.uses ++ record { offset = draft_place d; reference = r } ∷ [] }
+  both q = record q { bytes = q.bytes ++ bs; uses = q.uses ++ record { offset = next_byte_offset d; reference = r } ∷ [] }
 
   abbrev add : PartData → PartData
-  add q = record q { uses = q.uses ++ record { offset = draft_place d; reference = r } ∷ [] }
+  add q = record q { uses = q.uses ++ record { offset = next_byte_offset d; reference = r } ∷ [] }
 
   abbrev grow : PartData → PartData
   grow q = record q { bytes = q.bytes ++ bs }
@@ -271,7 +271,7 @@ module _ (d : DraftData) (bs : List ℕ) (r : ReferenceData) (h : IsDraft d) (kn
       ∙ with_bytes-is (record d { parts = changed add d.parts d.section; count = d.count + 1 }) bs (ap (λ n. nat_lt d.section n) (length-changed add d.parts d.section) ∙ there) room
       ∙ ap with_parts (changed-changed add grow d.parts d.section)
 
-  use_kept : has_section d ≡ true → has_room d (length bs) ≡ true → length bs ≡ 4 → is_reloc r.kind ≡ true → d.count < 65535 → IsDraft (with_parts (changed both d.parts d.section))
+  use_kept : has_section d ≡ true → has_room d (length bs) ≡ true → length bs ≡ 4 → is_relocation_kind r.kind ≡ true → d.count < 65535 → IsDraft (with_parts (changed both d.parts d.section))
   use_kept there room four kind few =
       let less : d.section < length d.parts = ltb-true d.section (length d.parts) there in
       let fits : d.total + length bs ≤ 2 ^ 24 = leb-true (d.total + length bs) (2 ^ 24) room in
@@ -297,7 +297,7 @@ module _ (d : DraftData) (bs : List ℕ) (r : ReferenceData) (h : IsDraft d) (kn
   IsDraft-use : IsDraft (with_bytes (with_use d (length bs) r) bs)
   unfolding with_use
   IsDraft-use =
-      by_test (λ (e : DraftData). IsDraft (with_bytes e bs)) (has_section d && has_room d (length bs) && length bs == 4 && is_reloc r.kind && nat_lt d.count 65535)
+      by_test (λ (e : DraftData). IsDraft (with_bytes e bs)) (has_section d && has_room d (length bs) && length bs == 4 && is_relocation_kind r.kind && nat_lt d.count 65535)
       (record d { parts = with_part_use d.parts d.section added; count = d.count + 1 }) d
       (λ b.
       let p4 = and_parts _ _ b in let p3 = and_parts _ _ p4.0 in let p2 = and_parts _ _ p3.0 in let p1 = and_parts _ _ p2.0 in
@@ -306,25 +306,25 @@ module _ (d : DraftData) (bs : List ℕ) (r : ReferenceData) (h : IsDraft d) (kn
 
 -- ---- an item, a line
 IsDraft-content : (d : DraftData) (bs : List ℕ) (o : Option ReferenceData) → IsDraft d → 15 ≤ reference_rule d o → IsDraft (with_content d bs o)
-unfolding with_reference seen
+unfolding with_reference with_name
 IsDraft-content d bs None h room = IsDraft-bytes d bs h
 IsDraft-content d bs (Some r) h room =
     by_test (λ (e : DraftData). IsDraft (with_bytes e bs)) (is_source_name r.name) (with_use (record d { symbols = put_entry d.symbols r.name (entry_of d.symbols r.name) }) (length bs) r) d
     (λ b. IsDraft-use (record d { symbols = put_entry d.symbols r.name (entry_of d.symbols r.name) }) bs r
-    (IsDraft-put d r.name (entry_of d.symbols r.name) h b (room_from _ (min_left (symbol_room d r.name) (reloc_room d r) room)) (old_placed d r.name h))
+    (IsDraft-put d r.name (entry_of d.symbols r.name) h b (room_from _ (min_left (symbol_limit_rule d r.name) (reloc_limit_rule d r) room)) (old_placed d r.name h))
     (put_known d.symbols r.name (entry_of d.symbols r.name)))
     (λ b. IsDraft-bytes d bs h)
 
 content_room : (d : DraftData) (n : ℕ) (o : Option ReferenceData) → 15 ≤ content_rule d n o → 15 ≤ reference_rule d o
-content_room d n o h = min_right (bytes_room d n) (reference_rule d o) (min_right (section_rule d) (min (bytes_room d n) (reference_rule d o)) h)
+content_room d n o h = min_right (byte_limit_rule d n) (reference_rule d o) (min_right (section_rule d) (min (byte_limit_rule d n) (reference_rule d o)) h)
 
 pub IsDraft-stepped : (labels : List SymbolData) (d : DraftData) (i : ItemData) → IsDraft d → 15 ≤ item_rule labels d i → IsDraft (draft_after_item labels d i)
 unfolding draft_after_item item_rule
 IsDraft-stepped labels d (label name) h rule =
-    IsDraft-label d name h (section_from (has_section d) (min_right (label_rule d name) (section_rule d) (min_left (min (label_rule d name) (section_rule d)) (min (name_rule name) (symbol_room d name)) rule))) (min_right (name_rule name) (symbol_room d name) (min_right (min (label_rule d name) (section_rule d)) (min (name_rule name) (symbol_room d name)) rule))
+    IsDraft-label d name h (section_from (has_section d) (min_right (label_rule d name) (section_rule d) (min_left (min (label_rule d name) (section_rule d)) (min (name_rule name) (symbol_limit_rule d name)) rule))) (min_right (name_rule name) (symbol_limit_rule d name) (min_right (min (label_rule d name) (section_rule d)) (min (name_rule name) (symbol_limit_rule d name)) rule))
 IsDraft-stepped labels d (section name) h rule = IsDraft-section d name h
 IsDraft-stepped labels d (global name) h rule =
-    IsDraft-global d name h (min_left (symbol_room d name) (defined_rule labels name) (min_right (name_rule name) (min (symbol_room d name) (defined_rule labels name)) rule))
+    IsDraft-global d name h (min_left (symbol_limit_rule d name) (undefined_global_rule labels name) (min_right (name_rule name) (min (symbol_limit_rule d name) (undefined_global_rule labels name)) rule))
 IsDraft-stepped labels d (code k f r) h rule =
     IsDraft-content d (code_bytes labels d k f r) r h (content_room d (length (code_bytes labels d k f r)) r (min_right (row_fields_with_target labels d k f r).rule (content_rule d (length (code_bytes labels d k f r)) r) rule))
 IsDraft-stepped labels d (bytes bs r) h rule = IsDraft-content d bs r h (content_room d (length bs) r rule)
@@ -341,7 +341,7 @@ pub IsDraft-line : (labels : List SymbolData) (d : DraftData) (l : LineData) →
 unfolding with_line line_rule
 IsDraft-line labels d l h rule = IsDraft-items labels d l.items h (min_right l.rule (items_rule labels d l.items) (omega arith))
 
-pub IsDraft-start : IsDraft start
+pub IsDraft-start : IsDraft empty_draft
 IsDraft-start = record { few_parts = omega arith; few_symbols = lit< tt; few_relocs = lit< tt; count = refl; total = omega arith; parts_named = tt; symbols_named = tt; places = tt; parts = tt }
 
 pub IsDraft-more : (labels : List SymbolData) (d next : DraftData) (l : LineData) (rule : ℕ) → IsDraft d → next ≡ with_line labels d l → rule ≡ line_rule labels d l → rule ≡ 15 → IsDraft next

@@ -5,7 +5,7 @@ use Rattle.std.proofs.lemmas.Bool.{and_parts, and_from}
 use Rattle.std.proofs.lemmas.List.{length-map, get_or-map, drop_all, take_all}
 use Rattle.std.proofs.lemmas.List.Sums.{fold_more}
 use Rattle.tc_isa.specs.declared.fields.Fields.{Fields}
-use Rattle.tc_isa.specs.Relocations.{is_reloc}
+use Rattle.tc_isa.specs.Relocations.{is_relocation_kind}
 use Rattle.tc_stmt.specs.Names.{is_source_name}
 use Rattle.tc_stmt.specs.RowFields.{RowFieldsData}
 use Rattle.tc_stmt.specs.Items.{ReferenceData, ItemData, item_of, label, section, global, code, bytes, zeros}
@@ -16,124 +16,124 @@ use Rattle.tc_stmt.specs.declared.source.Line.{Line}
 use Rattle.tc_stmt.specs.declared.source.Source.{Source}
 use Rattle.tc_stmt.proofs.ReadLines.{length-lines_read}
 use Rattle.tc_asm.specs.ItemInvariants.{IsAddedItem}
-use Rattle.tc_asm.specs.AlikeDrafts.{Alike}
+use Rattle.tc_asm.specs.AlikeDrafts.{HasSameSizesAndSymbols}
 use Rattle.tc_asm.specs.DraftInvariants.{EachInDraft}
-use Rattle.tc_asm.specs.Symbols.{SymbolData, entry_in, place_in, seen, labelled, made_global}
-use Rattle.tc_asm.specs.Drafts.{UseData, DraftData, part, start, draft_place, has_section, has_room, here, with_label, number_of_part, with_current_section, with_global, with_part_bytes, with_bytes, with_part_use, with_use, with_reference, with_content, label_distance, fields_with_label_distance, row_fields_with_target, assembled_code, code_bytes, draft_after_item}
+use Rattle.tc_asm.specs.Symbols.{SymbolData, entry_in, place_in, with_name, with_symbol_label, with_global_symbol}
+use Rattle.tc_asm.specs.Drafts.{UseData, DraftData, part, empty_draft, next_byte_offset, has_section, has_room, next_byte_place, with_label, number_of_part, with_current_section, with_global, with_part_bytes, with_bytes, with_part_use, with_use, with_reference, with_content, label_distance, fields_with_label_distance, row_fields_with_target, assembled_code, code_bytes, draft_after_item}
 use Rattle.tc_asm.specs.DraftedSources.{draft_from_lines, with_line, symbols_of}
-use Rattle.tc_asm.specs.Rules.{has_symbol_room, section_rule, name_rule, symbol_room, reloc_room, bytes_room, defined_rule, content_rule, item_rule, items_rule, line_rule}
-use Rattle.tc_asm.specs.KnownSymbols.{nameless, kept, is_new, are_new, kept_rule}
+use Rattle.tc_asm.specs.Rules.{has_symbol_room, section_rule, name_rule, symbol_limit_rule, reloc_limit_rule, byte_limit_rule, undefined_global_rule, content_rule, item_rule, items_rule, line_rule}
+use Rattle.tc_asm.specs.KnownSymbols.{without_symbols, kept, is_new, are_new, second_pass_rule}
 use Rattle.tc_asm.proofs.CodeLaws.{found_far}
 use Rattle.tc_asm.proofs.AlikeDrafts.{alike_same, step_alike, passes_agree}
 use Rattle.tc_asm.proofs.SourceItems.{source_are}
 use Rattle.tc_asm.proofs.Passes.{item_here, drafted_more, behind_here}
 
 -- ---- drafts without their symbols
-same_cond : (b : Bool) (w x y z : DraftData) → nameless w ≡ nameless y → nameless x ≡ nameless z → nameless (cond b w x) ≡ nameless (cond b y z)
+same_cond : (b : Bool) (w x y z : DraftData) → without_symbols w ≡ without_symbols y → without_symbols x ≡ without_symbols z → without_symbols (cond b w x) ≡ without_symbols (cond b y z)
 same_cond true w x y z h k = h
 same_cond false w x y z h k = k
 
-bytes_nameless : (d : DraftData) (bs : List ℕ) → nameless (with_bytes d bs) ≡ nameless (with_bytes (nameless d) bs)
+bytes_nameless : (d : DraftData) (bs : List ℕ) → without_symbols (with_bytes d bs) ≡ without_symbols (with_bytes (without_symbols d) bs)
 unfolding with_bytes
 bytes_nameless d bs =
     same_cond (has_section d && has_room d (length bs))
     (record d { parts = with_part_bytes d.parts d.section bs; total = d.total + length bs }) d
-    (record (nameless d) { parts = with_part_bytes d.parts d.section bs; total = d.total + length bs }) (nameless d) refl refl
+    (record (without_symbols d) { parts = with_part_bytes d.parts d.section bs; total = d.total + length bs }) (without_symbols d) refl refl
 
-use_nameless : (d : DraftData) (n : ℕ) (r : ReferenceData) → nameless (with_use d n r) ≡ nameless (with_use (nameless d) n r)
-unfolding with_use draft_place
+use_nameless : (d : DraftData) (n : ℕ) (r : ReferenceData) → without_symbols (with_use d n r) ≡ without_symbols (with_use (without_symbols d) n r)
+unfolding with_use next_byte_offset
 use_nameless d n r =
-    let u : UseData = record { offset = draft_place d; reference = r } in
-    same_cond (has_section d && has_room d n && n == 4 && is_reloc r.kind && nat_lt d.count 65535)
+    let u : UseData = record { offset = next_byte_offset d; reference = r } in
+    same_cond (has_section d && has_room d n && n == 4 && is_relocation_kind r.kind && nat_lt d.count 65535)
     (record d { parts = with_part_use d.parts d.section u; count = d.count + 1 }) d
-    (record (nameless d) { parts = with_part_use d.parts d.section u; count = d.count + 1 }) (nameless d) refl refl
+    (record (without_symbols d) { parts = with_part_use d.parts d.section u; count = d.count + 1 }) (without_symbols d) refl refl
 
-reference_nameless : (d : DraftData) (n : ℕ) (o : Option ReferenceData) → nameless (with_reference d n o) ≡ nameless (with_reference (nameless d) n o)
+reference_nameless : (d : DraftData) (n : ℕ) (o : Option ReferenceData) → without_symbols (with_reference d n o) ≡ without_symbols (with_reference (without_symbols d) n o)
 unfolding with_reference
 reference_nameless d n None = refl
 reference_nameless d n (Some r) =
     same_cond (is_source_name r.name)
-    (with_use (record d { symbols = seen d.symbols r.name }) n r) d
-    (with_use (record d { symbols = seen [] r.name }) n r) (nameless d)
-    (use_nameless (record d { symbols = seen d.symbols r.name }) n r ∙ sym (use_nameless (record d { symbols = seen [] r.name }) n r))
+    (with_use (record d { symbols = with_name d.symbols r.name }) n r) d
+    (with_use (record d { symbols = with_name [] r.name }) n r) (without_symbols d)
+    (use_nameless (record d { symbols = with_name d.symbols r.name }) n r ∙ sym (use_nameless (record d { symbols = with_name [] r.name }) n r))
     refl
 
-content_nameless : (d : DraftData) (bs : List ℕ) (o : Option ReferenceData) → nameless (with_content d bs o) ≡ nameless (with_content (nameless d) bs o)
+content_nameless : (d : DraftData) (bs : List ℕ) (o : Option ReferenceData) → without_symbols (with_content d bs o) ≡ without_symbols (with_content (without_symbols d) bs o)
 content_nameless d bs o =
     bytes_nameless (with_reference d (length bs) o) bs
-    ∙ ap (λ (x : DraftData). nameless (with_bytes x bs)) (reference_nameless d (length bs) o)
-    ∙ sym (bytes_nameless (with_reference (nameless d) (length bs) o) bs)
+    ∙ ap (λ (x : DraftData). without_symbols (with_bytes x bs)) (reference_nameless d (length bs) o)
+    ∙ sym (bytes_nameless (with_reference (without_symbols d) (length bs) o) bs)
 
-entered_nameless : (d : DraftData) (name : List ℕ) → nameless (with_current_section d name) ≡ nameless (with_current_section (nameless d) name)
+entered_nameless : (d : DraftData) (name : List ℕ) → without_symbols (with_current_section d name) ≡ without_symbols (with_current_section (without_symbols d) name)
 unfolding with_current_section
 entered_nameless d name =
     let old : DraftData → DraftData = λ e. record e { section = number_of_part d.parts name } in
     let new : DraftData → DraftData = λ e. record e { section = length d.parts; parts = d.parts ++ part name [] [] ∷ [] } in
     let full : DraftData → DraftData = λ e. cond (nat_lt (length d.parts) 64) (new e) e in
     same_cond (not (is_source_name name)) d (cond (nat_lt (number_of_part d.parts name) (length d.parts)) (old d) (full d))
-    (nameless d) (cond (nat_lt (number_of_part d.parts name) (length d.parts)) (old (nameless d)) (full (nameless d))) refl
-    (same_cond (nat_lt (number_of_part d.parts name) (length d.parts)) (old d) (full d) (old (nameless d)) (full (nameless d)) refl
-    (same_cond (nat_lt (length d.parts) 64) (new d) d (new (nameless d)) (nameless d) refl refl))
+    (without_symbols d) (cond (nat_lt (number_of_part d.parts name) (length d.parts)) (old (without_symbols d)) (full (without_symbols d))) refl
+    (same_cond (nat_lt (number_of_part d.parts name) (length d.parts)) (old d) (full d) (old (without_symbols d)) (full (without_symbols d)) refl
+    (same_cond (nat_lt (length d.parts) 64) (new d) d (new (without_symbols d)) (without_symbols d) refl refl))
 
-resolved_nameless : (labels : List SymbolData) (d : DraftData) (k : ℕ) (f : Fields) (o : Option ReferenceData) → row_fields_with_target labels d k f o ≡ row_fields_with_target labels (nameless d) k f o
-unfolding fields_with_label_distance label_distance draft_place
+resolved_nameless : (labels : List SymbolData) (d : DraftData) (k : ℕ) (f : Fields) (o : Option ReferenceData) → row_fields_with_target labels d k f o ≡ row_fields_with_target labels (without_symbols d) k f o
+unfolding fields_with_label_distance label_distance next_byte_offset
 resolved_nameless labels d k f None = refl
 resolved_nameless labels d k f (Some r) = refl
 
-code_nameless : (labels : List SymbolData) (d : DraftData) (k : ℕ) (f : Fields) (o : Option ReferenceData) → code_bytes labels d k f o ≡ code_bytes labels (nameless d) k f o
+code_nameless : (labels : List SymbolData) (d : DraftData) (k : ℕ) (f : Fields) (o : Option ReferenceData) → code_bytes labels d k f o ≡ code_bytes labels (without_symbols d) k f o
 unfolding code_bytes
 code_nameless labels d k f o = ap (λ (x : RowFieldsData). assembled_code k x.fields) (resolved_nameless labels d k f o)
 
-step_nameless : (labels : List SymbolData) (d : DraftData) (i : ItemData) → nameless (draft_after_item labels d i) ≡ nameless (draft_after_item labels (nameless d) i)
+step_nameless : (labels : List SymbolData) (d : DraftData) (i : ItemData) → without_symbols (draft_after_item labels d i) ≡ without_symbols (draft_after_item labels (without_symbols d) i)
 unfolding draft_after_item with_label with_global
 step_nameless labels d (label name) =
-    same_cond (is_source_name name) (record d { symbols = labelled d.symbols name (here d) }) d (record d { symbols = labelled [] name (here (nameless d)) }) (nameless d) refl refl
+    same_cond (is_source_name name) (record d { symbols = with_symbol_label d.symbols name (next_byte_place d) }) d (record d { symbols = with_symbol_label [] name (next_byte_place (without_symbols d)) }) (without_symbols d) refl refl
 step_nameless labels d (section name) = entered_nameless d name
 step_nameless labels d (global name) =
-    same_cond (is_source_name name) (record d { symbols = made_global d.symbols name }) d (record d { symbols = made_global [] name }) (nameless d) refl refl
+    same_cond (is_source_name name) (record d { symbols = with_global_symbol d.symbols name }) d (record d { symbols = with_global_symbol [] name }) (without_symbols d) refl refl
 step_nameless labels d (code k f o) =
-    content_nameless d (code_bytes labels d k f o) o ∙ ap (λ (bs : List ℕ). nameless (with_content (nameless d) bs o)) (code_nameless labels d k f o)
+    content_nameless d (code_bytes labels d k f o) o ∙ ap (λ (bs : List ℕ). without_symbols (with_content (without_symbols d) bs o)) (code_nameless labels d k f o)
 step_nameless labels d (bytes bs o) = content_nameless d bs o
 step_nameless labels d (zeros n) = bytes_nameless d (replicate n 0)
 
 -- a label and a global name change only symbols
-unchanged : (b : Bool) (d : DraftData) (ss : List SymbolData) → nameless d ≡ nameless (cond b (record d { symbols = ss }) d)
+unchanged : (b : Bool) (d : DraftData) (ss : List SymbolData) → without_symbols d ≡ without_symbols (cond b (record d { symbols = ss }) d)
 unchanged true d ss = refl
 unchanged false d ss = refl
 
-pub label_unchanged : (labels : List SymbolData) (d : DraftData) (name : List ℕ) → nameless d ≡ nameless (draft_after_item labels d (label name))
+pub label_unchanged : (labels : List SymbolData) (d : DraftData) (name : List ℕ) → without_symbols d ≡ without_symbols (draft_after_item labels d (label name))
 unfolding draft_after_item with_label
-label_unchanged labels d name = unchanged (is_source_name name) d (labelled d.symbols name (here d))
+label_unchanged labels d name = unchanged (is_source_name name) d (with_symbol_label d.symbols name (next_byte_place d))
 
-pub global_unchanged : (labels : List SymbolData) (d : DraftData) (name : List ℕ) → nameless d ≡ nameless (draft_after_item labels d (global name))
+pub global_unchanged : (labels : List SymbolData) (d : DraftData) (name : List ℕ) → without_symbols d ≡ without_symbols (draft_after_item labels d (global name))
 unfolding draft_after_item with_global
-global_unchanged labels d name = unchanged (is_source_name name) d (made_global d.symbols name)
+global_unchanged labels d name = unchanged (is_source_name name) d (with_global_symbol d.symbols name)
 
 -- the use of a symbol that is known
-pub use_named : (d next : DraftData) (n : ℕ) (r : ReferenceData) (b : Bool) → b ≡ is_source_name r.name → b ≡ true → next ≡ with_use d n r → nameless next ≡ nameless (with_reference d n (Some r))
+pub use_named : (d next : DraftData) (n : ℕ) (r : ReferenceData) (b : Bool) → b ≡ is_source_name r.name → b ≡ true → next ≡ with_use d n r → without_symbols next ≡ without_symbols (with_reference d n (Some r))
 unfolding with_reference
 use_named d next n r b is so used =
-    ap nameless used
+    ap without_symbols used
     ∙ use_nameless d n r
-    ∙ sym (use_nameless (record d { symbols = seen d.symbols r.name }) n r)
-    ∙ ap (λ c. nameless (cond c (with_use (record d { symbols = seen d.symbols r.name }) n r) d)) (sym so ∙ is)
+    ∙ sym (use_nameless (record d { symbols = with_name d.symbols r.name }) n r)
+    ∙ ap (λ c. without_symbols (cond c (with_use (record d { symbols = with_name d.symbols r.name }) n r) d)) (sym so ∙ is)
 
-pub use_unnamed : (d : DraftData) (n : ℕ) (r : ReferenceData) (b : Bool) → b ≡ is_source_name r.name → b ≡ false → nameless d ≡ nameless (with_reference d n (Some r))
+pub use_unnamed : (d : DraftData) (n : ℕ) (r : ReferenceData) (b : Bool) → b ≡ is_source_name r.name → b ≡ false → without_symbols d ≡ without_symbols (with_reference d n (Some r))
 unfolding with_reference
-use_unnamed d n r b is unset = ap (λ c. nameless (cond c (with_use (record d { symbols = seen d.symbols r.name }) n r) d)) (sym unset ∙ is)
+use_unnamed d n r b is unset = ap (λ c. without_symbols (cond c (with_use (record d { symbols = with_name d.symbols r.name }) n r) d)) (sym unset ∙ is)
 
 -- bytes after it
-pub use_bytes : (d mid next : DraftData) (bs : List ℕ) (o : Option ReferenceData) → nameless mid ≡ nameless (with_reference d (length bs) o) → next ≡ with_bytes mid bs
-    → nameless next ≡ nameless (with_content d bs o)
+pub use_bytes : (d mid next : DraftData) (bs : List ℕ) (o : Option ReferenceData) → without_symbols mid ≡ without_symbols (with_reference d (length bs) o) → next ≡ with_bytes mid bs
+    → without_symbols next ≡ without_symbols (with_content d bs o)
 use_bytes d mid next bs o used added =
-    ap nameless added
+    ap without_symbols added
     ∙ bytes_nameless mid bs
-    ∙ ap (λ (x : DraftData). nameless (with_bytes x bs)) used
+    ∙ ap (λ (x : DraftData). without_symbols (with_bytes x bs)) used
     ∙ sym (bytes_nameless (with_reference d (length bs) o) bs)
 
 -- ---- what is kept of drafts
 pub kept_step : (known : Bool) (labels : List SymbolData) (d e : DraftData) (i : ItemData) → kept known d ≡ kept known e → kept known (draft_after_item labels d i) ≡ kept known (draft_after_item labels e i)
-kept_step true labels d e i h = step_nameless labels d i ∙ ap (λ (x : DraftData). nameless (draft_after_item labels x i)) h ∙ sym (step_nameless labels e i)
+kept_step true labels d e i h = step_nameless labels d i ∙ ap (λ (x : DraftData). without_symbols (draft_after_item labels x i)) h ∙ sym (step_nameless labels e i)
 kept_step false labels d e i h = ap (λ (x : DraftData). draft_after_item labels x i) h
 
 pub kept_fold : (known : Bool) (labels : List SymbolData) (is : List ItemData) (d e : DraftData) → kept known d ≡ kept known e
@@ -141,10 +141,10 @@ pub kept_fold : (known : Bool) (labels : List SymbolData) (is : List ItemData) (
 kept_fold known labels [] d e h = h
 kept_fold known labels (i ∷ is) d e h = kept_fold known labels is (draft_after_item labels d i) (draft_after_item labels e i) (kept_step known labels d e i h)
 
-pub rule_same : (known : Bool) (labels : List SymbolData) (is : List ItemData) (d e : DraftData) → kept known d ≡ kept known e → kept_rule known labels d is ≡ kept_rule known labels e is
+pub rule_same : (known : Bool) (labels : List SymbolData) (is : List ItemData) (d e : DraftData) → kept known d ≡ kept known e → second_pass_rule known labels d is ≡ second_pass_rule known labels e is
 rule_same known labels [] d e h = refl
 rule_same known labels (i ∷ is) d e h =
-    ap (λ (x : DraftData). min (item_rule labels x i) (kept_rule known labels (draft_after_item labels d i) is)) h
+    ap (λ (x : DraftData). min (item_rule labels x i) (second_pass_rule known labels (draft_after_item labels d i) is)) h
     ∙ ap (min (item_rule labels (kept known e) i)) (rule_same known labels is (draft_after_item labels d i) (draft_after_item labels e i) (kept_step known labels d e i h))
 
 -- ---- rules of symbols that are known
@@ -153,28 +153,28 @@ chosen true b x y e = refl
 chosen false true x y e = refl
 chosen false false x y e = cc
 
-room_is : (d : DraftData) (name : List ℕ) → has_symbol_room d.symbols ≡ true → symbol_room d name ≡ 15
+room_is : (d : DraftData) (name : List ℕ) → has_symbol_room d.symbols ≡ true → symbol_limit_rule d name ≡ 15
 room_is d name h = chosen (is_some (entry_in d.symbols name)) (nat_lt (length d.symbols) 65535) 15 13 h
 
 new_is : (b : Bool) (x y : ℕ) → not b ≡ true → cond b x y ≡ y
 new_is true x y h = cc
 new_is false x y h = refl
 
-content_same : (d : DraftData) (n : ℕ) (o : Option ReferenceData) → has_symbol_room d.symbols ≡ true → content_rule (nameless d) n o ≡ content_rule d n o
+content_same : (d : DraftData) (n : ℕ) (o : Option ReferenceData) → has_symbol_room d.symbols ≡ true → content_rule (without_symbols d) n o ≡ content_rule d n o
 content_same d n None room = refl
 content_same d n (Some r) room =
-    ap (λ k. min (section_rule d) (min (bytes_room d n) (min k (reloc_room d r)))) (room_is (nameless d) r.name refl ∙ sym (room_is d r.name room))
+    ap (λ k. min (section_rule d) (min (byte_limit_rule d n) (min k (reloc_limit_rule d r)))) (room_is (without_symbols d) r.name refl ∙ sym (room_is d r.name room))
 
-item_same : (labels : List SymbolData) (d : DraftData) (i : ItemData) → has_symbol_room d.symbols ≡ true → is_new d.symbols i ≡ true → item_rule labels (nameless d) i ≡ item_rule labels d i
+item_same : (labels : List SymbolData) (d : DraftData) (i : ItemData) → has_symbol_room d.symbols ≡ true → is_new d.symbols i ≡ true → item_rule labels (without_symbols d) i ≡ item_rule labels d i
 unfolding item_rule code_bytes
 item_same labels d (label name) room new =
-    ap (λ k. min (min 15 (section_rule d)) (min (name_rule name) k)) (room_is (nameless d) name refl ∙ sym (room_is d name room))
-    ∙ ap (λ k. min (min k (section_rule d)) (min (name_rule name) (symbol_room d name))) (sym (new_is (is_some (place_in d.symbols name)) 7 15 new))
+    ap (λ k. min (min 15 (section_rule d)) (min (name_rule name) k)) (room_is (without_symbols d) name refl ∙ sym (room_is d name room))
+    ∙ ap (λ k. min (min k (section_rule d)) (min (name_rule name) (symbol_limit_rule d name))) (sym (new_is (is_some (place_in d.symbols name)) 7 15 new))
 item_same labels d (section name) room new = refl
 item_same labels d (global name) room new =
-    ap (λ k. min (name_rule name) (min k (defined_rule labels name))) (room_is (nameless d) name refl ∙ sym (room_is d name room))
+    ap (λ k. min (name_rule name) (min k (undefined_global_rule labels name))) (room_is (without_symbols d) name refl ∙ sym (room_is d name room))
 item_same labels d (code k f o) room new =
-    ap (λ (x : RowFieldsData). min x.rule (content_rule (nameless d) (length (assembled_code k x.fields)) o)) (sym (resolved_nameless labels d k f o))
+    ap (λ (x : RowFieldsData). min x.rule (content_rule (without_symbols d) (length (assembled_code k x.fields)) o)) (sym (resolved_nameless labels d k f o))
     ∙ ap (min (row_fields_with_target labels d k f o).rule) (content_same d (length (code_bytes labels d k f o)) o room)
 item_same labels d (bytes bs o) room new = content_same d (length bs) o room
 item_same labels d (zeros n) room new = refl
@@ -182,28 +182,28 @@ item_same labels d (zeros n) room new = refl
 never : (b : Bool) → false ≡ true → b ≡ true
 never b e = cc
 
-rules_kept : (known : Bool) (labels : List SymbolData) (is : List ItemData) (d : DraftData) → (known ≡ true → are_new labels d is ≡ true) → kept_rule known labels d is ≡ items_rule labels d is
+rules_kept : (known : Bool) (labels : List SymbolData) (is : List ItemData) (d : DraftData) → (known ≡ true → are_new labels d is ≡ true) → second_pass_rule known labels d is ≡ items_rule labels d is
 rules_kept known labels [] d new = refl
 rules_kept false labels (i ∷ is) d new = ap (min (item_rule labels d i)) (rules_kept false labels is (draft_after_item labels d i) (never (are_new labels (draft_after_item labels d i) is)))
 rules_kept true labels (i ∷ is) d new =
     let p = and_parts (has_symbol_room d.symbols && is_new d.symbols i) (are_new labels (draft_after_item labels d i) is) (new refl) in
     let q = and_parts (has_symbol_room d.symbols) (is_new d.symbols i) p.0 in
-    ap (λ k. min k (kept_rule true labels (draft_after_item labels d i) is)) (item_same labels d i q.0 q.1)
+    ap (λ k. min k (second_pass_rule true labels (draft_after_item labels d i) is)) (item_same labels d i q.0 q.1)
     ∙ ap (min (item_rule labels d i)) (rules_kept true labels is (draft_after_item labels d i) (λ e. p.1))
 
 -- the rules of labels and global names that are known
-pub label_rule_known : (labels : List SymbolData) (d : DraftData) (name : List ℕ) → min (min 15 (section_rule d)) (min (name_rule name) 15) ≡ item_rule labels (nameless d) (label name)
+pub label_rule_known : (labels : List SymbolData) (d : DraftData) (name : List ℕ) → min (min 15 (section_rule d)) (min (name_rule name) 15) ≡ item_rule labels (without_symbols d) (label name)
 unfolding item_rule
 label_rule_known labels d name = refl
 
-pub global_rule_known : (labels : List SymbolData) (d : DraftData) (name : List ℕ) → min (name_rule name) (min 15 (defined_rule labels name)) ≡ item_rule labels (nameless d) (global name)
+pub global_rule_known : (labels : List SymbolData) (d : DraftData) (name : List ℕ) → min (name_rule name) (min 15 (undefined_global_rule labels name)) ≡ item_rule labels (without_symbols d) (global name)
 unfolding item_rule
 global_rule_known labels d name = refl
 
 -- the rules of an item that are the same with and without symbols
-pub plain_rule : (labels : List SymbolData) (d : DraftData) (k : ℕ) (f : Fields) → item_rule labels d (code k f None) ≡ item_rule labels (nameless d) (code k f None)
+pub plain_rule : (labels : List SymbolData) (d : DraftData) (k : ℕ) (f : Fields) → item_rule labels d (code k f None) ≡ item_rule labels (without_symbols d) (code k f None)
 unfolding item_rule code_bytes
-plain_rule labels d k f = ap (λ (x : RowFieldsData). min x.rule (content_rule (nameless d) (length (assembled_code k x.fields)) None)) (resolved_nameless labels d k f None)
+plain_rule labels d k f = ap (λ (x : RowFieldsData). min x.rule (content_rule (without_symbols d) (length (assembled_code k x.fields)) None)) (resolved_nameless labels d k f None)
 
 -- an instruction without a symbol
 pub alone_step : (labels : List SymbolData) (d next : DraftData) (k : ℕ) (f : Fields) (bs : List ℕ) → bs ≡ assembled_code k f → next ≡ with_bytes d bs → next ≡ draft_after_item labels d (code k f None)
@@ -218,19 +218,19 @@ alone_rule labels d k f bs a rule is e m =
     ∙ ap (min 15) (e ∙ ap (λ (ys : List ℕ). content_rule d (length ys) None) is)
     ∙ ap (λ (x : RowFieldsData). min x.rule (content_rule d (length (assembled_code k x.fields)) None)) (sym (found_far labels d k f None refl))
 
-pub section_rule_same : (labels : List SymbolData) (d : DraftData) (name : List ℕ) → item_rule labels d (section name) ≡ item_rule labels (nameless d) (section name)
+pub section_rule_same : (labels : List SymbolData) (d : DraftData) (name : List ℕ) → item_rule labels d (section name) ≡ item_rule labels (without_symbols d) (section name)
 unfolding item_rule
 section_rule_same labels d name = refl
 
-pub zeros_rule_same : (labels : List SymbolData) (d : DraftData) (n : ℕ) → item_rule labels d (zeros n) ≡ item_rule labels (nameless d) (zeros n)
+pub zeros_rule_same : (labels : List SymbolData) (d : DraftData) (n : ℕ) → item_rule labels d (zeros n) ≡ item_rule labels (without_symbols d) (zeros n)
 unfolding item_rule
 zeros_rule_same labels d n = refl
 
-pub plain_data_rule : (labels : List SymbolData) (d : DraftData) (bs : List ℕ) → content_rule d (length bs) None ≡ item_rule labels (nameless d) (bytes bs None)
+pub plain_data_rule : (labels : List SymbolData) (d : DraftData) (bs : List ℕ) → content_rule d (length bs) None ≡ item_rule labels (without_symbols d) (bytes bs None)
 unfolding item_rule
 plain_data_rule labels d bs = refl
 
-pub data_rule : (labels : List SymbolData) (d : DraftData) (bs : List ℕ) (o : Option ReferenceData) → content_rule (nameless d) (length bs) o ≡ item_rule labels (nameless d) (bytes bs o)
+pub data_rule : (labels : List SymbolData) (d : DraftData) (bs : List ℕ) (o : Option ReferenceData) → content_rule (without_symbols d) (length bs) o ≡ item_rule labels (without_symbols d) (bytes bs o)
 unfolding item_rule
 data_rule labels d bs o = refl
 
@@ -239,13 +239,13 @@ unfolding draft_after_item
 data_step labels d bs o = refl
 
 pub linked_rule : (labels : List SymbolData) (d : DraftData) (k : ℕ) (f : Fields) (r : ReferenceData) (x : RowFieldsData) (bs : List ℕ) (b rule : ℕ)
-    → x ≡ row_fields_with_target labels d k f (Some r) → bs ≡ assembled_code k x.fields → b ≡ content_rule (nameless d) (length bs) (Some r) → rule ≡ min x.rule b
-    → rule ≡ item_rule labels (nameless d) (code k f (Some r))
+    → x ≡ row_fields_with_target labels d k f (Some r) → bs ≡ assembled_code k x.fields → b ≡ content_rule (without_symbols d) (length bs) (Some r) → rule ≡ min x.rule b
+    → rule ≡ item_rule labels (without_symbols d) (code k f (Some r))
 unfolding item_rule code_bytes
 linked_rule labels d k f r x bs b rule e g h is =
     is
-    ∙ ap (min x.rule) (h ∙ ap (λ (ys : List ℕ). content_rule (nameless d) (length ys) (Some r)) g)
-    ∙ ap (λ (z : RowFieldsData). min z.rule (content_rule (nameless d) (length (assembled_code k z.fields)) (Some r))) (e ∙ resolved_nameless labels d k f (Some r))
+    ∙ ap (min x.rule) (h ∙ ap (λ (ys : List ℕ). content_rule (without_symbols d) (length ys) (Some r)) g)
+    ∙ ap (λ (z : RowFieldsData). min z.rule (content_rule (without_symbols d) (length (assembled_code k z.fields)) (Some r))) (e ∙ resolved_nameless labels d k f (Some r))
 
 -- ---- items that are new
 are_new-append : (labels : List SymbolData) (d : DraftData) (xs ys : List ItemData) → are_new labels d (xs ++ ys) ≡ true
@@ -256,7 +256,7 @@ are_new-append labels d (x ∷ xs) ys h =
     let r = are_new-append labels (draft_after_item labels d x) xs ys p.1 in
     (and_from (has_symbol_room d.symbols && is_new d.symbols x) (are_new labels (draft_after_item labels d x) xs) p.0 r.0, r.1)
 
-new_alike : (labels others : List SymbolData) (is : List ItemData) (d e : DraftData) → EachInDraft IsAddedItem is → Alike d e → are_new labels d is ≡ are_new others e is
+new_alike : (labels others : List SymbolData) (is : List ItemData) (d e : DraftData) → EachInDraft IsAddedItem is → HasSameSizesAndSymbols d e → are_new labels d is ≡ are_new others e is
 new_alike labels others [] d e good h = refl
 new_alike labels others (i ∷ is) d e good h =
     ap (λ (ss : List SymbolData). (has_symbol_room ss && is_new ss i) && are_new labels (draft_after_item labels d i) is) h.symbols
@@ -270,7 +270,7 @@ module _ (items : List Item) (i : ℕ) (d : Item) (within : i < length items) (d
   abbrev so_far : DraftData
   so_far = fold (draft_after_item []) all (take i (map item_of items))
 
-  pub new_more : (before room_here new_here after whole : Bool) → Alike draft (fold (draft_after_item []) all (take i (map item_of items)))
+  pub new_more : (before room_here new_here after whole : Bool) → HasSameSizesAndSymbols draft (fold (draft_after_item []) all (take i (map item_of items)))
       → room_here ≡ has_symbol_room draft.symbols → new_here ≡ is_new draft.symbols (item_of (get_or items i d)) → after ≡ (before && (room_here && new_here))
       → (before && are_new [] (fold (draft_after_item []) all (take i (map item_of items))) (drop i (map item_of items))) ≡ whole
       → (after && are_new [] (fold (draft_after_item []) all (take (i + 1) (map item_of items))) (drop (i + 1) (map item_of items))) ≡ whole
@@ -310,23 +310,23 @@ module _ (known : Bool) (labels : List SymbolData) (items : List Item) (i : ℕ)
 
   pub kept_rules : (draft next : DraftData) (a rule more all : ℕ) → kept known next ≡ kept known (draft_after_item labels draft (item_of (get_or items i d)))
       → a ≡ item_rule labels (kept known draft) (item_of (get_or items i d)) → more ≡ min a rule
-      → min rule (kept_rule known labels draft (drop i (map item_of items))) ≡ all → min more (kept_rule known labels next (drop (i + 1) (map item_of items))) ≡ all
+      → min rule (second_pass_rule known labels draft (drop i (map item_of items))) ≡ all → min more (second_pass_rule known labels next (drop (i + 1) (map item_of items))) ≡ all
   kept_rules draft next a rule more all e is m so_far =
-      ap (λ k. min k (kept_rule known labels next (drop (i + 1) (map item_of items)))) (m ∙ ap (λ k. min k rule) is)
+      ap (λ k. min k (second_pass_rule known labels next (drop (i + 1) (map item_of items)))) (m ∙ ap (λ k. min k rule) is)
       ∙ ap (min (min (item_rule labels (kept known draft) (item_of (get_or items i d))) rule)) (rule_same known labels (drop (i + 1) (map item_of items)) next (draft_after_item labels draft (item_of (get_or items i d))) e)
-      ∙ joined (item_rule labels (kept known draft) (item_of (get_or items i d))) rule (kept_rule known labels (draft_after_item labels draft (item_of (get_or items i d))) (drop (i + 1) (map item_of items)))
-      ∙ sym (ap (λ (xs : List ItemData). min rule (kept_rule known labels draft xs)) (item_here items i d within))
+      ∙ joined (item_rule labels (kept known draft) (item_of (get_or items i d))) rule (second_pass_rule known labels (draft_after_item labels draft (item_of (get_or items i d))) (drop (i + 1) (map item_of items)))
+      ∙ sym (ap (λ (xs : List ItemData). min rule (second_pass_rule known labels draft xs)) (item_here items i d within))
       ∙ so_far
     where
       joined : (x y z : ℕ) → min (min x y) z ≡ min y (min x z)
       joined x y z = omega arith
 
-kept_rule-le : (known : Bool) (labels : List SymbolData) (d : DraftData) (is : List ItemData) → kept_rule known labels d is ≤ 15
+kept_rule-le : (known : Bool) (labels : List SymbolData) (d : DraftData) (is : List ItemData) → second_pass_rule known labels d is ≤ 15
 kept_rule-le known labels d [] = omega arith
-kept_rule-le known labels d (i ∷ is) = let rest : kept_rule known labels (draft_after_item labels d i) is ≤ 15 = kept_rule-le known labels (draft_after_item labels d i) is in omega arith
+kept_rule-le known labels d (i ∷ is) = let rest : second_pass_rule known labels (draft_after_item labels d i) is ≤ 15 = kept_rule-le known labels (draft_after_item labels d i) is in omega arith
 
-pub kept_none : (known : Bool) (labels : List SymbolData) (d : DraftData) (is : List ItemData) → min 15 (kept_rule known labels d is) ≡ kept_rule known labels d is
-kept_none known labels d is = let h : kept_rule known labels d is ≤ 15 = kept_rule-le known labels d is in omega arith
+pub kept_none : (known : Bool) (labels : List SymbolData) (d : DraftData) (is : List ItemData) → min 15 (second_pass_rule known labels d is) ≡ second_pass_rule known labels d is
+kept_none known labels d is = let h : second_pass_rule known labels d is ≤ 15 = kept_rule-le known labels d is in omega arith
 
 pub kept_end : (known : Bool) (labels : List SymbolData) (items : List Item) (i : ℕ) (draft all : DraftData) → length items ≤ i
     → kept known (fold (draft_after_item labels) draft (drop i (map item_of items))) ≡ all → kept known draft ≡ all
@@ -334,10 +334,10 @@ kept_end known labels items i draft all past e =
     sym (ap (λ (is : List ItemData). kept known (fold (draft_after_item labels) draft is)) (drop_all i (map item_of items) (rw (length-map items item_of) past))) ∙ e
 
 pub kept_rules_end : (known : Bool) (labels : List SymbolData) (items : List Item) (i : ℕ) (draft : DraftData) (rule all : ℕ) → length items ≤ i → rule ≤ 15
-    → min rule (kept_rule known labels draft (drop i (map item_of items))) ≡ all → rule ≡ all
+    → min rule (second_pass_rule known labels draft (drop i (map item_of items))) ≡ all → rule ≡ all
 kept_rules_end known labels items i draft rule all past small e =
     let whole : rule ≡ min rule 15 = omega arith in
-    whole ∙ sym (ap (λ (is : List ItemData). min rule (kept_rule known labels draft is)) (drop_all i (map item_of items) (rw (length-map items item_of) past))) ∙ e
+    whole ∙ sym (ap (λ (is : List ItemData). min rule (second_pass_rule known labels draft is)) (drop_all i (map item_of items) (rw (length-map items item_of) past))) ∙ e
 
 -- ---- a further line
 module _ (known : Bool) (labels : List SymbolData) (ls : List LineData) (i : ℕ) (x : LineData) (zs : List LineData) (here : drop i ls ≡ x ∷ zs) (draft : DraftData) (so_far : kept known draft ≡ kept known (draft_from_lines labels (take i ls))) where
@@ -361,7 +361,7 @@ module _ (known : Bool) (labels : List SymbolData) (ls : List LineData) (i : ℕ
         ∙ ap (λ (xs : List LineData). are_new labels (with_line labels (draft_from_lines labels (take i ls)) x) (items_in xs)) (behind_here ls i x zs here)
         ∙ (news k).1
 
-    pub kept_line : (rule : ℕ) → rule ≡ min x.rule (kept_rule known labels draft x.items) → rule ≡ line_rule labels (draft_from_lines labels (take i ls)) x
+    pub kept_line : (rule : ℕ) → rule ≡ min x.rule (second_pass_rule known labels draft x.items) → rule ≡ line_rule labels (draft_from_lines labels (take i ls)) x
     unfolding line_rule
     kept_line rule e =
         e ∙ ap (min x.rule) (rule_same known labels x.items draft (draft_from_lines labels (take i ls)) so_far ∙ rules_kept known labels x.items (draft_from_lines labels (take i ls)) (λ k. (news k).0))
@@ -372,7 +372,7 @@ module _ (known : Bool) (labels : List SymbolData) (draft : DraftData) (rule cou
   unfolding with_line
   blank_draft = rw none refl
 
-  pub blank_rule : rule ≡ 15 → 15 ≡ min rule (kept_rule known labels draft (take count is))
+  pub blank_rule : rule ≡ 15 → 15 ≡ min rule (second_pass_rule known labels draft (take count is))
   blank_rule e = rw (none, e) refl
 
 -- ---- the end of a source
@@ -406,11 +406,11 @@ module _ (source : List ℕ) (read : Source) (same : lines_of read ≡ lines_in 
 
   -- what is new in the first pass is new in the second one
   pub new_again : (items : List Item) → items ≡ read.items.items → map item_of read.items.items ≡ items_in (lines_in source)
-      → (known : Bool) → known ≡ are_new [] start (map item_of items) → known ≡ true → are_new labels start (items_in (lines_of read)) ≡ true
+      → (known : Bool) → known ≡ are_new [] empty_draft (map item_of items) → known ≡ true → are_new labels empty_draft (items_in (lines_of read)) ≡ true
   new_again items e f known new so =
-      ap (λ (ls : List LineData). are_new labels start (items_in ls)) same
-      ∙ sym (new_alike [] labels (items_in (lines_in source)) start start (source_are source) (alike_same start))
-      ∙ sym (ap (λ (xs : List Item). are_new [] start (map item_of xs)) e ∙ ap (are_new [] start) f)
+      ap (λ (ls : List LineData). are_new labels empty_draft (items_in ls)) same
+      ∙ sym (new_alike [] labels (items_in (lines_in source)) empty_draft empty_draft (source_are source) (alike_same empty_draft))
+      ∙ sym (ap (λ (xs : List Item). are_new [] empty_draft (map item_of xs)) e ∙ ap (are_new [] empty_draft) f)
       ∙ sym new ∙ so
 
 -- ---- results of functions

@@ -9,10 +9,10 @@ use Rattle.std.proofs.lemmas.List.Sums.{fold-append}
 use Rattle.tc_stmt.specs.Names.{is_source_name}
 use Rattle.tc_stmt.specs.Items.{ReferenceData, ItemData, label, section, global, code, bytes, zeros}
 use Rattle.tc_stmt.specs.Lines.{LineData, items_in}
-use Rattle.tc_asm.specs.Symbols.{SymbolData, seen}
-use Rattle.tc_asm.specs.Drafts.{PartData, DraftData, part, start, draft_place, has_section, has_room, with_label, number_of_part, with_current_section, with_global, with_part_bytes, with_bytes, with_part_use, with_use, with_reference, code_bytes, draft_after_item, bytes_at}
+use Rattle.tc_asm.specs.Symbols.{SymbolData, with_name}
+use Rattle.tc_asm.specs.Drafts.{PartData, DraftData, part, empty_draft, next_byte_offset, has_section, has_room, with_label, number_of_part, with_current_section, with_global, with_part_bytes, with_bytes, with_part_use, with_use, with_reference, code_bytes, draft_after_item, bytes_at}
 use Rattle.tc_asm.specs.DraftedSources.{draft_from_lines, with_line}
-use Rattle.tc_asm.specs.Statements.{StatementData, statement, content_of, standing_statement, statements_from, statements, section_bytes, offset_of}
+use Rattle.tc_asm.specs.Statements.{StatementData, statement_data, statement_of_item, statement_with_room, statements_from, statements, section_bytes, offset_of}
 use Rattle.tc_stmt.proofs.Cases.{by_test}
 use Rattle.tc_asm.proofs.ListLaws.{changed, changed-set, length-changed}
 
@@ -56,19 +56,19 @@ Keeps-use d n r =
     (λ b. record { same_section = refl; same_count = refl; same_total = refl; same_bytes = λ s. refl })
   where
     add : PartData → PartData
-    add p = record p { uses = p.uses ++ record { offset = draft_place d; reference = r } ∷ [] }
+    add p = record p { uses = p.uses ++ record { offset = next_byte_offset d; reference = r } ∷ [] }
 
 Keeps-reference : (d : DraftData) (n : ℕ) (o : Option ReferenceData) → Keeps d (with_reference d n o)
 unfolding with_reference
 Keeps-reference d n None = record { same_section = refl; same_count = refl; same_total = refl; same_bytes = λ s. refl }
 Keeps-reference d n (Some r) =
-    by_test (λ (e : DraftData). Keeps d e) (is_source_name r.name) (with_use (record d { symbols = seen d.symbols r.name }) n r) d
-    (λ b. let k = Keeps-use (record d { symbols = seen d.symbols r.name }) n r in record { same_section = k.same_section; same_count = k.same_count; same_total = k.same_total; same_bytes = k.same_bytes })
+    by_test (λ (e : DraftData). Keeps d e) (is_source_name r.name) (with_use (record d { symbols = with_name d.symbols r.name }) n r) d
+    (λ b. let k = Keeps-use (record d { symbols = with_name d.symbols r.name }) n r in record { same_section = k.same_section; same_count = k.same_count; same_total = k.same_total; same_bytes = k.same_bytes })
     (λ b. record { same_section = refl; same_count = refl; same_total = refl; same_bytes = λ s. refl })
 
 module _ (s : ℕ) where
   grown_bytes : (d e : DraftData) (bs : List ℕ) (r : Option ReferenceData) → Keeps d e
-      → bytes_at (with_bytes e bs).parts s ≡ bytes_at d.parts s ++ section_bytes s (standing_statement d (Some (statement d.section bs r)))
+      → bytes_at (with_bytes e bs).parts s ≡ bytes_at d.parts s ++ section_bytes s (statement_with_room d (Some (statement_data d.section bs r)))
   unfolding with_bytes with_part_bytes
   grown_bytes d e bs r k =
       let same : (has_section e && has_room e (length bs)) ≡ (has_section d && has_room d (length bs))
@@ -77,7 +77,7 @@ module _ (s : ℕ) where
       by (has_section d && has_room d (length bs)) same refl
     where
       by : (b : Bool) → (has_section e && has_room e (length bs)) ≡ b → (has_section d && has_room d (length bs)) ≡ b
-          → bytes_at (with_bytes e bs).parts s ≡ bytes_at d.parts s ++ section_bytes s (cond b (statement d.section bs r ∷ []) [])
+          → bytes_at (with_bytes e bs).parts s ≡ bytes_at d.parts s ++ section_bytes s (cond b (statement_data d.section bs r ∷ []) [])
       by true h g =
           let less : e.section < length e.parts = ltb-true e.section (length e.parts) (and_parts _ _ h).0 in
           rw h (ap (λ ps. bytes_at ps s) (changed-set (λ p. record p { bytes = p.bytes ++ bs }) e.parts e.section)
@@ -108,7 +108,7 @@ module _ (s : ℕ) where
       same : bytes_at d.parts s ≡ bytes_at d.parts s ++ []
       same = sym (append-nil (bytes_at d.parts s))
 
-  stepped-bytes : (labels : List SymbolData) (d : DraftData) (i : ItemData) → bytes_at (draft_after_item labels d i).parts s ≡ bytes_at d.parts s ++ section_bytes s (standing_statement d (content_of labels d i))
+  stepped-bytes : (labels : List SymbolData) (d : DraftData) (i : ItemData) → bytes_at (draft_after_item labels d i).parts s ≡ bytes_at d.parts s ++ section_bytes s (statement_with_room d (statement_of_item labels d i))
   unfolding draft_after_item
   stepped-bytes labels d (label name) = label-bytes d name
   stepped-bytes labels d (section name) = entered-bytes d name
@@ -122,8 +122,8 @@ module _ (s : ℕ) where
   from-bytes labels (i ∷ is) d =
       from-bytes labels is (draft_after_item labels d i)
       ∙ ap (λ bs. bs ++ section_bytes s (statements_from labels (draft_after_item labels d i) is)) (stepped-bytes labels d i)
-      ∙ append_assoc (bytes_at d.parts s) (section_bytes s (standing_statement d (content_of labels d i))) (section_bytes s (statements_from labels (draft_after_item labels d i) is))
-      ∙ ap (λ bs. bytes_at d.parts s ++ bs) (sym (flat_map-append (λ (t : StatementData). cond (t.section == s) t.bytes []) (standing_statement d (content_of labels d i)) (statements_from labels (draft_after_item labels d i) is)))
+      ∙ append_assoc (bytes_at d.parts s) (section_bytes s (statement_with_room d (statement_of_item labels d i))) (section_bytes s (statements_from labels (draft_after_item labels d i) is))
+      ∙ ap (λ bs. bytes_at d.parts s ++ bs) (sym (flat_map-append (λ (t : StatementData). cond (t.section == s) t.bytes []) (statement_with_room d (statement_of_item labels d i)) (statements_from labels (draft_after_item labels d i) is)))
 
 -- the items of all lines, in order
 pub lines-items : (labels : List SymbolData) (lines : List LineData) (d : DraftData) → fold (with_line labels) d lines ≡ fold (draft_after_item labels) d (items_in lines)
@@ -133,7 +133,7 @@ lines-items labels (l ∷ ls) d = lines-items labels ls (fold (draft_after_item 
 
 -- a section of a draft is the bytes of its statements in order
 pub drafted-bytes : (labels : List SymbolData) (lines : List LineData) (s : ℕ) → bytes_at (draft_from_lines labels lines).parts s ≡ section_bytes s (statements labels lines)
-drafted-bytes labels lines s = ap (λ (d : DraftData). bytes_at d.parts s) (lines-items labels lines start) ∙ from-bytes s labels (items_in lines) start
+drafted-bytes labels lines s = ap (λ (d : DraftData). bytes_at d.parts s) (lines-items labels lines empty_draft) ∙ from-bytes s labels (items_in lines) empty_draft
 
 -- ---- offsets
 take-front : (xs ys : List ℕ) → take (length xs) (xs ++ ys) ≡ xs

@@ -12,7 +12,7 @@ use Rattle.tc_stmt.proofs.Cases.{by_test}
 use Rattle.tc_asm.specs.declared.symbols.Entry.{Entry}
 use Rattle.tc_asm.specs.Symbols.{SymbolData, symbol, put_entry, symbol_names}
 use Rattle.tc_asm.specs.Drafts.{UseData, PartData, part_names, count_of_uses, part_size_at}
-use Rattle.tc_asm.specs.DraftInvariants.{EachInDraft, is_drafted_name, Spaced}
+use Rattle.tc_asm.specs.DraftInvariants.{EachInDraft, is_drafted_name, AreUsesSpaced}
 
 pub each_weaker : {A : Type 0} (P Q : A → Type 0) → ((x : A) → P x → Q x) → (xs : List A) → EachInDraft P xs → EachInDraft Q xs
 each_weaker P Q f [] h = h
@@ -157,15 +157,15 @@ size_at-get (p ∷ ps) zero = refl
 size_at-get (p ∷ ps) (suc n) = size_at-get ps n
 
 -- ---- uses
-pub spaced_longer : (low : ℕ) (us : List UseData) (m n : ℕ) → m ≤ n → Spaced low us m → Spaced low us n
+pub spaced_longer : (low : ℕ) (us : List UseData) (m n : ℕ) → m ≤ n → AreUsesSpaced low us m → AreUsesSpaced low us n
 spaced_longer low [] m n h s = omega arith
 spaced_longer low (u ∷ us) m n h s = (s.0, spaced_longer (u.offset + 4) us m n h s.1)
 
-pub spaced_push : (low : ℕ) (us : List UseData) (m n : ℕ) (u : UseData) → m ≤ u.offset → u.offset + 4 ≤ n → Spaced low us m → Spaced low (us ++ u ∷ []) n
+pub spaced_push : (low : ℕ) (us : List UseData) (m n : ℕ) (u : UseData) → m ≤ u.offset → u.offset + 4 ≤ n → AreUsesSpaced low us m → AreUsesSpaced low (us ++ u ∷ []) n
 spaced_push low [] m n u h k s = (omega arith, k)
 spaced_push low (x ∷ us) m n u h k s = (s.0, spaced_push (x.offset + 4) us m n u h k s.1)
 
-pub spaced_end : (low : ℕ) (us : List UseData) (size : ℕ) → Spaced low us size → low ≤ size
+pub spaced_end : (low : ℕ) (us : List UseData) (size : ℕ) → AreUsesSpaced low us size → low ≤ size
 spaced_end low [] size h = h
 spaced_end low (u ∷ us) size h = let more = spaced_end (u.offset + 4) us size h.1 in let le = h.0 in omega arith
 

@@ -9,14 +9,14 @@ use Rattle.std.proofs.lemmas.Bool.{and_parts, leb-true, lt-ltb, le-leb, and_from
 use Rattle.std.proofs.lemmas.Bool.Decides.{Decides-eqb}
 use Rattle.tc_object.specs.declared.relocs.Reloc.{Reloc}
 use Rattle.tc_object.specs.Names.{IsNewObjectName}
-use Rattle.tc_object.specs.Objects.{SectionData, InTurn, is_section_name, is_symbol_name, IsSection, IsSymbol, IsReloc, IsObject, is_behind, last_reloc}
+use Rattle.tc_object.specs.Objects.{SectionData, InTurn, is_section_name, is_symbol_name, IsSection, IsSymbol, IsReloc, IsObject, is_after_last_reloc, last_reloc}
 use Rattle.tc_object.specs.Objects as object
 use Rattle.tc_stmt.specs.Items.{ReferenceData}
 use Rattle.tc_asm.specs.declared.symbols.Place.{Place}
 use Rattle.tc_asm.specs.Symbols.{SymbolData, symbol_number, symbol_names}
 use Rattle.tc_asm.specs.Drafts.{UseData, PartData, DraftData, part_names, count_of_uses, part_size_at}
-use Rattle.tc_asm.specs.Objects.{section_of, symbol_at, symbol_of, assembled_addend, reloc_of, relocs_from, object_of}
-use Rattle.tc_asm.specs.DraftInvariants.{EachInDraft, is_drafted_name, IsNewDraftName, IsLabelPlace, IsPlaced, Spaced, IsUse, IsPart, IsDraft}
+use Rattle.tc_asm.specs.Objects.{section_of, symbol_at, symbol_of, assembled_addend, reloc_of, relocs_from, object_of_draft}
+use Rattle.tc_asm.specs.DraftInvariants.{EachInDraft, is_drafted_name, IsNewDraftName, IsLabelPlace, IsPlaced, AreUsesSpaced, IsUse, IsPart, IsDraft}
 use Rattle.tc_asm.proofs.FinishLaws.{size_small}
 use Rattle.tc_asm.proofs.ListLaws.{each_weaker, any_first, position_first, spaced_end}
 
@@ -95,14 +95,14 @@ last-push rs r = ap (λ n. slice_get (rs ++ r ∷ []) n) (let l = length-append 
 
 -- places in later sections, and in this one from low on, come after these relocations
 abbrev Behind : List Reloc → ℕ → ℕ → Type 0
-Behind before s low = (t o : ℕ) → (s < t) ⊎ ((t ≡ s) × (low ≤ o)) → is_behind (last_reloc before) t o ≡ true
+Behind before s low = (t o : ℕ) → (s < t) ⊎ ((t ≡ s) × (low ≤ o)) → is_after_last_reloc (last_reloc before) t o ≡ true
 
 behind-push : (before : List Reloc) (r : Reloc) (s low : ℕ) → r.section ≡ s → r.offset < low → Behind (before ++ r ∷ []) s low
 behind-push before r s low same less t o (inl later) =
-    ap (λ l. is_behind l t o) (last-push before r) ∙ ap (λ b. b || (r.section == t && nat_lt r.offset o)) (lt-ltb r.section t (omega arith))
+    ap (λ l. is_after_last_reloc l t o) (last-push before r) ∙ ap (λ b. b || (r.section == t && nat_lt r.offset o)) (lt-ltb r.section t (omega arith))
 behind-push before r s low same less t o (inr h) =
     let e : t ≡ s = h.0 in let le = h.1 in
-    ap (λ l. is_behind l t o) (last-push before r)
+    ap (λ l. is_after_last_reloc l t o) (last-push before r)
     ∙ or_right (nat_lt r.section t) (r.section == t && nat_lt r.offset o) (and_from (r.section == t) (nat_lt r.offset o) ((Decides-eqb r.section t).1 (omega arith)) (lt-ltb r.offset o (omega arith)))
 
 behind-later : (before : List Reloc) (s low : ℕ) → Behind before s low → Behind before (s + 1) 0
@@ -129,7 +129,7 @@ module _ (ss : List SymbolData) (few : length ss < 2 ^ 16) (sections : List Sect
       by false = omega arith
 
   reloc_good : (before : List Reloc) (s : ℕ) (u : UseData) → s < length sections → u.offset + 4 ≤ object.section_size_at sections s → object.section_size_at sections s < 2 ^ 32 → IsUse (symbol_names ss) u
-      → is_behind (last_reloc before) s u.offset ≡ true → IsReloc sections (length (map symbol_of ss)) before (reloc_of ss s u)
+      → is_after_last_reloc (last_reloc before) s u.offset ≡ true → IsReloc sections (length (map symbol_of ss)) before (reloc_of ss s u)
   reloc_good before s u within room small kept behind =
       let k = and_parts _ _ kept.kind in
       let number = number_less u.reference.name kept.known in
@@ -147,7 +147,7 @@ module _ (ss : List SymbolData) (few : length ss < 2 ^ 16) (sections : List Sect
 
   -- the relocations of one section, and what follows
   uses_turn : (s : ℕ) → s < length sections → object.section_size_at sections s < 2 ^ 32 → (us : List UseData) (before rest : List Reloc) (low size : ℕ) → size ≡ object.section_size_at sections s
-      → Spaced low us size → EachInDraft (IsUse (symbol_names ss)) us → Behind before s low
+      → AreUsesSpaced low us size → EachInDraft (IsUse (symbol_names ss)) us → Behind before s low
       → ((b : List Reloc) → Behind b (s + 1) 0 → InTurn (IsReloc sections (length (map symbol_of ss))) b rest)
       → InTurn (IsReloc sections (length (map symbol_of ss))) before (map (reloc_of ss s) us ++ rest)
   uses_turn s within small [] before rest low size e spaced uses behind next = next before (behind-later before s low behind)
@@ -181,7 +181,7 @@ length-relocs ss s (p ∷ ps) =
     let own = length-map p.uses (reloc_of ss s) in
     length-append (map (reloc_of ss s) p.uses) (relocs_from ss (s + 1) ps) ∙ omega (arith, rest, own, sum_by-cons (λ (q : PartData). length q.uses) p ps)
 
-pub IsObject-draft : (d : DraftData) → IsDraft d → IsObject (object_of d)
+pub IsObject-draft : (d : DraftData) → IsDraft d → IsObject (object_of_draft d)
 IsObject-draft d h =
     let parts_long = length-map d.parts section_of in
     let symbols_long = length-map d.symbols symbol_of in

@@ -12,13 +12,13 @@ use Rattle.tc_stmt.specs.Lines.{LineData, line_data, lines_in, items_in}
 use Rattle.tc_stmt.specs.SourceViews.{lines_read, lines_of}
 use Rattle.tc_stmt.specs.declared.source.Source.{Source}
 use Rattle.tc_object.specs.Objects.{ObjectData}
-use Rattle.tc_asm.specs.Objects.{object_of}
+use Rattle.tc_asm.specs.Objects.{object_of_draft}
 use Rattle.tc_asm.proofs.LaidLaws.{lines-items}
 use Rattle.tc_asm.specs.Symbols.{SymbolData}
-use Rattle.tc_asm.specs.Drafts.{DraftData, start, draft_after_item}
+use Rattle.tc_asm.specs.Drafts.{DraftData, empty_draft, draft_after_item}
 use Rattle.tc_asm.specs.DraftedSources.{draft_from_lines, with_line, symbols_of}
-use Rattle.tc_asm.specs.KnownSymbols.{kept, kept_rule}
-use Rattle.tc_asm.specs.Rules.{rule_in, KeepsRules, IsLeastBrokenLine, line_rule}
+use Rattle.tc_asm.specs.KnownSymbols.{kept, second_pass_rule}
+use Rattle.tc_asm.specs.Rules.{rule_in, KeepsRules, IsFirstBrokenLine, line_rule}
 
 -- the line at a place, with the lines after it
 module _ (ls : List LineData) (i : ℕ) (x : LineData) (zs : List LineData) (here : drop i ls ≡ x ∷ zs) where
@@ -39,7 +39,7 @@ module _ (ls : List LineData) (i : ℕ) (x : LineData) (zs : List LineData) (her
       step
       ∙ ap (λ p. with_line labels p x) so_far
       ∙ ap (with_line labels (draft_from_lines labels (take i ls))) (sym (get_here x))
-      ∙ sym (fold_more (with_line labels) start ls i x within)
+      ∙ sym (fold_more (with_line labels) empty_draft ls i x within)
 
   pub rule_here : (labels : List SymbolData) (draft : DraftData) (rule : ℕ) (d : LineData)
       → labels ≡ symbols_of ls → draft ≡ draft_from_lines labels (take i ls) → rule ≡ line_rule labels draft x → rule_in ls i (get_or ls i d) ≡ rule
@@ -60,7 +60,7 @@ module _ (ls : List LineData) (i : ℕ) (x : LineData) (zs : List LineData) (her
       ]
 
   pub least_here : (labels : List SymbolData) (draft : DraftData) (rule : ℕ)
-      → labels ≡ symbols_of ls → draft ≡ draft_from_lines labels (take i ls) → rule ≡ line_rule labels draft x → rule ≢ 15 → KeepsRules ls i → IsLeastBrokenLine ls (i + 1) rule
+      → labels ≡ symbols_of ls → draft ≡ draft_from_lines labels (take i ls) → rule ≡ line_rule labels draft x → rule ≢ 15 → KeepsRules ls i → IsFirstBrokenLine ls (i + 1) rule
   least_here labels draft rule same so_far is some before = record {
     place = i;
     within = within;
@@ -86,9 +86,9 @@ pub line_drafted : (known : Bool) (labels : List SymbolData) (items first : List
 unfolding with_line
 line_drafted known labels items first count rule old new front same = same ∙ ap (λ is. kept known (fold (draft_after_item labels) old is)) (first_things items first count front)
 
-pub line_ruled : (known : Bool) (labels : List SymbolData) (items first : List Item) (count rule found least : ℕ) (old : DraftData) → first ≡ take count items → found ≡ kept_rule known labels old (map item_of first)
-    → least ≡ min rule found → least ≡ min rule (kept_rule known labels old (take count (map item_of items)))
-line_ruled known labels items first count rule found least old front is e = e ∙ ap (min rule) (is ∙ ap (kept_rule known labels old) (first_things items first count front))
+pub line_ruled : (known : Bool) (labels : List SymbolData) (items first : List Item) (count rule found least : ℕ) (old : DraftData) → first ≡ take count items → found ≡ second_pass_rule known labels old (map item_of first)
+    → least ≡ min rule found → least ≡ min rule (second_pass_rule known labels old (take count (map item_of items)))
+line_ruled known labels items first count rule found least old front is e = e ∙ ap (min rule) (is ∙ ap (second_pass_rule known labels old) (first_things items first count front))
 
 module _ (lines : List Line) (i : ℕ) (d : Line) (items : List Item) (within : i < length lines) where
   -- the next line has the next items
@@ -105,17 +105,17 @@ module _ (source : List ℕ) (read : Source) (same : lines_of read ≡ lines_in 
   pub kept_source : KeepsRules (lines_of read) (length (lines_of read)) → KeepsRules (lines_in source) (length (lines_in source))
   kept_source h = subst (λ (ls : List LineData). KeepsRules ls (length ls)) same h
 
-  pub object_source : (o : ObjectData) (d : DraftData) (labels : List SymbolData) → o ≡ object_of d → d ≡ draft_from_lines labels (lines_of read) → labels ≡ symbols_of (lines_of read)
-      → o ≡ object_of (draft_from_lines (symbols_of (lines_in source)) (lines_in source))
+  pub object_source : (o : ObjectData) (d : DraftData) (labels : List SymbolData) → o ≡ object_of_draft d → d ≡ draft_from_lines labels (lines_of read) → labels ≡ symbols_of (lines_of read)
+      → o ≡ object_of_draft (draft_from_lines (symbols_of (lines_in source)) (lines_in source))
   object_source o d labels e f g =
-      e ∙ ap object_of (f ∙ ap (λ ls. draft_from_lines ls (lines_of read)) g) ∙ ap (λ ls. object_of (draft_from_lines (symbols_of ls) ls)) same
+      e ∙ ap object_of_draft (f ∙ ap (λ ls. draft_from_lines ls (lines_of read)) g) ∙ ap (λ ls. object_of_draft (draft_from_lines (symbols_of ls) ls)) same
 
 -- the symbols of the items of all lines are those of the lines
-pub labels_source : (source : List ℕ) (read : Source) (items : List Item) (labels : List SymbolData) → labels ≡ (fold (draft_after_item []) start (map item_of items)).symbols
+pub labels_source : (source : List ℕ) (read : Source) (items : List Item) (labels : List SymbolData) → labels ≡ (fold (draft_after_item []) empty_draft (map item_of items)).symbols
     → items ≡ read.items.items → map item_of read.items.items ≡ items_in (lines_in source) → lines_of read ≡ lines_in source → labels ≡ symbols_of (lines_of read)
 labels_source source read items labels e f g same =
     e
-    ∙ ap (λ (is : List Item). (fold (draft_after_item []) start (map item_of is)).symbols) f
-    ∙ ap (λ (is : List ItemData). (fold (draft_after_item []) start is).symbols) g
-    ∙ sym (ap (λ (d : DraftData). d.symbols) (lines-items [] (lines_in source) start))
+    ∙ ap (λ (is : List Item). (fold (draft_after_item []) empty_draft (map item_of is)).symbols) f
+    ∙ ap (λ (is : List ItemData). (fold (draft_after_item []) empty_draft is).symbols) g
+    ∙ sym (ap (λ (d : DraftData). d.symbols) (lines-items [] (lines_in source) empty_draft))
     ∙ ap symbols_of (sym same)

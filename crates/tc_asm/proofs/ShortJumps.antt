@@ -10,7 +10,7 @@ use Rattle.tc_isa.specs.declared.table.Form.TheVariants.{Sb, Sbr}
 use Rattle.tc_isa.specs.Rows.{RowData, listed, is_long}
 use Rattle.tc_isa.specs.Forms.{bounds, form_index}
 use Rattle.tc_isa.specs.Arithmetic.{sign_extended}
-use Rattle.tc_isa.specs.FromFields.{doubled_displacement, ahead_only}
+use Rattle.tc_isa.specs.FromFields.{doubled_displacement, forward_distance}
 use Rattle.tc_stmt.specs.declared.want.Field.TheVariants.{K}
 use Rattle.tc_stmt.specs.RowFields.{RowFieldsData, with_rule, with_value, set_field}
 use Rattle.tc_stmt.specs.Items.{ReferenceData, ItemData, label, section, code, bytes}
@@ -20,12 +20,12 @@ use Rattle.tc_stmt.specs.StatedRows.{can_take_symbol_directly}
 use Rattle.tc_asm.specs.declared.symbols.Place.{Place}
 use Rattle.tc_stmt.specs.Lines.{lines_in, items_in}
 use Rattle.tc_asm.specs.Symbols.{SymbolData, place_in}
-use Rattle.tc_asm.specs.Drafts.{DraftData, start, has_section, draft_place, label_distance, drafted_fields, fields_with_target, fields_with_label_distance, row_fields_with_target, code_bytes, draft_after_item}
+use Rattle.tc_asm.specs.Drafts.{DraftData, empty_draft, has_section, next_byte_offset, label_distance, drafted_fields, fields_with_target, fields_with_label_distance, row_fields_with_target, code_bytes, draft_after_item}
 use Rattle.tc_asm.specs.Rules.{content_rule, item_rule, items_rule}
 use Rattle.tc_asm.specs.DraftedSources.{symbols_of}
 use Rattle.tc_asm.specs.DraftInvariants.{EachInDraft}
 use Rattle.tc_asm.specs.Objects.{assembled_addend}
-use Rattle.tc_asm.specs.Statements.{StatementData, statement, content_of}
+use Rattle.tc_asm.specs.Statements.{StatementData, statement_data, statement_of_item}
 use Rattle.tc_asm.specs.InstructionLaws.{InstructionSpellsRow}
 use Rattle.tc_asm.specs.ShortJumpLaws.{short_jump_displacement, ShortJumpsLaw}
 use Rattle.tc_asm.proofs.Uses.{fits}
@@ -83,7 +83,7 @@ forwards true s far odd = let none : s ≡ 0 = by (s == 0) refl far in rw none r
     by false e h = cc
 
 displacement_is : (form : Form) (f : Fields) (minus : Bool) (s : ℕ) → can_take_symbol_directly form ≡ true → is_far_displacement form (bounds form).k minus s ≡ false → is_odd_displacement s ≡ false →
-    cond (form_index form == 13) (ahead_only (record f { k = operand_number_modulo (bounds form).k minus (s / 2) })) (doubled_displacement 8 (record f { k = operand_number_modulo (bounds form).k minus (s / 2) })) ≡ cond minus ((2 ^ 32 - s) % 2 ^ 32) s
+    cond (form_index form == 13) (forward_distance (record f { k = operand_number_modulo (bounds form).k minus (s / 2) })) (doubled_displacement 8 (record f { k = operand_number_modulo (bounds form).k minus (s / 2) })) ≡ cond minus ((2 ^ 32 - s) % 2 ^ 32) s
 unfolding bounds form_index
 displacement_is Sb f minus s short far odd = both_ways minus s far odd
 displacement_is Sbr f minus s short far odd = forwards minus s far odd
@@ -154,7 +154,7 @@ record IsDistant (labels : List SymbolData) (d : DraftData) (r : ReferenceData) 
   label : Place
   is_label : place_in labels r.name ≡ Some label
   here : label.section ≡ d.section
-  apart : draft_place d + cond r.minus r.size 0 + cond minus 0 size ≡ label.offset + cond r.minus 0 r.size + cond minus size 0
+  apart : next_byte_offset d + cond r.minus r.size 0 + cond minus 0 size ≡ label.offset + cond r.minus 0 r.size + cond minus size 0
 
 distant : (labels : List SymbolData) (d : DraftData) (r : ReferenceData) (minus : Bool) (size : ℕ) → label_distance labels d r ≡ Some (minus, size) → IsDistant labels d r minus size
 unfolding label_distance
@@ -176,24 +176,24 @@ distant labels d r minus size e = by (place_in labels r.name) refl e
 
     by_section : (a : Place) (b : Bool) → (has_section d && a.section == d.section) ≡ b → place_in labels r.name ≡ Some a
         → cond {A = Option (Bool × ℕ)} b
-        (cond {A = Option (Bool × ℕ)} (nat_le (draft_place d + cond r.minus r.size 0) (a.offset + cond r.minus 0 r.size))
-        (Some (false, (a.offset + cond r.minus 0 r.size) - (draft_place d + cond r.minus r.size 0)))
-        (Some (true, (draft_place d + cond r.minus r.size 0) - (a.offset + cond r.minus 0 r.size)))) None ≡ Some (minus, size)
+        (cond {A = Option (Bool × ℕ)} (nat_le (next_byte_offset d + cond r.minus r.size 0) (a.offset + cond r.minus 0 r.size))
+        (Some (false, (a.offset + cond r.minus 0 r.size) - (next_byte_offset d + cond r.minus r.size 0)))
+        (Some (true, (next_byte_offset d + cond r.minus r.size 0) - (a.offset + cond r.minus 0 r.size)))) None ≡ Some (minus, size)
         → IsDistant labels d r minus size
     by_section a true there is g =
         record {
           label = a;
           is_label = is;
           here = (Decides-eqb a.section d.section).0 (and_parts (has_section d) (a.section == d.section) there).1;
-          apart = by_order (draft_place d + cond r.minus r.size 0) (a.offset + cond r.minus 0 r.size) (nat_le (draft_place d + cond r.minus r.size 0) (a.offset + cond r.minus 0 r.size)) refl g;
+          apart = by_order (next_byte_offset d + cond r.minus r.size 0) (a.offset + cond r.minus 0 r.size) (nat_le (next_byte_offset d + cond r.minus r.size 0) (a.offset + cond r.minus 0 r.size)) refl g;
         }
     by_section a false there is g = cc
 
     by : (o : Option Place) → place_in labels r.name ≡ o
         → option_map_or (λ (a : Place). cond {A = Option (Bool × ℕ)} (has_section d && a.section == d.section)
-        (cond {A = Option (Bool × ℕ)} (nat_le (draft_place d + cond r.minus r.size 0) (a.offset + cond r.minus 0 r.size))
-        (Some (false, (a.offset + cond r.minus 0 r.size) - (draft_place d + cond r.minus r.size 0)))
-        (Some (true, (draft_place d + cond r.minus r.size 0) - (a.offset + cond r.minus 0 r.size)))) None) o None ≡ Some (minus, size)
+        (cond {A = Option (Bool × ℕ)} (nat_le (next_byte_offset d + cond r.minus r.size 0) (a.offset + cond r.minus 0 r.size))
+        (Some (false, (a.offset + cond r.minus 0 r.size) - (next_byte_offset d + cond r.minus r.size 0)))
+        (Some (true, (next_byte_offset d + cond r.minus r.size 0) - (a.offset + cond r.minus 0 r.size)))) None) o None ≡ Some (minus, size)
         → IsDistant labels d r minus size
     by None is g = cc
     by (Some a) is g = by_section a (has_section d && a.section == d.section) refl is g
@@ -221,7 +221,7 @@ record Jumps (labels : List SymbolData) (d : DraftData) (r : ReferenceData) (row
   label : Place
   is_label : place_in labels r.name ≡ Some label
   here : label.section ≡ d.section
-  reaches : (base : ℕ) → (base + draft_place d + short_jump_displacement row f) % 2 ^ 32 ≡ ((base + label.offset) % 2 ^ 32 + assembled_addend r) % 2 ^ 32
+  reaches : (base : ℕ) → (base + next_byte_offset d + short_jump_displacement row f) % 2 ^ 32 ≡ ((base + label.offset) % 2 ^ 32 + assembled_addend r) % 2 ^ 32
 
 jumps_row : (labels : List SymbolData) (d : DraftData) (row : RowData) (f : Fields) (r : ReferenceData) → can_take_symbol_directly row.form ≡ true → 15 ≤ (fields_with_label_distance labels d row f r).rule → Jumps labels d r row (fields_with_label_distance labels d row f r).fields
 jumps_row labels d row f r short h =
@@ -235,7 +235,7 @@ jumps_row labels d row f r short h =
       label = p.label;
       is_label = p.is_label;
       here = p.here;
-      reaches = λ base. gone r.minus j.minus base (draft_place d) p.label.offset r.size j.size (short_jump_displacement row (fields_with_label_distance labels d row f r).fields) p.apart far
+      reaches = λ base. gone r.minus j.minus base (next_byte_offset d) p.label.offset r.size j.size (short_jump_displacement row (fields_with_label_distance labels d row f r).fields) p.apart far
           (λ e. back_small row.form j.size short (subst F e n.0));
     }
 
@@ -258,18 +258,18 @@ record StatementJumps (labels : List SymbolData) (d : DraftData) (t : StatementD
   spells : InstructionSpellsRow place t.bytes
   jumps : Jumps labels d r spells.row spells.fields
 
-statement_jumps : (labels : List SymbolData) (d : DraftData) (i : ItemData) (t : StatementData) (r : ReferenceData) → IsAddedItem i → 15 ≤ item_rule labels d i → content_of labels d i ≡ Some t → t.reference ≡ Some r → r.kind ≡ 0 → StatementJumps labels d t r
+statement_jumps : (labels : List SymbolData) (d : DraftData) (i : ItemData) (t : StatementData) (r : ReferenceData) → IsAddedItem i → 15 ≤ item_rule labels d i → statement_of_item labels d i ≡ Some t → t.reference ≡ Some r → r.kind ≡ 0 → StatementJumps labels d t r
 unfolding item_rule code_spells
 statement_jumps labels d (code k f o) t r h rule e is zero =
-    let same : statement d.section (code_bytes labels d k f o) o ≡ t = cc in
+    let same : statement_data d.section (code_bytes labels d k f o) o ≡ t = cc in
     let given : o ≡ Some r = ap (λ (x : StatementData). x.reference) same ∙ is in
-    let P : Option ReferenceData → Type 0 = λ p. IsAddedCode k f p → 15 ≤ (row_fields_with_target labels d k f p).rule → StatementJumps labels d (statement d.section (code_bytes labels d k f p) p) r in
+    let P : Option ReferenceData → Type 0 = λ p. IsAddedCode k f p → 15 ≤ (row_fields_with_target labels d k f p).rule → StatementJumps labels d (statement_data d.section (code_bytes labels d k f p) p) r in
     let Q : StatementData → Type 0 = λ x. StatementJumps labels d x r in
     subst Q same
     (subst P (sym given) (λ c q. record { section = refl; place = k; spells = code_spells labels d k f (Some r) c; jumps = jumps_code labels d k f r c zero q })
     h (fits (row_fields_with_target labels d k f o).rule (content_rule d _ o) rule))
 statement_jumps labels d (bytes bs o) t r h rule e is zero =
-    let same : statement d.section bs o ≡ t = cc in
+    let same : statement_data d.section bs o ≡ t = cc in
     let given : o ≡ Some r = ap (λ (x : StatementData). x.reference) same ∙ is in
     let seven : r.kind ≡ 7 = h.kind r given in
     absurd (omega arith)
@@ -279,12 +279,12 @@ pub short_jumps_law : ShortJumpsLaw
 short_jumps_law source index t r keeps at is zero =
     let labels : List SymbolData = symbols_of (lines_in source) in
     let items : List ItemData = items_in (lines_in source) in
-    let a = item_at labels items start index t at in
-    let d : DraftData = fold (draft_after_item labels) start a.before in
+    let a = item_at labels items empty_draft index t at in
+    let d : DraftData = fold (draft_after_item labels) empty_draft a.before in
     let E : List ItemData → Type 0 = λ xs. EachInDraft IsAddedItem xs in
-    let R : List ItemData → Type 0 = λ xs. 15 ≤ items_rule labels start xs in
+    let R : List ItemData → Type 0 = λ xs. 15 ≤ items_rule labels empty_draft xs in
     let j = statement_jumps labels d a.item t r (each_there IsAddedItem a.before a.after a.item (subst E a.are (source_are source)))
-    (rule_there labels a.before a.after a.item start (subst R a.are (source_items source keeps))) a.content is zero in
+    (rule_there labels a.before a.after a.item empty_draft (subst R a.are (source_items source keeps))) a.content is zero in
     let place = offset_there labels items index t a j.section in
     record {
       place = j.place;

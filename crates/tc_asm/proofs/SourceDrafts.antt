@@ -5,13 +5,13 @@ use Rattle.std.proofs.lemmas.List.Sums.{fold-append}
 use Rattle.tc_stmt.specs.Items.{ItemData}
 use Rattle.tc_stmt.specs.Lines.{LineData, lines_in, items_in}
 use Rattle.tc_asm.specs.Symbols.{SymbolData}
-use Rattle.tc_asm.specs.Drafts.{DraftData, start, draft_after_item}
+use Rattle.tc_asm.specs.Drafts.{DraftData, empty_draft, draft_after_item}
 use Rattle.tc_asm.specs.DraftedSources.{draft_from_lines, with_line, symbols_of, draft_in}
 use Rattle.tc_asm.specs.Rules.{KeepsRules, item_rule, items_rule, line_rule}
 use Rattle.tc_asm.specs.DraftInvariants.{IsDraft}
 use Rattle.tc_asm.proofs.KeptLaws.{IsDraft-start, IsDraft-line}
 use Rattle.tc_object.specs.Objects.{IsObject}
-use Rattle.tc_asm.specs.Objects.{object_of}
+use Rattle.tc_asm.specs.Objects.{object_of_draft}
 use Rattle.tc_asm.proofs.ObjectLaws.{IsObject-draft}
 
 -- ---- lines after others break no rule
@@ -23,7 +23,7 @@ keeps_from : (labels : List SymbolData) (before rest : List LineData) → ((k : 
     KeepsFrom labels (draft_from_lines labels before) rest
 keeps_from labels before [] h = tt
 keeps_from labels before (l ∷ ls) h =
-    let step : draft_from_lines labels (before ++ l ∷ []) ≡ with_line labels (draft_from_lines labels before) l = fold-append (with_line labels) start before (l ∷ []) in
+    let step : draft_from_lines labels (before ++ l ∷ []) ≡ with_line labels (draft_from_lines labels before) l = fold-append (with_line labels) empty_draft before (l ∷ []) in
     let P : DraftData → Type 0 = λ d. KeepsFrom labels d ls in (
       ap (λ (b : List LineData). line_rule labels (draft_from_lines labels b) l) (sym (append-nil before)) ∙ h 0 l (omega arith),
       subst P step (keeps_from labels (before ++ l ∷ []) ls (λ k x less.
@@ -55,14 +55,14 @@ kept_items labels (l ∷ ls) d k =
     rules-append labels d l.items (items_in ls) (line_items l (items_rule labels d l.items) k.0) (kept_items labels ls (fold (draft_after_item labels) d l.items) k.1)
 
 -- ---- a source
-source_keeps : (source : List ℕ) → KeepsRules (lines_in source) (length (lines_in source)) → KeepsFrom (symbols_of (lines_in source)) start (lines_in source)
+source_keeps : (source : List ℕ) → KeepsRules (lines_in source) (length (lines_in source)) → KeepsFrom (symbols_of (lines_in source)) empty_draft (lines_in source)
 source_keeps source h = keeps_from (symbols_of (lines_in source)) [] (lines_in source) (λ k x less. h k x less)
 
 pub source_draft : (source : List ℕ) → KeepsRules (lines_in source) (length (lines_in source)) → IsDraft (draft_in source)
-source_draft source h = kept_draft (symbols_of (lines_in source)) (lines_in source) start IsDraft-start (source_keeps source h)
+source_draft source h = kept_draft (symbols_of (lines_in source)) (lines_in source) empty_draft IsDraft-start (source_keeps source h)
 
-pub source_items : (source : List ℕ) → KeepsRules (lines_in source) (length (lines_in source)) → 15 ≤ items_rule (symbols_of (lines_in source)) start (items_in (lines_in source))
-source_items source h = kept_items (symbols_of (lines_in source)) (lines_in source) start (source_keeps source h)
+pub source_items : (source : List ℕ) → KeepsRules (lines_in source) (length (lines_in source)) → 15 ≤ items_rule (symbols_of (lines_in source)) empty_draft (items_in (lines_in source))
+source_items source h = kept_items (symbols_of (lines_in source)) (lines_in source) empty_draft (source_keeps source h)
 
-pub source_object : (source : List ℕ) → KeepsRules (lines_in source) (length (lines_in source)) → IsObject (object_of (draft_in source))
+pub source_object : (source : List ℕ) → KeepsRules (lines_in source) (length (lines_in source)) → IsObject (object_of_draft (draft_in source))
 source_object source h = IsObject-draft (draft_in source) (source_draft source h)

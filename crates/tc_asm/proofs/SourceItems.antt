@@ -10,7 +10,7 @@ use Rattle.tc_lex.specs.declared.kinds.TokenKind.TheVariants as kind
 use Rattle.tc_lex.specs.Cut.{tokens_of}
 use Rattle.tcd_base.specs.Bytes.{four_bytes}
 use Rattle.tc_stmt.specs.Names.{is_source_name, symbol_rule}
-use Rattle.tc_lex.specs.Pieces.{PieceData, is_kind, text_at}
+use Rattle.tc_lex.specs.Pieces.{PieceData, is_token_kind, token_text}
 use Rattle.tc_lex.specs.Operands.{OperandData, operands}
 use Rattle.tc_stmt.specs.RowFields.{RowFieldsData}
 use Rattle.tc_stmt.specs.Items.{ReferenceData, ItemData, section, global, bytes, zeros}
@@ -18,11 +18,11 @@ use Rattle.tc_stmt.specs.Filling.{reference}
 use Rattle.tc_stmt.specs.OperandForms.{shape_index, is_symbol_operand, is_half_operand, operand_number_modulo}
 use Rattle.tc_stmt.specs.DataValues.{is_value_within_width, value_rule, value_item, space_item}
 use Rattle.tc_stmt.specs.StatementRow.{statement}
-use Rattle.tc_stmt.specs.Lines.{LineData, line_data, only_operand_name, named_line, space_line, values_line, code_line, stated_line, line_from, pieces_line, line_token_with_text, label_of, label_before, cut_line, line_in, lines_in, items_in}
+use Rattle.tc_stmt.specs.Lines.{LineData, line_data, only_operand_name, named_line, space_line, values_line, code_line, statement_line, line_from, tokens_line, line_token_with_text, label_of, label_before, meaning_of_cut_line, line_in, lines_in, items_in}
 use Rattle.tc_asm.specs.ItemInvariants.{IsAddedData, IsAddedItem}
 use Rattle.tc_asm.specs.DraftInvariants.{EachInDraft}
 use Rattle.tc_stmt.proofs.Cases.{by_test}
-use Rattle.tc_stmt.specs.StatedRows.{IsStatedRow}
+use Rattle.tc_stmt.specs.StatedRows.{IsRowOfStatement}
 use Rattle.tc_stmt.proofs.StatedRows.{stated}
 
 -- ---- a line
@@ -97,7 +97,7 @@ space_are [] = record { items = (tt, tt) }
 space_are (o ∷ []) = record { items = (tt, tt) }
 space_are (o ∷ p ∷ os) = record { items = (tt, tt) }
 
-code_are : (name : List ℕ) (q : Result (ℕ × RowFieldsData) ℕ) → ((k : ℕ) (f : RowFieldsData) → q ≡ Ok (k, f) → IsStatedRow k f) → Are (code_line name q)
+code_are : (name : List ℕ) (q : Result (ℕ × RowFieldsData) ℕ) → ((k : ℕ) (f : RowFieldsData) → q ≡ Ok (k, f) → IsRowOfStatement k f) → Are (code_line name q)
 code_are name (Ok found) h =
     let s = h found.0 found.1 refl in
     record { items = (record { row = s.row; at = s.at; fits = s.stated.fits; symbols = s.stated.symbols; zero = s.zero }, tt) }
@@ -107,8 +107,8 @@ values_line_are : (width : ℕ) (os : List OperandData) → Are (values_line wid
 unfolding values_line
 values_line_are width os = record { items = values_are width os }
 
-stated_are : (name : List ℕ) (os : List OperandData) → Are (stated_line name os)
-unfolding stated_line
+stated_are : (name : List ℕ) (os : List OperandData) → Are (statement_line name os)
+unfolding statement_line
 stated_are name os =
     by_test Are (bytes_eq name (codes ".section")) _ _ (λ e. named_are section (λ n. tt) os)
     (λ e. by_test Are (bytes_eq name (codes ".global")) _ _ (λ e. named_are global (λ n. tt) os)
@@ -122,21 +122,21 @@ from_are : (ps : List PieceData) (at : ℕ) → Are (line_from ps at)
 unfolding line_from
 from_are ps at =
     by_test Are (length ps == at) _ _ (λ e. record { items = tt })
-    (λ e. by_test Are (is_kind ps at kind.Word) _ _ (λ e. stated_are (text_at ps at) (operands (drop (at + 1) ps))) (λ e. record { items = tt }))
+    (λ e. by_test Are (is_token_kind ps at kind.Word) _ _ (λ e. stated_are (token_text ps at) (operands (drop (at + 1) ps))) (λ e. record { items = tt }))
 
-pieces_are : (ps : List PieceData) → Are (pieces_line ps)
-unfolding pieces_line
-pieces_are ps = by_test Are (is_kind ps 0 kind.Word && is_kind ps 1 kind.Colon) _ _ (λ e. let h = from_are ps 2 in record { items = (tt, h.items) }) (λ e. from_are ps 0)
+pieces_are : (ps : List PieceData) → Are (tokens_line ps)
+unfolding tokens_line
+pieces_are ps = by_test Are (is_token_kind ps 0 kind.Word && is_token_kind ps 1 kind.Colon) _ _ (λ e. let h = from_are ps 2 in record { items = (tt, h.items) }) (λ e. from_are ps 0)
 
 label_are : (ps : List PieceData) → Are (line_data 1 (label_of ps))
 unfolding label_of
-label_are ps = by_test (λ (is : List ItemData). Are (line_data 1 is)) (is_kind ps 0 kind.Word && is_kind ps 1 kind.Colon) _ _ (λ e. record { items = (tt, tt) }) (λ e. record { items = tt })
+label_are ps = by_test (λ (is : List ItemData). Are (line_data 1 is)) (is_token_kind ps 0 kind.Word && is_token_kind ps 1 kind.Colon) _ _ (λ e. record { items = (tt, tt) }) (λ e. record { items = tt })
 
 before_are : (text : List ℕ) (q : Result (List Token) ℕ) → Are (line_data 1 (label_before text q))
 before_are text (Ok ts) = label_are (map (line_token_with_text text) ts)
 before_are text (Err at) = record { items = tt }
 
-cut_are : (line : List ℕ) (q : Result (List Token) ℕ) → Are (cut_line line q)
+cut_are : (line : List ℕ) (q : Result (List Token) ℕ) → Are (meaning_of_cut_line line q)
 cut_are line (Ok ts) = pieces_are (map (line_token_with_text line) ts)
 cut_are line (Err at) = before_are (take at line) (tokens_of (take at line))
 

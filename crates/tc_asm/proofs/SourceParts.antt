@@ -5,11 +5,11 @@ use Rattle.tc_object.specs.Objects.{SectionData}
 use Rattle.tc_stmt.specs.Items.{ItemData, code, bytes, zeros}
 use Rattle.tc_stmt.specs.Lines.{lines_in, items_in}
 use Rattle.tc_asm.specs.Symbols.{SymbolData}
-use Rattle.tc_asm.specs.Drafts.{PartData, DraftData, start, draft_after_item, part_names, bytes_at}
+use Rattle.tc_asm.specs.Drafts.{PartData, DraftData, empty_draft, draft_after_item, part_names, bytes_at}
 use Rattle.tc_asm.specs.DraftedSources.{symbols_of, draft_in}
 use Rattle.tc_asm.specs.Rules.{items_rule}
 use Rattle.tc_asm.specs.Objects.{section_of}
-use Rattle.tc_asm.specs.Statements.{StatementData, content_of, standing_statement, statements_from, section_bytes, statements_in, sections_of_statements, sections_in}
+use Rattle.tc_asm.specs.Statements.{StatementData, statement_of_item, statement_with_room, statements_from, section_bytes, statements_in, sections_of_statements, sections_in}
 use Rattle.tc_asm.proofs.LaidLaws.{drafted-bytes, lines-items}
 use Rattle.tc_asm.proofs.Uses.{HasField, HaveFields, uses_from, uses_in, GoodItems, GoodItem, all_uses}
 
@@ -33,7 +33,7 @@ standing_field : (b : Bool) (t : StatementData) → HasField t → HaveFields (c
 standing_field true t h = (h, tt)
 standing_field false t h = tt
 
-good_field : (labels : List SymbolData) (d : DraftData) (i : ItemData) → GoodItem labels d i → HaveFields (standing_statement d (content_of labels d i))
+good_field : (labels : List SymbolData) (d : DraftData) (i : ItemData) → GoodItem labels d i → HaveFields (statement_with_room d (statement_of_item labels d i))
 good_field labels d (code k f r) g = standing_field _ _ (record { four = g.four })
 good_field labels d (bytes bs r) g = standing_field _ _ (record { four = g.four })
 good_field labels d (zeros n) g = standing_field _ _ (record { four = λ e. cc })
@@ -42,18 +42,18 @@ good_field labels d _ g = tt
 good_fields : (labels : List SymbolData) (is : List ItemData) (d : DraftData) → GoodItems labels d is → HaveFields (statements_from labels d is)
 good_fields labels [] d good = tt
 good_fields labels (i ∷ is) d good =
-    fields_behind (standing_statement d (content_of labels d i)) (statements_from labels (draft_after_item labels d i) is) (good_field labels d i good.0) (good_fields labels is (draft_after_item labels d i) good.1)
+    fields_behind (statement_with_room d (statement_of_item labels d i)) (statements_from labels (draft_after_item labels d i) is) (good_field labels d i good.0) (good_fields labels is (draft_after_item labels d i) good.1)
 
 -- ---- a source
-module _ (source : List ℕ) (good : GoodItems (symbols_of (lines_in source)) start (items_in (lines_in source))) (rules : 15 ≤ items_rule (symbols_of (lines_in source)) start (items_in (lines_in source))) where
+module _ (source : List ℕ) (good : GoodItems (symbols_of (lines_in source)) empty_draft (items_in (lines_in source))) (rules : 15 ≤ items_rule (symbols_of (lines_in source)) empty_draft (items_in (lines_in source))) where
   pub have : HaveFields (statements_in source)
-  have = good_fields (symbols_of (lines_in source)) (items_in (lines_in source)) start good
+  have = good_fields (symbols_of (lines_in source)) (items_in (lines_in source)) empty_draft good
 
   pub part_is : (s : ℕ) (q : PartData) → slice_get (draft_in source).parts s ≡ Some q → (q.bytes ≡ section_bytes s (statements_in source)) × (q.uses ≡ uses_from s 0 (statements_in source))
   part_is s q e = (
     sym (part_bytes (draft_in source).parts s q e) ∙ drafted-bytes (symbols_of (lines_in source)) (lines_in source) s,
     sym (part_uses (draft_in source).parts s q e)
-        ∙ ap (λ (d : DraftData). uses_in d.parts s) (lines-items (symbols_of (lines_in source)) (lines_in source) start)
+        ∙ ap (λ (d : DraftData). uses_in d.parts s) (lines-items (symbols_of (lines_in source)) (lines_in source) empty_draft)
         ∙ all_uses s (symbols_of (lines_in source)) (items_in (lines_in source)) good rules,
   )
 

@@ -7,8 +7,8 @@ use Rattle.tc_object.specs.declared.relocs.Reloc.{Reloc}
 use Rattle.tc_asm.specs.Symbols.{SymbolData, symbol_number}
 use Rattle.tc_asm.specs.Drafts.{UseData, PartData, part_names}
 use Rattle.tc_asm.specs.Objects.{assembled_addend, reloc_of, relocs_from, ObjectSectionsLaw}
-use Rattle.tc_asm.specs.SourceRelocations.{reloc_at, relocs_behind, relocs_of, RelocationsLaw}
-use Rattle.tc_asm.specs.Statements.{StatementData, statements_in, is_open_statement}
+use Rattle.tc_asm.specs.SourceRelocations.{reloc_at, section_relocs_of, relocs_of, RelocationsLaw}
+use Rattle.tc_asm.specs.Statements.{StatementData, statements_in, has_unresolved_symbol}
 use Rattle.tc_asm.specs.DraftedSources.{draft_in, symbols_in}
 use Rattle.tc_asm.proofs.Uses.{use_at, uses_from}
 use Rattle.tc_asm.proofs.CodeSizes.{source_good}
@@ -16,22 +16,22 @@ use Rattle.tc_asm.proofs.SourceParts.{part_is, sections_are}
 use Rattle.tc_asm.proofs.SourceDrafts.{source_items}
 
 -- the relocations of a section's uses are those of its statements
-relocs_match : (ss : List SymbolData) (s n : ℕ) (ts : List StatementData) → map (reloc_of ss s) (uses_from s n ts) ≡ relocs_behind ss s n ts
+relocs_match : (ss : List SymbolData) (s n : ℕ) (ts : List StatementData) → map (reloc_of ss s) (uses_from s n ts) ≡ section_relocs_of ss s n ts
 relocs_match ss s n [] = refl
 relocs_match ss s n (t ∷ ts) = by (t.section == s) (λ m. relocs_match ss s m ts)
   where
     one : (m : ℕ) (o : Option ReferenceData) → map (reloc_of ss s) (use_at m o) ≡ reloc_at ss s m o
     one m None = refl
-    one m (Some r) = by_open (is_open_statement (Some r))
+    one m (Some r) = by_open (has_unresolved_symbol (Some r))
       where
         by_open : (b : Bool) → map (reloc_of ss s) (cond {A = List UseData} b (record { offset = m; reference = r } ∷ []) [])
             ≡ cond {A = List Reloc} b (record { section = s; offset = m; kind = r.kind; symbol = symbol_number ss r.name; addend = assembled_addend r } ∷ []) []
         by_open true = refl
         by_open false = refl
 
-    by : (b : Bool) → ((m : ℕ) → map (reloc_of ss s) (uses_from s m ts) ≡ relocs_behind ss s m ts)
+    by : (b : Bool) → ((m : ℕ) → map (reloc_of ss s) (uses_from s m ts) ≡ section_relocs_of ss s m ts)
         → map (reloc_of ss s) (cond b (use_at n t.reference ++ uses_from s (n + length t.bytes) ts) (uses_from s n ts))
-        ≡ cond b (reloc_at ss s n t.reference ++ relocs_behind ss s (n + length t.bytes) ts) (relocs_behind ss s n ts)
+        ≡ cond b (reloc_at ss s n t.reference ++ section_relocs_of ss s (n + length t.bytes) ts) (section_relocs_of ss s n ts)
     by true rec =
         map-append (reloc_of ss s) (use_at n t.reference) (uses_from s (n + length t.bytes) ts)
         ∙ ap (λ (rs : List Reloc). rs ++ map (reloc_of ss s) (uses_from s (n + length t.bytes) ts)) (one n t.reference)
@@ -46,7 +46,7 @@ relocs_all ss ts section (p ∷ ps) h =
     let none : section + 0 ≡ section = omega arith in
     ap (λ (us : List UseData). map (reloc_of ss section) us ++ relocs_from ss (section + 1) ps) (h 0 p refl ∙ ap (λ n. uses_from n 0 ts) none)
     ∙ ap (λ (rs : List Reloc). rs ++ relocs_from ss (section + 1) ps) (relocs_match ss section 0 ts)
-    ∙ ap (λ (rs : List Reloc). relocs_behind ss section 0 ts ++ rs) (relocs_all ss ts (section + 1) ps (λ s q e. h (suc s) q e ∙ ap (λ n. uses_from n 0 ts) (moved s)))
+    ∙ ap (λ (rs : List Reloc). section_relocs_of ss section 0 ts ++ rs) (relocs_all ss ts (section + 1) ps (λ s q e. h (suc s) q e ∙ ap (λ n. uses_from n 0 ts) (moved s)))
   where
     moved : (s : ℕ) → section + suc s ≡ section + 1 + s
     moved s = omega arith

@@ -3,10 +3,10 @@ use Rattle.std.proofs.Common.{◌≡◌, ◌≤◌, ◌⊎◌, ◌&&◌, ◌++�
 use Rattle.std.specs.Prelude.{slice_get, fold}
 use Rattle.tc_stmt.specs.Items.{ItemData}
 use Rattle.tc_asm.specs.Symbols.{SymbolData}
-use Rattle.tc_asm.specs.Drafts.{DraftData, has_section, has_room, start, draft_after_item, draft_place, bytes_at}
+use Rattle.tc_asm.specs.Drafts.{DraftData, has_section, has_room, empty_draft, draft_after_item, next_byte_offset, bytes_at}
 use Rattle.tc_asm.specs.Rules.{item_rule, items_rule}
 use Rattle.tc_asm.specs.DraftInvariants.{EachInDraft}
-use Rattle.tc_asm.specs.Statements.{StatementData, content_of, standing_statement, statements_from, section_bytes, offset_of}
+use Rattle.tc_asm.specs.Statements.{StatementData, statement_of_item, statement_with_room, statements_from, section_bytes, offset_of}
 use Rattle.tc_stmt.proofs.ListItems.{InRest, in_front_or_rest, take_behind}
 use Rattle.tc_asm.proofs.Uses.{place_bytes, items_bytes, fits, fits_too}
 
@@ -17,9 +17,9 @@ pub record ItemAt (labels : List SymbolData) (d : DraftData) (items : List ItemD
   pub after : List ItemData
   pub are : items ≡ before ++ item ∷ after
   pub front : take j (statements_from labels d items) ≡ statements_from labels d before
-  pub content : content_of labels (fold (draft_after_item labels) d before) item ≡ Some t
+  pub content : statement_of_item labels (fold (draft_after_item labels) d before) item ≡ Some t
 
-standing_is : (d : DraftData) (c : Option StatementData) (j : ℕ) (t : StatementData) → slice_get (standing_statement d c) j ≡ Some t → (j ≡ 0) × (c ≡ Some t)
+standing_is : (d : DraftData) (c : Option StatementData) (j : ℕ) (t : StatementData) → slice_get (statement_with_room d c) j ≡ Some t → (j ≡ 0) × (c ≡ Some t)
 standing_is d None j t e = cc
 standing_is d (Some x) j t e = by (has_section d && has_room d (length x.bytes)) j e
   where
@@ -31,18 +31,18 @@ standing_is d (Some x) j t e = by (has_section d && has_room d (length x.bytes))
 pub item_at : (labels : List SymbolData) (items : List ItemData) (d : DraftData) (j : ℕ) (t : StatementData) → slice_get (statements_from labels d items) j ≡ Some t → ItemAt labels d items j t
 item_at labels [] d j t e = cc
 item_at labels (i ∷ is) d j t e =
-    by (in_front_or_rest (standing_statement d (content_of labels d i)) (statements_from labels (draft_after_item labels d i) is) j t e) (λ k g. item_at labels is (draft_after_item labels d i) k t g)
+    by (in_front_or_rest (statement_with_room d (statement_of_item labels d i)) (statements_from labels (draft_after_item labels d i) is) j t e) (λ k g. item_at labels is (draft_after_item labels d i) k t g)
   where
-    by : (slice_get (standing_statement d (content_of labels d i)) j ≡ Some t) ⊎ InRest StatementData (standing_statement d (content_of labels d i)) (statements_from labels (draft_after_item labels d i) is) j t
+    by : (slice_get (statement_with_room d (statement_of_item labels d i)) j ≡ Some t) ⊎ InRest StatementData (statement_with_room d (statement_of_item labels d i)) (statements_from labels (draft_after_item labels d i) is) j t
         → ((k : ℕ) → slice_get (statements_from labels (draft_after_item labels d i) is) k ≡ Some t → ItemAt labels (draft_after_item labels d i) is k t) → ItemAt labels d (i ∷ is) j t
     by (inl g) rec =
-        let s = standing_is d (content_of labels d i) j t g in
+        let s = standing_is d (statement_of_item labels d i) j t g in
         record {
           before = [];
           item = i;
           after = is;
           are = refl;
-          front = ap (λ n. take n (standing_statement d (content_of labels d i) ++ statements_from labels (draft_after_item labels d i) is)) s.0;
+          front = ap (λ n. take n (statement_with_room d (statement_of_item labels d i) ++ statements_from labels (draft_after_item labels d i) is)) s.0;
           content = s.1;
         }
     by (inr r) rec =
@@ -52,7 +52,7 @@ item_at labels (i ∷ is) d j t e =
           item = a.item;
           after = a.after;
           are = ap (λ (xs : List ItemData). i ∷ xs) a.are;
-          front = take_behind (standing_statement d (content_of labels d i)) (statements_from labels (draft_after_item labels d i) is) j r.at r.place ∙ ap (λ (ts : List StatementData). standing_statement d (content_of labels d i) ++ ts) a.front;
+          front = take_behind (statement_with_room d (statement_of_item labels d i)) (statements_from labels (draft_after_item labels d i) is) j r.at r.place ∙ ap (λ (ts : List StatementData). statement_with_room d (statement_of_item labels d i) ++ ts) a.front;
           content = a.content;
         }
 
@@ -67,10 +67,10 @@ rule_there labels [] after i d h = fits (item_rule labels d i) (items_rule label
 rule_there labels (x ∷ xs) after i d h = rule_there labels xs after i (draft_after_item labels d x) (fits_too (item_rule labels d x) (items_rule labels (draft_after_item labels d x) (xs ++ i ∷ after)) h)
 
 -- the offset of a statement is that of the next byte of its section
-pub offset_there : (labels : List SymbolData) (items : List ItemData) (j : ℕ) (t : StatementData) (a : ItemAt labels start items j t) → (fold (draft_after_item labels) start a.before).section ≡ t.section →
-    offset_of (statements_from labels start items) j t.section ≡ draft_place (fold (draft_after_item labels) start a.before)
+pub offset_there : (labels : List SymbolData) (items : List ItemData) (j : ℕ) (t : StatementData) (a : ItemAt labels empty_draft items j t) → (fold (draft_after_item labels) empty_draft a.before).section ≡ t.section →
+    offset_of (statements_from labels empty_draft items) j t.section ≡ next_byte_offset (fold (draft_after_item labels) empty_draft a.before)
 offset_there labels items j t a same =
     ap (λ (ts : List StatementData). length (section_bytes t.section ts)) a.front
     ∙ ap length (sym (items_bytes t.section labels a.before))
-    ∙ ap (λ s. length (bytes_at (fold (draft_after_item labels) start a.before).parts s)) (sym same)
-    ∙ sym (place_bytes (fold (draft_after_item labels) start a.before))
+    ∙ ap (λ s. length (bytes_at (fold (draft_after_item labels) empty_draft a.before).parts s)) (sym same)
+    ∙ sym (place_bytes (fold (draft_after_item labels) empty_draft a.before))

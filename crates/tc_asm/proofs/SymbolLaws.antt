@@ -8,7 +8,7 @@ use Rattle.std.specs.Map.{lookup, keys_of}
 use Rattle.indexmap.specs.IndexMap.{insert_entry}
 use Rattle.tc_lex.proofs.Mapped.{position-map}
 use Rattle.tc_asm.specs.declared.symbols.Entry.{Entry}
-use Rattle.tc_asm.specs.Symbols.{SymbolData, symbol, unseen, entry_in, entry_of, put_entry, seen, labelled, labelled_at, with_label_at}
+use Rattle.tc_asm.specs.Symbols.{SymbolData, symbol, undefined_entry, entry_in, entry_of, put_entry, with_name, with_symbol_label, entry_of_new_label, entry_with_label}
 use Rattle.tc_asm.specs.declared.symbols.Place.{Place}
 
 abbrev pub Key : Type 0
@@ -54,17 +54,17 @@ put_same (s ∷ ss) name e h = by (bytes_eq name s.name) (λ k. put_same ss name
     by false rec h = ap (λ (xs : List SymbolData). s ∷ xs) (rec h)
 
 -- a known name changes nothing
-pub seen_known : (ss : List SymbolData) (name : List ℕ) (o : Option Entry) → o ≡ entry_in ss name → is_some o ≡ true → ss ≡ seen ss name
-unfolding seen
+pub seen_known : (ss : List SymbolData) (name : List ℕ) (o : Option Entry) → o ≡ entry_in ss name → is_some o ≡ true → ss ≡ with_name ss name
+unfolding with_name
 seen_known ss name None is h = cc
 seen_known ss name (Some e) is h =
-    let known : entry_of ss name ≡ e = ap (λ (o : Option Entry). unwrap_or o unseen) (sym is) in
+    let known : entry_of ss name ≡ e = ap (λ (o : Option Entry). unwrap_or o undefined_entry) (sym is) in
     sym (ap (put_entry ss name) known ∙ put_same ss name e (sym is))
 
 -- a new name gets the entry of an undefined name
-pub seen_new : (ss next : List SymbolData) (name : List ℕ) (o : Option Entry) → o ≡ entry_in ss name → is_some o ≡ false → next ≡ put_entry ss name unseen → next ≡ seen ss name
-unfolding seen
-seen_new ss next name None is h e = e ∙ ap (put_entry ss name) (sym (ap (λ (o : Option Entry). unwrap_or o unseen) (sym is)))
+pub seen_new : (ss next : List SymbolData) (name : List ℕ) (o : Option Entry) → o ≡ entry_in ss name → is_some o ≡ false → next ≡ put_entry ss name undefined_entry → next ≡ with_name ss name
+unfolding with_name
+seen_new ss next name None is h e = e ∙ ap (put_entry ss name) (sym (ap (λ (o : Option Entry). unwrap_or o undefined_entry) (sym is)))
 seen_new ss next name (Some x) is h e = cc
 
 -- ---- a name that gets its label
@@ -80,16 +80,16 @@ put_again (s ∷ ss) name e f = by (bytes_eq name s.name) refl (put_again ss nam
         ap (λ (q : Bool). cond q (symbol s.name f ∷ put_entry ss name e) (s ∷ put_entry (put_entry ss name e) name f)) t
         ∙ ap (λ (xs : List SymbolData). s ∷ xs) rec
 
-pub labelled_new : (ss next : List SymbolData) (name : List ℕ) (place : Place) (o : Option Entry) → o ≡ entry_in ss name → o ≡ None → next ≡ put_entry ss name (labelled_at place) → next ≡ labelled ss name place
-unfolding labelled
+pub labelled_new : (ss next : List SymbolData) (name : List ℕ) (place : Place) (o : Option Entry) → o ≡ entry_in ss name → o ≡ None → next ≡ put_entry ss name (entry_of_new_label place) → next ≡ with_symbol_label ss name place
+unfolding with_symbol_label
 labelled_new ss next name place o is none e =
-    e ∙ ap (λ (x : Option Entry). put_entry ss name (with_label_at (unwrap_or x unseen) place)) (sym none ∙ is)
+    e ∙ ap (λ (x : Option Entry). put_entry ss name (entry_with_label (unwrap_or x undefined_entry) place)) (sym none ∙ is)
 
 pub labelled_known : (ss mid next : List SymbolData) (name : List ℕ) (place : Place) (o : Option Entry) (old : Entry) → o ≡ entry_in ss name → o ≡ Some old
-    → mid ≡ put_entry ss name (labelled_at place) → next ≡ put_entry mid name (with_label_at old place) → next ≡ labelled ss name place
-unfolding labelled
+    → mid ≡ put_entry ss name (entry_of_new_label place) → next ≡ put_entry mid name (entry_with_label old place) → next ≡ with_symbol_label ss name place
+unfolding with_symbol_label
 labelled_known ss mid next name place o old is some e f =
     f
-    ∙ ap (λ (x : List SymbolData). put_entry x name (with_label_at old place)) e
-    ∙ put_again ss name (labelled_at place) (with_label_at old place)
-    ∙ ap (λ (x : Option Entry). put_entry ss name (with_label_at (unwrap_or x unseen) place)) (sym some ∙ is)
+    ∙ ap (λ (x : List SymbolData). put_entry x name (entry_with_label old place)) e
+    ∙ put_again ss name (entry_of_new_label place) (entry_with_label old place)
+    ∙ ap (λ (x : Option Entry). put_entry ss name (entry_with_label (unwrap_or x undefined_entry) place)) (sym some ∙ is)

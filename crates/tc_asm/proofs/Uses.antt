@@ -8,12 +8,12 @@ use Rattle.std.proofs.lemmas.List.{length-append}
 use Rattle.std.proofs.lemmas.List.Sums.{fold-append}
 use Rattle.tc_stmt.specs.Names.{is_source_name}
 use Rattle.tc_stmt.specs.Items.{ReferenceData, ItemData, label, section, global, code, bytes, zeros}
-use Rattle.tc_asm.specs.Symbols.{SymbolData, seen}
-use Rattle.tc_asm.specs.Drafts.{UseData, PartData, DraftData, part, start, draft_place, has_section, has_room, with_label, number_of_part, with_current_section, with_global, with_part_bytes, with_bytes, with_part_use, with_use, with_reference, with_content, code_bytes, draft_after_item, part_size_at, bytes_at}
+use Rattle.tc_asm.specs.Symbols.{SymbolData, with_name}
+use Rattle.tc_asm.specs.Drafts.{UseData, PartData, DraftData, part, empty_draft, next_byte_offset, has_section, has_room, with_label, number_of_part, with_current_section, with_global, with_part_bytes, with_bytes, with_part_use, with_use, with_reference, with_content, code_bytes, draft_after_item, part_size_at, bytes_at}
 use Rattle.tc_asm.specs.DraftedSources.{with_line}
-use Rattle.tc_isa.specs.Relocations.{is_reloc}
-use Rattle.tc_asm.specs.Rules.{section_rule, bytes_room, symbol_room, reloc_room, reference_rule, content_rule, item_rule, items_rule}
-use Rattle.tc_asm.specs.Statements.{StatementData, statement, content_of, standing_statement, statements_from, section_bytes, is_open_statement}
+use Rattle.tc_isa.specs.Relocations.{is_relocation_kind}
+use Rattle.tc_asm.specs.Rules.{section_rule, byte_limit_rule, symbol_limit_rule, reloc_limit_rule, reference_rule, content_rule, item_rule, items_rule}
+use Rattle.tc_asm.specs.Statements.{StatementData, statement_data, statement_of_item, statement_with_room, statements_from, section_bytes, has_unresolved_symbol}
 use Rattle.tc_stmt.proofs.Cases.{by_test}
 use Rattle.tc_asm.proofs.ListLaws.{changed, changed-set, size_at-get}
 use Rattle.tc_asm.proofs.LaidLaws.{drafted-bytes}
@@ -23,7 +23,7 @@ use Rattle.tc_asm.specs.ItemInvariants.{AddedBytesFitSymbol}
 -- the use of a statement with these bytes at this offset
 abbrev pub use_at : ℕ → Option ReferenceData → List UseData
 use_at n None = []
-use_at n (Some r) = if is_open_statement (Some r) then record { offset = n; reference = r } ∷ [] else []
+use_at n (Some r) = if has_unresolved_symbol (Some r) then record { offset = n; reference = r } ∷ [] else []
 
 -- the uses of a section's statements, of which the first is at this offset
 abbrev pub uses_from : ℕ → ℕ → List StatementData → List UseData
@@ -32,7 +32,7 @@ uses_from s n (t ∷ ts) = if t.section == s then use_at n t.reference ++ uses_f
 
 -- a field takes four bytes
 pub record HasField (t : StatementData) : Type 0 where
-  pub four : is_open_statement t.reference ≡ true → length t.bytes ≡ 4
+  pub four : has_unresolved_symbol t.reference ≡ true → length t.bytes ≡ 4
 
 abbrev pub HaveFields : List StatementData → Type 0
 HaveFields [] = Unit {0}
@@ -71,8 +71,8 @@ size_bytes [] s = refl
 size_bytes (p ∷ ps) zero = refl
 size_bytes (p ∷ ps) (suc s) = size_bytes ps s
 
-pub place_bytes : (d : DraftData) → draft_place d ≡ length (bytes_at d.parts d.section)
-unfolding draft_place
+pub place_bytes : (d : DraftData) → next_byte_offset d ≡ length (bytes_at d.parts d.section)
+unfolding next_byte_offset
 place_bytes d = size_at-get d.parts d.section ∙ size_bytes d.parts d.section
 
 -- ---- valid items
@@ -109,10 +109,10 @@ module _ (s : ℕ) where
       (λ b. refl)
 
   -- a statement that doesn't wait has no use
-  closed_uses : (n : ℕ) (d : DraftData) (bs : List ℕ) (o : Option ReferenceData) → is_open_statement o ≡ false → uses_from s n (standing_statement d (Some (statement d.section bs o))) ≡ []
+  closed_uses : (n : ℕ) (d : DraftData) (bs : List ℕ) (o : Option ReferenceData) → has_unresolved_symbol o ≡ false → uses_from s n (statement_with_room d (Some (statement_data d.section bs o))) ≡ []
   closed_uses n d bs o closed = by (has_section d && has_room d (length bs))
     where
-      none : (p : Option ReferenceData) → is_open_statement p ≡ false → use_at n p ≡ []
+      none : (p : Option ReferenceData) → has_unresolved_symbol p ≡ false → use_at n p ≡ []
       none None e = refl
       none (Some r) e = ap (λ b. cond b (record { offset = n; reference = r } ∷ []) []) e
 
@@ -120,52 +120,52 @@ module _ (s : ℕ) where
       one true = append-nil (use_at n o) ∙ none o closed
       one false = refl
 
-      by : (b : Bool) → uses_from s n (cond b (statement d.section bs o ∷ []) []) ≡ []
+      by : (b : Bool) → uses_from s n (cond b (statement_data d.section bs o ∷ []) []) ≡ []
       by true = one (d.section == s)
       by false = refl
 
   -- bytes with a symbol
   module _ (d : DraftData) (bs : List ℕ) (r : ReferenceData) where
     abbrev seen_draft : DraftData
-    seen_draft = record d { symbols = seen d.symbols r.name }
+    seen_draft = record d { symbols = with_name d.symbols r.name }
 
-    used_parts : d.section < length d.parts → uses_in (with_part_use d.parts d.section (record { offset = draft_place d; reference = r })) s ≡ uses_in d.parts s ++ cond (d.section == s) (record { offset = draft_place d; reference = r } ∷ []) []
+    used_parts : d.section < length d.parts → uses_in (with_part_use d.parts d.section (record { offset = next_byte_offset d; reference = r })) s ≡ uses_in d.parts s ++ cond (d.section == s) (record { offset = next_byte_offset d; reference = r } ∷ []) []
     unfolding with_part_use
     used_parts less =
-        ap (λ (ps : List PartData). uses_in ps s) (changed-set (λ p. record p { uses = p.uses ++ record { offset = draft_place d; reference = r } ∷ [] }) d.parts d.section)
-        ∙ uses_in-grown (record { offset = draft_place d; reference = r } ∷ []) d.parts d.section s less
+        ap (λ (ps : List PartData). uses_in ps s) (changed-set (λ p. record p { uses = p.uses ++ record { offset = next_byte_offset d; reference = r } ∷ [] }) d.parts d.section)
+        ∙ uses_in-grown (record { offset = next_byte_offset d; reference = r } ∷ []) d.parts d.section s less
 
-    open_uses : has_section d ≡ true → has_room d (length bs) ≡ true → length bs ≡ 4 → is_reloc r.kind ≡ true → nat_lt d.count 65535 ≡ true
-        → uses_in (with_use seen_draft (length bs) r).parts s ≡ uses_in d.parts s ++ cond (d.section == s) (record { offset = draft_place d; reference = r } ∷ []) []
-    unfolding with_use draft_place
+    open_uses : has_section d ≡ true → has_room d (length bs) ≡ true → length bs ≡ 4 → is_relocation_kind r.kind ≡ true → nat_lt d.count 65535 ≡ true
+        → uses_in (with_use seen_draft (length bs) r).parts s ≡ uses_in d.parts s ++ cond (d.section == s) (record { offset = next_byte_offset d; reference = r } ∷ []) []
+    unfolding with_use next_byte_offset
     open_uses there room four kind few =
-        ap (λ b. uses_in (cond b (record seen_draft { parts = with_part_use d.parts d.section (record { offset = draft_place d; reference = r }); count = d.count + 1 }) seen_draft).parts s)
-        (all_true (has_section d) (has_room d (length bs)) (length bs == 4) (is_reloc r.kind) (nat_lt d.count 65535) there room ((Decides-eqb (length bs) 4).1 four) kind few)
+        ap (λ b. uses_in (cond b (record seen_draft { parts = with_part_use d.parts d.section (record { offset = next_byte_offset d; reference = r }); count = d.count + 1 }) seen_draft).parts s)
+        (all_true (has_section d) (has_room d (length bs)) (length bs == 4) (is_relocation_kind r.kind) (nat_lt d.count 65535) there room ((Decides-eqb (length bs) 4).1 four) kind few)
         ∙ used_parts (ltb-true d.section (length d.parts) there)
       where
         all_true : (a b c e f : Bool) → a ≡ true → b ≡ true → c ≡ true → e ≡ true → f ≡ true → (a && b && c && e && f) ≡ true
         all_true a b c e f p q x y z = rw (p, q, x, y, z) refl
 
-    closed_use : is_reloc r.kind ≡ false → uses_in (with_use seen_draft (length bs) r).parts s ≡ uses_in d.parts s
+    closed_use : is_relocation_kind r.kind ≡ false → uses_in (with_use seen_draft (length bs) r).parts s ≡ uses_in d.parts s
     unfolding with_use
     closed_use kind =
-        by_test (λ (e : DraftData). uses_in e.parts s ≡ uses_in d.parts s) (has_section d && has_room d (length bs) && length bs == 4 && is_reloc r.kind && nat_lt d.count 65535) _ seen_draft
-        (λ b. let p = and_parts _ _ (and_parts _ _ b).0 in absurd (not_both (is_reloc r.kind) p.1 kind))
+        by_test (λ (e : DraftData). uses_in e.parts s ≡ uses_in d.parts s) (has_section d && has_room d (length bs) && length bs == 4 && is_relocation_kind r.kind && nat_lt d.count 65535) _ seen_draft
+        (λ b. let p = and_parts _ _ (and_parts _ _ b).0 in absurd (not_both (is_relocation_kind r.kind) p.1 kind))
         (λ b. refl)
       where
         not_both : (b : Bool) → b ≡ true → b ≡ false → ⊥
         not_both b e f = cc
 
     -- a statement that waits
-    waiting : AddedBytesFitSymbol bs (Some r) → 15 ≤ content_rule d (length bs) (Some r) → is_reloc r.kind ≡ true
-        → uses_in (with_content d bs (Some r)).parts s ≡ uses_in d.parts s ++ uses_from s (length (bytes_at d.parts s)) (standing_statement d (Some (statement d.section bs (Some r))))
+    waiting : AddedBytesFitSymbol bs (Some r) → 15 ≤ content_rule d (length bs) (Some r) → is_relocation_kind r.kind ≡ true
+        → uses_in (with_content d bs (Some r)).parts s ≡ uses_in d.parts s ++ uses_from s (length (bytes_at d.parts s)) (statement_with_room d (Some (statement_data d.section bs (Some r))))
     unfolding with_reference
     waiting good rule kind =
-        let rest = fits_too (section_rule d) (min (bytes_room d (length bs)) (reference_rule d (Some r))) rule in
-        let there : has_section d ≡ true = then_fifteen (has_section d) 8 (omega arith) (fits (section_rule d) (min (bytes_room d (length bs)) (reference_rule d (Some r))) rule) in
-        let room : has_room d (length bs) ≡ true = then_fifteen (has_room d (length bs)) 13 (omega arith) (fits (bytes_room d (length bs)) (reference_rule d (Some r)) rest) in
-        let reloc = fits_too (symbol_room d r.name) (reloc_room d r) (fits_too (bytes_room d (length bs)) (reference_rule d (Some r)) rest) in
-        let few : nat_lt d.count 65535 ≡ true = by_count (nat_lt d.count 65535) (is_reloc r.kind) kind reloc in
+        let rest = fits_too (section_rule d) (min (byte_limit_rule d (length bs)) (reference_rule d (Some r))) rule in
+        let there : has_section d ≡ true = then_fifteen (has_section d) 8 (omega arith) (fits (section_rule d) (min (byte_limit_rule d (length bs)) (reference_rule d (Some r))) rule) in
+        let room : has_room d (length bs) ≡ true = then_fifteen (has_room d (length bs)) 13 (omega arith) (fits (byte_limit_rule d (length bs)) (reference_rule d (Some r)) rest) in
+        let reloc = fits_too (symbol_limit_rule d r.name) (reloc_limit_rule d r) (fits_too (byte_limit_rule d (length bs)) (reference_rule d (Some r)) rest) in
+        let few : nat_lt d.count 65535 ≡ true = by_count (nat_lt d.count 65535) (is_relocation_kind r.kind) kind reloc in
         bytes_uses (with_reference d (length bs) (Some r)) bs
         ∙ ap (λ b. uses_in (cond b (with_use seen_draft (length bs) r) d).parts s) (good.named r refl kind)
         ∙ open_uses there room (good.four kind) kind few
@@ -176,13 +176,13 @@ module _ (s : ℕ) where
         by_count false true k h = absurd (omega arith)
         by_count false false k h = cc
 
-        standing_uses : has_section d ≡ true → has_room d (length bs) ≡ true → is_reloc r.kind ≡ true
-            → cond {A = List UseData} (d.section == s) (a_use (draft_place d) r ∷ []) [] ≡ uses_from s (length (bytes_at d.parts s)) (standing_statement d (Some (statement d.section bs (Some r))))
+        standing_uses : has_section d ≡ true → has_room d (length bs) ≡ true → is_relocation_kind r.kind ≡ true
+            → cond {A = List UseData} (d.section == s) (a_use (next_byte_offset d) r ∷ []) [] ≡ uses_from s (length (bytes_at d.parts s)) (statement_with_room d (Some (statement_data d.section bs (Some r))))
         standing_uses there room kind =
             by_section (d.section == s) refl
-            ∙ ap (λ b. uses_from s (length (bytes_at d.parts s)) (cond b (statement d.section bs (Some r) ∷ []) [])) (sym (and_from (has_section d) (has_room d (length bs)) there room))
+            ∙ ap (λ b. uses_from s (length (bytes_at d.parts s)) (cond b (statement_data d.section bs (Some r) ∷ []) [])) (sym (and_from (has_section d) (has_room d (length bs)) there room))
           where
-            by_section : (b : Bool) → (d.section == s) ≡ b → cond {A = List UseData} b (a_use (draft_place d) r ∷ []) [] ≡ cond {A = List UseData} b (cond {A = List UseData} (is_reloc r.kind) (a_use (length (bytes_at d.parts s)) r ∷ []) [] ++ []) []
+            by_section : (b : Bool) → (d.section == s) ≡ b → cond {A = List UseData} b (a_use (next_byte_offset d) r ∷ []) [] ≡ cond {A = List UseData} b (cond {A = List UseData} (is_relocation_kind r.kind) (a_use (length (bytes_at d.parts s)) r ∷ []) [] ++ []) []
             by_section true e =
                 let same : d.section ≡ s = (Decides-eqb d.section s).0 e in
                 ap (λ n. a_use n r ∷ []) (place_bytes d ∙ ap (λ n. length (bytes_at d.parts n)) same)
@@ -190,7 +190,7 @@ module _ (s : ℕ) where
             by_section false e = refl
 
     -- a statement that doesn't wait
-    done : is_reloc r.kind ≡ false → uses_in (with_content d bs (Some r)).parts s ≡ uses_in d.parts s ++ uses_from s (length (bytes_at d.parts s)) (standing_statement d (Some (statement d.section bs (Some r))))
+    done : is_relocation_kind r.kind ≡ false → uses_in (with_content d bs (Some r)).parts s ≡ uses_in d.parts s ++ uses_from s (length (bytes_at d.parts s)) (statement_with_room d (Some (statement_data d.section bs (Some r))))
     unfolding with_reference
     done kind =
         bytes_uses (with_reference d (length bs) (Some r)) bs
@@ -199,13 +199,13 @@ module _ (s : ℕ) where
         ∙ ap (λ (us : List UseData). uses_in d.parts s ++ us) (sym (closed_uses (length (bytes_at d.parts s)) d bs (Some r) kind))
 
   content_uses : (d : DraftData) (bs : List ℕ) (o : Option ReferenceData) → AddedBytesFitSymbol bs o → 15 ≤ content_rule d (length bs) o
-      → uses_in (with_content d bs o).parts s ≡ uses_in d.parts s ++ uses_from s (length (bytes_at d.parts s)) (standing_statement d (Some (statement d.section bs o)))
+      → uses_in (with_content d bs o).parts s ≡ uses_in d.parts s ++ uses_from s (length (bytes_at d.parts s)) (statement_with_room d (Some (statement_data d.section bs o)))
   unfolding with_reference
   content_uses d bs None good rule =
       bytes_uses d bs ∙ sym (append-nil (uses_in d.parts s)) ∙ ap (λ (us : List UseData). uses_in d.parts s ++ us) (sym (closed_uses (length (bytes_at d.parts s)) d bs None refl))
-  content_uses d bs (Some r) good rule = by (is_reloc r.kind) refl
+  content_uses d bs (Some r) good rule = by (is_relocation_kind r.kind) refl
     where
-      by : (b : Bool) → is_reloc r.kind ≡ b → uses_in (with_content d bs (Some r)).parts s ≡ uses_in d.parts s ++ uses_from s (length (bytes_at d.parts s)) (standing_statement d (Some (statement d.section bs (Some r))))
+      by : (b : Bool) → is_relocation_kind r.kind ≡ b → uses_in (with_content d bs (Some r)).parts s ≡ uses_in d.parts s ++ uses_from s (length (bytes_at d.parts s)) (statement_with_room d (Some (statement_data d.section bs (Some r))))
       by true k = waiting d bs r good rule k
       by false k = done d bs r k
 
@@ -228,7 +228,7 @@ module _ (s : ℕ) where
       by_test (λ (e : DraftData). uses_in e.parts s ≡ uses_in d.parts s) (nat_lt (length d.parts) 64) (record d { section = length d.parts; parts = d.parts ++ part name [] [] ∷ [] }) d (λ f. uses_in-push d.parts (part name [] []) s refl) (λ f. refl)))
 
   stepped_uses : (labels : List SymbolData) (d : DraftData) (i : ItemData) → GoodItem labels d i → 15 ≤ item_rule labels d i
-      → uses_in (draft_after_item labels d i).parts s ≡ uses_in d.parts s ++ uses_from s (length (bytes_at d.parts s)) (standing_statement d (content_of labels d i))
+      → uses_in (draft_after_item labels d i).parts s ≡ uses_in d.parts s ++ uses_from s (length (bytes_at d.parts s)) (statement_with_room d (statement_of_item labels d i))
   unfolding draft_after_item item_rule
   stepped_uses labels d (label name) good rule = none_more d (with_label d name) (label_uses d name)
   stepped_uses labels d (section name) good rule = none_more d (with_current_section d name) (entered_uses d name)
@@ -258,38 +258,38 @@ module _ (s : ℕ) where
   pub statements-append : (labels : List SymbolData) (d : DraftData) (xs ys : List ItemData) → statements_from labels d (xs ++ ys) ≡ statements_from labels d xs ++ statements_from labels (fold (draft_after_item labels) d xs) ys
   statements-append labels d [] ys = refl
   statements-append labels d (x ∷ xs) ys =
-      ap (λ (ts : List StatementData). standing_statement d (content_of labels d x) ++ ts) (statements-append labels (draft_after_item labels d x) xs ys)
-      ∙ sym (append_assoc (standing_statement d (content_of labels d x)) (statements_from labels (draft_after_item labels d x) xs) (statements_from labels (fold (draft_after_item labels) (draft_after_item labels d x) xs) ys))
+      ap (λ (ts : List StatementData). statement_with_room d (statement_of_item labels d x) ++ ts) (statements-append labels (draft_after_item labels d x) xs ys)
+      ∙ sym (append_assoc (statement_with_room d (statement_of_item labels d x)) (statements_from labels (draft_after_item labels d x) xs) (statements_from labels (fold (draft_after_item labels) (draft_after_item labels d x) xs) ys))
 
   -- the bytes of items in a section
-  pub items_bytes : (labels : List SymbolData) (is : List ItemData) → bytes_at (fold (draft_after_item labels) start is).parts s ≡ section_bytes s (statements_from labels start is)
+  pub items_bytes : (labels : List SymbolData) (is : List ItemData) → bytes_at (fold (draft_after_item labels) empty_draft is).parts s ≡ section_bytes s (statements_from labels empty_draft is)
   unfolding with_line
   items_bytes labels is =
-      drafted-bytes labels (record { rule = 15; items = is } ∷ []) s ∙ ap (λ (l : List ItemData). section_bytes s (statements_from labels start l)) (append-nil is)
+      drafted-bytes labels (record { rule = 15; items = is } ∷ []) s ∙ ap (λ (l : List ItemData). section_bytes s (statements_from labels empty_draft l)) (append-nil is)
 
-  items_uses : (labels : List SymbolData) (before rest : List ItemData) → GoodItems labels (fold (draft_after_item labels) start before) rest → 15 ≤ items_rule labels (fold (draft_after_item labels) start before) rest
-      → uses_in (fold (draft_after_item labels) start before).parts s ≡ uses_from s 0 (statements_from labels start before)
-      → uses_in (fold (draft_after_item labels) start (before ++ rest)).parts s ≡ uses_from s 0 (statements_from labels start (before ++ rest))
-  items_uses labels before [] good rule h = ap (λ (l : List ItemData). uses_in (fold (draft_after_item labels) start l).parts s) (append-nil before) ∙ h ∙ ap (λ (l : List ItemData). uses_from s 0 (statements_from labels start l)) (sym (append-nil before))
+  items_uses : (labels : List SymbolData) (before rest : List ItemData) → GoodItems labels (fold (draft_after_item labels) empty_draft before) rest → 15 ≤ items_rule labels (fold (draft_after_item labels) empty_draft before) rest
+      → uses_in (fold (draft_after_item labels) empty_draft before).parts s ≡ uses_from s 0 (statements_from labels empty_draft before)
+      → uses_in (fold (draft_after_item labels) empty_draft (before ++ rest)).parts s ≡ uses_from s 0 (statements_from labels empty_draft (before ++ rest))
+  items_uses labels before [] good rule h = ap (λ (l : List ItemData). uses_in (fold (draft_after_item labels) empty_draft l).parts s) (append-nil before) ∙ h ∙ ap (λ (l : List ItemData). uses_from s 0 (statements_from labels empty_draft l)) (sym (append-nil before))
   items_uses labels before (i ∷ is) good rule h =
-      let d : DraftData = fold (draft_after_item labels) start before in
+      let d : DraftData = fold (draft_after_item labels) empty_draft before in
       let next : List ItemData = before ++ i ∷ [] in
-      let step : fold (draft_after_item labels) start next ≡ draft_after_item labels d i = fold-append (draft_after_item labels) start before (i ∷ []) in
-      let more : statements_from labels start next ≡ statements_from labels start before ++ standing_statement d (content_of labels d i)
-      = statements-append labels start before (i ∷ []) ∙ ap (λ (ts : List StatementData). statements_from labels start before ++ ts) (append-nil (standing_statement d (content_of labels d i))) in
-      let size : length (bytes_at d.parts s) ≡ 0 + length (section_bytes s (statements_from labels start before)) = omega (arith, ap length (items_bytes labels before)) in
-      let here : uses_in (fold (draft_after_item labels) start next).parts s ≡ uses_from s 0 (statements_from labels start next)
+      let step : fold (draft_after_item labels) empty_draft next ≡ draft_after_item labels d i = fold-append (draft_after_item labels) empty_draft before (i ∷ []) in
+      let more : statements_from labels empty_draft next ≡ statements_from labels empty_draft before ++ statement_with_room d (statement_of_item labels d i)
+      = statements-append labels empty_draft before (i ∷ []) ∙ ap (λ (ts : List StatementData). statements_from labels empty_draft before ++ ts) (append-nil (statement_with_room d (statement_of_item labels d i))) in
+      let size : length (bytes_at d.parts s) ≡ 0 + length (section_bytes s (statements_from labels empty_draft before)) = omega (arith, ap length (items_bytes labels before)) in
+      let here : uses_in (fold (draft_after_item labels) empty_draft next).parts s ≡ uses_from s 0 (statements_from labels empty_draft next)
       = ap (λ (e : DraftData). uses_in e.parts s) step
       ∙ stepped_uses labels d i good.0 (fits (item_rule labels d i) (items_rule labels (draft_after_item labels d i) is) rule)
-      ∙ ap (λ (us : List UseData). us ++ uses_from s (length (bytes_at d.parts s)) (standing_statement d (content_of labels d i))) h
-      ∙ ap (λ n. uses_from s 0 (statements_from labels start before) ++ uses_from s n (standing_statement d (content_of labels d i))) size
-      ∙ sym (uses-append 0 (statements_from labels start before) (standing_statement d (content_of labels d i)))
+      ∙ ap (λ (us : List UseData). us ++ uses_from s (length (bytes_at d.parts s)) (statement_with_room d (statement_of_item labels d i))) h
+      ∙ ap (λ n. uses_from s 0 (statements_from labels empty_draft before) ++ uses_from s n (statement_with_room d (statement_of_item labels d i))) size
+      ∙ sym (uses-append 0 (statements_from labels empty_draft before) (statement_with_room d (statement_of_item labels d i)))
       ∙ ap (λ (ts : List StatementData). uses_from s 0 ts) (sym more) in
       let G : DraftData → Type 0 = λ e. GoodItems labels e is in
       let R : DraftData → Type 0 = λ e. 15 ≤ items_rule labels e is in
-      ap (λ (l : List ItemData). uses_in (fold (draft_after_item labels) start l).parts s) (sym (append_assoc before (i ∷ []) is))
+      ap (λ (l : List ItemData). uses_in (fold (draft_after_item labels) empty_draft l).parts s) (sym (append_assoc before (i ∷ []) is))
       ∙ items_uses labels next is (subst G (sym step) good.1) (subst R (sym step) (fits_too (item_rule labels d i) (items_rule labels (draft_after_item labels d i) is) rule)) here
-      ∙ ap (λ (l : List ItemData). uses_from s 0 (statements_from labels start l)) (append_assoc before (i ∷ []) is)
+      ∙ ap (λ (l : List ItemData). uses_from s 0 (statements_from labels empty_draft l)) (append_assoc before (i ∷ []) is)
 
-  pub all_uses : (labels : List SymbolData) (is : List ItemData) → GoodItems labels start is → 15 ≤ items_rule labels start is → uses_in (fold (draft_after_item labels) start is).parts s ≡ uses_from s 0 (statements_from labels start is)
+  pub all_uses : (labels : List SymbolData) (is : List ItemData) → GoodItems labels empty_draft is → 15 ≤ items_rule labels empty_draft is → uses_in (fold (draft_after_item labels) empty_draft is).parts s ≡ uses_from s 0 (statements_from labels empty_draft is)
   all_uses labels is good rule = items_uses labels [] is good rule refl

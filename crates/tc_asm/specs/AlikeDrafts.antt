@@ -12,7 +12,7 @@ abbrev pub draft_part_size : PartData → PartSizeData
 draft_part_size p = record { name = p.name; size = length p.bytes }
 
 -- two drafts that differ only in the values of bytes and in uses of symbols
-pub record Alike (d e : DraftData) : Type 0 where
+pub record HasSameSizesAndSymbols (d e : DraftData) : Type 0 where
   pub section : d.section ≡ e.section
   pub sizes : map draft_part_size d.parts ≡ map draft_part_size e.parts
   pub symbols : d.symbols ≡ e.symbols

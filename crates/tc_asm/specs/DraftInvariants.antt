@@ -6,7 +6,7 @@ use Rattle.tc_object.specs.Names.{IsNewObjectName}
 use Rattle.tc_object.specs.Objects.{InTurn}
 use Rattle.tc_asm.specs.declared.symbols.Place.{Place}
 use Rattle.tc_asm.specs.Symbols.{SymbolData, symbol_names}
-use Rattle.tc_isa.specs.Relocations.{is_reloc}
+use Rattle.tc_isa.specs.Relocations.{is_relocation_kind}
 use Rattle.tc_asm.specs.Drafts.{UseData, PartData, DraftData, count_of_uses, part_names, part_size_at}
 
 -- each element has the property
@@ -41,19 +41,19 @@ abbrev pub IsSmallLabelPlace : Option Place → Type 0
 IsSmallLabelPlace o = IfSome o (λ p. (p.section < 2 ^ 16) × (p.offset < 2 ^ 32))
 
 -- each use begins after the four bytes of the last one, and its own four bytes end by `size`
-abbrev pub Spaced : ℕ → List UseData → ℕ → Type 0
-Spaced low [] size = low ≤ size
-Spaced low (u ∷ us) size = (low ≤ u.offset) × Spaced (u.offset + 4) us size
+abbrev pub AreUsesSpaced : ℕ → List UseData → ℕ → Type 0
+AreUsesSpaced low [] size = low ≤ size
+AreUsesSpaced low (u ∷ us) size = (low ≤ u.offset) × AreUsesSpaced (u.offset + 4) us size
 
 -- a use of a known symbol, by a relocation
 pub record IsUse (names : List (List ℕ)) (u : UseData) : Type 0 where
-  pub kind : is_reloc u.reference.kind ≡ true
+  pub kind : is_relocation_kind u.reference.kind ≡ true
   pub known : is_drafted_name names u.reference.name ≡ true
 
 -- a section no longer than the total, with uses of known symbols that don't overlap
 pub record IsPart (names : List (List ℕ)) (total : ℕ) (p : PartData) : Type 0 where
   pub small : length p.bytes ≤ total
-  pub spaced : Spaced 0 p.uses (length p.bytes)
+  pub spaced : AreUsesSpaced 0 p.uses (length p.bytes)
   pub uses : EachInDraft (IsUse names) p.uses
 
 -- the draft of lines that break no rule: distinct names, right counts, all within the limits of an

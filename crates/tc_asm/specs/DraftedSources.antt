@@ -2,7 +2,7 @@
 use Rattle.std.specs.Prelude.{ℕ, List, fold, []}
 use Rattle.tc_stmt.specs.Lines.{LineData, lines_in}
 use Rattle.tc_asm.specs.Symbols.{SymbolData}
-use Rattle.tc_asm.specs.Drafts.{DraftData, part_names, draft_after_item, start}
+use Rattle.tc_asm.specs.Drafts.{DraftData, part_names, draft_after_item, empty_draft}
 
 -- the draft of a source after a further line
 unfoldable pub with_line : List SymbolData → DraftData → LineData → DraftData
@@ -11,7 +11,7 @@ with_line labels d l = fold (draft_after_item labels) d l.items
 -- the draft of a source: that of all its lines, one after another, given the symbols of the whole
 -- source
 abbrev pub draft_from_lines : List SymbolData → List LineData → DraftData
-draft_from_lines labels lines = fold (with_line labels) start lines
+draft_from_lines labels lines = fold (with_line labels) empty_draft lines
 
 -- the symbols of a source: those in the draft of all its lines, which don't depend on the targets
 -- of its jumps

@@ -6,14 +6,14 @@ use Rattle.tc_stmt.specs.SourceRules.{no_rule, misplaced_symbol}
 use Rattle.tc_isa.specs.declared.fields.Fields.{Fields}
 use Rattle.tc_isa.specs.Rows.{RowData, listed, is_long}
 use Rattle.tc_isa.specs.Spelling.{spelling}
-use Rattle.tc_isa.specs.Relocations.{is_reloc}
+use Rattle.tc_isa.specs.Relocations.{is_relocation_kind}
 use Rattle.tc_encode.specs.Decoding.{are_fitting_fields}
 use Rattle.tc_stmt.specs.Names.{is_source_name}
 use Rattle.tc_stmt.specs.RowFields.{RowFieldsData, with_rule}
 use Rattle.tc_stmt.specs.Items.{ReferenceData, ItemData, label, section, global, code, bytes, zeros}
 use Rattle.tc_stmt.specs.Displacements.{with_displacement}
 use Rattle.tc_asm.specs.declared.symbols.Place.{Place}
-use Rattle.tc_asm.specs.Symbols.{SymbolData, place_in, seen, labelled, made_global}
+use Rattle.tc_asm.specs.Symbols.{SymbolData, place_in, with_name, with_symbol_label, with_global_symbol}
 
 -- four bytes at an offset that wait for the value of a symbol
 pub record UseData : Type 0 where
@@ -37,16 +37,16 @@ pub record DraftData : Type 0 where
   pub count : ℕ
 
 -- the draft before the first line: no section, no symbol
-abbrev pub start : DraftData
-start = record { section = 64; parts = []; symbols = []; total = 0; count = 0 }
+abbrev pub empty_draft : DraftData
+empty_draft = record { section = 64; parts = []; symbols = []; total = 0; count = 0 }
 
 -- the section with this name, these bytes, and these uses of symbols
 abbrev pub part : List ℕ → List ℕ → List UseData → PartData
 part name bs uses = record { name = name; bytes = bs; uses = uses }
 
 -- the offset of the next byte in the current section
-unfoldable pub draft_place : DraftData → ℕ
-draft_place d = option_map_or (λ p. length p.bytes) (slice_get d.parts d.section) 0
+unfoldable pub next_byte_offset : DraftData → ℕ
+next_byte_offset d = option_map_or (λ p. length p.bytes) (slice_get d.parts d.section) 0
 
 -- there is a current section
 abbrev pub has_section : DraftData → Bool
@@ -59,13 +59,13 @@ has_room d n = nat_le (d.total + n) (2 ^ 24)
 
 -- ---- labels and sections
 -- the place of the next byte
-abbrev pub here : DraftData → Place
-here d = record { section = d.section; offset = draft_place d }
+abbrev pub next_byte_place : DraftData → Place
+next_byte_place d = record { section = d.section; offset = next_byte_offset d }
 
 -- A label here, if it is a name. Before the first section its line breaks a rule, but the label
 -- still defines its name.
 unfoldable pub with_label : DraftData → List ℕ → DraftData
-with_label d name = if is_source_name name then record d { symbols = labelled d.symbols name (here d) } else d
+with_label d name = if is_source_name name then record d { symbols = with_symbol_label d.symbols name (next_byte_place d) } else d
 
 -- the number of the section with this name, and the number of sections if none has it
 abbrev pub number_of_part : List PartData → List ℕ → ℕ
@@ -82,7 +82,7 @@ with_current_section d name =
 
 -- a name made global, if it is a name
 unfoldable pub with_global : DraftData → List ℕ → DraftData
-with_global d name = if is_source_name name then record d { symbols = made_global d.symbols name } else d
+with_global d name = if is_source_name name then record d { symbols = with_global_symbol d.symbols name } else d
 
 -- ---- bytes
 -- bytes added at the end of the section of this number
@@ -102,15 +102,15 @@ with_part_use parts i u = option_map_or (λ p. slice_set parts i (record p { use
 -- which its section has room, and it has fewer than 65,535 relocations
 unfoldable pub with_use : DraftData → ℕ → ReferenceData → DraftData
 with_use d size r =
-    if has_section d && has_room d size && size == 4 && is_reloc r.kind && nat_lt d.count 65535
-    then record d { parts = with_part_use d.parts d.section (record { offset = draft_place d; reference = r }); count = d.count + 1 }
+    if has_section d && has_room d size && size == 4 && is_relocation_kind r.kind && nat_lt d.count 65535
+    then record d { parts = with_part_use d.parts d.section (record { offset = next_byte_offset d; reference = r }); count = d.count + 1 }
     else d
 
 -- the draft of an object with the symbol of its next `size` bytes in its table and, if these bytes
 -- need a relocation, among its uses; a bad name changes nothing
 unfoldable pub with_reference : DraftData → ℕ → Option ReferenceData → DraftData
 with_reference d size None = d
-with_reference d size (Some r) = if is_source_name r.name then with_use (record d { symbols = seen d.symbols r.name }) size r else d
+with_reference d size (Some r) = if is_source_name r.name then with_use (record d { symbols = with_name d.symbols r.name }) size r else d
 
 -- bytes at the end of the current section, with the symbol that goes to them, if there is one
 abbrev pub with_content : DraftData → List ℕ → Option ReferenceData → DraftData
@@ -123,9 +123,9 @@ unfoldable pub label_distance : List SymbolData → DraftData → ReferenceData 
 label_distance labels d r =
     option_map_or
     (λ (a : Place). if has_section d && a.section == d.section
-    then (if nat_le (draft_place d + (if r.minus then r.size else 0)) (a.offset + (if r.minus then 0 else r.size))
-    then Some (false, (a.offset + (if r.minus then 0 else r.size)) - (draft_place d + (if r.minus then r.size else 0)))
-    else Some (true, (draft_place d + (if r.minus then r.size else 0)) - (a.offset + (if r.minus then 0 else r.size))))
+    then (if nat_le (next_byte_offset d + (if r.minus then r.size else 0)) (a.offset + (if r.minus then 0 else r.size))
+    then Some (false, (a.offset + (if r.minus then 0 else r.size)) - (next_byte_offset d + (if r.minus then r.size else 0)))
+    else Some (true, (next_byte_offset d + (if r.minus then r.size else 0)) - (a.offset + (if r.minus then 0 else r.size))))
     else None)
     (place_in labels r.name) None
 

@@ -4,6 +4,6 @@ use Rattle.tc_asm.specs.declared.errors.AsmErr.{AsmErr}
 use Rattle.tc_asm.specs.declared.errors.AsmErr.TheVariants.{Bad, NoMemory}
 
 -- the property of the line and rule of a bad line; out of memory says nothing of the source
-abbrev pub IfBad : (ℕ → ℕ → Type 0) → AsmErr → Type 0
-IfBad P (Bad line rule) = P line rule
-IfBad P NoMemory = Unit {0}
+abbrev pub IfBadLine : (ℕ → ℕ → Type 0) → AsmErr → Type 0
+IfBadLine P (Bad line rule) = P line rule
+IfBadLine P NoMemory = Unit {0}

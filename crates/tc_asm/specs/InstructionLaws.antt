@@ -6,10 +6,10 @@ use Rattle.tc_isa.specs.ValidRowFields.{FieldsFitRow}
 use Rattle.tc_isa.specs.Spelling.{spelling}
 use Rattle.tc_stmt.specs.Items.{ReferenceData, ItemData, code}
 use Rattle.tc_stmt.specs.Lines.{lines_in, items_in}
-use Rattle.tc_asm.specs.Drafts.{start}
+use Rattle.tc_asm.specs.Drafts.{empty_draft}
 use Rattle.tc_asm.specs.DraftedSources.{symbols_of}
 use Rattle.tc_asm.specs.Rules.{KeepsRules}
-use Rattle.tc_asm.specs.Statements.{statement, statements_from, statements_in}
+use Rattle.tc_asm.specs.Statements.{statement_data, statements_from, statements_in}
 
 -- what the law of instructions says of assembled bytes: they spell an instruction of the listed row
 -- with this number, with fields that fit it
@@ -33,7 +33,7 @@ pub record IsAssembledInstruction (source : List ℕ) (before : List ItemData) (
   pub spells : InstructionSpellsRow place bytes
   pub given : is_resolved_jump o ≡ false → spells.fields ≡ f
   pub section : ℕ
-  pub stands : slice_get (statements_in source) (length (statements_from (symbols_of (lines_in source)) start before)) ≡ Some (statement section bytes o)
+  pub stands : slice_get (statements_in source) (length (statements_from (symbols_of (lines_in source)) empty_draft before)) ≡ Some (statement_data section bytes o)
 
 -- each instruction among the items of a source that breaks no rule spells its row
 abbrev pub InstructionsLaw : Type 0

@@ -3,17 +3,17 @@ use Rattle.std.specs.Prelude.{◌≡◌, ℕ, true, List, [], ◌∷◌, length,
 use Rattle.tc_isa.specs.declared.fields.Fields.{Fields}
 use Rattle.tc_isa.specs.Rows.{RowData, listed}
 use Rattle.tc_isa.specs.ValidRowFields.{FieldsFitRow}
-use Rattle.tc_isa.specs.Relocations.{is_reloc}
+use Rattle.tc_isa.specs.Relocations.{is_relocation_kind}
 use Rattle.tc_stmt.specs.Names.{is_source_name}
 use Rattle.tc_stmt.specs.Items.{ReferenceData, ItemData, label, section, global, code, bytes, zeros}
 use Rattle.tc_stmt.specs.StatedRows.{TakesAnySymbol}
-use Rattle.tc_asm.specs.Statements.{is_open_statement}
+use Rattle.tc_asm.specs.Statements.{has_unresolved_symbol}
 
 -- bytes of an item that fit its symbol: if the symbol waits for its address, it has a name, and
 -- there are four bytes
 pub record AddedBytesFitSymbol (bs : List ℕ) (o : Option ReferenceData) : Type 0 where
-  pub named : (r : ReferenceData) → o ≡ Some r → is_reloc r.kind ≡ true → is_source_name r.name ≡ true
-  pub four : is_open_statement o ≡ true → length bs ≡ 4
+  pub named : (r : ReferenceData) → o ≡ Some r → is_relocation_kind r.kind ≡ true → is_source_name r.name ≡ true
+  pub four : has_unresolved_symbol o ≡ true → length bs ≡ 4
 
 -- an instruction of the listed row with this number; its fields fit the row, and the row takes its
 -- symbol

@@ -7,12 +7,12 @@ use Rattle.tc_asm.specs.Drafts.{DraftData, draft_after_item}
 use Rattle.tc_asm.specs.Rules.{has_symbol_room, item_rule}
 
 -- a draft without its symbols, as the second pass keeps it if they are known
-abbrev pub nameless : DraftData → DraftData
-nameless d = record d { symbols = [] }
+abbrev pub without_symbols : DraftData → DraftData
+without_symbols d = record d { symbols = [] }
 
 -- what the second pass keeps of a draft: all of it, or all but symbols that are known
 abbrev pub kept : Bool → DraftData → DraftData
-kept known d = if known then nameless d else d
+kept known d = if known then without_symbols d else d
 
 -- an item that defines no label that one of these symbols has already, as the second pass needs if
 -- it knows its symbols
@@ -28,6 +28,6 @@ are_new labels d (i ∷ is) = (has_symbol_room d.symbols && is_new d.symbols i) 
 
 -- the least rule that items break in the second pass over a source: if its symbols are known, each
 -- draft is kept without them
-abbrev pub kept_rule : Bool → List SymbolData → DraftData → List ItemData → ℕ
-kept_rule known labels d [] = no_rule
-kept_rule known labels d (i ∷ is) = min (item_rule labels (kept known d) i) (kept_rule known labels (draft_after_item labels d i) is)
+abbrev pub second_pass_rule : Bool → List SymbolData → DraftData → List ItemData → ℕ
+second_pass_rule known labels d [] = no_rule
+second_pass_rule known labels d (i ∷ is) = min (item_rule labels (kept known d) i) (second_pass_rule known labels (draft_after_item labels d i) is)

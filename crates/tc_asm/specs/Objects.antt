@@ -39,10 +39,10 @@ relocs_from ss section (p ∷ ps) = map (reloc_of ss section) p.uses ++ relocs_f
 
 -- the object: sections and symbols in the order of the source, relocations in the order of their
 -- places
-abbrev pub object_of : DraftData → ObjectData
-object_of d = record { sections = map section_of d.parts; symbols = map symbol_of d.symbols; relocs = relocs_from d.symbols 0 d.parts }
+abbrev pub object_of_draft : DraftData → ObjectData
+object_of_draft d = record { sections = map section_of d.parts; symbols = map symbol_of d.symbols; relocs = relocs_from d.symbols 0 d.parts }
 
 -- the law of the object that a draft becomes: its sections are those that the source's statements
 -- make
 abbrev pub ObjectSectionsLaw : Type 0
-ObjectSectionsLaw = (source : List ℕ) → (object_of (draft_in source)).sections ≡ sections_in source
+ObjectSectionsLaw = (source : List ℕ) → (object_of_draft (draft_in source)).sections ≡ sections_in source

@@ -5,7 +5,7 @@ use Rattle.tc_stmt.specs.SourceRules.{label_twice, no_rule, no_section, bad_name
 use Rattle.tc_stmt.specs.Names.{is_source_name}
 use Rattle.tc_stmt.specs.Items.{ReferenceData, ItemData, label, section, global, code, bytes, zeros}
 use Rattle.tc_asm.specs.Symbols.{SymbolData, entry_in, place_in}
-use Rattle.tc_isa.specs.Relocations.{is_reloc}
+use Rattle.tc_isa.specs.Relocations.{is_relocation_kind}
 use Rattle.tc_asm.specs.Drafts.{DraftData, has_section, has_room, number_of_part, row_fields_with_target, code_bytes, draft_after_item}
 use Rattle.tc_stmt.specs.Lines.{LineData}
 use Rattle.tc_asm.specs.DraftedSources.{draft_from_lines, symbols_of}
@@ -23,47 +23,47 @@ abbrev pub name_rule : List ℕ → ℕ
 name_rule name = if is_source_name name then no_rule else bad_name
 
 -- 13: a 65th section
-abbrev pub section_room : DraftData → List ℕ → ℕ
-section_room d name = if nat_lt (number_of_part d.parts name) (length d.parts) || nat_lt (length d.parts) 64 then no_rule else past_limits
+abbrev pub section_limit_rule : DraftData → List ℕ → ℕ
+section_limit_rule d name = if nat_lt (number_of_part d.parts name) (length d.parts) || nat_lt (length d.parts) 64 then no_rule else past_limits
 
 -- one more symbol doesn't break rule 13: there are fewer than 65,535
 abbrev pub has_symbol_room : List SymbolData → Bool
 has_symbol_room ss = nat_lt (length ss) 65535
 
 -- 13: a 65,536th symbol
-abbrev pub symbol_room : DraftData → List ℕ → ℕ
-symbol_room d name = if is_some (entry_in d.symbols name) || has_symbol_room d.symbols then no_rule else past_limits
+abbrev pub symbol_limit_rule : DraftData → List ℕ → ℕ
+symbol_limit_rule d name = if is_some (entry_in d.symbols name) || has_symbol_room d.symbols then no_rule else past_limits
 
 -- 13: a 65,536th relocation
-abbrev pub reloc_room : DraftData → ReferenceData → ℕ
-reloc_room d r = if is_reloc r.kind && not (nat_lt d.count 65535) then past_limits else no_rule
+abbrev pub reloc_limit_rule : DraftData → ReferenceData → ℕ
+reloc_limit_rule d r = if is_relocation_kind r.kind && not (nat_lt d.count 65535) then past_limits else no_rule
 
 -- 13: more than 16,777,216 bytes
-abbrev pub bytes_room : DraftData → ℕ → ℕ
-bytes_room d n = if has_room d n then no_rule else past_limits
+abbrev pub byte_limit_rule : DraftData → ℕ → ℕ
+byte_limit_rule d n = if has_room d n then no_rule else past_limits
 
 -- 14: a global name that is never defined
-abbrev pub defined_rule : List SymbolData → List ℕ → ℕ
-defined_rule labels name = if is_some (place_in labels name) then no_rule else undefined_global
+abbrev pub undefined_global_rule : List SymbolData → List ℕ → ℕ
+undefined_global_rule labels name = if is_some (place_in labels name) then no_rule else undefined_global
 
 -- 13: no room for a symbol or its relocation
 abbrev pub reference_rule : DraftData → Option ReferenceData → ℕ
 reference_rule d None = no_rule
-reference_rule d (Some r) = min (symbol_room d r.name) (reloc_room d r)
+reference_rule d (Some r) = min (symbol_limit_rule d r.name) (reloc_limit_rule d r)
 
 -- the least rule that this many bytes break here, with their symbol
 abbrev pub content_rule : DraftData → ℕ → Option ReferenceData → ℕ
-content_rule d size r = min (section_rule d) (min (bytes_room d size) (reference_rule d r))
+content_rule d size r = min (section_rule d) (min (byte_limit_rule d size) (reference_rule d r))
 
 -- The least rule that an item breaks after this draft, given the symbols of the whole source. Rules
 -- 6, 10 and 11 are those of targets that are resolved at once.
 unfoldable pub item_rule : List SymbolData → DraftData → ItemData → ℕ
-item_rule labels d (label name) = min (min (label_rule d name) (section_rule d)) (min (name_rule name) (symbol_room d name))
-item_rule labels d (section name) = min (name_rule name) (section_room d name)
-item_rule labels d (global name) = min (name_rule name) (min (symbol_room d name) (defined_rule labels name))
+item_rule labels d (label name) = min (min (label_rule d name) (section_rule d)) (min (name_rule name) (symbol_limit_rule d name))
+item_rule labels d (section name) = min (name_rule name) (section_limit_rule d name)
+item_rule labels d (global name) = min (name_rule name) (min (symbol_limit_rule d name) (undefined_global_rule labels name))
 item_rule labels d (code k f r) = min (row_fields_with_target labels d k f r).rule (content_rule d (length (code_bytes labels d k f r)) r)
 item_rule labels d (bytes bs r) = content_rule d (length bs) r
-item_rule labels d (zeros n) = min (section_rule d) (bytes_room d n)
+item_rule labels d (zeros n) = min (section_rule d) (byte_limit_rule d n)
 
 -- the least rule that these items break, each after the one before it
 abbrev pub items_rule : List SymbolData → DraftData → List ItemData → ℕ
@@ -84,7 +84,7 @@ KeepsRules lines n = (k : ℕ) (d : LineData) → k < n → rule_in lines k (sli
 
 -- the number of the first line of a source that breaks a rule, and the least of the rules that it
 -- breaks after the draft of the lines before it
-pub record IsLeastBrokenLine (lines : List LineData) (line rule : ℕ) : Type 0 where
+pub record IsFirstBrokenLine (lines : List LineData) (line rule : ℕ) : Type 0 where
   pub place : ℕ
   pub within : place < length lines
   pub is : line ≡ place + 1

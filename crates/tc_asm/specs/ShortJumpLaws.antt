@@ -3,8 +3,8 @@
 use Rattle.std.specs.Prelude.{◌≡◌, ◌+◌, ◌%◌, ◌^◌, ℕ, if◌then◌else◌, List, length, slice_get, Some}
 use Rattle.tc_isa.specs.declared.fields.Fields.{Fields}
 use Rattle.tc_isa.specs.Rows.{RowData}
-use Rattle.tc_isa.specs.Forms.{is_sbr}
-use Rattle.tc_isa.specs.FromFields.{doubled_displacement, ahead_only}
+use Rattle.tc_isa.specs.Forms.{is_sbr_form}
+use Rattle.tc_isa.specs.FromFields.{doubled_displacement, forward_distance}
 use Rattle.tc_stmt.specs.Items.{ReferenceData}
 use Rattle.tc_asm.specs.declared.symbols.Place.{Place}
 use Rattle.tc_stmt.specs.Lines.{lines_in}
@@ -18,7 +18,7 @@ use Rattle.tc_asm.specs.InstructionLaws.{InstructionSpellsRow}
 -- the distance of a jump or call of 16 bits, modulo 2^32: SBR (form 13) only goes forwards, SB both
 -- ways
 abbrev pub short_jump_displacement : RowData → Fields → ℕ
-short_jump_displacement row f = if is_sbr row.form then ahead_only f else doubled_displacement 8 f
+short_jump_displacement row f = if is_sbr_form row.form then forward_distance f else doubled_displacement 8 f
 
 -- A statement with a symbol that takes no relocation spells a row. Wherever the section begins, its
 -- displacement reaches the symbol's label plus the number that is added. The label is in the same

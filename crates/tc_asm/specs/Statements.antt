@@ -4,9 +4,9 @@ use Rattle.std.specs.List.{flat_map}
 use Rattle.tc_stmt.specs.Items.{ReferenceData, ItemData, label, section, global, code, bytes, zeros}
 use Rattle.tc_stmt.specs.Lines.{LineData, items_in, lines_in}
 use Rattle.tc_asm.specs.Symbols.{SymbolData}
-use Rattle.tc_asm.specs.Drafts.{DraftData, start, has_section, has_room, code_bytes, draft_after_item, bytes_at}
+use Rattle.tc_asm.specs.Drafts.{DraftData, empty_draft, has_section, has_room, code_bytes, draft_after_item, bytes_at}
 use Rattle.tc_asm.specs.DraftedSources.{draft_from_lines, symbols_of, section_names_in}
-use Rattle.tc_isa.specs.Relocations.{is_reloc}
+use Rattle.tc_isa.specs.Relocations.{is_relocation_kind}
 use Rattle.tc_object.specs.Objects.{SectionData}
 
 -- a statement: its section, its bytes, in which the field of a symbol is zero, and its symbol
@@ -16,31 +16,31 @@ pub record StatementData : Type 0 where
   pub reference : Option ReferenceData
 
 -- the statement with these bytes and this symbol, in the section of this number
-abbrev pub statement : ℕ → List ℕ → Option ReferenceData → StatementData
-statement s bs r = record { section = s; bytes = bs; reference = r }
+abbrev pub statement_data : ℕ → List ℕ → Option ReferenceData → StatementData
+statement_data s bs r = record { section = s; bytes = bs; reference = r }
 
 -- an instruction's spelling, data, or zeros; None for labels and directives
-abbrev pub content_of : List SymbolData → DraftData → ItemData → Option StatementData
-content_of labels d (label name) = None
-content_of labels d (section name) = None
-content_of labels d (global name) = None
-content_of labels d (code k f r) = Some (statement d.section (code_bytes labels d k f r) r)
-content_of labels d (bytes bs r) = Some (statement d.section bs r)
-content_of labels d (zeros n) = Some (statement d.section (replicate n 0) None)
+abbrev pub statement_of_item : List SymbolData → DraftData → ItemData → Option StatementData
+statement_of_item labels d (label name) = None
+statement_of_item labels d (section name) = None
+statement_of_item labels d (global name) = None
+statement_of_item labels d (code k f r) = Some (statement_data d.section (code_bytes labels d k f r) r)
+statement_of_item labels d (bytes bs r) = Some (statement_data d.section bs r)
+statement_of_item labels d (zeros n) = Some (statement_data d.section (replicate n 0) None)
 
 -- the statement, if there is a current section and the bytes are within the limit
-abbrev pub standing_statement : DraftData → Option StatementData → List StatementData
-standing_statement d None = []
-standing_statement d (Some t) = if has_section d && has_room d (length t.bytes) then t ∷ [] else []
+abbrev pub statement_with_room : DraftData → Option StatementData → List StatementData
+statement_with_room d None = []
+statement_with_room d (Some t) = if has_section d && has_room d (length t.bytes) then t ∷ [] else []
 
 -- the statements of these items after a draft, in order
 abbrev pub statements_from : List SymbolData → DraftData → List ItemData → List StatementData
 statements_from labels d [] = []
-statements_from labels d (i ∷ is) = standing_statement d (content_of labels d i) ++ statements_from labels (draft_after_item labels d i) is
+statements_from labels d (i ∷ is) = statement_with_room d (statement_of_item labels d i) ++ statements_from labels (draft_after_item labels d i) is
 
 -- the statements of a source with these symbols, in order
 abbrev pub statements : List SymbolData → List LineData → List StatementData
-statements labels lines = statements_from labels start (items_in lines)
+statements labels lines = statements_from labels empty_draft (items_in lines)
 
 -- the bytes that a source's statements give the section of this number: those of each statement in
 -- it, in order
@@ -76,6 +76,6 @@ unfoldable pub sections_in : List ℕ → List SectionData
 sections_in source = sections_of_statements (statements_in source) 0 (section_names_in source)
 
 -- the symbol of a statement waits for its address
-abbrev pub is_open_statement : Option ReferenceData → Bool
-is_open_statement None = false
-is_open_statement (Some r) = is_reloc r.kind
+abbrev pub has_unresolved_symbol : Option ReferenceData → Bool
+has_unresolved_symbol None = false
+has_unresolved_symbol (Some r) = is_relocation_kind r.kind

@@ -14,8 +14,8 @@ abbrev pub symbol : List ℕ → Entry → SymbolData
 symbol name e = record { name = name; entry = e }
 
 -- the entry of a name that is used, but not defined so far
-abbrev pub unseen : Entry
-unseen = record { place = None; is_global = false }
+abbrev pub undefined_entry : Entry
+undefined_entry = record { place = None; is_global = false }
 
 -- the entry of a name, if it is in the table
 abbrev pub entry_in : List SymbolData → List ℕ → Option Entry
@@ -23,7 +23,7 @@ entry_in ss name = option_map (λ (s : SymbolData). s.entry) (find (λ s. bytes_
 
 -- the entry of a name, or the unseen entry if it isn't in the table
 abbrev pub entry_of : List SymbolData → List ℕ → Entry
-entry_of ss name = unwrap_or (entry_in ss name) unseen
+entry_of ss name = unwrap_or (entry_in ss name) undefined_entry
 
 -- the assembler's table of symbols with this entry of a name: a known symbol keeps its number, and
 -- a new one is the last
@@ -36,24 +36,24 @@ abbrev pub place_in : List SymbolData → List ℕ → Option Place
 place_in ss name = (entry_of ss name).place
 
 -- the table after a use of a name
-unfoldable pub seen : List SymbolData → List ℕ → List SymbolData
-seen ss name = put_entry ss name (entry_of ss name)
+unfoldable pub with_name : List SymbolData → List ℕ → List SymbolData
+with_name ss name = put_entry ss name (entry_of ss name)
 
 -- the entry of a new name whose label is at this place
-abbrev pub labelled_at : Place → Entry
-labelled_at place = record { place = Some place; is_global = false }
+abbrev pub entry_of_new_label : Place → Entry
+entry_of_new_label place = record { place = Some place; is_global = false }
 
 -- the entry of a known name after a label at this place; an earlier label keeps its place
-abbrev pub with_label_at : Entry → Place → Entry
-with_label_at e place = if is_some e.place then e else record e { place = Some place }
+abbrev pub entry_with_label : Entry → Place → Entry
+entry_with_label e place = if is_some e.place then e else record e { place = Some place }
 
 -- the table after a label at this place
-unfoldable pub labelled : List SymbolData → List ℕ → Place → List SymbolData
-labelled ss name place = put_entry ss name (with_label_at (entry_of ss name) place)
+unfoldable pub with_symbol_label : List SymbolData → List ℕ → Place → List SymbolData
+with_symbol_label ss name place = put_entry ss name (entry_with_label (entry_of ss name) place)
 
 -- the table after a name is made global
-unfoldable pub made_global : List SymbolData → List ℕ → List SymbolData
-made_global ss name = put_entry ss name (record (entry_of ss name) { is_global = true })
+unfoldable pub with_global_symbol : List SymbolData → List ℕ → List SymbolData
+with_global_symbol ss name = put_entry ss name (record (entry_of ss name) { is_global = true })
 
 -- the number of a name in the assembler's table of symbols, and 0 if it isn't there
 abbrev pub symbol_number : List SymbolData → List ℕ → ℕ

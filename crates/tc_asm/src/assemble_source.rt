@@ -3,12 +3,12 @@ ghost use Rattle.std.specs.Prelude.{◌≡◌, ◌≤◌, ◌<◌, ◌^◌, ◌&
 ghost use Rattle.tc_stmt.specs.Items.{item_of};
 ghost use Rattle.tc_stmt.specs.Lines.{lines_in, items_in};
 ghost use Rattle.tc_asm.specs.ItemInvariants.{IsAddedItem};
-ghost use Rattle.tc_asm.specs.Drafts.{start, draft_after_item};
+ghost use Rattle.tc_asm.specs.Drafts.{empty_draft, draft_after_item};
 ghost use Rattle.tc_asm.specs.DraftedSources.{draft_from_lines, symbols_of as symbols_in};
-ghost use Rattle.tc_asm.specs.Rules.{KeepsRules, IsLeastBrokenLine};
+ghost use Rattle.tc_asm.specs.Rules.{KeepsRules, IsFirstBrokenLine};
 ghost use Rattle.tc_asm.specs.KnownSymbols.{kept, are_new};
-ghost use Rattle.tc_asm.specs.Objects.{object_of};
-ghost use Rattle.tc_asm.specs.Errors.{IfBad};
+ghost use Rattle.tc_asm.specs.Objects.{object_of_draft};
+ghost use Rattle.tc_asm.specs.Errors.{IfBadLine};
 ghost use Rattle.tc_asm.specs.DraftInvariants.{IsDraft};
 ghost use Rattle.tc_stmt.specs.SourceViews.{lines_of};
 
@@ -26,10 +26,10 @@ use tc_stmt::{Item, NO_RULE, Source, read_source};
 pub fn assemble(alloc: Global, source: &[u8]) -> Result<Object, AsmErr>
     requires { length source.now ≤ 2 ^ 30 }
     ensures ok { IfOk result
-        (λ o. o ≡ object_of (draft_from_lines (symbols_in (lines_in source.now))
+        (λ o. o ≡ object_of_draft (draft_from_lines (symbols_in (lines_in source.now))
         (lines_in source.now))) }
     ensures kept { OnOk result (KeepsRules (lines_in source.now) (length (lines_in source.now))) }
-    ensures bad { IfErr result (IfBad (IsLeastBrokenLine (lines_in source.now))) }
+    ensures bad { IfErr result (IfBadLine (IsFirstBrokenLine (lines_in source.now))) }
 {
     let read = read_source(alloc, source)?;
     // The symbols of all items don't depend on the targets of jumps.
@@ -52,12 +52,12 @@ fn draft_of_lines<'a>(
     requires few { length source.now.lines.items < 2 ^ 32 }
     requires labels { labels.now ≡ symbols_in (lines_of source.now) }
     requires known { known ≡ true
-        → are_new labels.now start (items_in (lines_of source.now)) ≡ true }
+        → are_new labels.now empty_draft (items_in (lines_of source.now)) ≡ true }
     ensures ok { IfOk result
         (λ d. kept known d ≡ kept known (draft_from_lines labels.now (lines_of source.now))) }
     ensures rules { OnOk result (KeepsRules (lines_of source.now) (length (lines_of source.now))) }
     ensures whole { OnOk result (IsDraft (draft_from_lines labels.now (lines_of source.now))) }
-    ensures bad { IfErr result (IfBad (IsLeastBrokenLine (lines_of source.now))) }
+    ensures bad { IfErr result (IfBadLine (IsFirstBrokenLine (lines_of source.now))) }
 {
     let mut draft = Draft::new(alloc);
     let lines = source.lines.as_slice();

@@ -50,14 +50,14 @@ impl<'a> Draft<'a> {
     ghost use Rattle.std.specs.Prelude.{◌≡◌, [], OnOk, IfOk, Some, option_map, replicate};
     ghost use Rattle.tc_stmt.specs.Items.{reference_of, item_of, label, code, bytes as data_item};
     ghost use Rattle.tc_asm.specs.ItemInvariants.{IsAddedCode, IsAddedData, IsAddedItem, AddedSymbolIsNamed};
-    ghost use Rattle.tc_asm.specs.AlikeDrafts.{Alike};
-    ghost use Rattle.tc_asm.specs.Drafts.{DraftData, start, draft_place, has_section, has_room, with_label, with_current_section, with_global, with_bytes, with_use, with_reference, with_content, draft_after_item};
-    ghost use Rattle.tc_asm.specs.Symbols.{seen};
+    ghost use Rattle.tc_asm.specs.AlikeDrafts.{HasSameSizesAndSymbols};
+    ghost use Rattle.tc_asm.specs.Drafts.{DraftData, empty_draft, next_byte_offset, has_section, has_room, with_label, with_current_section, with_global, with_bytes, with_use, with_reference, with_content, draft_after_item};
+    ghost use Rattle.tc_asm.specs.Symbols.{with_name};
     ghost use Rattle.tc_asm.specs.KnownSymbols.{is_new};
 
     /// An empty draft.
     pub fn new(alloc: Global) -> Draft<'a>
-        ensures { result ≡ start }
+        ensures { result ≡ empty_draft }
     {
         Draft {
             section: NO_NUMBER,
@@ -69,9 +69,9 @@ impl<'a> Draft<'a> {
     }
 
     /// The offset of the next byte in the current section, and 0 if there is no current section.
-    #[tactic(auto, unfolding(crate::specs::Drafts::draft_place))]
+    #[tactic(auto, unfolding(crate::specs::Drafts::next_byte_offset))]
     pub fn next_byte_offset(&self) -> usize
-        ensures { result ≡ draft_place self.now }
+        ensures { result ≡ next_byte_offset self.now }
     {
         if self.section < self.parts.len() {
             part_len(&self.parts[self.section])
@@ -181,8 +181,8 @@ impl<'a> Draft<'a> {
     ) -> Result<bool, AllocError>
         requires none { none.now ≡ [] }
         requires added { IsAddedItem (item_of item.now) }
-        ensures alike { OnOk result ((d : DraftData) → Alike self.old d
-            → Alike self.new (draft_after_item [] d (item_of item.now))) }
+        ensures alike { OnOk result ((d : DraftData) → HasSameSizesAndSymbols self.old d
+            → HasSameSizesAndSymbols self.new (draft_after_item [] d (item_of item.now))) }
         ensures new { IfOk result (λ new. new ≡ is_new self.old.symbols (item_of item.now)) }
     {
         match item {
@@ -327,8 +327,8 @@ impl<'a> Draft<'a> {
 
     /// Adds a label to the first pass's draft, and returns whether its name has no label before it.
     fn scan_label(&mut self, name: &'a [u8]) -> Result<bool, AllocError>
-        ensures alike { OnOk result ((d : DraftData) → Alike self.old d
-            → Alike self.new (draft_after_item [] d (label name.entry.now))) }
+        ensures alike { OnOk result ((d : DraftData) → HasSameSizesAndSymbols self.old d
+            → HasSameSizesAndSymbols self.new (draft_after_item [] d (label name.entry.now))) }
         ensures new { IfOk result (λ new. new ≡ is_new self.old.symbols (label name.entry.now)) }
     {
         let new = self.add_label(name)?;
@@ -343,8 +343,8 @@ impl<'a> Draft<'a> {
         r: &Option<Reference<'a>>,
     ) -> Result<(), AllocError>
         requires { IsAddedCode row fields.now (option_map reference_of r.now) }
-        ensures { OnOk result ((d : DraftData) → Alike self.old d
-            → Alike self.new (draft_after_item [] d
+        ensures { OnOk result ((d : DraftData) → HasSameSizesAndSymbols self.old d
+            → HasSameSizesAndSymbols self.new (draft_after_item [] d
             (code row fields.now (option_map reference_of r.now)))) }
     {
         let size = usize::from(assembled_code_size(row));
@@ -355,8 +355,8 @@ impl<'a> Draft<'a> {
     /// Adds data to the first pass's draft as far as symbols depend on them.
     fn scan_data(&mut self, bytes: &[u8], r: &Option<Reference<'a>>) -> Result<(), AllocError>
         requires { IsAddedData bytes.now (option_map reference_of r.now) }
-        ensures { OnOk result ((d : DraftData) → Alike self.old d
-            → Alike self.new (draft_after_item [] d
+        ensures { OnOk result ((d : DraftData) → HasSameSizesAndSymbols self.old d
+            → HasSameSizesAndSymbols self.new (draft_after_item [] d
             (data_item bytes.now (option_map reference_of r.now)))) }
     {
         self.add_zeros_for_bytes(bytes.len(), r)?;
@@ -373,8 +373,8 @@ impl<'a> Draft<'a> {
     ) -> Result<(), AllocError>
         requires none { none.now ≡ [] }
         requires added { IsAddedItem (item_of item.now) }
-        ensures { OnOk result ((d : DraftData) → Alike self.old d
-            → Alike self.new (draft_after_item [] d (item_of item.now))) }
+        ensures { OnOk result ((d : DraftData) → HasSameSizesAndSymbols self.old d
+            → HasSameSizesAndSymbols self.new (draft_after_item [] d (item_of item.now))) }
     {
         self.add_item(alloc, none, item)?;
         Ok(())
@@ -414,7 +414,7 @@ impl<'a> Draft<'a> {
     #[inline(never)]
     fn add_symbol_name(&mut self, name: &'a [u8]) -> Result<(), AllocError>
         ensures { OnOk result
-            (self.new ≡ record self.old { symbols = seen self.old.symbols name.entry.now }) }
+            (self.new ≡ record self.old { symbols = with_name self.old.symbols name.entry.now }) }
     {
         self.symbols.add_name(name)?;
         Ok(())

@@ -2,7 +2,7 @@
 ghost use Rattle.std.specs.Prelude.{◌≡◌, ◌<◌, ◌++◌, ◌+◌, ◌^◌, map, length, All, IfOk, OnOk, is_some, true, string_bytes, ◌≤◌};
 ghost use Rattle.tc_object.specs.Names.{object_name_of as name_in};
 ghost use Rattle.tc_asm.specs.DraftViews.{use_of, part_of};
-ghost use Rattle.tc_asm.specs.Objects.{section_of, symbol_of, reloc_of, object_of, relocs_from};
+ghost use Rattle.tc_asm.specs.Objects.{section_of, symbol_of, reloc_of, object_of_draft, relocs_from};
 ghost use Rattle.tc_asm.specs.Symbols.{symbol as known_as};
 ghost use Rattle.tc_asm.specs.DraftInvariants.{IsDraft, IsSmallLabelPlace};
 
@@ -51,7 +51,7 @@ pub(crate) fn emit_section_relocs(
 /// The object of a draft.
 pub(crate) fn emit_object(alloc: Global, draft: Draft<'_>) -> Result<Object, AllocError>
     requires { IsDraft draft }
-    ensures { IfOk result (λ o. o ≡ object_of draft.entry) }
+    ensures { IfOk result (λ o. o ≡ object_of_draft draft.entry) }
 {
     let sections = emit_sections(alloc, &draft.parts)?;
     let symbols = emit_symbols(alloc, &draft.symbols)?;

@@ -1,5 +1,5 @@
 // Public laws of sources and of their objects.
-ghost use Rattle.tc_asm.specs.SourceRelocations.{RelocationsLaw, UnfilledLaw};
+ghost use Rattle.tc_asm.specs.SourceRelocations.{RelocationsLaw, ZeroFieldsLaw};
 ghost use Rattle.tc_asm.specs.Objects.{ObjectSectionsLaw};
 ghost use Rattle.tc_asm.specs.InstructionLaws.{InstructionsLaw};
 ghost use Rattle.tc_asm.specs.ShortJumpLaws.{ShortJumpsLaw};
@@ -20,7 +20,7 @@ pub fn section_laws()
 pub fn relocation_laws()
     ensures sections { ObjectSectionsLaw }
     ensures relocations { RelocationsLaw }
-    ensures unfilled { UnfilledLaw }
+    ensures unfilled { ZeroFieldsLaw }
 {}
 
 /// Each instruction of a source that breaks no rule is a statement whose bytes spell its row, with

@@ -2,7 +2,7 @@
 ghost use Rattle.std.specs.Prelude.{◌≡◌, ◌<◌, map, min, IfOk, OnOk, fold};
 ghost use Rattle.tc_stmt.specs.Items.{reference_of, item_of};
 ghost use Rattle.tc_asm.specs.Drafts.{draft_after_item};
-ghost use Rattle.tc_asm.specs.KnownSymbols.{kept, kept_rule};
+ghost use Rattle.tc_asm.specs.KnownSymbols.{kept, second_pass_rule};
 
 use crate::draft::Draft;
 use crate::encode::{assembled_code, first_assembled_bytes};
@@ -17,7 +17,7 @@ impl<'a> Draft<'a> {
     ghost use Rattle.tc_stmt.specs.Items.{reference_of, item_of, label, global, code};
     ghost use Rattle.tc_asm.specs.Drafts.{draft_after_item, with_bytes, with_reference, with_content};
     ghost use Rattle.tc_asm.specs.Rules.{content_rule, item_rule};
-    ghost use Rattle.tc_asm.specs.KnownSymbols.{nameless, kept};
+    ghost use Rattle.tc_asm.specs.KnownSymbols.{without_symbols, kept};
 
     /// Adds an item, and returns the least rule that it breaks, or no rule. `labels` are the
     /// symbols of the whole source. If they are `known`, the draft is kept without symbols.
@@ -49,10 +49,10 @@ impl<'a> Draft<'a> {
         item: &Item<'a>,
     ) -> Result<u8, AllocError>
         ensures draft { OnOk result
-            (nameless self.new ≡ nameless
+            (without_symbols self.new ≡ without_symbols
             (draft_after_item labels.now self.old (item_of item.now))) }
         ensures rule { IfOk result
-            (λ rule. rule ≡ item_rule labels.now (nameless self.old) (item_of item.now)) }
+            (λ rule. rule ≡ item_rule labels.now (without_symbols self.old) (item_of item.now)) }
     {
         match item {
             Item::Label(name) => Ok(self.known_label_rule(labels, *name)),
@@ -75,7 +75,7 @@ impl<'a> Draft<'a> {
     /// Returns the least rule that a label breaks as it is put into a draft whose symbols are
     /// known, so that nothing is added, there is room, and it isn't defined twice.
     fn known_label_rule(&self, labels: &Symbols<'a>, name: &[u8]) -> u8
-        ensures { result ≡ item_rule labels.now (nameless self.now) (label name.now) }
+        ensures { result ≡ item_rule labels.now (without_symbols self.now) (label name.now) }
     {
         let section = NO_RULE.min(self.section_rule());
         section.min(Self::name_rule(name).min(NO_RULE))
@@ -84,7 +84,7 @@ impl<'a> Draft<'a> {
     /// Returns the least rule that a global name breaks as it is put into a draft whose symbols are
     /// known, so that nothing is added and there is room.
     fn known_global_rule(&self, labels: &Symbols<'a>, name: &[u8]) -> u8
-        ensures { result ≡ item_rule labels.now (nameless self.now) (global name.now) }
+        ensures { result ≡ item_rule labels.now (without_symbols self.now) (global name.now) }
     {
         let room = NO_RULE.min(Self::undefined_global_rule(labels, name));
         Self::name_rule(name).min(room)
@@ -118,10 +118,10 @@ impl<'a> Draft<'a> {
         fields: &Fields,
         r: Reference<'a>,
     ) -> Result<u8, AllocError>
-        ensures draft { OnOk result (nameless self.new ≡ nameless
+        ensures draft { OnOk result (without_symbols self.new ≡ without_symbols
             (draft_after_item labels.now self.old
             (code row fields.now (Some (reference_of r.entry))))) }
-        ensures rule { IfOk result (λ rule. rule ≡ item_rule labels.now (nameless self.old)
+        ensures rule { IfOk result (λ rule. rule ≡ item_rule labels.now (without_symbols self.old)
             (code row fields.now (Some (reference_of r.entry)))) }
     {
         let found = self.resolve(labels, row, fields, &Some(r));
@@ -133,9 +133,9 @@ impl<'a> Draft<'a> {
     // Adds bytes with a symbol that is known, and returns the least rule that they break.
     #[inline(never)]
     fn put_bytes_with_symbol(&mut self, bytes: &[u8], r: Reference<'a>) -> Result<u8, AllocError>
-        ensures draft { OnOk result (nameless self.new
-            ≡ nameless (with_content self.old bytes.now (Some (reference_of r.entry)))) }
-        ensures rule { IfOk result (λ rule. rule ≡ content_rule (nameless self.old)
+        ensures draft { OnOk result (without_symbols self.new
+            ≡ without_symbols (with_content self.old bytes.now (Some (reference_of r.entry)))) }
+        ensures rule { IfOk result (λ rule. rule ≡ content_rule (without_symbols self.old)
             (length bytes.now) (Some (reference_of r.entry))) }
     {
         let room = self
@@ -183,8 +183,8 @@ impl<'a> Draft<'a> {
     /// Notes the use of a symbol that is known, as an item is put into the draft.
     #[inline(always)]
     fn add_use_of_known_symbol(&mut self, size: usize, r: Reference<'a>) -> Result<(), AllocError>
-        ensures { OnOk result (nameless self.new
-            ≡ nameless (with_reference self.old size (Some (reference_of r.entry)))) }
+        ensures { OnOk result (without_symbols self.new
+            ≡ without_symbols (with_reference self.old size (Some (reference_of r.entry)))) }
     {
         if is_source_name(r.name) {
             self.add_use(size, r)?;
@@ -205,7 +205,7 @@ pub(crate) fn put_items<'a>(
     ensures draft { OnOk result (kept known draft.new
         ≡ kept known (fold (draft_after_item labels.now) draft.old (map item_of items.now))) }
     ensures rule { IfOk result
-        (λ rule. rule ≡ kept_rule known labels.now draft.old (map item_of items.now)) }
+        (λ rule. rule ≡ second_pass_rule known labels.now draft.old (map item_of items.now)) }
 {
     let mut rule = NO_RULE;
     for item in items {

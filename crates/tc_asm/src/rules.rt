@@ -1,6 +1,6 @@
 // The rules that depend on the earlier lines or on the whole source.
 ghost use Rattle.std.specs.Prelude.{◌≡◌};
-ghost use Rattle.tc_isa.specs.Relocations.{is_reloc as needs_reloc};
+ghost use Rattle.tc_isa.specs.Relocations.{is_relocation_kind as needs_reloc};
 
 use crate::draft::{Draft, MOST_RELOCS, MOST_SECTIONS};
 use crate::encode::first_assembled_bytes;
@@ -26,7 +26,7 @@ impl<'a> Draft<'a> {
     ghost use Rattle.std.specs.Prelude.{option_map};
     ghost use Rattle.tc_stmt.specs.Items.{reference_of, item_of, code};
     ghost use Rattle.tc_asm.specs.Rules.{has_symbol_room};
-    ghost use Rattle.tc_asm.specs.Rules.{label_rule, section_rule, name_rule, section_room, symbol_room, reloc_room, bytes_room, defined_rule, reference_rule, content_rule, item_rule};
+    ghost use Rattle.tc_asm.specs.Rules.{label_rule, section_rule, name_rule, section_limit_rule, symbol_limit_rule, reloc_limit_rule, byte_limit_rule, undefined_global_rule, reference_rule, content_rule, item_rule};
 
     /// Rule 8: no current section.
     pub(crate) fn section_rule(&self) -> u8
@@ -48,7 +48,7 @@ impl<'a> Draft<'a> {
 
     /// Rule 13: a 65,536th symbol.
     pub(crate) fn symbol_limit_rule(&self, name: &[u8]) -> u8
-        ensures { result ≡ symbol_room self.now name.now }
+        ensures { result ≡ symbol_limit_rule self.now name.now }
     {
         if self.has_symbol_room() || self.symbols.get(name).is_some() {
             NO_RULE
@@ -59,7 +59,7 @@ impl<'a> Draft<'a> {
 
     /// Rule 13: a 65,536th relocation.
     pub(crate) fn reloc_limit_rule(&self, r: Reference<'a>) -> u8
-        ensures { result ≡ reloc_room self.now (reference_of r.entry) }
+        ensures { result ≡ reloc_limit_rule self.now (reference_of r.entry) }
     {
         if is_reloc(r.kind) && self.count >= MOST_RELOCS {
             PAST_LIMITS
@@ -70,7 +70,7 @@ impl<'a> Draft<'a> {
 
     /// Rule 13: more than 16,777,216 bytes in all sections.
     pub(crate) fn byte_limit_rule(&self, n: usize) -> u8
-        ensures { result ≡ bytes_room self.now n }
+        ensures { result ≡ byte_limit_rule self.now n }
     {
         if self.has_room(n) {
             NO_RULE
@@ -100,7 +100,7 @@ impl<'a> Draft<'a> {
 
     /// Rule 14: a global name that no label of the source defines.
     pub(crate) fn undefined_global_rule(labels: &Symbols<'a>, name: &[u8]) -> u8
-        ensures { result ≡ defined_rule labels.now name.now }
+        ensures { result ≡ undefined_global_rule labels.now name.now }
     {
         if labels.place(name).is_some() {
             NO_RULE
@@ -167,7 +167,7 @@ impl<'a> Draft<'a> {
 
     // Rule 13: a 65th section.
     fn section_limit_rule(&self, name: &[u8]) -> u8
-        ensures { result ≡ section_room self.now name.now }
+        ensures { result ≡ section_limit_rule self.now name.now }
     {
         let known = number_of_part(&self.parts, name) < self.parts.len();
         if known || self.parts.len() < MOST_SECTIONS {

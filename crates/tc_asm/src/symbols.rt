@@ -1,6 +1,6 @@
 // A table of symbols by name, in the order of first use.
 ghost use Rattle.std.specs.Prelude.{◌≡◌};
-ghost use Rattle.tc_asm.specs.Symbols.{with_label_at};
+ghost use Rattle.tc_asm.specs.Symbols.{entry_with_label};
 
 use indexmap::IndexMap;
 use std::alloc::{AllocError, Global};
@@ -33,7 +33,7 @@ const UNSEEN: Entry = Entry {
 /// The entry of a known name in the assembler's table of symbols after a label at this place. An
 /// earlier label keeps its place.
 fn entry_with_label(entry: Entry, place: Place) -> Entry
-    ensures { result ≡ with_label_at entry place }
+    ensures { result ≡ entry_with_label entry place }
 {
     if entry.place.is_some() {
         entry
@@ -63,7 +63,7 @@ impl<'a> Model for Symbols<'a> {
 
 impl<'a> Symbols<'a> {
     ghost use Rattle.std.specs.Prelude.{◌≡◌, ◌<◌, ◌≤◌, [], IfOk, OnOk, length, slice_get, Some};
-    ghost use Rattle.tc_asm.specs.Symbols.{symbol_number, symbol, entry_in, entry_of, put_entry, place_in, seen, labelled, made_global};
+    ghost use Rattle.tc_asm.specs.Symbols.{symbol_number, symbol, entry_in, entry_of, put_entry, place_in, with_name, with_symbol_label, with_global_symbol};
 
     /// An empty table.
     pub fn new(alloc: Global) -> Symbols<'a>
@@ -115,7 +115,7 @@ impl<'a> Symbols<'a> {
     /// Adds a name that is used to the assembler's table of symbols, if it isn't there.
     #[tactic(auto, using(crate::proofs::SymbolLaws::seen_known, crate::proofs::SymbolLaws::seen_new))]
     pub fn add_name(&mut self, name: &'a [u8]) -> Result<(), AllocError>
-        ensures { OnOk result (self.new ≡ seen self.old name.entry.now) }
+        ensures { OnOk result (self.new ≡ with_name self.old name.entry.now) }
     {
         if self.get(name).is_some() {
             return Ok(());
@@ -132,7 +132,7 @@ impl<'a> Symbols<'a> {
         name: &'a [u8],
         place: Place,
     ) -> Result<Option<Place>, AllocError>
-        ensures symbols { OnOk result (self.new ≡ labelled self.old name.entry.now place) }
+        ensures symbols { OnOk result (self.new ≡ with_symbol_label self.old name.entry.now place) }
         ensures before { IfOk result (λ old. old ≡ place_in self.old name.entry.now) }
     {
         let new = Entry {
@@ -149,9 +149,9 @@ impl<'a> Symbols<'a> {
     }
 
     /// Makes a name global.
-    #[tactic(auto, unfolding(crate::specs::Symbols::made_global))]
+    #[tactic(auto, unfolding(crate::specs::Symbols::with_global_symbol))]
     pub fn make_global(&mut self, name: &'a [u8]) -> Result<(), AllocError>
-        ensures { OnOk result (self.new ≡ made_global self.old name.entry.now) }
+        ensures { OnOk result (self.new ≡ with_global_symbol self.old name.entry.now) }
     {
         let mut entry = self.entry_of(name);
         entry.is_global = true;

@@ -7,8 +7,8 @@ use Rattle.tcd_plan.specs.PlanData.{PlanData}
 use Rattle.store_ranges.specs.Loads.{IsLoadedRom}
 use Rattle.tc_boot.specs.declared.judging.BootErr.{BootErr}
 use Rattle.tc_boot.specs.declared.judging.BootErr.TheVariants.{Enabled, Odd, Outside, Differs}
-use Rattle.tc_boot.specs.Judging.{HasBoot, IsBootInRom, IsFirstDifference, JudgesBoot}
-use Rattle.tc_boot.specs.Laws.{JudgesOne}
+use Rattle.tc_boot.specs.Judging.{HasBoot, IsBootInRom, IsFirstBootDifference, IsResultOfBootTest}
+use Rattle.tc_boot.specs.Laws.{BootTestHasOneResult}
 
 module _ (image : ImageData) (plan : PlanData) (at : ℕ) where
   -- interrupts are on and off
@@ -24,20 +24,20 @@ module _ (image : ImageData) (plan : PlanData) (at : ℕ) where
   loaded inside = record { in_rom = inside.in_rom; held = λ i lt. subst IsSome (sym (inside.held i lt)) refl }
 
   -- the sequence is there, or there is a reason against it
-  pub not_both : (e : BootErr) → HasBoot image plan at → JudgesBoot image plan at (Err e) → ⊥
+  pub not_both : (e : BootErr) → HasBoot image plan at → IsResultOfBootTest image plan at (Err e) → ⊥
   not_both Enabled has bad = on_and_off bad has.off
   not_both Odd has bad = odd_and_even bad.1 has.even has.even_entry
   not_both Outside has bad = bad.1 (loaded has.bytes)
   not_both (Differs p) has bad = bad.2.2.differs ((has.bytes).held bad.2.0 bad.2.2.within)
 
-  one_difference : (i j : ℕ) → IsFirstDifference image plan at i → IsFirstDifference image plan at j → i ≡ j
+  one_difference : (i j : ℕ) → IsFirstBootDifference image plan at i → IsFirstBootDifference image plan at j → i ≡ j
   one_difference i j a b =
       elim (cases_lt i j) [
         | inl less ↦ absurd (a.differs (b.before i less))
         | inr from ↦ elim (cases_lt j i) [ inl less ↦ absurd (b.differs (a.before j less)) | inr same ↦ omega arith ]
       ]
 
-  one_error : (e f : BootErr) → JudgesBoot image plan at (Err e) → JudgesBoot image plan at (Err f) → e ≡ f
+  one_error : (e f : BootErr) → IsResultOfBootTest image plan at (Err e) → IsResultOfBootTest image plan at (Err f) → e ≡ f
   one_error Enabled Enabled a b = refl
   one_error Enabled Odd a b = absurd (on_and_off a b.0)
   one_error Enabled Outside a b = absurd (on_and_off a (b.0).off)
@@ -55,7 +55,7 @@ module _ (image : ImageData) (plan : PlanData) (at : ℕ) where
   one_error (Differs p) Outside a b = absurd (b.1 a.1)
   one_error (Differs p) (Differs q) a b = ap Differs (a.2.1 ∙ ap (λ i. at + i) (one_difference a.2.0 b.2.0 a.2.2 b.2.2) ∙ sym b.2.1)
 
-pub judges_one : JudgesOne
+pub judges_one : BootTestHasOneResult
 judges_one image plan at (Ok n) (Ok m) a b = ap Ok (a.1 ∙ sym b.1)
 judges_one image plan at (Ok n) (Err f) a b = absurd (not_both image plan at f a.0 b)
 judges_one image plan at (Err e) (Ok m) a b = absurd (not_both image plan at e b.0 a)

@@ -11,8 +11,8 @@ use Rattle.tc_machine.specs.Starting.{Starts}
 use Rattle.tc_machine.specs.Machine.{IsMachine}
 use Rattle.tc_mem.specs.PlanMemory.{IsPlanMemory, HoldsRom}
 use Rattle.tc_boot.specs.declared.judging.BootErr.{BootErr}
-use Rattle.tc_boot.specs.Reset.{Reset, BootsFrom, BootsSafely}
-use Rattle.tc_boot.specs.Judging.{HasBoot, JudgesBoot}
+use Rattle.tc_boot.specs.Reset.{Reset, BootsToStart, BootsSafely}
+use Rattle.tc_boot.specs.Judging.{HasBoot, IsResultOfBootTest}
 use Rattle.tc_boot.specs.Sequence.{boot_events}
 
 -- The project's reading of a reset. A machine is at reset if it runs at the address with interrupts
@@ -25,9 +25,9 @@ AllAreAtReset =
 
 -- Before the last event of a boot the machine runs with interrupts off at one of 56 places, four
 -- bytes apart.
-abbrev pub BootsInside : Type 0
-BootsInside =
-    (image : ImageData) (plan : PlanData) (at : ℕ) (m : Machine) (es : List Event) (n : ℕ) → BootsFrom image plan at m es → n < length es
+abbrev pub BootsStayInSequence : Type 0
+BootsStayInSequence =
+    (image : ImageData) (plan : PlanData) (at : ℕ) (m : Machine) (es : List Event) (n : ℕ) → BootsToStart image plan at m es → n < length es
     → ((run m (take n es)).end ≡ Running) × ((run m (take n es)).ie ≡ false) × ((place : ℕ) × (place < 56) × ((run m (take n es)).pc ≡ at + 4 * place))
 
 -- Suppose that an image boots safely from an address. Take a machine that runs there with
@@ -45,15 +45,15 @@ EveryBootIsSafe =
     × Starts image plan (run m boot) × IsSafeAt image plan most (run m (boot ++ es)) e
 
 -- The test of a boot sequence has one answer.
-abbrev pub JudgesOne : Type 0
-JudgesOne = (image : ImageData) (plan : PlanData) (at : ℕ) (r s : Result ℕ BootErr) → JudgesBoot image plan at r → JudgesBoot image plan at s → r ≡ s
+abbrev pub BootTestHasOneResult : Type 0
+BootTestHasOneResult = (image : ImageData) (plan : PlanData) (at : ℕ) (r s : Result ℕ BootErr) → IsResultOfBootTest image plan at r → IsResultOfBootTest image plan at s → r ≡ s
 
 -- If the image holds a boot sequence that may run, then it leads from every state at reset to a
 -- start state. The events are any list of fitting events with as many events as the sequence has.
 abbrev pub BootReachesStart : Type 0
 BootReachesStart =
     (image : ImageData) (plan : PlanData) (at : ℕ) (m : Machine) (es : List Event) → IsPlan plan → IsImage image → HasBoot image plan at → Reset image plan at m
-    → AllFit plan m es → length es ≡ boot_events plan → BootsFrom image plan at m es
+    → AllFit plan m es → length es ≡ boot_events plan → BootsToStart image plan at m es
 
 -- an image that is safe from its start states is safe from reset on, if it holds a boot sequence
 -- that may run

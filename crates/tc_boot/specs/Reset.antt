@@ -34,7 +34,7 @@ pub record IsBooting (at : ℕ) (m : Machine) : Type 0 where
 
 -- from this state, as one at reset, the events lead to a start state, and the machine is inside the
 -- boot sequence before each of them
-pub record BootsFrom (image : ImageData) (plan : PlanData) (at : ℕ) (m : Machine) (es : List Event) : Type 0 where
+pub record BootsToStart (image : ImageData) (plan : PlanData) (at : ℕ) (m : Machine) (es : List Event) : Type 0 where
   pub starts : Starts image plan (run m es)
   pub before : (n : ℕ) → n < length es → IsBooting at (run m (take n es))
 
@@ -43,4 +43,4 @@ pub record BootsFrom (image : ImageData) (plan : PlanData) (at : ℕ) (m : Machi
 abbrev pub BootsSafely : ImageData → PlanData → ℕ → ℕ → Type 0
 BootsSafely image plan at most =
     (m : Machine) (boot es : List Event) (e : Event) → Reset image plan at m → AllFit plan m boot → length boot ≡ boot_events plan
-    → AllFit plan (run m boot) es → Fits plan (run (run m boot) es) e → BootsFrom image plan at m boot × IsSafeAt image plan most (run (run m boot) es) e
+    → AllFit plan (run m boot) es → Fits plan (run (run m boot) es) e → BootsToStart image plan at m boot × IsSafeAt image plan most (run (run m boot) es) e

@@ -1,5 +1,5 @@
 // Public laws of the boot sequence.
-ghost use Rattle.tc_boot.specs.Laws.{AllAreAtReset, BootsInside, EveryBootIsSafe, JudgesOne, BootReachesStart, SafeBoots};
+ghost use Rattle.tc_boot.specs.Laws.{AllAreAtReset, BootsStayInSequence, EveryBootIsSafe, BootTestHasOneResult, BootReachesStart, SafeBoots};
 
 /// From every state at reset, the boot sequence reaches a start state. It takes three events for
 /// each CSA, and 53 more. If an image is safe from its start states, it is safe from reset on.
@@ -13,7 +13,7 @@ pub fn boot_reaches_the_start()
 /// has a single answer.
 pub fn boots_in_words()
     ensures reset { AllAreAtReset }
-    ensures inside { BootsInside }
+    ensures inside { BootsStayInSequence }
     ensures safe { EveryBootIsSafe }
-    ensures one { JudgesOne }
+    ensures one { BootTestHasOneResult }
 {}

@@ -14,7 +14,7 @@ use Rattle.tc_stmt.specs.Lines.{LineData, line_data, line_in}
 use Rattle.tc_asm.specs.Symbols.{SymbolData}
 use Rattle.tc_stmt.specs.Items.{section}
 use Rattle.tc_asm.specs.Drafts.{PartData, DraftData, part}
-use Rattle.tc_disasm.specs.Listing.{line_at, lines_from, listed_size_at, section_line, section_text, listing_sections_from}
+use Rattle.tc_disasm.specs.Listing.{listing_line_at, listing_lines_from, listed_size_at, listing_section_line, section_text, listing_sections_from}
 use Rattle.tc_disasm.proofs.Appending.{lines-front}
 use Rattle.tc_disasm.proofs.Decimals.{number_of-decimal}
 use Rattle.tc_disasm.proofs.Partings.{split_at}
@@ -55,12 +55,12 @@ more_lines t u ls ms a b = record {
 -- the lines of these bytes add the bytes to the current section
 pub record Content (address : ℕ) (bs : List ℕ) : Type 0 where
   pub ls : List LineData
-  pub lines : AreLines (lines_from address bs 0) ls
+  pub lines : AreLines (listing_lines_from address bs 0) ls
   pub runs : (labels : List SymbolData) (ps : List PartData) (name before : List ℕ) (total : ℕ) → total + length bs ≤ 2 ^ 24
       → Runs labels (growing ps name before total) ls (growing ps name (before ++ bs) (total + length bs))
 
 content-none : (address : ℕ) → Content address []
-unfolding lines_from
+unfolding listing_lines_from
 content-none address = record {
   ls = [];
   lines = no_lines;
@@ -84,7 +84,7 @@ content-more address bs some small next =
     record {
       ls = h.line ∷ next.ls;
       lines = subst (λ (t : List ℕ). AreLines t (h.line ∷ next.ls)) (sym (lines-front address bs n some h.some refl))
-          (more_lines (line_at address bs) (lines_from (address + n) (drop n bs) 0) (h.line ∷ []) next.ls (one_line (line_at address bs) h.line h.is) next.lines);
+          (more_lines (listing_line_at address bs) (listing_lines_from (address + n) (drop n bs) 0) (h.line ∷ []) next.ls (one_line (listing_line_at address bs) h.line h.is) next.lines);
       runs = λ labels ps name before total room.
           let front = take n bs in
           let rest = drop n bs in
@@ -169,7 +169,7 @@ sections-none n = record {
 section-lines : (n : ℕ) (s : SegmentData) → n < 2 ^ 64 → (c : Content s.at s.bytes) → AreLines (section_text n s) (line_data 15 (section (115 ∷ decimal n) ∷ []) ∷ c.ls)
 unfolding section_text
 section-lines n s small c =
-    more_lines (section_line n s.at) (lines_from s.at s.bytes 0) (line_data 15 (section (115 ∷ decimal n) ∷ []) ∷ []) c.ls (one_line (section_line n s.at) (line_data 15 (section (115 ∷ decimal n) ∷ [])) (section-is_line n s.at small)) c.lines
+    more_lines (listing_section_line n s.at) (listing_lines_from s.at s.bytes 0) (line_data 15 (section (115 ∷ decimal n) ∷ []) ∷ []) c.ls (one_line (listing_section_line n s.at) (line_data 15 (section (115 ∷ decimal n) ∷ [])) (section-is_line n s.at small)) c.lines
 
 section-runs : (labels : List SymbolData) (number total n : ℕ) (ps : List PartData) (s : SegmentData) (c : Content s.at s.bytes) → length ps ≡ n → n < 64 → AreBelow n ps → total + length s.bytes ≤ 2 ^ 24
     → Runs labels (draft number ps total) (line_data 15 (section (115 ∷ decimal n) ∷ []) ∷ c.ls) (growing ps (115 ∷ decimal n) s.bytes (total + length s.bytes))

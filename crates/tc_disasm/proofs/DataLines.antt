@@ -7,7 +7,7 @@ use Rattle.tc_lex.specs.declared.kinds.TokenKind.TheVariants as kind
 use Rattle.tcd_base.specs.NameBytes.{is_name_byte, is_name_first}
 use Rattle.tc_lex.specs.Bytes.{is_digit}
 use Rattle.tc_lex.specs.Cut.{has_hex_front}
-use Rattle.tc_lex.specs.Pieces.{kind_index, PieceData, is_kind}
+use Rattle.tc_lex.specs.Pieces.{kind_index, PieceData, is_token_kind}
 use Rattle.tcd_base.specs.Bytes.{four_bytes}
 use Rattle.tc_lex.specs.declared.operand.Shape.TheVariants as shape
 use Rattle.tc_lex.specs.Numbers.{token_number, add_digit}
@@ -15,7 +15,7 @@ use Rattle.tc_lex.specs.Operands.{OperandData, operand, operands, operand_value_
 use Rattle.tc_stmt.specs.OperandForms.{shape_index}
 use Rattle.tc_stmt.specs.Items.{bytes, section}
 use Rattle.tc_stmt.specs.DataValues.{value_rule, value_item, values_rule}
-use Rattle.tc_stmt.specs.Lines.{line_data, pieces_line, stated_line, values_line, named_line, only_operand_name, is_named_line_operand}
+use Rattle.tc_stmt.specs.Lines.{line_data, tokens_line, statement_line, values_line, named_line, only_operand_name, is_named_line_operand}
 use Rattle.tcd_text.specs.HexNumbers.{hex_byte}
 use Rattle.tc_disasm.specs.Tokens.{printed_token}
 use Rattle.tc_disasm.specs.Lexed.{IsListingStop}
@@ -29,9 +29,9 @@ use Rattle.tc_disasm.proofs.RowLines.{pieces_line-word}
 
 -- a word and one operand of one token
 one_operand : (name : List ℕ) (p : PieceData) → (kind_index p.kind == 3) ≡ false → (kind_index p.kind == 2) ≡ false
-    → pieces_line (printed_token kind.Word name ∷ p ∷ []) ≡ stated_line name (operand (p ∷ []) ∷ [])
-unfolding operands is_kind kind_index
-one_operand name p no_colon no_comma = pieces_line-word name (p ∷ []) no_colon ∙ ap (stated_line name) (rw no_comma refl)
+    → tokens_line (printed_token kind.Word name ∷ p ∷ []) ≡ statement_line name (operand (p ∷ []) ∷ [])
+unfolding operands is_token_kind kind_index
+one_operand name p no_colon no_comma = pieces_line-word name (p ∷ []) no_colon ∙ ap (statement_line name) (rw no_comma refl)
 
 -- ---- data
 front_half : (a b : ℕ) → b < 256 → has_hex_front (48 ∷ 120 ∷ (hex_byte b ++ hex_byte a)) ≡ true
@@ -71,16 +71,16 @@ half_bytes a b low high =
 byte_bytes : (a : ℕ) → a < 256 → take 1 (four_bytes a) ≡ a ∷ []
 byte_bytes a low = let first : a % 256 ≡ a = omega arith in rw first refl
 
-stated-half : (os : List OperandData) → stated_line (codes ".half") os ≡ values_line 2 os
-unfolding stated_line
+stated-half : (os : List OperandData) → statement_line (codes ".half") os ≡ values_line 2 os
+unfolding statement_line
 stated-half os = refl
 
-stated-byte : (os : List OperandData) → stated_line (codes ".byte") os ≡ values_line 1 os
-unfolding stated_line
+stated-byte : (os : List OperandData) → statement_line (codes ".byte") os ≡ values_line 1 os
+unfolding statement_line
 stated-byte os = refl
 
-stated-section : (os : List OperandData) → stated_line (codes ".section") os ≡ named_line section os
-unfolding stated_line
+stated-section : (os : List OperandData) → statement_line (codes ".section") os ≡ named_line section os
+unfolding statement_line
 stated-section os = refl
 
 lexes-half : (a b : ℕ) (rest : List ℕ) → a < 256 → b < 256 → IsListingStop rest → Lexes rest [] → Lexes ((codes ".half 0x" ++ (hex_byte b ++ hex_byte a)) ++ rest) (printed_token kind.Word (codes ".half") ∷ printed_token kind.Number (48 ∷ 120 ∷ (hex_byte b ++ hex_byte a)) ∷ [])
@@ -98,7 +98,7 @@ reads-half a b rest low high stop h =
     let p : PieceData = printed_token kind.Number (48 ∷ 120 ∷ digits) in
     reads-tokens ((codes ".half 0x" ++ digits) ++ rest) (printed_token kind.Word (codes ".half") ∷ p ∷ []) _ (lexes-half a b rest low high stop h) (omega arith)
     (one_operand (codes ".half") p (unfold kind_index in refl) (unfold kind_index in refl)
-    ∙ ap (λ o. stated_line (codes ".half") (o ∷ [])) (operand-one (48 ∷ 120 ∷ digits) ∙ ap (λ n. plain_operand (plain_number false n)) (half_number a b low high))
+    ∙ ap (λ o. statement_line (codes ".half") (o ∷ [])) (operand-one (48 ∷ 120 ∷ digits) ∙ ap (λ n. plain_operand (plain_number false n)) (half_number a b low high))
     ∙ stated-half (plain_operand (operand_value_data shape.Number [] false (b * 256 + a)) ∷ [])
     ∙ values_one 2 (b * 256 + a) (grind (arith, nat_tests))
     ∙ ap (λ bs. line_data 15 (bytes bs None ∷ [])) (half_bytes a b low high))
@@ -116,7 +116,7 @@ reads-byte a rest low stop h =
     let p : PieceData = printed_token kind.Number (48 ∷ 120 ∷ hex_byte a) in
     reads-tokens ((codes ".byte 0x" ++ hex_byte a) ++ rest) (printed_token kind.Word (codes ".byte") ∷ p ∷ []) _ (lexes-byte a rest low stop h) (omega arith)
     (one_operand (codes ".byte") p (unfold kind_index in refl) (unfold kind_index in refl)
-    ∙ ap (λ o. stated_line (codes ".byte") (o ∷ [])) (operand-one (48 ∷ 120 ∷ hex_byte a) ∙ ap (λ n. plain_operand (plain_number false n)) (byte_number a low))
+    ∙ ap (λ o. statement_line (codes ".byte") (o ∷ [])) (operand-one (48 ∷ 120 ∷ hex_byte a) ∙ ap (λ n. plain_operand (plain_number false n)) (byte_number a low))
     ∙ stated-byte (plain_operand (operand_value_data shape.Number [] false a) ∷ [])
     ∙ values_one 1 a (grind (arith, nat_tests))
     ∙ ap (λ bs. line_data 15 (bytes bs None ∷ [])) (byte_bytes a low))
@@ -139,6 +139,6 @@ reads-section n rest small stop h =
     let p : PieceData = printed_token kind.Word (115 ∷ decimal n) in
     reads-tokens (codes ".section s" ++ (decimal n ++ rest)) (printed_token kind.Word (codes ".section") ∷ p ∷ []) _ (lexes-section n rest small stop h) (omega arith)
     (one_operand (codes ".section") p (unfold kind_index in refl) (unfold kind_index in refl)
-    ∙ ap (λ o. stated_line (codes ".section") (o ∷ [])) (operand-word (115 ∷ decimal n))
+    ∙ ap (λ o. statement_line (codes ".section") (o ∷ [])) (operand-word (115 ∷ decimal n))
     ∙ stated-section (plain_operand (operand_value_data shape.Word (115 ∷ decimal n) false 0) ∷ [])
     ∙ section_one (115 ∷ decimal n))

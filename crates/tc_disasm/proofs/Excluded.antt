@@ -12,14 +12,14 @@ use Rattle.tc_stmt.specs.declared.want.Want.{Want}
 use Rattle.tc_stmt.specs.declared.want.Want.TheVariants.{Reg, A10, Number, Target, Absolute, Memory}
 use Rattle.tc_lex.specs.Operands.{OperandData, ValueData, bracketed_operand}
 use Rattle.tc_stmt.specs.RowFields.{RowFieldsData, with_rule, with_value}
-use Rattle.tc_stmt.specs.Filling.{reference, fill, fill_plain, fill_register, fill_a10, fill_value, fill_memory, fill_target, fill_absolute, put_register, put_number, put_absolute, with_symbol, with_misplaced, half_operand_relocation}
+use Rattle.tc_stmt.specs.Filling.{reference, fill, fill_plain, fill_register, fill_a10, fill_constant, fill_memory, fill_target, fill_absolute, put_register, put_number, put_absolute, with_symbol, with_misplaced, half_operand_relocation}
 use Rattle.tc_stmt.specs.Names.{symbol_rule}
 use Rattle.tc_stmt.specs.Displacements.{target_operand_relocation, with_displacement}
 use Rattle.tc_stmt.specs.OperandForms.{shape_index, register_by_name, is_symbol_operand, is_half_operand}
 use Rattle.tc_disasm.specs.Texts.{register_text}
 use Rattle.tc_disasm.specs.Refused.{AreRefusedOperands, StaysRefusedFolded}
-use Rattle.tc_disasm.specs.Printable.{Prints}
-use Rattle.tc_disasm.specs.RowsApart.{excludes}
+use Rattle.tc_disasm.specs.Printable.{IsPrintableFor}
+use Rattle.tc_disasm.specs.RowsApart.{is_want_apart}
 use Rattle.tc_disasm.proofs.Registers.{register_of-text}
 
 lower : (a b : ℕ) → min a b ≤ a
@@ -56,8 +56,8 @@ module _ (acc : RowFieldsData) where
   unfolding with_symbol
   falls-with_symbol kind v = chosen (symbol_rule v == 15) (record acc { reference = Some (reference kind v) }) (with_rule (symbol_rule v) acc) (same acc.rule) (lower acc.rule (symbol_rule v))
 
-  falls-value : (r : RowData) (signed : Bool) (field : Field) (v : ValueData) → StaysRefusedFolded acc (fill_value r signed field v acc)
-  unfolding fill_value
+  falls-value : (r : RowData) (signed : Bool) (field : Field) (v : ValueData) → StaysRefusedFolded acc (fill_constant r signed field v acc)
+  unfolding fill_constant
   falls-value r signed field v =
       or_else (shape_index v.shape == 1) _ _ (fell (put_number r.form signed field v.minus v.size acc) (falls-put_number r signed field v))
       (or_else (shape_index v.shape == 7) _ _ (fell (with_rule 5 acc) (lower acc.rule 5))
@@ -145,8 +145,8 @@ refused-plus r acc true false offset text v e = tt
 refused-plus r acc false true offset text v e = tt
 
 -- the operand printed for a want is refused by each want that it excludes
-pub refused-there : (r : RowData) (acc : RowFieldsData) (w v : Want) (o : OperandData) → excludes w v ≡ true → Prints w o → AreRefusedOperands (fill r v o acc)
-unfolding excludes fill fill_plain fill_register fill_a10 fill_value fill_memory fill_target fill_absolute shape_index
+pub refused-there : (r : RowData) (acc : RowFieldsData) (w v : Want) (o : OperandData) → is_want_apart w v ≡ true → IsPrintableFor w o → AreRefusedOperands (fill r v o acc)
+unfolding is_want_apart fill fill_plain fill_register fill_a10 fill_constant fill_memory fill_target fill_absolute shape_index
 refused-there r acc (Reg p x) (Reg q y) o e b = subst (λ (q2 : OperandData). AreRefusedOperands (fill r (Reg q y) q2 acc)) (sym b.2) (refused-bank acc p q y b.0 b.1 e)
 refused-there r acc (Reg p x) A10 o e b = absurd (false≢true e)
 refused-there r acc (Reg p x) (Number s2 y) o e b = subst (λ (q2 : OperandData). AreRefusedOperands (fill r (Number s2 y) q2 acc)) (sym b.2) (misplaced_there acc.rule _)

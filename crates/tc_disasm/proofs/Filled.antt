@@ -12,11 +12,11 @@ use Rattle.std.specs.Fmt.{decimal}
 use Rattle.tc_lex.specs.declared.operand.Shape.TheVariants as shape
 use Rattle.tc_stmt.specs.declared.want.Field.{Field}
 use Rattle.tc_stmt.specs.declared.want.Want.TheVariants.{Reg, Number, Target}
-use Rattle.tc_lex.specs.Operands.{operand, operand_value_at, operand_number_at, named_at, sum_at, operand_value_data, plain_operand, plain_number, with_number}
-use Rattle.tc_lex.specs.Pieces.{is_kind, text_at, kind_index}
+use Rattle.tc_lex.specs.Operands.{operand, operand_value_at, operand_number_at, symbol_value_at, name_or_sum_at, operand_value_data, plain_operand, plain_number, sum_operand_value}
+use Rattle.tc_lex.specs.Pieces.{is_token_kind, token_text, kind_index}
 use Rattle.tc_lex.specs.Numbers.{token_number}
 use Rattle.tc_stmt.specs.RowFields.{RowFieldsData, with_value, with_rule, field_of}
-use Rattle.tc_stmt.specs.Filling.{fill, fill_plain, fill_register, fill_value, fill_target, put_register, put_number}
+use Rattle.tc_stmt.specs.Filling.{fill, fill_plain, fill_register, fill_constant, fill_target, put_register, put_number}
 use Rattle.tc_stmt.specs.Displacements.{with_displacement, displacement_rule, is_odd_displacement, is_two_way}
 use Rattle.tc_stmt.specs.OperandForms.{shape_index, operand_number_modulo}
 use Rattle.tc_disasm.specs.Texts.{register_text, is_printed_minus, printed_size}
@@ -59,7 +59,7 @@ put_number-printed r signed field v acc h even =
 -- a printed constant, read and filled in
 pub fill-number : (r : RowData) (signed : Bool) (field : Field) (v : ℕ) (acc : RowFieldsData) → v < field_of field (bounds r.form) → field_of field (bounds r.form) % 2 ≡ 0 → printed_size signed (field_of field (bounds r.form)) v < 2 ^ 64
     → fill r (Number signed field) (operand (field_number_tokens signed (field_of field (bounds r.form)) v)) acc ≡ Some (with_value field v acc)
-unfolding fill fill_plain fill_value shape_index
+unfolding fill fill_plain fill_constant shape_index
 fill-number r signed field v acc h even small =
     let bound = field_of field (bounds r.form) in
     ap (λ o. fill r (Number signed field) o acc) (operand-number (is_printed_minus signed bound v) (printed_size signed bound v))
@@ -104,12 +104,12 @@ fill-target r v acc h even small =
     let minus = is_printed_minus (is_two_way r.form) (bounds r.form).k v in
     let size = printed_size (is_two_way r.form) (bounds r.form).k v in
     ap (λ o. fill r Target o acc) (operand-target minus (codes ".") (decimal (2 * size)))
-    ∙ ap (λ n. fill r Target (plain_operand (with_number shape.Sum (codes ".") minus n)) acc) (number_of-decimal (2 * size) small)
+    ∙ ap (λ n. fill r Target (plain_operand (sum_operand_value shape.Sum (codes ".") minus n)) acc) (number_of-decimal (2 * size) small)
     ∙ ap (λ f. Some f) (displaced-printed r v acc h even)
 
 -- ---- absolute addresses
 pub operand-one : (text : List ℕ) → operand (printed_token kind.Number text ∷ []) ≡ plain_operand (plain_number false (token_number text))
-unfolding operand operand_value_at operand_number_at named_at sum_at is_kind text_at kind_index
+unfolding operand operand_value_at operand_number_at symbol_value_at name_or_sum_at is_token_kind token_text kind_index
 operand-one text = refl
 
 -- the address of an ABS row, and of a B row

@@ -15,7 +15,7 @@ use Rattle.tcd_base.specs.NameBytes.{is_name_byte, is_name_first}
 use Rattle.tc_lex.specs.Bytes.{is_digit}
 use Rattle.tcd_text.specs.HexNumbers.{hex_digit, hex_byte, hex_word}
 use Rattle.tc_disasm.specs.Texts.{instruction_text}
-use Rattle.tc_disasm.specs.Listing.{piece_text, piece_size, listed_text_at, listed_size_at, listing_remark, line_at, section_line}
+use Rattle.tc_disasm.specs.Listing.{decoded_or_data_text, decoded_or_data_size, listed_text_at, listed_size_at, listing_remark, listing_line_at, listing_section_line}
 use Rattle.tc_disasm.specs.Lexed.{IsListingStop}
 use Rattle.tc_disasm.proofs.LineTokens.{Lexes, Reads, is_plain, lexes-blank, lexes-comment}
 use Rattle.tc_disasm.proofs.RowLines.{reads-row}
@@ -90,14 +90,14 @@ module _ (address : ℕ) (text bs : List ℕ) where
 -- ---- the line that the bytes begin with
 pub record Here (address : ℕ) (bs : List ℕ) : Type 0 where
   pub line : LineData
-  pub is : IsLine (line_at address bs) line
+  pub is : IsLine (listing_line_at address bs) line
   pub adds : Adds line (take (listed_size_at bs) bs)
   pub some : 0 < listed_size_at bs
   pub within : listed_size_at bs ≤ length bs
 
 made : (address : ℕ) (bs text : List ℕ) (n : ℕ) (l : LineData) → listed_text_at bs ≡ text → listed_size_at bs ≡ n → 0 < n → n ≤ length bs
     → ((rest : List ℕ) → IsListingStop rest → Lexes rest [] → Reads (text ++ rest) l) → Adds l (take n bs) → Here address bs
-unfolding line_at
+unfolding listing_line_at
 made address bs text n l t s some within reads adds = record {
   line = l;
   is = subst (λ (x : List ℕ). IsLine (x ++ listing_remark address (take (listed_size_at bs) bs)) l) (sym t) (is_line address text (take (listed_size_at bs) bs) l reads);
@@ -106,13 +106,13 @@ made address bs text n l t s some within reads adds = record {
   within = omega arith;
 }
 
-pub text_at-is : (bs : List ℕ) (d : Result (InstData × ℕ) DecodeErr) → decoded_of bs ≡ d → listed_text_at bs ≡ piece_text d bs
+pub text_at-is : (bs : List ℕ) (d : Result (InstData × ℕ) DecodeErr) → decoded_of bs ≡ d → listed_text_at bs ≡ decoded_or_data_text d bs
 unfolding listed_text_at
-text_at-is bs d e = ap (λ x. piece_text x bs) e
+text_at-is bs d e = ap (λ x. decoded_or_data_text x bs) e
 
-pub size_at-is : (bs : List ℕ) (d : Result (InstData × ℕ) DecodeErr) → decoded_of bs ≡ d → listed_size_at bs ≡ piece_size d bs
+pub size_at-is : (bs : List ℕ) (d : Result (InstData × ℕ) DecodeErr) → decoded_of bs ≡ d → listed_size_at bs ≡ decoded_or_data_size d bs
 unfolding listed_size_at
-size_at-is bs d e = ap (λ x. piece_size x bs) e
+size_at-is bs d e = ap (λ x. decoded_or_data_size x bs) e
 
 below : (b : ℕ) → nat_lt b 256 ≡ true → b < 256
 below b e = ltb-true b 256 e
@@ -152,8 +152,8 @@ here address bs some small = by_decoded (decoded_of bs) refl
     by_decoded (Err x) e = here-data address bs x some small e
 
 -- ---- the line that begins a section
-pub section-is_line : (n address : ℕ) → n < 2 ^ 64 → IsLine (section_line n address) (line_data 15 (section (115 ∷ decimal n) ∷ []))
-unfolding section_line
+pub section-is_line : (n address : ℕ) → n < 2 ^ 64 → IsLine (listing_section_line n address) (line_data 15 (section (115 ∷ decimal n) ∷ []))
+unfolding listing_section_line
 section-is_line n address small = record {
   body = codes ".section s" ++ (decimal n ++ comment address []);
   whole =

@@ -9,10 +9,10 @@ use Rattle.std.proofs.lemmas.List.Folds.{list_all-append}
 use Rattle.tc_lex.specs.declared.kinds.Token.{Token}
 use Rattle.tc_lex.specs.declared.kinds.TokenKind.{TokenKind}
 use Rattle.tc_lex.specs.declared.kinds.Front.TheVariants as front
-use Rattle.tc_lex.specs.Cut.{cut, token_front_of, token_front_by_byte, cut_from_front, with_front, token}
+use Rattle.tc_lex.specs.Cut.{cut, token_front_of, token_front_by_byte, cut_from_front, with_first_tokens, token}
 use Rattle.tc_lex.proofs.CutLaws.{cut-skip}
 use Rattle.tc_lex.specs.Pieces.{PieceData}
-use Rattle.tc_stmt.specs.Lines.{LineData, line_in, cut_line, pieces_line, line_token_with_text}
+use Rattle.tc_stmt.specs.Lines.{LineData, line_in, meaning_of_cut_line, tokens_line, line_token_with_text}
 use Rattle.tc_disasm.specs.Lexed.{lexed_text_between}
 use Rattle.tc_disasm.specs.Tokens.{printed_token}
 
@@ -80,10 +80,10 @@ lexes-token kind c cs rest ps e plain h = record { tokens = by_room; plain = lis
         record {
           ts = first ∷ next.ts;
           is = ap (λ f. cut_from_front f (suc room) (length pre) (cut (cs ++ rest))) e
-              ∙ ap (λ b. cond b (Err (length pre)) (with_front (first ∷ []) (cut (cs ++ rest) (suc room - 1) (length pre + 1) (length (c ∷ cs) - 1)))) (eqb-suc-zero room)
-              ∙ ap (λ r. with_front (first ∷ []) (cut (cs ++ rest) r (length pre + 1) (length (c ∷ cs) - 1))) less
-              ∙ ap (λ n. with_front (first ∷ []) (cut (cs ++ rest) room (length pre + 1) n)) one
-              ∙ ap (with_front (first ∷ [])) (cut-skip (cs ++ rest) room (length pre + 1) (length cs)
+              ∙ ap (λ b. cond b (Err (length pre)) (with_first_tokens (first ∷ []) (cut (cs ++ rest) (suc room - 1) (length pre + 1) (length (c ∷ cs) - 1)))) (eqb-suc-zero room)
+              ∙ ap (λ r. with_first_tokens (first ∷ []) (cut (cs ++ rest) r (length pre + 1) (length (c ∷ cs) - 1))) less
+              ∙ ap (λ n. with_first_tokens (first ∷ []) (cut (cs ++ rest) room (length pre + 1) n)) one
+              ∙ ap (with_first_tokens (first ∷ [])) (cut-skip (cs ++ rest) room (length pre + 1) (length cs)
               ∙ ap (λ t. cut t room (length pre + 1 + length cs) 0) (drop_at cs rest (length cs) refl)
               ∙ ap (λ n. cut rest room n 0) at
               ∙ next.is);
@@ -98,7 +98,7 @@ pub record Reads (text : List ℕ) (l : LineData) : Type 0 where
   pub plain : list_all is_plain text ≡ true
 
 -- the meaning of a line with at most 64 tokens depends only on the tokens
-pub reads-tokens : (text : List ℕ) (ps : List PieceData) (l : LineData) → Lexes text ps → length ps ≤ 64 → pieces_line ps ≡ l → Reads text l
+pub reads-tokens : (text : List ℕ) (ps : List PieceData) (l : LineData) → Lexes text ps → length ps ≤ 64 → tokens_line ps ≡ l → Reads text l
 reads-tokens text ps l h few e =
     let whole = h.tokens [] 64 few in
-    record { is = ap (cut_line text) whole.is ∙ ap pieces_line whole.pieces ∙ e; plain = h.plain }
+    record { is = ap (meaning_of_cut_line text) whole.is ∙ ap tokens_line whole.pieces ∙ e; plain = h.plain }

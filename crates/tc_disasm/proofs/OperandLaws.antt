@@ -3,34 +3,34 @@ use Rattle.std.proofs.Common.{◌≡◌, ℕ, Bool, true, false, List, [], ◌�
 use Rattle.std.specs.Prelude.{if◌then◌else◌}
 use Rattle.tc_lex.specs.declared.kinds.TokenKind.TheVariants as kind
 use Rattle.tc_lex.specs.declared.operand.Shape.TheVariants as shape
-use Rattle.tc_lex.specs.Pieces.{is_kind, text_at, kind_index}
+use Rattle.tc_lex.specs.Pieces.{is_token_kind, token_text, kind_index}
 use Rattle.tc_lex.specs.Numbers.{token_number}
-use Rattle.tc_lex.specs.Operands.{operand, operand_value_at, operand_number_at, named_at, sum_at, operand_value_data, plain_operand, bracketed_operand, plain_number, with_number}
+use Rattle.tc_lex.specs.Operands.{operand, operand_value_at, operand_number_at, symbol_value_at, name_or_sum_at, operand_value_data, plain_operand, bracketed_operand, plain_number, sum_operand_value}
 use Rattle.std.specs.Fmt.{decimal}
 use Rattle.tc_disasm.specs.Texts.{register_text}
 use Rattle.tc_disasm.specs.Tokens.{printed_token, number_tokens, base_tokens}
 
 pub operand-word : (text : List ℕ) → operand (printed_token kind.Word text ∷ []) ≡ plain_operand (operand_value_data shape.Word text false 0)
-unfolding operand operand_value_at operand_number_at named_at sum_at is_kind text_at kind_index
+unfolding operand operand_value_at operand_number_at symbol_value_at name_or_sum_at is_token_kind token_text kind_index
 operand-word text = refl
 
 pub operand-number : (minus : Bool) (size : ℕ) → operand (number_tokens minus size) ≡ plain_operand (plain_number minus (token_number (decimal size)))
-unfolding operand operand_value_at operand_number_at named_at sum_at is_kind text_at kind_index
+unfolding operand operand_value_at operand_number_at symbol_value_at name_or_sum_at is_token_kind token_text kind_index
 operand-number true size = refl
 operand-number false size = refl
 
-pub operand-target : (minus : Bool) (text digits : List ℕ) → operand (printed_token kind.Word text ∷ (if minus then printed_token kind.Minus (45 ∷ []) else printed_token kind.Plus (43 ∷ [])) ∷ printed_token kind.Number digits ∷ []) ≡ plain_operand (with_number shape.Sum text minus (token_number digits))
-unfolding operand operand_value_at operand_number_at named_at sum_at is_kind text_at kind_index
+pub operand-target : (minus : Bool) (text digits : List ℕ) → operand (printed_token kind.Word text ∷ (if minus then printed_token kind.Minus (45 ∷ []) else printed_token kind.Plus (43 ∷ [])) ∷ printed_token kind.Number digits ∷ []) ≡ plain_operand (sum_operand_value shape.Sum text minus (token_number digits))
+unfolding operand operand_value_at operand_number_at symbol_value_at name_or_sum_at is_token_kind token_text kind_index
 operand-target true text digits = refl
 operand-target false text digits = refl
 
 pub operand-base : (plus : Bool) (n : ℕ) → operand (base_tokens plus n) ≡ bracketed_operand plus (register_text true n) (operand_value_data shape.Absent [] false 0)
-unfolding operand operand_value_at operand_number_at named_at sum_at is_kind text_at kind_index
+unfolding operand operand_value_at operand_number_at symbol_value_at name_or_sum_at is_token_kind token_text kind_index
 operand-base true n = refl
 operand-base false n = refl
 
 pub operand-offset : (plus minus : Bool) (n size : ℕ) → operand (base_tokens plus n ++ number_tokens minus size) ≡ bracketed_operand plus (register_text true n) (plain_number minus (token_number (decimal size)))
-unfolding operand operand_value_at operand_number_at named_at sum_at is_kind text_at kind_index
+unfolding operand operand_value_at operand_number_at symbol_value_at name_or_sum_at is_token_kind token_text kind_index
 operand-offset true true n size = refl
 operand-offset true false n size = refl
 operand-offset false true n size = refl

@@ -15,7 +15,7 @@ use Rattle.tc_stmt.specs.declared.want.Want.{Want}
 use Rattle.tc_stmt.specs.declared.want.Want.TheVariants.{Reg, A10, Number, Target, Absolute, Memory}
 use Rattle.tc_lex.specs.Operands.{operand, operand_value_data, plain_operand, bracketed_operand, plain_number}
 use Rattle.tc_stmt.specs.RowFields.{RowFieldsData, with_value, with_rule, field_of}
-use Rattle.tc_stmt.specs.Filling.{fill, fill_all, fill_plain, fill_a10, fill_value, fill_memory, fill_absolute, put_absolute, put_register, put_number}
+use Rattle.tc_stmt.specs.Filling.{fill, fill_operands, fill_plain, fill_a10, fill_constant, fill_memory, fill_absolute, put_absolute, put_register, put_number}
 use Rattle.tc_stmt.specs.OperandForms.{shape_index}
 use Rattle.tcd_text.specs.HexNumbers.{hex_word}
 use Rattle.tc_disasm.specs.Texts.{register_text, is_printed_minus, printed_size, absolute_text, absolute_operand_address}
@@ -94,7 +94,7 @@ fill-base r false n acc h = ap (λ o. fill r (Memory false false) o acc) (operan
 
 fill-offset : (r : RowData) (plus : Bool) (n v : ℕ) (acc : RowFieldsData) → n < 16 → v < (bounds r.form).k → is_bound (bounds r.form).k ≡ true
     → fill r (Memory plus true) (operand (base_tokens plus n ++ number_tokens (is_printed_minus true (bounds r.form).k v) (printed_size true (bounds r.form).k v))) acc ≡ Some (with_value K v (with_value S2 n acc))
-unfolding fill fill_memory fill_value shape_index
+unfolding fill fill_memory fill_constant shape_index
 fill-offset r plus n v acc h below bound =
     let minus = is_printed_minus true (bounds r.form).k v in
     let size = printed_size true (bounds r.form).k v in
@@ -137,10 +137,10 @@ fill-printed r f (Memory plus false) acc s h =
 
 -- ---- all operands
 pub fill_all-printed : (r : RowData) (f : Fields) (ws : List Want) (acc : RowFieldsData) → list_all (suits r.form) ws ≡ true → AreFieldsBelow f (bounds r.form)
-    → fill_all r ws (map (λ w. operand (operand_tokens r.form f w)) ws) acc ≡ Some (record acc { fields = fold (with_wanted_fields f) acc.fields ws })
-unfolding fill_all
+    → fill_operands r ws (map (λ w. operand (operand_tokens r.form f w)) ws) acc ≡ Some (record acc { fields = fold (with_wanted_fields f) acc.fields ws })
+unfolding fill_operands
 fill_all-printed r f [] acc s h = refl
 fill_all-printed r f (w ∷ ws) acc s h =
     let two = and_parts (suits r.form w) (list_all (suits r.form) ws) s in
-    ap (option_and_then (fill_all r ws (map (λ v. operand (operand_tokens r.form f v)) ws))) (fill-printed r f w acc two.0 h)
+    ap (option_and_then (fill_operands r ws (map (λ v. operand (operand_tokens r.form f v)) ws))) (fill-printed r f w acc two.0 h)
     ∙ fill_all-printed r f ws (record acc { fields = with_wanted_fields f acc.fields w }) two.1 h

@@ -17,11 +17,11 @@ use Rattle.tc_stmt.specs.declared.want.Want.{Want}
 use Rattle.tc_stmt.specs.declared.want.Want.TheVariants.{Number, Target, Memory}
 use Rattle.tc_stmt.specs.Wants.{wants_of}
 use Rattle.tc_stmt.specs.RowFields.{field_of}
-use Rattle.tc_lex.specs.Pieces.{PieceData, is_kind, text_at, kind_index}
+use Rattle.tc_lex.specs.Pieces.{PieceData, is_token_kind, token_text, kind_index}
 use Rattle.tc_lex.specs.Operands.{OperandData, operand, operands, is_comma}
 use Rattle.tc_stmt.specs.StatementRow.{statement}
 use Rattle.tc_stmt.specs.Items.{code, label}
-use Rattle.tc_stmt.specs.Lines.{LineData, line_data, pieces_line, line_from, stated_line, code_line}
+use Rattle.tc_stmt.specs.Lines.{LineData, line_data, tokens_line, line_from, statement_line, code_line}
 use Rattle.tc_disasm.specs.Texts.{is_printed_minus, row_text, operands_text, instruction_text}
 use Rattle.tc_stmt.specs.Displacements.{is_two_way}
 use Rattle.tc_disasm.specs.Tokens.{printed_token, operand_tokens, base_tokens, field_number_tokens, number_tokens}
@@ -124,36 +124,36 @@ operands-row r f (w ∷ ws) =
     ∙ map-operand r f (w ∷ ws)
 
 -- ---- a line that begins with a word and no label
-no_label : (name : List ℕ) (qs : List PieceData) → is_kind qs 0 kind.Colon ≡ false → is_kind (printed_token kind.Word name ∷ qs) 1 kind.Colon ≡ false
-unfolding is_kind
+no_label : (name : List ℕ) (qs : List PieceData) → is_token_kind qs 0 kind.Colon ≡ false → is_token_kind (printed_token kind.Word name ∷ qs) 1 kind.Colon ≡ false
+unfolding is_token_kind
 no_label name [] e = refl
 no_label name (q ∷ qs) e = e
 
-word_first : (name : List ℕ) (qs : List PieceData) → is_kind (printed_token kind.Word name ∷ qs) 0 kind.Word ≡ true
-unfolding is_kind kind_index
+word_first : (name : List ℕ) (qs : List PieceData) → is_token_kind (printed_token kind.Word name ∷ qs) 0 kind.Word ≡ true
+unfolding is_token_kind kind_index
 word_first name qs = refl
 
-text_first : (name : List ℕ) (qs : List PieceData) → text_at (printed_token kind.Word name ∷ qs) 0 ≡ name
-unfolding text_at
+text_first : (name : List ℕ) (qs : List PieceData) → token_text (printed_token kind.Word name ∷ qs) 0 ≡ name
+unfolding token_text
 text_first name qs = refl
 
-pub pieces_line-word : (name : List ℕ) (qs : List PieceData) → is_kind qs 0 kind.Colon ≡ false → pieces_line (printed_token kind.Word name ∷ qs) ≡ stated_line name (operands qs)
-unfolding pieces_line line_from
+pub pieces_line-word : (name : List ℕ) (qs : List PieceData) → is_token_kind qs 0 kind.Colon ≡ false → tokens_line (printed_token kind.Word name ∷ qs) ≡ statement_line name (operands qs)
+unfolding tokens_line line_from
 pieces_line-word name qs e =
     let ps : List PieceData = printed_token kind.Word name ∷ qs in
-    let labelled : LineData = line_data (line_from ps 2).rule (label (text_at ps 0) ∷ (line_from ps 2).items) in
-    ap (λ b. cond (b && is_kind ps 1 kind.Colon) labelled (line_from ps 0)) (word_first name qs)
+    let labelled : LineData = line_data (line_from ps 2).rule (label (token_text ps 0) ∷ (line_from ps 2).items) in
+    ap (λ b. cond (b && is_token_kind ps 1 kind.Colon) labelled (line_from ps 0)) (word_first name qs)
     ∙ ap (λ b. cond b labelled (line_from ps 0)) (no_label name qs e)
-    ∙ ap (λ b. cond b (line_data 15 []) (cond (is_kind ps 0 kind.Word) (stated_line (text_at ps 0) (operands qs)) (line_data 1 []))) (eqb-suc-zero (length qs))
-    ∙ ap (λ b. cond b (stated_line (text_at ps 0) (operands qs)) (line_data 1 [])) (word_first name qs)
-    ∙ ap (λ t. stated_line t (operands qs)) (text_first name qs)
+    ∙ ap (λ b. cond b (line_data 15 []) (cond (is_token_kind ps 0 kind.Word) (statement_line (token_text ps 0) (operands qs)) (line_data 1 []))) (eqb-suc-zero (length qs))
+    ∙ ap (λ b. cond b (statement_line (token_text ps 0) (operands qs)) (line_data 1 [])) (word_first name qs)
+    ∙ ap (λ t. statement_line t (operands qs)) (text_first name qs)
 
-no_colon : (r : RowData) (f : Fields) (ws : List Want) → is_kind (row_tokens r f ws) 0 kind.Colon ≡ false
-unfolding is_kind kind_index
+no_colon : (r : RowData) (f : Fields) (ws : List Want) → is_token_kind (row_tokens r f ws) 0 kind.Colon ≡ false
+unfolding is_token_kind kind_index
 no_colon r f [] = refl
 no_colon r f (w ∷ ws) =
     let b = begins-operand r.form f w in
-    subst (λ (qs : List PieceData). is_kind (qs ++ other_tokens r f ws) 0 kind.Colon ≡ false) (sym b.is) b.other
+    subst (λ (qs : List PieceData). is_token_kind (qs ++ other_tokens r f ws) 0 kind.Colon ≡ false) (sym b.is) b.other
 
 -- ---- the whole line
 lexes-name : (name rest : List ℕ) (ps : List PieceData) → is_run is_name_first is_name_byte name ≡ true → IsListingStop rest → Lexes rest ps → Lexes (name ++ rest) (printed_token kind.Word name ∷ ps)

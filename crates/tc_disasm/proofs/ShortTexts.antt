@@ -22,7 +22,7 @@ use Rattle.tc_stmt.specs.RowFields.{field_of}
 use Rattle.tcd_text.specs.HexNumbers.{hex_byte, hex_word}
 use Rattle.tc_disasm.specs.Texts.{is_printed_minus, register_text, number_text, target_text, absolute_text, base_text, operand_text, operands_text, row_text, instruction_text}
 use Rattle.tc_stmt.specs.Displacements.{is_two_way}
-use Rattle.tc_disasm.specs.Listing.{listed_text_at, listed_size_at, listing_remark, line_at, lines_from, section_line, section_text, listing_sections_from}
+use Rattle.tc_disasm.specs.Listing.{listed_text_at, listed_size_at, listing_remark, listing_line_at, listing_lines_from, listing_section_line, section_text, listing_sections_from}
 use Rattle.tc_disasm.proofs.Appending.{lines-front}
 use Rattle.tc_disasm.proofs.Bounds.{field_of-below}
 use Rattle.tc_disasm.proofs.Suits.{suits, wants_suit, is_bound}
@@ -135,8 +135,8 @@ length-remark address bs =
     let list = length-bytes bs in
     omega (arith, length-append (hex_word address) (32 ∷ (flat_map hex_byte bs ++ 10 ∷ [])), length-append (flat_map hex_byte bs) (10 ∷ []))
 
-short-line : (address : ℕ) (bs text : List ℕ) (n : ℕ) → listed_text_at bs ≡ text → listed_size_at bs ≡ n → n ≤ length bs → length text + 13 + 2 * n ≤ 60 * n → length (line_at address bs) ≤ 60 * listed_size_at bs
-unfolding line_at
+short-line : (address : ℕ) (bs text : List ℕ) (n : ℕ) → listed_text_at bs ≡ text → listed_size_at bs ≡ n → n ≤ length bs → length text + 13 + 2 * n ≤ 60 * n → length (listing_line_at address bs) ≤ 60 * listed_size_at bs
+unfolding listing_line_at
 short-line address bs text n t s within h =
     let size = length-take-le (listed_size_at bs) bs (omega arith) in
     let text_size : length (listed_text_at bs) ≡ length text = ap (λ (x : List ℕ). length x) t in
@@ -146,14 +146,14 @@ length-hex_byte : (b : ℕ) → length (hex_byte b) ≡ 2
 unfolding hex_byte
 length-hex_byte b = omega arith
 
-pub short-here : (address : ℕ) (bs : List ℕ) → 0 < length bs → length (line_at address bs) ≤ 60 * listed_size_at bs
+pub short-here : (address : ℕ) (bs : List ℕ) → 0 < length bs → length (listing_line_at address bs) ≤ 60 * listed_size_at bs
 short-here address bs some = by_decoded bs some (decoded_of bs) refl
   where
     big : (n : ℕ) → (n ≡ 2) ⊎ (n ≡ 4) → 92 + 13 + 2 * n ≤ 60 * n
     big n (inl two) = omega arith
     big n (inr four) = omega arith
 
-    by_decoded : (bs : List ℕ) → 0 < length bs → (d : Result (InstData × ℕ) DecodeErr) → decoded_of bs ≡ d → length (line_at address bs) ≤ 60 * listed_size_at bs
+    by_decoded : (bs : List ℕ) → 0 < length bs → (d : Result (InstData × ℕ) DecodeErr) → decoded_of bs ≡ d → length (listing_line_at address bs) ≤ 60 * listed_size_at bs
     by_decoded bs some (Ok found) e =
         let lengths = decode_laws.lengths bs found.0 found.1 e in
         let spells = decode_laws.decoded bs found.0 found.1 e in
@@ -169,8 +169,8 @@ short-here address bs some = by_decoded bs some (decoded_of bs) refl
         (omega (arith, length-hex_byte a, length-hex_byte b, length-append (hex_byte b) (hex_byte a)))
 
 -- ---- segments
-short-lines : (fuel address : ℕ) (bs : List ℕ) → length bs ≤ fuel → list_all is_byte bs ≡ true → length (lines_from address bs 0) ≤ 60 * length bs
-unfolding lines_from
+short-lines : (fuel address : ℕ) (bs : List ℕ) → length bs ≤ fuel → list_all is_byte bs ≡ true → length (listing_lines_from address bs 0) ≤ 60 * length bs
+unfolding listing_lines_from
 short-lines fuel address [] few small = omega arith
 short-lines zero address (b ∷ bs) few small = absurd (omega arith)
 short-lines (suc fuel) address (b ∷ bs) few small =
@@ -182,10 +182,10 @@ short-lines (suc fuel) address (b ∷ bs) few small =
     let first = short-here address (b ∷ bs) (omega arith) in
     let rest = short-lines fuel (address + n) (drop n (b ∷ bs)) (omega arith) (all-drop is_byte n (b ∷ bs) small) in
     let parts = ap (λ (t : List ℕ). length t) (lines-front address (b ∷ bs) n (omega arith) h.some refl) in
-    omega (arith, length-append (line_at address (b ∷ bs)) (lines_from (address + n) (drop n (b ∷ bs)) 0))
+    omega (arith, length-append (listing_line_at address (b ∷ bs)) (listing_lines_from (address + n) (drop n (b ∷ bs)) 0))
 
-short-section_line : (n address : ℕ) → n < 64 → length (section_line n address) ≤ 30
-unfolding section_line
+short-section_line : (n address : ℕ) → n < 64 → length (listing_section_line n address) ≤ 30
+unfolding listing_section_line
 short-section_line n address small =
     let number = decimal-2 n (omega arith) in
     omega (arith, length-append (decimal n) (codes " # " ++ (hex_word address ++ 10 ∷ [])), length-append (hex_word address) (10 ∷ []), length-hex_word address)
@@ -199,4 +199,4 @@ short-sections n (s ∷ ss) few small =
     let lines = short-lines (length s.bytes) s.at s.bytes (omega arith) two.0 in
     let rest = short-sections (n + 1) ss (omega arith) two.1 in
     let sum = total-more s ss in
-    omega (arith, length-append (section_line n s.at ++ lines_from s.at s.bytes 0) (listing_sections_from (n + 1) ss), length-append (section_line n s.at) (lines_from s.at s.bytes 0))
+    omega (arith, length-append (listing_section_line n s.at ++ listing_lines_from s.at s.bytes 0) (listing_sections_from (n + 1) ss), length-append (listing_section_line n s.at) (listing_lines_from s.at s.bytes 0))

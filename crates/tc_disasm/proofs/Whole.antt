@@ -6,16 +6,16 @@ use Rattle.std.proofs.lemmas.Bool.{lt-ltb}
 use Rattle.std.proofs.lemmas.List.Sorted.{All-permutation, length_permutation, sum_by-IsPermutation}
 use Rattle.elf_image.specs.Images.{SegmentData, ImageData, IsImage}
 use Rattle.tc_object.specs.Objects.{SectionData, ObjectData}
-use Rattle.tc_lex.specs.Pieces.{is_kind}
-use Rattle.tc_stmt.specs.Lines.{LineData, line_data, line_in, lines_in, pieces_line, line_from}
+use Rattle.tc_lex.specs.Pieces.{is_token_kind}
+use Rattle.tc_stmt.specs.Lines.{LineData, line_data, line_in, lines_in, tokens_line, line_from}
 use Rattle.tc_asm.specs.Symbols.{SymbolData}
-use Rattle.tc_asm.specs.Drafts.{DraftData, start}
+use Rattle.tc_asm.specs.Drafts.{DraftData, empty_draft}
 use Rattle.tc_asm.specs.DraftedSources.{draft_from_lines, with_line, symbols_of}
-use Rattle.tc_asm.specs.Rules.{KeepsRules, IsLeastBrokenLine, line_rule}
+use Rattle.tc_asm.specs.Rules.{KeepsRules, IsFirstBrokenLine, line_rule}
 use Rattle.tc_asm.specs.declared.errors.AsmErr.{AsmErr}
 use Rattle.tc_asm.specs.declared.errors.AsmErr.TheVariants.{Bad, NoMemory}
-use Rattle.tc_asm.specs.Errors.{IfBad}
-use Rattle.tc_asm.specs.Objects.{section_of, relocs_from, object_of}
+use Rattle.tc_asm.specs.Errors.{IfBadLine}
+use Rattle.tc_asm.specs.Objects.{section_of, relocs_from, object_of_draft}
 use Rattle.tc_disasm.specs.Listing.{segments_in_listing_order, listing_sections_from, listing_of}
 use Rattle.tc_disasm.specs.Assembled.{listed_section_name, HoldsSegments, ReadsBack}
 use Rattle.tc_disasm.proofs.LineTokens.{reads-tokens, lexes-end}
@@ -40,7 +40,7 @@ no_relocs : (number n : ℕ) (ss : List SegmentData) → relocs_from [] number (
 no_relocs number n [] = refl
 no_relocs number n (s ∷ ss) = no_relocs (number + 1) (n + 1) ss
 
-holds-sections : (ss : List SegmentData) (last total : ℕ) → HoldsSegments ss (object_of (draft last (parts_from 0 (segments_in_listing_order ss)) total))
+holds-sections : (ss : List SegmentData) (last total : ℕ) → HoldsSegments ss (object_of_draft (draft last (parts_from 0 (segments_in_listing_order ss)) total))
 holds-sections ss last total = record {
   ordered = segments_in_listing_order ss;
   same = by_address-permutes ss;
@@ -53,7 +53,7 @@ holds-sections ss last total = record {
 
 -- ---- the whole text
 empty_line : line_in [] ≡ line_data 15 []
-unfolding pieces_line line_from is_kind
+unfolding tokens_line line_from is_token_kind
 empty_line = (reads-tokens [] [] (line_data 15 []) lexes-end (omega arith) refl).is
 
 runs-empty : (labels : List SymbolData) (d : DraftData) → Runs labels d (line_data 15 [] ∷ []) d
@@ -92,26 +92,26 @@ module _ (i : ImageData) (is : IsImage i) where
       ∙ text.lines.are []
       ∙ ap (λ l. text.ls ++ (l ∷ [])) empty_line
 
-  runs : (labels : List SymbolData) → (last : ℕ) × Runs labels start (text.ls ++ (line_data 15 [] ∷ [])) (draft last (parts_from 0 (segments_in_listing_order i.segments)) (0 + total_of (segments_in_listing_order i.segments)))
+  runs : (labels : List SymbolData) → (last : ℕ) × Runs labels empty_draft (text.ls ++ (line_data 15 [] ∷ [])) (draft last (parts_from 0 (segments_in_listing_order i.segments)) (0 + total_of (segments_in_listing_order i.segments)))
   runs labels =
       let r = text.runs labels 64 0 [] refl few tt (let t = total in omega arith) in
       let d : DraftData = draft r.0 (parts_from 0 (segments_in_listing_order i.segments)) (0 + total_of (segments_in_listing_order i.segments)) in
-      (r.0, runs-append labels start d d text.ls (line_data 15 [] ∷ []) r.1 (runs-empty labels d))
+      (r.0, runs-append labels empty_draft d d text.ls (line_data 15 [] ∷ []) r.1 (runs-empty labels d))
 
   -- of these lines, whatever list they are
   module _ (ls : List LineData) (same : ls ≡ text.ls ++ (line_data 15 [] ∷ [])) where
     keeps-lines : KeepsRules ls (length ls)
     keeps-lines =
         subst (λ (xs : List LineData). KeepsRules xs (length xs)) (sym same)
-        (λ k d less. keeps-at (symbols_of (text.ls ++ (line_data 15 [] ∷ []))) start (text.ls ++ (line_data 15 [] ∷ [])) (runs (symbols_of (text.ls ++ (line_data 15 [] ∷ [])))).1.keeps k d less)
+        (λ k d less. keeps-at (symbols_of (text.ls ++ (line_data 15 [] ∷ []))) empty_draft (text.ls ++ (line_data 15 [] ∷ [])) (runs (symbols_of (text.ls ++ (line_data 15 [] ∷ [])))).1.keeps k d less)
 
-    never-breaks : (line rule : ℕ) → IsLeastBrokenLine ls line rule → ⊥
+    never-breaks : (line rule : ℕ) → IsFirstBrokenLine ls line rule → ⊥
     never-breaks line rule least = least.some (sym (least.broken (line_data 15 [])) ∙ keeps-lines least.place (line_data 15 []) least.within)
 
-    holds-lines : HoldsSegments i.segments (object_of (draft_from_lines (symbols_of ls) ls))
+    holds-lines : HoldsSegments i.segments (object_of_draft (draft_from_lines (symbols_of ls) ls))
     holds-lines =
         let r = runs (symbols_of ls) in
-        subst (λ (d : DraftData). HoldsSegments i.segments (object_of d)) (sym (ap (draft_from_lines (symbols_of ls)) same ∙ r.1.makes)) (holds-sections i.segments r.0 (0 + total_of (segments_in_listing_order i.segments)))
+        subst (λ (d : DraftData). HoldsSegments i.segments (object_of_draft d)) (sym (ap (draft_from_lines (symbols_of ls)) same ∙ r.1.makes)) (holds-sections i.segments r.0 (0 + total_of (segments_in_listing_order i.segments)))
 
   short : length (listing_of i) ≤ 2 ^ 30
   unfolding listing_of
@@ -138,12 +138,12 @@ module _ (i : ImageData) (back : ReadsBack i) (source : List ℕ) (is : source �
   pub short_source : length source ≤ 2 ^ 30
   short_source = subst (λ (xs : List ℕ). length xs ≤ 2 ^ 30) (sym is) back.short
 
-  pub holds_of : (r : Result ObjectData AsmErr) → IfOk r (λ o. o ≡ object_of (draft_from_lines (symbols_of (lines_in source)) (lines_in source))) → IfOk r (λ o. HoldsSegments i.segments o)
+  pub holds_of : (r : Result ObjectData AsmErr) → IfOk r (λ o. o ≡ object_of_draft (draft_from_lines (symbols_of (lines_in source)) (lines_in source))) → IfOk r (λ o. HoldsSegments i.segments o)
   holds_of (Ok o) e =
-      subst (HoldsSegments i.segments) (sym (e ∙ ap (λ xs. object_of (draft_from_lines (symbols_of (lines_in xs)) (lines_in xs))) is)) back.holds
+      subst (HoldsSegments i.segments) (sym (e ∙ ap (λ xs. object_of_draft (draft_from_lines (symbols_of (lines_in xs)) (lines_in xs))) is)) back.holds
   holds_of (Err x) e = e
 
-  pub never_of : (r : Result ObjectData AsmErr) → IfErr r (IfBad (IsLeastBrokenLine (lines_in source))) → IfErr r (λ e. e ≡ NoMemory)
+  pub never_of : (r : Result ObjectData AsmErr) → IfErr r (IfBadLine (IsFirstBrokenLine (lines_in source))) → IfErr r (λ e. e ≡ NoMemory)
   never_of (Ok o) h = h
-  never_of (Err (Bad line rule)) h = absurd (back.never line rule (subst (λ (xs : List ℕ). IsLeastBrokenLine (lines_in xs) line rule) is h))
+  never_of (Err (Bad line rule)) h = absurd (back.never line rule (subst (λ (xs : List ℕ). IsFirstBrokenLine (lines_in xs) line rule) is h))
   never_of (Err NoMemory) h = refl

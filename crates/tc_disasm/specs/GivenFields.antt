@@ -21,23 +21,23 @@ with_wanted_fields f g (Memory p true) = set_field K f.k (set_field S2 f.s2 g)
 with_wanted_fields f g (Memory p false) = set_field S2 f.s2 g
 
 -- a printed operand for this want sets the field
-unfoldable pub is_field_named : Field → Want → Bool
-is_field_named C (Reg p C) = true
-is_field_named C (Number s C) = true
-is_field_named S1 (Reg p S1) = true
-is_field_named S1 (Number s S1) = true
-is_field_named S2 (Reg p S2) = true
-is_field_named S2 (Number s S2) = true
-is_field_named S2 (Memory p o) = true
-is_field_named N (Number s N) = true
-is_field_named N (Reg p N) = true
-is_field_named K (Number s K) = true
-is_field_named K (Reg p K) = true
-is_field_named K (Memory p o) = o
-is_field_named K Target = true
-is_field_named K Absolute = true
-is_field_named f w = false
+unfoldable pub is_field_set_by_want : Field → Want → Bool
+is_field_set_by_want C (Reg p C) = true
+is_field_set_by_want C (Number s C) = true
+is_field_set_by_want S1 (Reg p S1) = true
+is_field_set_by_want S1 (Number s S1) = true
+is_field_set_by_want S2 (Reg p S2) = true
+is_field_set_by_want S2 (Number s S2) = true
+is_field_set_by_want S2 (Memory p o) = true
+is_field_set_by_want N (Number s N) = true
+is_field_set_by_want N (Reg p N) = true
+is_field_set_by_want K (Number s K) = true
+is_field_set_by_want K (Reg p K) = true
+is_field_set_by_want K (Memory p o) = o
+is_field_set_by_want K Target = true
+is_field_set_by_want K Absolute = true
+is_field_set_by_want f w = false
 
 -- the fields that the printed operands of these wants set
 unfoldable pub uses_by_wants : List Want → Uses
-uses_by_wants ws = record { c = list_any (is_field_named C) ws; s1 = list_any (is_field_named S1) ws; s2 = list_any (is_field_named S2) ws; n = list_any (is_field_named N) ws; k = list_any (is_field_named K) ws }
+uses_by_wants ws = record { c = list_any (is_field_set_by_want C) ws; s1 = list_any (is_field_set_by_want S1) ws; s2 = list_any (is_field_set_by_want S2) ws; n = list_any (is_field_set_by_want N) ws; k = list_any (is_field_set_by_want K) ws }

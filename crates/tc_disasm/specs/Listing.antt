@@ -10,44 +10,44 @@ use Rattle.tcd_text.specs.HexNumbers.{hex_byte, hex_word}
 use Rattle.tc_disasm.specs.Texts.{instruction_text, data_text}
 
 -- the instruction that was decoded from the start of the bytes, else data
-abbrev pub piece_text : Result (InstData × ℕ) DecodeErr → List ℕ → List ℕ
-piece_text (Ok found) bytes = instruction_text found.0
-piece_text (Err e) bytes = data_text bytes
+abbrev pub decoded_or_data_text : Result (InstData × ℕ) DecodeErr → List ℕ → List ℕ
+decoded_or_data_text (Ok found) bytes = instruction_text found.0
+decoded_or_data_text (Err e) bytes = data_text bytes
 
 -- the number of bytes of that instruction or data
-abbrev pub piece_size : Result (InstData × ℕ) DecodeErr → List ℕ → ℕ
-piece_size (Ok found) bytes = found.1
-piece_size (Err e) bytes = min 2 (length bytes)
+abbrev pub decoded_or_data_size : Result (InstData × ℕ) DecodeErr → List ℕ → ℕ
+decoded_or_data_size (Ok found) bytes = found.1
+decoded_or_data_size (Err e) bytes = min 2 (length bytes)
 
 -- the text of the instruction or data at the start of the bytes
 unfoldable pub listed_text_at : List ℕ → List ℕ
-listed_text_at bytes = piece_text (decoded_of bytes) bytes
+listed_text_at bytes = decoded_or_data_text (decoded_of bytes) bytes
 
 -- the size in bytes of the instruction or data at the start of the bytes
 unfoldable pub listed_size_at : List ℕ → ℕ
-listed_size_at bytes = piece_size (decoded_of bytes) bytes
+listed_size_at bytes = decoded_or_data_size (decoded_of bytes) bytes
 
 -- the comment of a line: an address, its bytes, and a line feed
 unfoldable pub listing_remark : ℕ → List ℕ → List ℕ
 listing_remark address bytes = codes " # " ++ (hex_word address ++ (32 ∷ (flat_map hex_byte bytes ++ 10 ∷ [])))
 
 -- the line of the instruction or data at the start of the bytes, which begin at an address
-unfoldable pub line_at : ℕ → List ℕ → List ℕ
-line_at address bytes = listed_text_at bytes ++ listing_remark address (take (listed_size_at bytes) bytes)
+unfoldable pub listing_line_at : ℕ → List ℕ → List ℕ
+listing_line_at address bytes = listed_text_at bytes ++ listing_remark address (take (listed_size_at bytes) bytes)
 
 -- the lines of bytes that begin at an address, after the first `skip` bytes
-unfoldable pub lines_from : ℕ → List ℕ → ℕ → List ℕ
-lines_from address [] skip = []
-lines_from address (b ∷ bs) zero = line_at address (b ∷ bs) ++ lines_from (address + 1) bs (listed_size_at (b ∷ bs) - 1)
-lines_from address (b ∷ bs) (suc skip) = lines_from (address + 1) bs skip
+unfoldable pub listing_lines_from : ℕ → List ℕ → ℕ → List ℕ
+listing_lines_from address [] skip = []
+listing_lines_from address (b ∷ bs) zero = listing_line_at address (b ∷ bs) ++ listing_lines_from (address + 1) bs (listed_size_at (b ∷ bs) - 1)
+listing_lines_from address (b ∷ bs) (suc skip) = listing_lines_from (address + 1) bs skip
 
 -- the line that begins the section of this number
-unfoldable pub section_line : ℕ → ℕ → List ℕ
-section_line number address = codes ".section s" ++ (decimal number ++ (codes " # " ++ (hex_word address ++ 10 ∷ [])))
+unfoldable pub listing_section_line : ℕ → ℕ → List ℕ
+listing_section_line number address = codes ".section s" ++ (decimal number ++ (codes " # " ++ (hex_word address ++ 10 ∷ [])))
 
 -- the lines of a segment: the line of its section, and those of its bytes
 unfoldable pub section_text : ℕ → SegmentData → List ℕ
-section_text number s = section_line number s.at ++ lines_from s.at s.bytes 0
+section_text number s = listing_section_line number s.at ++ listing_lines_from s.at s.bytes 0
 
 -- the sections, numbered from here on
 unfoldable pub listing_sections_from : ℕ → List SegmentData → List ℕ

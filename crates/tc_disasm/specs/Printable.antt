@@ -7,17 +7,17 @@ use Rattle.tc_disasm.specs.Texts.{register_text}
 use Rattle.tc_lex.specs.declared.operand.Shape.TheVariants as shape
 
 -- this is an operand that can be printed for the want
-abbrev pub Prints : Want → OperandData → Type 0
-Prints (Reg p x) o = (n : ℕ) × (n < 16) × (o ≡ plain_operand (operand_value_data shape.Word (register_text p n) false 0))
-Prints A10 o = o ≡ plain_operand (operand_value_data shape.Word (codes "a10") false 0)
-Prints (Number s x) o = (minus : Bool) × (size : ℕ) × (o ≡ plain_operand (operand_value_data shape.Number [] minus size))
-Prints Target o = (minus : Bool) × (size : ℕ) × (o ≡ plain_operand (operand_value_data shape.Sum (codes ".") minus size))
-Prints Absolute o = (size : ℕ) × (o ≡ plain_operand (operand_value_data shape.Number [] false size))
-Prints (Memory p u) o = (n : ℕ) × (v : ValueData) × (o ≡ bracketed_operand p (register_text true n) v)
+abbrev pub IsPrintableFor : Want → OperandData → Type 0
+IsPrintableFor (Reg p x) o = (n : ℕ) × (n < 16) × (o ≡ plain_operand (operand_value_data shape.Word (register_text p n) false 0))
+IsPrintableFor A10 o = o ≡ plain_operand (operand_value_data shape.Word (codes "a10") false 0)
+IsPrintableFor (Number s x) o = (minus : Bool) × (size : ℕ) × (o ≡ plain_operand (operand_value_data shape.Number [] minus size))
+IsPrintableFor Target o = (minus : Bool) × (size : ℕ) × (o ≡ plain_operand (operand_value_data shape.Sum (codes ".") minus size))
+IsPrintableFor Absolute o = (size : ℕ) × (o ≡ plain_operand (operand_value_data shape.Number [] false size))
+IsPrintableFor (Memory p u) o = (n : ℕ) × (v : ValueData) × (o ≡ bracketed_operand p (register_text true n) v)
 
 -- the operands can be printed for the wants, one for each
-abbrev pub AllPrint : List Want → List OperandData → Type 0
-AllPrint [] [] = Unit {0}
-AllPrint [] (o ∷ os) = ⊥
-AllPrint (w ∷ ws) [] = ⊥
-AllPrint (w ∷ ws) (o ∷ os) = Prints w o × AllPrint ws os
+abbrev pub ArePrintableFor : List Want → List OperandData → Type 0
+ArePrintableFor [] [] = Unit {0}
+ArePrintableFor [] (o ∷ os) = ⊥
+ArePrintableFor (w ∷ ws) [] = ⊥
+ArePrintableFor (w ∷ ws) (o ∷ os) = IsPrintableFor w o × ArePrintableFor ws os

@@ -6,7 +6,7 @@ use Rattle.std.specs.Option.{option_map_or}
 use Rattle.tcd_text.specs.HexNumbers.{hex_word, hex_byte}
 use Rattle.tc_isa.specs.declared.table.Form.{Form}
 use Rattle.tc_isa.specs.declared.fields.Fields.{Fields}
-use Rattle.tc_isa.specs.Forms.{bounds, is_abs}
+use Rattle.tc_isa.specs.Forms.{bounds, is_abs_form}
 use Rattle.tc_isa.specs.Rows.{RowData, listed}
 use Rattle.tc_isa.specs.Insts.{InstData, fields_in}
 use Rattle.tc_isa.specs.FromFields.{address_in_constant, code_address_in_constant}
@@ -39,7 +39,7 @@ target_text both bound k = 46 ∷ (if is_printed_minus both bound k then 45 ∷ 
 
 -- the address in the fields of an ABS row or of a B row
 unfoldable pub absolute_operand_address : Form → Fields → ℕ
-absolute_operand_address form f = if is_abs form then address_in_constant f else code_address_in_constant f
+absolute_operand_address form f = if is_abs_form form then address_in_constant f else code_address_in_constant f
 
 -- `0x` and the address
 unfoldable pub absolute_text : Form → Fields → List ℕ

@@ -46,7 +46,7 @@ fn append_sections(text: &mut String, segments: &[&Segment]) -> Result<(), NoMem
 }
 
 /// Appends a section of the listing: its first line, and the lines of the segment's bytes.
-#[tactic(auto, unfolding(crate::specs::Listing::section_text, crate::specs::Listing::section_line))]
+#[tactic(auto, unfolding(crate::specs::Listing::section_text, crate::specs::Listing::listing_section_line))]
 fn append_section(text: &mut String, number: u32, segment: &Segment) -> Result<(), NoMemory>
     requires { segment.now.at + length segment.now.bytes.items ≤ 2 ^ 32 }
     ensures { OnOk result

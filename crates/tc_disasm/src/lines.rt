@@ -2,7 +2,7 @@
 ghost use Rattle.std.specs.Prelude.{◌≡◌, ◌<◌, ◌≤◌, ◌+◌, ◌^◌, ◌++◌, ◌∷◌, [], OnOk, IfOk, string_bytes, codes, length, min, drop};
 ghost use Rattle.std.specs.List.{flat_map};
 ghost use Rattle.tcd_text.specs.HexNumbers.{hex_byte, hex_word};
-ghost use Rattle.tc_disasm.specs.Listing.{listed_text_at, listed_size_at, listing_remark, line_at, lines_from};
+ghost use Rattle.tc_disasm.specs.Listing.{listed_text_at, listed_size_at, listing_remark, listing_line_at, listing_lines_from};
 ghost use Rattle.tc_disasm.specs.Texts.{data_text};
 
 use crate::instructions::append_instruction;
@@ -15,7 +15,7 @@ use tcd_text::{append_ascii, append_hex_byte, append_str, hex_byte, hex_word};
 pub(crate) fn append_lines(text: &mut String, address: u32, bytes: &[u8]) -> Result<(), NoMemory>
     requires { address + length bytes.now ≤ 2 ^ 32 }
     ensures { OnOk result
-        (string_bytes text.new ≡ string_bytes text.old ++ lines_from address bytes.now 0) }
+        (string_bytes text.new ≡ string_bytes text.old ++ listing_lines_from address bytes.now 0) }
 {
     let mut at = 0;
     'lines: while at < bytes.len() {
@@ -36,7 +36,7 @@ fn append_line_at(
     requires fits { address + length bytes.now ≤ 2 ^ 32 }
     ensures text { OnOk result
         (string_bytes text.new
-        ≡ string_bytes text.old ++ line_at (address + at) (drop at bytes.now)) }
+        ≡ string_bytes text.old ++ listing_line_at (address + at) (drop at bytes.now)) }
     ensures size { IfOk result (λ n. n ≡ listed_size_at (drop at bytes.now)) }
     ensures some { IfOk result (λ n. 0 < n) }
     ensures within { IfOk result (λ n. at + n ≤ length bytes.now) }
@@ -45,11 +45,11 @@ fn append_line_at(
 }
 
 // Appends the line of the first instruction or data, and returns its size in bytes.
-#[tactic(auto, unfolding(crate::specs::Listing::line_at))]
+#[tactic(auto, unfolding(crate::specs::Listing::listing_line_at))]
 fn append_line(text: &mut String, address: u32, bytes: &[u8]) -> Result<usize, NoMemory>
     requires { 0 < length bytes.now }
     ensures text { OnOk result
-        (string_bytes text.new ≡ string_bytes text.old ++ line_at address bytes.now) }
+        (string_bytes text.new ≡ string_bytes text.old ++ listing_line_at address bytes.now) }
     ensures size { IfOk result (λ n. n ≡ listed_size_at bytes.now) }
     ensures some { IfOk result (λ n. 0 < n) }
     ensures within { IfOk result (λ n. n ≤ length bytes.now) }

@@ -8,10 +8,10 @@ use Rattle.tc_isa.specs.Rows.{RowData, listed, is_long}
 use Rattle.tc_isa.specs.Insts.{InstData, fields_in}
 use Rattle.tc_isa.specs.ValidRowFields.{least_fields}
 use Rattle.tc_isa.specs.Spelling.{word_of, spelling, Spells}
-use Rattle.tc_encode.specs.Decoding.{Begins, IsFront, decoded_row_length, goes_on_as, fields_at, instruction_at_row, first_of, answer_of, decoded_of}
+use Rattle.tc_encode.specs.Decoding.{BeginsWith, IsInstPrefix, decoded_row_length, is_prefix_of_row, fields_at, instruction_at_row, first_row_match, decode_answer, decoded_of}
 use Rattle.tc_encode.specs.declared.errors.DecodeErr.{DecodeErr}
 use Rattle.tc_encode.specs.declared.errors.DecodeErr.TheVariants.{Short, NotListed}
-use Rattle.tc_encode.specs.DecodeLaws.{MoreChangesNothing, LengthsAreRight, DecodedSpells, DecodedBegins, SpelledDecodes, ShortIsFront, NotListedIsRest, DecodeLaws, NoneSpellsTwo, NoneIsPrefix, SpellingLaws}
+use Rattle.tc_encode.specs.DecodeLaws.{MoreChangesNothing, LengthsAreRight, DecodedSpells, DecodedBegins, SpelledDecodes, ShortIsPrefix, NotListedIsRest, DecodeLaws, NoneSpellsTwo, NoneIsPrefix, SpellingLaws}
 use Rattle.tc_encode.proofs.Bytes.{word-lt}
 use Rattle.tc_isa.proofs.TableFacts.{row_at}
 use Rattle.tc_encode.proofs.Spelled.{begins_here, fields_here, fits_there, stands_there, size_spelling}
@@ -23,44 +23,44 @@ ok_err : {A E : Type 0} (x : A) (e : E) → Ok x ≡ Err e → ⊥
 ok_err x e is = cc
 
 -- what an answer says of the row that was found
-ok_answer : (xs : List ℕ) (o : Option (InstData × ℕ)) (p : InstData × ℕ) → answer_of xs o ≡ Ok p → o ≡ Some p
+ok_answer : (xs : List ℕ) (o : Option (InstData × ℕ)) (p : InstData × ℕ) → decode_answer xs o ≡ Ok p → o ≡ Some p
 ok_answer xs (Some q) p e = cc
-ok_answer xs None p e = elim (cases_Bool (list_any (goes_on_as xs) listed)) [
-  | inl t ↦ let x : Err Short ≡ Ok p = sym (cond-true (list_any (goes_on_as xs) listed) (Err Short) (Err NotListed) t) ∙ e in cc
-  | inr t ↦ let x : Err NotListed ≡ Ok p = sym (cond-false (list_any (goes_on_as xs) listed) (Err Short) (Err NotListed) t) ∙ e in cc
+ok_answer xs None p e = elim (cases_Bool (list_any (is_prefix_of_row xs) listed)) [
+  | inl t ↦ let x : Err Short ≡ Ok p = sym (cond-true (list_any (is_prefix_of_row xs) listed) (Err Short) (Err NotListed) t) ∙ e in cc
+  | inr t ↦ let x : Err NotListed ≡ Ok p = sym (cond-false (list_any (is_prefix_of_row xs) listed) (Err Short) (Err NotListed) t) ∙ e in cc
 ]
 
-err_answer : (xs : List ℕ) (o : Option (InstData × ℕ)) (e : DecodeErr) → answer_of xs o ≡ Err e → o ≡ None
+err_answer : (xs : List ℕ) (o : Option (InstData × ℕ)) (e : DecodeErr) → decode_answer xs o ≡ Err e → o ≡ None
 err_answer xs (Some q) e is = cc
 err_answer xs None e is = refl
 
-short_answer : (xs : List ℕ) → answer_of xs None ≡ Err Short → list_any (goes_on_as xs) listed ≡ true
-short_answer xs e = elim (cases_Bool (list_any (goes_on_as xs) listed)) [
+short_answer : (xs : List ℕ) → decode_answer xs None ≡ Err Short → list_any (is_prefix_of_row xs) listed ≡ true
+short_answer xs e = elim (cases_Bool (list_any (is_prefix_of_row xs) listed)) [
   | inl t ↦ t
-  | inr t ↦ let x : Err NotListed ≡ Err Short = sym (cond-false {A = Result (InstData × ℕ) DecodeErr} (list_any (goes_on_as xs) listed) (Err Short) (Err NotListed) t) ∙ e in cc
+  | inr t ↦ let x : Err NotListed ≡ Err Short = sym (cond-false {A = Result (InstData × ℕ) DecodeErr} (list_any (is_prefix_of_row xs) listed) (Err Short) (Err NotListed) t) ∙ e in cc
 ]
 
-not_answer : (xs : List ℕ) → answer_of xs None ≡ Err NotListed → list_any (goes_on_as xs) listed ≡ false
-not_answer xs e = elim (cases_Bool (list_any (goes_on_as xs) listed)) [
+not_answer : (xs : List ℕ) → decode_answer xs None ≡ Err NotListed → list_any (is_prefix_of_row xs) listed ≡ false
+not_answer xs e = elim (cases_Bool (list_any (is_prefix_of_row xs) listed)) [
   | inr t ↦ t
-  | inl t ↦ let x : Err Short ≡ Err NotListed = sym (cond-true {A = Result (InstData × ℕ) DecodeErr} (list_any (goes_on_as xs) listed) (Err Short) (Err NotListed) t) ∙ e in cc
+  | inl t ↦ let x : Err Short ≡ Err NotListed = sym (cond-true {A = Result (InstData × ℕ) DecodeErr} (list_any (is_prefix_of_row xs) listed) (Err Short) (Err NotListed) t) ∙ e in cc
 ]
 
-pub ok_found : (xs : List ℕ) (p : InstData × ℕ) → decoded_of xs ≡ Ok p → first_of xs 0 listed ≡ Some p
+pub ok_found : (xs : List ℕ) (p : InstData × ℕ) → decoded_of xs ≡ Ok p → first_row_match xs 0 listed ≡ Some p
 unfolding decoded_of
-ok_found xs p e = ok_answer xs (first_of xs 0 listed) p e
+ok_found xs p e = ok_answer xs (first_row_match xs 0 listed) p e
 
-pub found_ok : (xs : List ℕ) (p : InstData × ℕ) → first_of xs 0 listed ≡ Some p → decoded_of xs ≡ Ok p
+pub found_ok : (xs : List ℕ) (p : InstData × ℕ) → first_row_match xs 0 listed ≡ Some p → decoded_of xs ≡ Ok p
 unfolding decoded_of
-found_ok xs p e = ap (answer_of xs) e
+found_ok xs p e = ap (decode_answer xs) e
 
-err_none : (xs : List ℕ) (e : DecodeErr) → decoded_of xs ≡ Err e → first_of xs 0 listed ≡ None
+err_none : (xs : List ℕ) (e : DecodeErr) → decoded_of xs ≡ Err e → first_row_match xs 0 listed ≡ None
 unfolding decoded_of
-err_none xs e is = err_answer xs (first_of xs 0 listed) e is
+err_none xs e is = err_answer xs (first_row_match xs 0 listed) e is
 
-answer_none : (xs : List ℕ) → first_of xs 0 listed ≡ None → decoded_of xs ≡ answer_of xs None
+answer_none : (xs : List ℕ) → first_row_match xs 0 listed ≡ None → decoded_of xs ≡ decode_answer xs None
 unfolding decoded_of
-answer_none xs e = ap (answer_of xs) e
+answer_none xs e = ap (decode_answer xs) e
 
 -- what was found spells the instruction
 gives_spells : (xs : List ℕ) (i : InstData) (n : ℕ) → Gives xs 0 listed (i, n) → Spells (take n xs) i
@@ -123,16 +123,16 @@ more_changes_nothing xs ys i e =
     spelled_decodes xs ys i (subst (λ bs. Spells bs i) (take_all (length xs) xs (omega arith)) (decoded_spells xs i (length xs) e))
 
 -- what the bytes begin with is decoded
-begun_decodes : (xs : List ℕ) (i : InstData) (n : ℕ) → Begins xs i n → decoded_of xs ≡ Ok (i, length (take n xs))
+begun_decodes : (xs : List ℕ) (i : InstData) (n : ℕ) → BeginsWith xs i n → decoded_of xs ≡ Ok (i, length (take n xs))
 begun_decodes xs i n b = subst (λ bs. decoded_of bs ≡ Ok (i, length (take n xs))) (take-append-drop n xs) (spelled_decodes (take n xs) (drop n xs) i b.spells)
 
-err_begins_none : (xs : List ℕ) (e : DecodeErr) → decoded_of xs ≡ Err e → (i : InstData) (n : ℕ) → Begins xs i n → ⊥
+err_begins_none : (xs : List ℕ) (e : DecodeErr) → decoded_of xs ≡ Err e → (i : InstData) (n : ℕ) → BeginsWith xs i n → ⊥
 err_begins_none xs e is i n b = ok_err (i, length (take n xs)) e (sym (begun_decodes xs i n b) ∙ is)
 
-none_from : (xs : List ℕ) → ((i : InstData) (n : ℕ) → Begins xs i n → ⊥) → first_of xs 0 listed ≡ None
-none_from xs none = cases (first_of xs 0 listed) refl
+none_from : (xs : List ℕ) → ((i : InstData) (n : ℕ) → BeginsWith xs i n → ⊥) → first_row_match xs 0 listed ≡ None
+none_from xs none = cases (first_row_match xs 0 listed) refl
   where
-    cases : (o : Option (InstData × ℕ)) → first_of xs 0 listed ≡ o → first_of xs 0 listed ≡ None
+    cases : (o : Option (InstData × ℕ)) → first_row_match xs 0 listed ≡ o → first_row_match xs 0 listed ≡ None
     cases None e = e
     cases (Some p) e = absurd (none p.0 p.1 (record { within = (lengths_are_right xs p.0 p.1 (found_ok xs p e)).0; spells = decoded_spells xs p.0 p.1 (found_ok xs p e) }))
 
@@ -141,9 +141,9 @@ record Ahead (xs : List ℕ) (rows : List RowData) : Type 0 where
   at : ℕ
   row : RowData
   listed : slice_get rows at ≡ Some row
-  goes : goes_on_as xs row ≡ true
+  goes : is_prefix_of_row xs row ≡ true
 
-ahead_from : (xs : List ℕ) (rows : List RowData) → list_any (goes_on_as xs) rows ≡ true → Ahead xs rows
+ahead_from : (xs : List ℕ) (rows : List RowData) → list_any (is_prefix_of_row xs) rows ≡ true → Ahead xs rows
 ahead_from xs [] e = cc
 ahead_from xs (r ∷ rs) e = elim (or_cases _ _ e) [
   | inl here ↦ record { at = 0; row = r; listed = refl; goes = here }
@@ -155,12 +155,12 @@ any_at t [] q x at e = cc
 any_at t (y ∷ ys) zero x at e = let same : x ≡ y = cc in or_left _ _ (subst (λ z. t z ≡ true) same e)
 any_at t (y ∷ ys) (suc q) x at e = or_right _ _ (any_at t ys q x at e)
 
-front_any : (xs : List ℕ) → IsFront xs → list_any (goes_on_as xs) listed ≡ true
+front_any : (xs : List ℕ) → IsInstPrefix xs → list_any (is_prefix_of_row xs) listed ≡ true
 front_any xs front =
     let s = front.spells in
-    any_at (goes_on_as xs) listed front.inst.row s.inst.row s.inst.at (front_goes_on xs front.rest s.inst.row (fields_in front.inst) (row_at front.inst.row s.inst.row s.inst.at) s.inst.fits front.more s.is)
+    any_at (is_prefix_of_row xs) listed front.inst.row s.inst.row s.inst.at (front_goes_on xs front.rest s.inst.row (fields_in front.inst) (row_at front.inst.row s.inst.row s.inst.at) s.inst.fits front.more s.is)
 
-ahead_front : (xs : List ℕ) → Ahead xs listed → IsFront xs
+ahead_front : (xs : List ℕ) → Ahead xs listed → IsInstPrefix xs
 ahead_front xs a =
     let rest = drop (length xs) (spelling a.row (least_fields a.row)) in
     let short = goes_on_short xs a.row a.goes in
@@ -175,16 +175,16 @@ ahead_front xs a =
       spells = record { inst = record { row = a.row; at = a.listed; fits = fits_there (xs ++ rest) a.row begins }; is = is };
     }
 
-pub short_is_front : ShortIsFront
+pub short_is_front : ShortIsPrefix
 short_is_front xs = (
   λ e. (ahead_front xs (ahead_from xs listed (short_answer xs (sym (answer_none xs (err_none xs Short e)) ∙ e))), err_begins_none xs Short e),
-  λ p. answer_none xs (none_from xs p.1) ∙ cond-true {A = Result (InstData × ℕ) DecodeErr} (list_any (goes_on_as xs) listed) (Err Short) (Err NotListed) (front_any xs p.0),
+  λ p. answer_none xs (none_from xs p.1) ∙ cond-true {A = Result (InstData × ℕ) DecodeErr} (list_any (is_prefix_of_row xs) listed) (Err Short) (Err NotListed) (front_any xs p.0),
 )
 
 pub not_listed_is_rest : NotListedIsRest
 not_listed_is_rest xs = (
   λ e. (λ front. both_ways _ (not_answer xs (sym (answer_none xs (err_none xs NotListed e)) ∙ e)) (front_any xs front), err_begins_none xs NotListed e),
-  λ p. answer_none xs (none_from xs p.1) ∙ cond-false {A = Result (InstData × ℕ) DecodeErr} (list_any (goes_on_as xs) listed) (Err Short) (Err NotListed) (false_from_ne_true _ (λ t. p.0 (ahead_front xs (ahead_from xs listed t)))),
+  λ p. answer_none xs (none_from xs p.1) ∙ cond-false {A = Result (InstData × ℕ) DecodeErr} (list_any (is_prefix_of_row xs) listed) (Err Short) (Err NotListed) (false_from_ne_true _ (λ t. p.0 (ahead_front xs (ahead_from xs listed t)))),
 )
 
 pub decoded_begins : DecodedBegins

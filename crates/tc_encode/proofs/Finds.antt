@@ -18,7 +18,7 @@ use Rattle.tc_isa.specs.Spelling.{word_of}
 use Rattle.tc_isa.specs.Insts.{InstData, IsInst, fields_in}
 use Rattle.tc_isa.proofs.TableFacts.{row_at}
 use Rattle.tc_encode.specs.Decoding.{instruction_at_row}
-use Rattle.tc_encode.specs.WordSearch.{Makes, is_in_index_range, has_same_form, are_in_index_ranges, is_at_index_place, is_index_place, are_at_index_places, has_zero_word_gaps, is_plain_row, names_or_lacks}
+use Rattle.tc_encode.specs.WordSearch.{IsWordOf, is_in_index_range, has_same_form, are_in_index_ranges, is_at_index_place, is_index_place, are_at_index_places, are_unused_bits_zero, is_plain_row, has_all_form_fields}
 use Rattle.tc_encode.proofs.Gaps.{fields_below, word_back, full_word}
 use Rattle.tc_encode.proofs.Inverse.{first-word, second-word}
 use Rattle.tc_encode.proofs.Only.{only}
@@ -29,7 +29,7 @@ pub row_is : (place : ℕ) (r : RowData) (i : InstData) (is : IsInst i) → slic
 row_is place r i is at same = some_same is.row r (sym is.at ∙ ap (slice_get listed) same ∙ at)
 
 -- the fields of the word are those of the instruction that has it
-pub makes_listed : (place w : ℕ) (r : RowData) (f : Fields) → slice_get listed place ≡ Some r → f ≡ fields_of r.form w → (i : InstData) → Makes w i → i.row ≡ place → IsInst (instruction_at_row place f) × (word_of r f ≡ w)
+pub makes_listed : (place w : ℕ) (r : RowData) (f : Fields) → slice_get listed place ≡ Some r → f ≡ fields_of r.form w → (i : InstData) → IsWordOf w i → i.row ≡ place → IsInst (instruction_at_row place f) × (word_of r f ≡ w)
 makes_listed place w r f at is i m same =
     let row = row_is place r i m.inst at same in
     let fits : FieldsFitRow r (fields_in i) = subst (λ (s : RowData). FieldsFitRow s (fields_in i)) row m.inst.fits in
@@ -37,12 +37,12 @@ makes_listed place w r f at is i m same =
     let fields : fields_in i ≡ f = sym (is ∙ only r (fields_in i) w (row_at place r at) fits word) in
     (record { row = r; at = at; fits = subst (λ (g : Fields). FieldsFitRow r g) fields fits }, subst (λ (g : Fields). word_of r g ≡ w) fields word)
 
-pub makes_by : (place w : ℕ) (r : RowData) (f : Fields) (i : InstData) → slice_get listed place ≡ Some r → i ≡ instruction_at_row place f → IsInst i → word_of r f ≡ w → Makes w i
+pub makes_by : (place w : ℕ) (r : RowData) (f : Fields) (i : InstData) → slice_get listed place ≡ Some r → i ≡ instruction_at_row place f → IsInst i → word_of r f ≡ w → IsWordOf w i
 makes_by place w r f i at is inst word =
     let row = row_is place r i inst at (ap (λ (j : InstData). j.row) is) in
     record { inst = inst; is = ap (λ (s : RowData). word_of s (fields_in i)) row ∙ ap (λ (j : InstData). word_of r (fields_in j)) is ∙ word }
 
-pub first_is : (w : ℕ) (i : InstData) (m : Makes w i) → w % 256 ≡ m.inst.row.op1
+pub first_is : (w : ℕ) (i : InstData) (m : IsWordOf w i) → w % 256 ≡ m.inst.row.op1
 first_is w i m =
     let s = m.inst.row in let row = row_at i.row s m.inst.at in
     ap (λ x. x % 256) (sym m.is) ∙ first-word s.form s.op1 s.op2 (fields_in i) row.first row.second m.inst.fits.below
@@ -76,7 +76,7 @@ between_from place r (Some s) (Some t) start end e is iz =
       form = subst (λ z. has_same_form r (slice_get listed z) ≡ true) x a.1;
     }
 
-pub stands_between : (starts ends : List ℕ) (w : ℕ) (i : InstData) (m : Makes w i) → are_in_index_ranges starts ends 0 listed ≡ true → length starts ≡ 256 → length ends ≡ 256 → Between i.row m.inst.row (get_or starts (w % 256) 0) (get_or ends (w % 256) 0)
+pub stands_between : (starts ends : List ℕ) (w : ℕ) (i : InstData) (m : IsWordOf w i) → are_in_index_ranges starts ends 0 listed ≡ true → length starts ≡ 256 → length ends ≡ 256 → Between i.row m.inst.row (get_or starts (w % 256) 0) (get_or ends (w % 256) 0)
 stands_between starts ends w i m all ls le =
     let r = m.inst.row in
     let first = first_is w i m in
@@ -101,10 +101,10 @@ none_map (Some x) p f = tt
 pub record Stands (w : ℕ) (r : RowData) (f : Fields) : Type 0 where
   pub first : r.op1 ≡ w % 256
   pub second : r.op2 ≡ second_code_by_form r.form w
-  pub full : has_zero_word_gaps r.form w ≡ true
+  pub full : are_unused_bits_zero r.form w ≡ true
   pub fits : FieldsFitRow r f
 
-pub stands : (place w : ℕ) (r : RowData) → slice_get listed place ≡ Some r → (i : InstData) → Makes w i → i.row ≡ place → Stands w r (fields_of r.form w)
+pub stands : (place w : ℕ) (r : RowData) → slice_get listed place ≡ Some r → (i : InstData) → IsWordOf w i → i.row ≡ place → Stands w r (fields_of r.form w)
 stands place w r at i m same =
     let row = row_is place r i m.inst at same in
     let own = row_at place r at in
@@ -113,7 +113,7 @@ stands place w r at i m same =
     record {
       first = sym (first-word r.form r.op1 r.op2 (fields_in i) own.first own.second fits.below) ∙ ap (λ x. x % 256) word;
       second = sym (second-word r.form r.op1 r.op2 (fields_in i) own.first own.second fits.below) ∙ ap (second_code_by_form r.form) word;
-      full = ap (has_zero_word_gaps r.form) (sym word) ∙ full_word r.form r.op1 r.op2 (fields_in i) own.first own.second fits.below;
+      full = ap (are_unused_bits_zero r.form) (sym word) ∙ full_word r.form r.op1 r.op2 (fields_in i) own.first own.second fits.below;
       fits = subst (λ (g : Fields). FieldsFitRow r g) (sym (only r (fields_in i) w own fits word)) fits;
     }
 
@@ -121,7 +121,7 @@ even_of : (op1 w : ℕ) → (op1 % 2 == 1) ≡ false → op1 ≡ w % 256 → w %
 even_of op1 w e is = let odd = eqb-false (op1 % 2) 1 e in elim (cases_eq (op1 % 2) 1) [ inl x ↦ absurd (odd x) | inr y ↦ omega (arith, y) ]
 
 -- a word with the row's codes and no gap is the spelling of its fields, if they fit
-pub makes_of : (place w : ℕ) (r : RowData) (f : Fields) → slice_get listed place ≡ Some r → f ≡ fields_of r.form w → w < 2 ^ 32 → (w % 2 ≡ 0 → w < 2 ^ 16) → r.op1 ≡ w % 256 → r.op2 ≡ second_code_by_form r.form w → has_zero_word_gaps r.form w ≡ true → are_unused_fields_zero (uses_of r) f ≡ true → are_registers_apart r f ≡ true → Makes w (instruction_at_row place f)
+pub makes_of : (place w : ℕ) (r : RowData) (f : Fields) → slice_get listed place ≡ Some r → f ≡ fields_of r.form w → w < 2 ^ 32 → (w % 2 ≡ 0 → w < 2 ^ 16) → r.op1 ≡ w % 256 → r.op2 ≡ second_code_by_form r.form w → are_unused_bits_zero r.form w ≡ true → are_unused_fields_zero (uses_of r) f ≡ true → are_registers_apart r f ≡ true → IsWordOf w (instruction_at_row place f)
 makes_of place w r f at is word short first second full rest apart =
     let row = row_at place r at in
     let small : is_long_form r.form ≡ false → w < 2 ^ 16 = λ e. short (even_of r.op1 w (row.size ∙ e) first) in
@@ -174,7 +174,7 @@ one_plain : (u : Bool) (x b : ℕ) → (u || b == 1) ≡ true → x < b → (u |
 one_plain true x b e low = refl
 one_plain false x b e low = let one : b ≡ 1 = eqb-true b 1 e in eq-eqb x 0 (omega arith)
 
-pub plain_zero : (u : Uses) (f b : Fields) → names_or_lacks u b ≡ true → AreFieldsBelow f b → are_unused_fields_zero u f ≡ true
+pub plain_zero : (u : Uses) (f b : Fields) → has_all_form_fields u b ≡ true → AreFieldsBelow f b → are_unused_fields_zero u f ≡ true
 plain_zero u f b e low =
     let p = and_parts _ _ e in let q = and_parts _ _ p.0 in let r = and_parts _ _ q.0 in let s = and_parts _ _ r.0 in
     and_from _ _ (and_from _ _ (and_from _ _ (and_from _ _

@@ -8,7 +8,7 @@ use Rattle.tc_isa.specs.Rows.{RowData, is_long}
 use Rattle.tc_encode.specs.WordSearch.{mix_low_bytes}
 use Rattle.tc_isa.specs.ValidRowFields.{FieldsFitRow, IsRow, least_fields}
 use Rattle.tc_isa.specs.Spelling.{word_of, spelling_of, spelling}
-use Rattle.tc_encode.specs.Decoding.{decoded_row_length, begins_with, goes_on_as}
+use Rattle.tc_encode.specs.Decoding.{decoded_row_length, begins_with, is_prefix_of_row}
 use Rattle.tc_encode.proofs.Complete.{completed}
 use Rattle.tc_encode.proofs.Spelled.{begins_here, size_spelling}
 
@@ -56,7 +56,7 @@ has_some : (rest : List ℕ) → rest ≢ [] → 1 ≤ length rest
 has_some [] some = absurd (some refl)
 has_some (b ∷ bs) some = omega arith
 
-pub front_goes_on : (bytes rest : List ℕ) (r : RowData) (f : Fields) → IsRow r → FieldsFitRow r f → rest ≢ [] → bytes ++ rest ≡ spelling r f → goes_on_as bytes r ≡ true
+pub front_goes_on : (bytes rest : List ℕ) (r : RowData) (f : Fields) → IsRow r → FieldsFitRow r f → rest ≢ [] → bytes ++ rest ≡ spelling r f → is_prefix_of_row bytes r ≡ true
 front_goes_on bytes rest r f row fits some is =
     let size : length bytes + length rest ≡ decoded_row_length r = sym (length-append bytes rest) ∙ ap length is ∙ size_spelling r f in
     let short : length bytes < decoded_row_length r = omega (arith, has_some rest some, size) in
@@ -64,8 +64,8 @@ front_goes_on bytes rest r f row fits some is =
     and_from _ _ (lt-ltb _ _ short) (subst (λ bs. begins_with (bs ++ drop (length bytes) (spelling r (least_fields r))) r ≡ true) front (gone_on r f (length bytes) row fits short))
 
 -- bytes that are completed are fewer than the row's
-pub goes_on_short : (bytes : List ℕ) (r : RowData) → goes_on_as bytes r ≡ true → length bytes < decoded_row_length r
+pub goes_on_short : (bytes : List ℕ) (r : RowData) → is_prefix_of_row bytes r ≡ true → length bytes < decoded_row_length r
 goes_on_short bytes r e = ltb-true _ _ (and_parts _ _ e).0
 
-pub goes_on_begins : (bytes : List ℕ) (r : RowData) → goes_on_as bytes r ≡ true → begins_with (bytes ++ drop (length bytes) (spelling r (least_fields r))) r ≡ true
+pub goes_on_begins : (bytes : List ℕ) (r : RowData) → is_prefix_of_row bytes r ≡ true → begins_with (bytes ++ drop (length bytes) (spelling r (least_fields r))) r ≡ true
 goes_on_begins bytes r e = (and_parts _ _ e).1

@@ -7,7 +7,7 @@ use Rattle.tc_isa.specs.Spelling.{word_of}
 use Rattle.tc_isa.specs.Insts.{InstData, fields_in}
 use Rattle.tc_isa.proofs.TableFacts.{row_at}
 use Rattle.tc_encode.specs.Decoding.{instruction_at_row, decoded_row_length}
-use Rattle.tc_encode.specs.WordSearch.{Makes, GoesOn, word_part_span, are_in_index_ranges}
+use Rattle.tc_encode.specs.WordSearch.{IsWordOf, IsCompletionOf, word_part_span, are_in_index_ranges}
 use Rattle.tc_encode.proofs.Complete.{completed, same_mix}
 use Rattle.tc_encode.proofs.Finds.{row_is, first_is, Between, stands_between}
 
@@ -18,7 +18,7 @@ low_part (suc zero) part rest h = omega arith
 low_part (suc (suc zero)) part rest h = omega arith
 low_part (suc (suc (suc n))) part rest h = omega arith
 
-pub goes_from : (place n part rest s : ℕ) (r : RowData) (i : InstData) → slice_get listed place ≡ Some r → n < decoded_row_length r → part < word_part_span n → s ≡ word_part_span n → i.row ≡ place → Makes (part + rest / s * s) i → GoesOn n part i
+pub goes_from : (place n part rest s : ℕ) (r : RowData) (i : InstData) → slice_get listed place ≡ Some r → n < decoded_row_length r → part < word_part_span n → s ≡ word_part_span n → i.row ≡ place → IsWordOf (part + rest / s * s) i → IsCompletionOf n part i
 goes_from place n part rest s r i at longer small is same m =
     let row = row_is place r i m.inst at same in
     record {
@@ -28,7 +28,7 @@ goes_from place n part rest s r i at longer small is same m =
     }
 
 -- bytes that an instruction of the row begins with are completed by the row's least fields
-pub goes_least : (place n part rest s : ℕ) (r : RowData) (i : InstData) → slice_get listed place ≡ Some r → 1 ≤ n → n ≤ 3 → s ≡ word_part_span n → rest ≡ word_of r (least_fields r) → i.row ≡ place → GoesOn n part i → (j : InstData) × (j.row ≡ place) × Makes (part + rest / s * s) j
+pub goes_least : (place n part rest s : ℕ) (r : RowData) (i : InstData) → slice_get listed place ≡ Some r → 1 ≤ n → n ≤ 3 → s ≡ word_part_span n → rest ≡ word_of r (least_fields r) → i.row ≡ place → IsCompletionOf n part i → (j : InstData) × (j.row ≡ place) × IsWordOf (part + rest / s * s) j
 goes_least place n part rest s r i at low high is least_is same g =
     let row = row_is place r i g.inst at same in
     let fits : FieldsFitRow r (fields_in i) = subst (λ (t : RowData). FieldsFitRow t (fields_in i)) row g.inst.fits in
@@ -43,13 +43,13 @@ low_byte (suc zero) w h = omega arith
 low_byte (suc (suc zero)) w h = omega arith
 low_byte (suc (suc (suc n))) w h = omega arith
 
-pub goes_between : (starts ends : List ℕ) (first n part : ℕ) (i : InstData) (g : GoesOn n part i) → are_in_index_ranges starts ends 0 listed ≡ true → length starts ≡ 256 → length ends ≡ 256 → 1 ≤ n → first ≡ part % 256 → Between i.row g.inst.row (get_or starts first 0) (get_or ends first 0)
+pub goes_between : (starts ends : List ℕ) (first n part : ℕ) (i : InstData) (g : IsCompletionOf n part i) → are_in_index_ranges starts ends 0 listed ≡ true → length starts ≡ 256 → length ends ≡ 256 → 1 ≤ n → first ≡ part % 256 → Between i.row g.inst.row (get_or starts first 0) (get_or ends first 0)
 goes_between starts ends first n part i g all ls le low is =
     let w = word_of g.inst.row (fields_in i) in
     let same : w % 256 ≡ first = sym (low_byte n w low) ∙ ap (λ p. p % 256) g.is ∙ sym is in
     subst (λ p. Between i.row g.inst.row (get_or starts p 0) (get_or ends p 0)) same (stands_between starts ends w i (record { inst = g.inst; is = refl }) all ls le)
 
-pub goes_first : (place n part : ℕ) (r : RowData) (i : InstData) → slice_get listed place ≡ Some r → 1 ≤ n → GoesOn n part i → i.row ≡ place → r.op1 ≡ part % 256
+pub goes_first : (place n part : ℕ) (r : RowData) (i : InstData) → slice_get listed place ≡ Some r → 1 ≤ n → IsCompletionOf n part i → i.row ≡ place → r.op1 ≡ part % 256
 goes_first place n part r i at low g same =
     let w = word_of g.inst.row (fields_in i) in
     ap (λ (t : RowData). t.op1) (sym (row_is place r i g.inst at same))

@@ -10,7 +10,7 @@ use Rattle.tc_isa.specs.Forms.{bounds, fields_of}
 use Rattle.tc_isa.specs.InBounds.{AreFieldsBelow, are_fields_below}
 use Rattle.tc_isa.specs.ValidRowFields.{FieldsFitRow, IsRow}
 use Rattle.tc_isa.specs.Spelling.{word_of, spelling_of, spelling}
-use Rattle.tcd_base.specs.Bytes.{two_bytes, four_bytes, number_of_bytes}
+use Rattle.tcd_base.specs.Bytes.{two_bytes, four_bytes, number_from_bytes}
 use Rattle.tc_encode.specs.Decoding.{decoded_row_length, are_fitting_fields, fields_at, begins_with}
 use Rattle.tc_encode.proofs.Inverse.{fields-word}
 use Rattle.tc_encode.proofs.Bytes.{word-lt}
@@ -41,13 +41,13 @@ pub size_spelling : (r : RowData) (f : Fields) → length (spelling r f) ≡ dec
 size_spelling r f = size_spelled (is_long r) (word_of r f)
 
 -- the number of a spelling is its word
-four_number : (w : ℕ) → w < 2 ^ 32 → number_of_bytes (four_bytes w) ≡ w
+four_number : (w : ℕ) → w < 2 ^ 32 → number_from_bytes (four_bytes w) ≡ w
 four_number w h = omega arith
 
-two_number : (w : ℕ) → number_of_bytes (two_bytes w) ≡ w
+two_number : (w : ℕ) → number_from_bytes (two_bytes w) ≡ w
 two_number w = omega arith
 
-spelled_number : (long : Bool) (w : ℕ) → w < 2 ^ 32 → number_of_bytes (spelling_of long w) ≡ w
+spelled_number : (long : Bool) (w : ℕ) → w < 2 ^ 32 → number_from_bytes (spelling_of long w) ≡ w
 spelled_number true w h = four_number w h
 spelled_number false w h = two_number w
 
@@ -57,7 +57,7 @@ front_is r f rest = take_at (spelling r f) rest (decoded_row_length r) (size_spe
 -- the fields in a spelling are those that it spells
 pub fields_here : (r : RowData) (f : Fields) (rest : List ℕ) → IsRow r → FieldsFitRow r f → fields_at (spelling r f ++ rest) r ≡ f
 fields_here r f rest row fits =
-    ap (λ bs. fields_of r.form (number_of_bytes bs)) (front_is r f rest)
+    ap (λ bs. fields_of r.form (number_from_bytes bs)) (front_is r f rest)
     ∙ ap (fields_of r.form) (spelled_number (is_long r) (word_of r f) (word-lt r.form r.op1 r.op2 f row.first row.second fits.below))
     ∙ fields-word r.form r.op1 r.op2 f row.first row.second fits.below
 

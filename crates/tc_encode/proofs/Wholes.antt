@@ -5,13 +5,13 @@ use Rattle.std.proofs.lemmas.Bool.{eq-eqb}
 use Rattle.std.proofs.lemmas.List.{take-append-drop}
 use Rattle.tc_isa.specs.Forms.{fields_of, bounds}
 use Rattle.tc_isa.specs.Spelling.{word_by_form, word_of, spelling_of, spelling}
-use Rattle.tc_encode.specs.Decoding.{Begins, IsFront, decoded_of, decoded_length, decoded_row_length}
+use Rattle.tc_encode.specs.Decoding.{BeginsWith, IsInstPrefix, decoded_of, decoded_length, decoded_row_length}
 use Rattle.tc_isa.specs.Insts.{InstData, IsInst, fields_in}
 use Rattle.tc_isa.specs.Rows.{is_long}
-use Rattle.tcd_base.specs.Bytes.{two_bytes, four_bytes, number_of_bytes}
+use Rattle.tcd_base.specs.Bytes.{two_bytes, four_bytes, number_from_bytes}
 use Rattle.tc_isa.proofs.TableFacts.{row_at}
 use Rattle.tc_encode.specs.declared.errors.DecodeErr.TheVariants.{Short, NotListed}
-use Rattle.tc_encode.specs.WordSearch.{Makes, GoesOn, word_part_span}
+use Rattle.tc_encode.specs.WordSearch.{IsWordOf, IsCompletionOf, word_part_span}
 use Rattle.tc_encode.proofs.Inverse.{first-word}
 use Rattle.tc_encode.proofs.Spelled.{size_spelling}
 use Rattle.tc_encode.proofs.Finds.{first_is}
@@ -38,7 +38,7 @@ pub length_of_spelling : (i : InstData) (is : IsInst i) (a : ℕ) (more rest : L
 length_of_spelling i is a more rest e = size_spelling is.row (fields_in i) ∙ ap decoded_length (first_of_spelling i is a more rest e)
 
 -- bytes that begin with an instruction
-begun : (xs : List ℕ) (i : InstData) (n : ℕ) (b : Begins xs i n) → xs ≡ spelling b.spells.inst.row (fields_in i) ++ drop n xs
+begun : (xs : List ℕ) (i : InstData) (n : ℕ) (b : BeginsWith xs i n) → xs ≡ spelling b.spells.inst.row (fields_in i) ++ drop n xs
 begun xs i n b = sym (take-append-drop n xs) ∙ ap (λ front. front ++ drop n xs) b.spells.is
 
 -- bytes that are enough are not the beginning of one
@@ -46,7 +46,7 @@ nonempty : (rest : List ℕ) → length rest ≡ 0 → rest ≡ []
 nonempty [] e = refl
 nonempty (x ∷ xs) e = absurd (omega arith)
 
-pub no_front : (a : ℕ) (more : List ℕ) → decoded_length a ≤ length (a ∷ more) → IsFront (a ∷ more) → ⊥
+pub no_front : (a : ℕ) (more : List ℕ) → decoded_length a ≤ length (a ∷ more) → IsInstPrefix (a ∷ more) → ⊥
 no_front a more enough front =
     let s = front.spells in
     let whole : (a ∷ more) ++ front.rest ≡ spelling s.inst.row (fields_in front.inst) ++ [] = s.is ∙ sym (append_nil (spelling s.inst.row (fields_in front.inst))) in
@@ -58,7 +58,7 @@ no_front a more enough front =
     append_nil (y ∷ ys) = ap (λ zs. y ∷ zs) (append_nil ys)
 
 -- too few bytes begin with no instruction
-pub none_begins : (a : ℕ) (more : List ℕ) → length (a ∷ more) < decoded_length a → (i : InstData) (n : ℕ) → Begins (a ∷ more) i n → ⊥
+pub none_begins : (a : ℕ) (more : List ℕ) → length (a ∷ more) < decoded_length a → (i : InstData) (n : ℕ) → BeginsWith (a ∷ more) i n → ⊥
 none_begins a more few i n b =
     let size = length_of_spelling i b.spells.inst a more (drop n (a ∷ more)) (begun (a ∷ more) i n b) in
     let whole = ap length b.spells.is in
@@ -77,7 +77,7 @@ long_is i is a first odd = ap (λ x. x % 2 == 1) first ∙ eq-eqb _ _ odd
 short_is : (i : InstData) (is : IsInst i) (a : ℕ) → is.row.op1 ≡ a → a % 2 ≡ 0 → is_long is.row ≡ false
 short_is i is a first even = ap (λ x. x % 2 == 1) first ∙ ap (λ m. m == 1) even
 
-pub long_ok : (a b c d w : ℕ) (i : InstData) (rest : List ℕ) → a % 2 ≡ 1 → a < 256 → b < 256 → c < 256 → d < 256 → w ≡ a + b * 2 ^ 8 + c * 2 ^ 16 + d * 2 ^ 24 → Makes w i → decoded_of (a ∷ b ∷ c ∷ d ∷ rest) ≡ Ok (i, 4)
+pub long_ok : (a b c d w : ℕ) (i : InstData) (rest : List ℕ) → a % 2 ≡ 1 → a < 256 → b < 256 → c < 256 → d < 256 → w ≡ a + b * 2 ^ 8 + c * 2 ^ 16 + d * 2 ^ 24 → IsWordOf w i → decoded_of (a ∷ b ∷ c ∷ d ∷ rest) ≡ Ok (i, 4)
 long_ok a b c d w i rest odd la lb lc ld is m =
     let first : m.inst.row.op1 ≡ a = sym (first_is w i m) ∙ omega arith in
     let bytes : a ∷ b ∷ c ∷ d ∷ [] ≡ spelling m.inst.row (fields_in i) =
@@ -88,7 +88,7 @@ four_parts : (w a b c d : ℕ) (more rest : List ℕ) → a ∷ b ∷ c ∷ d �
 four_parts w a b c d more rest e =
     let p : a ≡ w % 256 = cc in let q : b ≡ w / 2 ^ 8 % 256 = cc in let r : c ≡ w / 2 ^ 16 % 256 = cc in let s : d ≡ w / 2 ^ 24 = cc in omega arith
 
-pub long_none : (a b c d w : ℕ) (rest : List ℕ) → a % 2 ≡ 1 → w ≡ a + b * 2 ^ 8 + c * 2 ^ 16 + d * 2 ^ 24 → ((i : InstData) → Makes w i → ⊥) → decoded_of (a ∷ b ∷ c ∷ d ∷ rest) ≡ Err NotListed
+pub long_none : (a b c d w : ℕ) (rest : List ℕ) → a % 2 ≡ 1 → w ≡ a + b * 2 ^ 8 + c * 2 ^ 16 + d * 2 ^ 24 → ((i : InstData) → IsWordOf w i → ⊥) → decoded_of (a ∷ b ∷ c ∷ d ∷ rest) ≡ Err NotListed
 long_none a b c d w rest odd is none =
     let xs = a ∷ b ∷ c ∷ d ∷ rest in
     (not_listed_is_rest xs).1 (
@@ -101,7 +101,7 @@ long_none a b c d w rest odd is none =
           none i (record { inst = inst; is = four_parts _ a b c d rest (drop n xs) bytes ∙ sym is }),
     )
 
-pub short_ok : (a b w : ℕ) (i : InstData) (rest : List ℕ) → a % 2 ≡ 0 → a < 256 → b < 256 → w ≡ a + b * 2 ^ 8 → Makes w i → decoded_of (a ∷ b ∷ rest) ≡ Ok (i, 2)
+pub short_ok : (a b w : ℕ) (i : InstData) (rest : List ℕ) → a % 2 ≡ 0 → a < 256 → b < 256 → w ≡ a + b * 2 ^ 8 → IsWordOf w i → decoded_of (a ∷ b ∷ rest) ≡ Ok (i, 2)
 short_ok a b w i rest even la lb is m =
     let first : m.inst.row.op1 ≡ a = sym (first_is w i m) ∙ omega arith in
     let bytes : a ∷ b ∷ [] ≡ spelling m.inst.row (fields_in i) =
@@ -111,7 +111,7 @@ short_ok a b w i rest even la lb is m =
 two_parts : (w a b : ℕ) (more rest : List ℕ) → a ∷ b ∷ more ≡ two_bytes w ++ rest → w ≡ a + b * 2 ^ 8
 two_parts w a b more rest e = let p : a ≡ w % 256 = cc in let q : b ≡ w / 256 = cc in omega arith
 
-pub short_none : (a b w : ℕ) (rest : List ℕ) → a % 2 ≡ 0 → w ≡ a + b * 2 ^ 8 → ((i : InstData) → Makes w i → ⊥) → decoded_of (a ∷ b ∷ rest) ≡ Err NotListed
+pub short_none : (a b w : ℕ) (rest : List ℕ) → a % 2 ≡ 0 → w ≡ a + b * 2 ^ 8 → ((i : InstData) → IsWordOf w i → ⊥) → decoded_of (a ∷ b ∷ rest) ≡ Err NotListed
 short_none a b w rest even is none =
     let xs = a ∷ b ∷ rest in
     (not_listed_is_rest xs).1 (
@@ -125,7 +125,7 @@ short_none a b w rest even is none =
     )
 
 -- one to three bytes and their number
-low_bytes : (long : Bool) (w : ℕ) (bytes : List ℕ) → All (λ b. b < 256) bytes → 1 ≤ length bytes → length bytes < (if long then 4 else 2) → w % word_part_span (length bytes) ≡ number_of_bytes bytes → take (length bytes) (spelling_of long w) ≡ bytes
+low_bytes : (long : Bool) (w : ℕ) (bytes : List ℕ) → All (λ b. b < 256) bytes → 1 ≤ length bytes → length bytes < (if long then 4 else 2) → w % word_part_span (length bytes) ≡ number_from_bytes bytes → take (length bytes) (spelling_of long w) ≡ bytes
 low_bytes long w [] all low high is = absurd (omega arith)
 low_bytes true w (a ∷ []) all low high is = let p : w % 256 ≡ a = omega arith in rw p refl
 low_bytes true w (a ∷ b ∷ []) all low high is =
@@ -138,7 +138,7 @@ low_bytes true w (a ∷ b ∷ c ∷ d ∷ more) all low high is = absurd (omega 
 low_bytes false w (a ∷ []) all low high is = let p : w % 256 ≡ a = omega arith in rw p refl
 low_bytes false w (a ∷ b ∷ more) all low high is = absurd (omega arith)
 
-low_number : (long : Bool) (w : ℕ) (bytes rest : List ℕ) → 1 ≤ length bytes → length bytes < (if long then 4 else 2) → bytes ++ rest ≡ spelling_of long w → w % word_part_span (length bytes) ≡ number_of_bytes bytes
+low_number : (long : Bool) (w : ℕ) (bytes rest : List ℕ) → 1 ≤ length bytes → length bytes < (if long then 4 else 2) → bytes ++ rest ≡ spelling_of long w → w % word_part_span (length bytes) ≡ number_from_bytes bytes
 low_number long w [] rest low high is = absurd (omega arith)
 low_number true w (a ∷ []) rest low high is = let p : a ≡ w % 256 = cc in omega arith
 low_number true w (a ∷ b ∷ []) rest low high is = let p : a ≡ w % 256 = cc in let q : b ≡ w / 2 ^ 8 % 256 = cc in omega arith
@@ -148,7 +148,7 @@ low_number false w (a ∷ []) rest low high is = let p : a ≡ w % 256 = cc in o
 low_number false w (a ∷ b ∷ more) rest low high is = absurd (omega arith)
 
 -- bytes that can be completed are the beginning of an instruction
-pub goes_front : (bytes : List ℕ) (i : InstData) → All (λ b. b < 256) bytes → 1 ≤ length bytes → GoesOn (length bytes) (number_of_bytes bytes) i → IsFront bytes
+pub goes_front : (bytes : List ℕ) (i : InstData) → All (λ b. b < 256) bytes → 1 ≤ length bytes → IsCompletionOf (length bytes) (number_from_bytes bytes) i → IsInstPrefix bytes
 goes_front bytes i all low g =
     let s = spelling g.inst.row (fields_in i) in
     let front : take (length bytes) s ≡ bytes = low_bytes (is_long g.inst.row) (word_of g.inst.row (fields_in i)) bytes all low g.longer g.is in
@@ -159,7 +159,7 @@ goes_front bytes i all low g =
       spells = record { inst = g.inst; is = ap (λ f. f ++ drop (length bytes) s) (sym front) ∙ take-append-drop (length bytes) s };
     }
 
-pub front_goes : (a : ℕ) (more : List ℕ) → length (a ∷ more) < decoded_length a → (front : IsFront (a ∷ more)) → GoesOn (length (a ∷ more)) (number_of_bytes (a ∷ more)) front.inst
+pub front_goes : (a : ℕ) (more : List ℕ) → length (a ∷ more) < decoded_length a → (front : IsInstPrefix (a ∷ more)) → IsCompletionOf (length (a ∷ more)) (number_from_bytes (a ∷ more)) front.inst
 front_goes a more few front =
     let s = front.spells in
     let first = first_of_spelling front.inst s.inst a (more ++ front.rest) [] (s.is ∙ sym (append_nil (spelling s.inst.row (fields_in front.inst)))) in
@@ -170,23 +170,23 @@ front_goes a more few front =
     append_nil [] = refl
     append_nil (y ∷ ys) = ap (λ zs. y ∷ zs) (append_nil ys)
 
-pub front_short : (bytes : List ℕ) (n part first : ℕ) (i : InstData) → 1 ≤ n → n < decoded_length first → first ≡ part % 256 → length bytes ≡ n → All (λ b. b < 256) bytes → number_of_bytes bytes ≡ part → GoesOn n part i → decoded_of bytes ≡ Err Short
+pub front_short : (bytes : List ℕ) (n part first : ℕ) (i : InstData) → 1 ≤ n → n < decoded_length first → first ≡ part % 256 → length bytes ≡ n → All (λ b. b < 256) bytes → number_from_bytes bytes ≡ part → IsCompletionOf n part i → decoded_of bytes ≡ Err Short
 front_short [] n part first i low high head len all num g = absurd (omega arith)
 front_short (a ∷ more) n part first i low high head len all num g =
     let la : a < 256 = all 0 0 (omega arith) in
     let same : first ≡ a = head ∙ omega (arith, num) in
     let few : length (a ∷ more) < decoded_length a = subst (λ x. length (a ∷ more) < decoded_length x) same (omega (arith, high, len)) in
-    let goes : GoesOn (length (a ∷ more)) (number_of_bytes (a ∷ more)) i = subst (λ p. GoesOn (length (a ∷ more)) p i) (sym num) (subst (λ m. GoesOn m part i) (sym len) g) in
+    let goes : IsCompletionOf (length (a ∷ more)) (number_from_bytes (a ∷ more)) i = subst (λ p. IsCompletionOf (length (a ∷ more)) p i) (sym num) (subst (λ m. IsCompletionOf m part i) (sym len) g) in
     (short_is_front (a ∷ more)).1 (goes_front (a ∷ more) i all (omega arith) goes, none_begins a more few)
 
-pub front_none : (bytes : List ℕ) (n part first : ℕ) → 1 ≤ n → n < decoded_length first → first ≡ part % 256 → length bytes ≡ n → All (λ b. b < 256) bytes → number_of_bytes bytes ≡ part → ((i : InstData) → GoesOn n part i → ⊥) → decoded_of bytes ≡ Err NotListed
+pub front_none : (bytes : List ℕ) (n part first : ℕ) → 1 ≤ n → n < decoded_length first → first ≡ part % 256 → length bytes ≡ n → All (λ b. b < 256) bytes → number_from_bytes bytes ≡ part → ((i : InstData) → IsCompletionOf n part i → ⊥) → decoded_of bytes ≡ Err NotListed
 front_none [] n part first low high head len all num none = absurd (omega arith)
 front_none (a ∷ more) n part first low high head len all num none =
     let la : a < 256 = all 0 0 (omega arith) in
     let same : first ≡ a = head ∙ omega (arith, num) in
     let few : length (a ∷ more) < decoded_length a = subst (λ x. length (a ∷ more) < decoded_length x) same (omega (arith, high, len)) in
     (not_listed_is_rest (a ∷ more)).1
-    (λ front. none front.inst (subst (λ p. GoesOn n p front.inst) num (subst (λ m. GoesOn m (number_of_bytes (a ∷ more)) front.inst) len (front_goes a more few front))), none_begins a more few)
+    (λ front. none front.inst (subst (λ p. IsCompletionOf n p front.inst) num (subst (λ m. IsCompletionOf m (number_from_bytes (a ∷ more)) front.inst) len (front_goes a more few front))), none_begins a more few)
 
 -- no bytes are the beginning of an instruction
 pub empty_short : (xs : List ℕ) → length xs ≡ 0 → Err Short ≡ decoded_of xs

@@ -2,7 +2,7 @@
 use Rattle.std.specs.Prelude.{◌≡◌, ◌≤◌, ◌⊎◌, ◌↔◌, ℕ, List, [], ◌++◌, length, take, Ok, Err}
 use Rattle.tc_isa.specs.Insts.{InstData}
 use Rattle.tc_isa.specs.Spelling.{Spells}
-use Rattle.tc_encode.specs.Decoding.{Begins, IsFront, decoded_of}
+use Rattle.tc_encode.specs.Decoding.{BeginsWith, IsInstPrefix, decoded_of}
 use Rattle.tc_encode.specs.declared.errors.DecodeErr.TheVariants.{Short, NotListed}
 
 -- no bytes spell two instructions
@@ -32,19 +32,19 @@ DecodedSpells = (xs : List ℕ) (i : InstData) (n : ℕ) → decoded_of xs ≡ O
 
 -- what is decoded is what the bytes begin with
 abbrev pub DecodedBegins : Type 0
-DecodedBegins = (xs : List ℕ) (i : InstData) (n : ℕ) → (decoded_of xs ≡ Ok (i, n)) ↔ Begins xs i n
+DecodedBegins = (xs : List ℕ) (i : InstData) (n : ℕ) → (decoded_of xs ≡ Ok (i, n)) ↔ BeginsWith xs i n
 
 -- bytes that spell an instruction are decoded as it, whatever follows
 abbrev pub SpelledDecodes : Type 0
 SpelledDecodes = (bytes rest : List ℕ) (i : InstData) → Spells bytes i → decoded_of (bytes ++ rest) ≡ Ok (i, length bytes)
 
 -- Short: the bytes are the beginning of an instruction, and begin with none
-abbrev pub ShortIsFront : Type 0
-ShortIsFront = (xs : List ℕ) → (decoded_of xs ≡ Err Short) ↔ (IsFront xs × ((i : InstData) (n : ℕ) → Begins xs i n → ⊥))
+abbrev pub ShortIsPrefix : Type 0
+ShortIsPrefix = (xs : List ℕ) → (decoded_of xs ≡ Err Short) ↔ (IsInstPrefix xs × ((i : InstData) (n : ℕ) → BeginsWith xs i n → ⊥))
 
 -- NotListed: the bytes neither begin with an instruction nor are the beginning of one
 abbrev pub NotListedIsRest : Type 0
-NotListedIsRest = (xs : List ℕ) → (decoded_of xs ≡ Err NotListed) ↔ ((IsFront xs → ⊥) × ((i : InstData) (n : ℕ) → Begins xs i n → ⊥))
+NotListedIsRest = (xs : List ℕ) → (decoded_of xs ≡ Err NotListed) ↔ ((IsInstPrefix xs → ⊥) × ((i : InstData) (n : ℕ) → BeginsWith xs i n → ⊥))
 
 -- the laws of decoding
 pub record DecodeLaws : Type 0 where
@@ -53,5 +53,5 @@ pub record DecodeLaws : Type 0 where
   pub decoded : DecodedSpells
   pub begins : DecodedBegins
   pub spelled : SpelledDecodes
-  pub short : ShortIsFront
+  pub short : ShortIsPrefix
   pub not_listed : NotListedIsRest

@@ -11,7 +11,7 @@ use Rattle.tc_isa.specs.Spelling.{spelling, Spells}
 use Rattle.tc_isa.specs.Insts.{InstData}
 use Rattle.tc_encode.specs.declared.errors.DecodeErr.{DecodeErr}
 use Rattle.tc_encode.specs.declared.errors.DecodeErr.TheVariants.{Short, NotListed}
-use Rattle.tcd_base.specs.Bytes.{number_of_bytes}
+use Rattle.tcd_base.specs.Bytes.{number_from_bytes}
 
 -- the number of bytes of an instruction with this first byte: 4 if bit 0 is set, else 2
 abbrev pub decoded_length : ℕ → ℕ
@@ -28,7 +28,7 @@ are_fitting_fields r f = are_fields_below f (bounds r.form) && are_unused_fields
 
 -- the fields at the front of the bytes, in the row's form
 abbrev pub fields_at : List ℕ → RowData → Fields
-fields_at bytes r = fields_of r.form (number_of_bytes (take (decoded_row_length r) bytes))
+fields_at bytes r = fields_of r.form (number_from_bytes (take (decoded_row_length r) bytes))
 
 -- the bytes begin with an instruction of the row: the fields there fit, and spell these bytes
 abbrev pub begins_with : List ℕ → RowData → Bool
@@ -36,8 +36,8 @@ begins_with bytes r = are_fitting_fields r (fields_at bytes r) && bytes_eq (take
 
 -- the bytes are the beginning of an instruction of the row: completed by its least fields, they
 -- spell one
-abbrev pub goes_on_as : List ℕ → RowData → Bool
-goes_on_as bytes r = nat_lt (length bytes) (decoded_row_length r) && begins_with (bytes ++ drop (length bytes) (spelling r (least_fields r))) r
+abbrev pub is_prefix_of_row : List ℕ → RowData → Bool
+is_prefix_of_row bytes r = nat_lt (length bytes) (decoded_row_length r) && begins_with (bytes ++ drop (length bytes) (spelling r (least_fields r))) r
 
 -- the decoded instruction: that of the row at this place, with these fields
 abbrev pub instruction_at_row : ℕ → Fields → InstData
@@ -45,27 +45,27 @@ instruction_at_row place f = record { row = place; c = f.c; s1 = f.s1; s2 = f.s2
 
 -- the first row, numbered from `place` on, of which the bytes begin with an instruction: the
 -- instruction, and its number of bytes
-abbrev pub first_of : List ℕ → ℕ → List RowData → Option (InstData × ℕ)
-first_of bytes place [] = None
-first_of bytes place (r ∷ rs) = if begins_with bytes r then Some (instruction_at_row place (fields_at bytes r), decoded_row_length r) else first_of bytes (suc place) rs
+abbrev pub first_row_match : List ℕ → ℕ → List RowData → Option (InstData × ℕ)
+first_row_match bytes place [] = None
+first_row_match bytes place (r ∷ rs) = if begins_with bytes r then Some (instruction_at_row place (fields_at bytes r), decoded_row_length r) else first_row_match bytes (suc place) rs
 
 -- the instruction that was found; else Short if the bytes are the beginning of one, else NotListed
-abbrev pub answer_of : List ℕ → Option (InstData × ℕ) → Result (InstData × ℕ) DecodeErr
-answer_of bytes (Some found) = Ok found
-answer_of bytes None = if list_any (goes_on_as bytes) listed then Err Short else Err NotListed
+abbrev pub decode_answer : List ℕ → Option (InstData × ℕ) → Result (InstData × ℕ) DecodeErr
+decode_answer bytes (Some found) = Ok found
+decode_answer bytes None = if list_any (is_prefix_of_row bytes) listed then Err Short else Err NotListed
 
 -- the instruction that the bytes begin with, and its number of bytes; else Short if the bytes are
 -- the beginning of one, else NotListed
 unfoldable pub decoded_of : List ℕ → Result (InstData × ℕ) DecodeErr
-decoded_of bytes = answer_of bytes (first_of bytes 0 listed)
+decoded_of bytes = decode_answer bytes (first_row_match bytes 0 listed)
 
 -- the first n bytes are the spelling of the instruction
-pub record Begins (bytes : List ℕ) (i : InstData) (n : ℕ) : Type 0 where
+pub record BeginsWith (bytes : List ℕ) (i : InstData) (n : ℕ) : Type 0 where
   pub within : n ≤ length bytes
   pub spells : Spells (take n bytes) i
 
 -- the bytes are the first few of the spelling of an instruction, but not all
-pub record IsFront (bytes : List ℕ) : Type 0 where
+pub record IsInstPrefix (bytes : List ℕ) : Type 0 where
   pub rest : List ℕ
   pub more : rest ≢ []
   pub inst : InstData

@@ -12,7 +12,7 @@ use Rattle.tc_isa.specs.Insts.{InstData, IsInst, fields_in}
 use Rattle.tc_encode.specs.Decoding.{decoded_row_length}
 
 -- the instruction to be found by the word w: w is its word
-pub record Makes (w : ℕ) (i : InstData) : Type 0 where
+pub record IsWordOf (w : ℕ) (i : InstData) : Type 0 where
   pub inst : IsInst i
   pub is : word_of inst.row (fields_in i) ≡ w
 
@@ -37,7 +37,7 @@ abbrev pub mix_low_bytes : ℕ → ℕ → ℕ → ℕ
 mix_low_bytes n a b = a % word_part_span n + b / word_part_span n * word_part_span n
 
 -- the search has read the low n bytes of the word of an instruction, and the instruction is longer
-pub record GoesOn (n part : ℕ) (i : InstData) : Type 0 where
+pub record IsCompletionOf (n part : ℕ) (i : InstData) : Type 0 where
   pub inst : IsInst i
   pub longer : n < decoded_row_length inst.row
   pub is : word_of inst.row (fields_in i) % word_part_span n ≡ part
@@ -79,33 +79,33 @@ are_at_index_places bases places place (r ∷ rs) = is_at_index_place places pla
 
 -- each field is one that the row has, or always 0 in its form, so that the search by a word needn't
 -- test it
-abbrev pub names_or_lacks : Uses → Fields → Bool
-names_or_lacks u b = (u.c || b.c == 1) && (u.s1 || b.s1 == 1) && (u.s2 || b.s2 == 1) && (u.n || b.n == 1) && (u.k || b.k == 1)
+abbrev pub has_all_form_fields : Uses → Fields → Bool
+has_all_form_fields u b = (u.c || b.c == 1) && (u.s1 || b.s1 == 1) && (u.s2 || b.s2 == 1) && (u.n || b.n == 1) && (u.k || b.k == 1)
 
 -- the row has all fields of its form, so that the search by a word needn't test that others are 0
 abbrev pub is_plain_row : RowData → Bool
-is_plain_row r = names_or_lacks (uses_of r) (bounds r.form)
+is_plain_row r = has_all_form_fields (uses_of r) (bounds r.form)
 
 -- the word to search an instruction by is 0 in the bits that its form has for no field and no code
-unfoldable pub has_zero_word_gaps : Form → ℕ → Bool
-has_zero_word_gaps Rlc w = true
-has_zero_word_gaps Rr w = w / 2 ^ 18 % 4 == 0
-has_zero_word_gaps Rc w = true
-has_zero_word_gaps Bol w = true
-has_zero_word_gaps Bo w = true
-has_zero_word_gaps Brr w = true
-has_zero_word_gaps Brc w = true
-has_zero_word_gaps B w = true
-has_zero_word_gaps Abs w = true
-has_zero_word_gaps Sys w = w / 2 ^ 28 == 0 && w / 2 ^ 8 % 2 ^ 14 == 0
-has_zero_word_gaps Sr w = true
-has_zero_word_gaps Sc w = true
-has_zero_word_gaps Sb w = true
-has_zero_word_gaps Sbr w = true
-has_zero_word_gaps Src w = true
-has_zero_word_gaps Srr w = true
-has_zero_word_gaps Slr w = true
-has_zero_word_gaps Ssr w = true
+unfoldable pub are_unused_bits_zero : Form → ℕ → Bool
+are_unused_bits_zero Rlc w = true
+are_unused_bits_zero Rr w = w / 2 ^ 18 % 4 == 0
+are_unused_bits_zero Rc w = true
+are_unused_bits_zero Bol w = true
+are_unused_bits_zero Bo w = true
+are_unused_bits_zero Brr w = true
+are_unused_bits_zero Brc w = true
+are_unused_bits_zero B w = true
+are_unused_bits_zero Abs w = true
+are_unused_bits_zero Sys w = w / 2 ^ 28 == 0 && w / 2 ^ 8 % 2 ^ 14 == 0
+are_unused_bits_zero Sr w = true
+are_unused_bits_zero Sc w = true
+are_unused_bits_zero Sb w = true
+are_unused_bits_zero Sbr w = true
+are_unused_bits_zero Src w = true
+are_unused_bits_zero Srr w = true
+are_unused_bits_zero Slr w = true
+are_unused_bits_zero Ssr w = true
 
 -- the word with the low two bytes of a, and the rest of b
 abbrev pub mix_two_bytes : ℕ → ℕ → ℕ

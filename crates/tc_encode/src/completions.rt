@@ -4,7 +4,7 @@ ghost use Rattle.tc_isa.specs.Rows.{row_of, listed};
 ghost use Rattle.tc_isa.specs.ValidRowFields.{least_fields};
 ghost use Rattle.tc_isa.specs.Insts.{InstData};
 ghost use Rattle.tc_encode.specs.Decoding.{decoded_row_length, decoded_length};
-ghost use Rattle.tc_encode.specs.WordSearch.{GoesOn, word_part_span};
+ghost use Rattle.tc_encode.specs.WordSearch.{IsCompletionOf, word_part_span};
 
 use crate::decoding::decode_row_word;
 use crate::forms::word_of_fields;
@@ -17,8 +17,8 @@ pub fn completion(first: u8, n: u8, part: u32) -> Option<Inst>
     requires high { n < decoded_length first }
     requires part { part < word_part_span n }
     requires first { first ≡ part % 256 }
-    ensures some { IfSome result (GoesOn n part) }
-    ensures none { IfNone result ((i : InstData) → GoesOn n part i → ⊥) }
+    ensures some { IfSome result (IsCompletionOf n part) }
+    ensures none { IfNone result ((i : InstData) → IsCompletionOf n part i → ⊥) }
 {
     let (starts, ends) = index_by_first_byte();
     let place = usize::from(first);
@@ -32,9 +32,9 @@ fn completion_between(from: u8, to: u8, first: u8, n: u8, part: u32) -> Option<I
     requires high { n < decoded_length first }
     requires part { part < word_part_span n }
     requires first { first ≡ part % 256 }
-    ensures some { IfSome result (GoesOn n part) }
+    ensures some { IfSome result (IsCompletionOf n part) }
     ensures none { IfNone result
-        ((i : InstData) → GoesOn n part i → from ≤ i.row → i.row < to → ⊥) }
+        ((i : InstData) → IsCompletionOf n part i → from ≤ i.row → i.row < to → ⊥) }
 {
     for place in from..to {
         if let Some(found) = completion_at(place, first, n, part) {
@@ -52,8 +52,8 @@ fn completion_at(place: u8, first: u8, n: u8, part: u32) -> Option<Inst>
     requires high { n < decoded_length first }
     requires part { part < word_part_span n }
     requires first { first ≡ part % 256 }
-    ensures some { IfSome result (GoesOn n part) }
-    ensures none { IfNone result ((i : InstData) → GoesOn n part i → i.row ≡ place → ⊥) }
+    ensures some { IfSome result (IsCompletionOf n part) }
+    ensures none { IfNone result ((i : InstData) → IsCompletionOf n part i → i.row ≡ place → ⊥) }
 {
     let row = &rows()[usize::from(place)];
     if row.op1 != first {
@@ -69,8 +69,8 @@ fn completion_in_row(place: u8, row: &Row, n: u8, part: u32) -> Option<Inst>
     requires high { n ≤ 3 }
     requires part { part < word_part_span n }
     requires longer { n < decoded_row_length (row_of row.now) }
-    ensures some { IfSome result (GoesOn n part) }
-    ensures none { IfNone result ((i : InstData) → GoesOn n part i → i.row ≡ place → ⊥) }
+    ensures some { IfSome result (IsCompletionOf n part) }
+    ensures none { IfNone result ((i : InstData) → IsCompletionOf n part i → i.row ≡ place → ⊥) }
 {
     let rest = word_of_fields(row.form, row.op1, row.op2, &least_completion_fields(row));
     let span = word_part_span(n);

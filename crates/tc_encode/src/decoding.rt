@@ -1,10 +1,10 @@
 // Decodes the instruction that bytes begin with.
 ghost use Rattle.std.specs.Prelude.{◌≡◌, ◌↔◌, Ok, ◌<◌, ◌≤◌, ◌%◌, ◌^◌, ℕ, List, [], ◌∷◌, length, Err, All, slice_index, IfOk, IfSome, IfNone, slice_get, Some};
 ghost use Rattle.tc_isa.specs.Insts.{InstData};
-ghost use Rattle.tc_encode.specs.Decoding.{Begins, IsFront, decoded_of, decoded_length};
-ghost use Rattle.tcd_base.specs.Bytes.{number_of_bytes};
+ghost use Rattle.tc_encode.specs.Decoding.{BeginsWith, IsInstPrefix, decoded_of, decoded_length};
+ghost use Rattle.tcd_base.specs.Bytes.{number_from_bytes};
 ghost use Rattle.tc_isa.specs.Rows.{row_of, listed};
-ghost use Rattle.tc_encode.specs.WordSearch.{Makes};
+ghost use Rattle.tc_encode.specs.WordSearch.{IsWordOf};
 
 use crate::completions::completion;
 use crate::errors::DecodeErr;
@@ -20,11 +20,11 @@ pub fn decode(bytes: &[u8]) -> Result<(Inst, usize), DecodeErr>
     ensures size { IfOk result (λ p. (2 ≤ p.1) × (p.1 ≤ 4) × (p.1 ≤ length bytes.now)) }
 
     // Each answer by the relation of bytes and instructions: it is given exactly in its case.
-    ensures ok { (i : InstData) (n : ℕ) → (result ≡ Ok (i, n)) ↔ Begins bytes.now i n }
+    ensures ok { (i : InstData) (n : ℕ) → (result ≡ Ok (i, n)) ↔ BeginsWith bytes.now i n }
     ensures short { (result ≡ Err DecodeErr.Short)
-        ↔ (IsFront bytes.now × ((i : InstData) (n : ℕ) → Begins bytes.now i n → ⊥)) }
+        ↔ (IsInstPrefix bytes.now × ((i : InstData) (n : ℕ) → BeginsWith bytes.now i n → ⊥)) }
     ensures not_listed { (result ≡ Err DecodeErr.NotListed)
-        ↔ ((IsFront bytes.now → ⊥) × ((i : InstData) (n : ℕ) → Begins bytes.now i n → ⊥)) }
+        ↔ ((IsInstPrefix bytes.now → ⊥) × ((i : InstData) (n : ℕ) → BeginsWith bytes.now i n → ⊥)) }
 {
     decode_by_first_byte(bytes)
 }
@@ -32,9 +32,9 @@ pub fn decode(bytes: &[u8]) -> Result<(Inst, usize), DecodeErr>
 /// Returns the instruction of this row if the word is one.
 pub(crate) fn decode_row_word(place: u8, row: &Row, w: u32) -> Option<Inst>
     requires { slice_get listed place ≡ Some (row_of row.now) }
-    ensures some { IfSome result (Makes w) }
+    ensures some { IfSome result (IsWordOf w) }
     ensures place { IfSome result (λ i. i.row ≡ place) }
-    ensures none { IfNone result ((i : InstData) → Makes w i → i.row ≡ place → ⊥) }
+    ensures none { IfNone result ((i : InstData) → IsWordOf w i → i.row ≡ place → ⊥) }
 {
     let f = fields_of_word(row.form, w);
     let Some(found) = inst(place, f.c, f.s1, f.s2, f.n, f.k) else {
@@ -104,7 +104,7 @@ fn decode_refusal(first: u8, n: u8, part: u32) -> DecodeErr
     requires first { first ≡ part % 256 }
     requires part { part < 256 ^ n }
     ensures { (bytes : List ℕ) → length bytes ≡ n → All (λ b. b < 256) bytes
-        → number_of_bytes bytes ≡ part
+        → number_from_bytes bytes ≡ part
         → decoded_of bytes ≡ Err result }
 {
     match completion(first, n, part) {

@@ -5,7 +5,7 @@ ghost use Rattle.tc_isa.specs.Forms.{second_code_by_form, bounds};
 ghost use Rattle.tc_isa.specs.InBounds.{AreFieldsBelow};
 ghost use Rattle.tc_isa.specs.ValidRowFields.{uses_of, are_unused_fields_zero};
 ghost use Rattle.tc_isa.specs.Insts.{InstData};
-ghost use Rattle.tc_encode.specs.WordSearch.{Makes, has_zero_word_gaps};
+ghost use Rattle.tc_encode.specs.WordSearch.{IsWordOf, are_unused_bits_zero};
 
 use crate::forms::{fields_of_word, second_code};
 use crate::index::{form_of_first_byte, index_by_codes, place_in_code_index, plain_rows};
@@ -16,8 +16,8 @@ use tc_isa::{
 /// Returns the instruction of a word, which has 16 bits if its lowest byte is even.
 pub fn find_by_word(w: u32) -> Option<Inst>
     requires { w % 2 ≡ 0 → w < 2 ^ 16 }
-    ensures some { IfSome result (Makes w) }
-    ensures none { IfNone result ((i : InstData) → Makes w i → ⊥) }
+    ensures some { IfSome result (IsWordOf w) }
+    ensures none { IfNone result ((i : InstData) → IsWordOf w i → ⊥) }
 {
     let first = (w % 256) as u8;
     let second = second_code_by_first(first, w);
@@ -35,8 +35,8 @@ pub(crate) fn find_word_in_row(place: u8, row: &Row, w: u32) -> Option<Inst>
     requires first { row.now.op1 ≡ w % 256 }
     requires second { row.now.op2 ≡ second_code_by_form row.now.form w }
     requires short { w % 2 ≡ 0 → w < 2 ^ 16 }
-    ensures some { IfSome result (Makes w) }
-    ensures none { IfNone result ((i : InstData) → Makes w i → i.row ≡ place → ⊥) }
+    ensures some { IfSome result (IsWordOf w) }
+    ensures none { IfNone result ((i : InstData) → IsWordOf w i → i.row ≡ place → ⊥) }
 {
     let f = fields_of_word(row.form, w);
     if !are_unused_bits_zero(row.form, w) {
@@ -65,8 +65,8 @@ pub(crate) fn find_word_at(place: u8, first: u8, second: u8, w: u32) -> Option<I
     requires second { (r : RowData) → slice_get listed place ≡ Some r → r.op1 ≡ first
         → second ≡ second_code_by_form r.form w }
     requires short { w % 2 ≡ 0 → w < 2 ^ 16 }
-    ensures some { IfSome result (Makes w) }
-    ensures none { IfNone result ((i : InstData) → Makes w i → i.row ≡ place → ⊥) }
+    ensures some { IfSome result (IsWordOf w) }
+    ensures none { IfNone result ((i : InstData) → IsWordOf w i → i.row ≡ place → ⊥) }
 {
     let at = usize::from(place);
     let row = &rows()[at];
@@ -89,9 +89,9 @@ fn second_code_by_first(first: u8, w: u32) -> u8
 
 /// Returns true if the word of the search is 0 in all bits that its form has for no field and no
 /// code.
-#[tactic(auto, unfolding(crate::specs::WordSearch::has_zero_word_gaps))]
+#[tactic(auto, unfolding(crate::specs::WordSearch::are_unused_bits_zero))]
 fn are_unused_bits_zero(form: Form, w: u32) -> bool
-    ensures { result ≡ has_zero_word_gaps form w }
+    ensures { result ≡ are_unused_bits_zero form w }
 {
     match form {
         Form::Rr => w / 262_144 % 4 == 0,

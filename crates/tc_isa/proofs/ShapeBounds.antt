@@ -25,7 +25,7 @@ use Rattle.tc_isa.specs.declared.shapes.Shape.TheVariants.{Ret, Rfe, Svlcx, Rslc
 use Rattle.tc_isa.specs.Insts.{InstData, IsInst, fields_in}
 use Rattle.tc_isa.specs.Rows.{listed}
 use Rattle.tc_isa.specs.Meanings.{meanings, shape_of}
-use Rattle.tc_isa.specs.InBounds.{IsRegister, IsArg, IsTarget, IsShapeAccessSize, IsShape, AreSmall}
+use Rattle.tc_isa.specs.InBounds.{IsRegister, IsArg, IsTarget, IsShapeAccessSize, IsShape, AreFieldsSmall}
 use Rattle.tcd_base.specs.Bytes.{IsWord}
 use Rattle.tc_isa.specs.FromFields.{shape_register, shape_constant, shape_operand, shape_distance, shape_target, shape_from_fields}
 use Rattle.tc_isa.proofs.Shaped.{small, row_below, shaped}
@@ -36,11 +36,11 @@ sext_lt x n low word = elim (cases_lt x (2 ^ (n - 1))) [
   | inr minus ↦ rw (le-ltb x (2 ^ (n - 1)) minus) (omega arith)
 ]
 
-register_is : (p : RegField) (f : Fields) → AreSmall f → IsRegister (shape_register p f)
+register_is : (p : RegField) (f : Fields) → AreFieldsSmall f → IsRegister (shape_register p f)
 register_is Dc f s = omega arith
 register_is _ f s = omega arith
 
-word_is : (c : Immediate) (f : Fields) → AreSmall f → IsWord (shape_constant c f)
+word_is : (c : Immediate) (f : Fields) → AreFieldsSmall f → IsWord (shape_constant c f)
 word_is Signed4 f s = sext_lt (f.k % 2 ^ 4) 4 (omega arith) (omega arith)
 word_is Signed9 f s = sext_lt (f.k % 2 ^ 9) 9 (omega arith) (omega arith)
 word_is Signed10 f s = sext_lt (f.k % 2 ^ 10) 10 (omega arith) (omega arith)
@@ -48,15 +48,15 @@ word_is Signed16 f s = sext_lt (f.k % 2 ^ 16) 16 (omega arith) (omega arith)
 word_is SignedS2 f s = sext_lt (f.s2 % 2 ^ 4) 4 (omega arith) (omega arith)
 word_is _ f s = omega arith
 
-operand_is : (o : Operand) (f : Fields) → AreSmall f → IsArg (shape_operand o f)
+operand_is : (o : Operand) (f : Fields) → AreFieldsSmall f → IsArg (shape_operand o f)
 operand_is (At p) f s = register_is p f s
 operand_is (Of c) f s = word_is c f s
 
-distance_is : (b : Displacement) (f : Fields) → AreSmall f → IsWord (shape_distance b f)
+distance_is : (b : Displacement) (f : Fields) → AreFieldsSmall f → IsWord (shape_distance b f)
 distance_is Ahead8 f s = omega arith
 distance_is _ f s = omega arith
 
-target_is : (g : Destination) (f : Fields) → AreSmall f → IsTarget (shape_target g f)
+target_is : (g : Destination) (f : Fields) → AreFieldsSmall f → IsTarget (shape_target g f)
 target_is (By b) f s = distance_is b f s
 target_is Code f s = omega arith
 target_is (In p) f s = register_is p f s
@@ -99,7 +99,7 @@ plain_is Disable e = tt
 plain_is Nothing e = tt
 plain_is _ e = cc
 
-meant_is : (m : Meaning) (f : Fields) → AreSmall f → is_sound m ≡ true → IsShape (shape_from_fields m f)
+meant_is : (m : Meaning) (f : Fields) → AreFieldsSmall f → is_sound m ≡ true → IsShape (shape_from_fields m f)
 unfolding is_sound
 meant_is (Computes op dst x y) f s e = (register_is dst f s, operand_is x f s, operand_is y f s)
 meant_is (Scales dst base index) f s e = (register_is dst f s, register_is base f s, register_is index f s, s.n)

@@ -11,18 +11,18 @@ use Rattle.tc_isa.specs.declared.table.Form.{Form}
 use Rattle.tc_isa.specs.declared.table.Form.TheVariants.{Rlc}
 use Rattle.tc_isa.specs.Rows.{listed}
 use Rattle.tc_isa.specs.Forms.{bounds}
-use Rattle.tc_isa.specs.InBounds.{AreFieldsBelow, AreSmall}
+use Rattle.tc_isa.specs.InBounds.{AreFieldsBelow, AreFieldsSmall}
 use Rattle.tc_isa.specs.Insts.{InstData, IsInst, fields_in}
 use Rattle.tc_isa.specs.Meanings.{MeaningLine, meanings, meaning_by_line, shape_of}
 use Rattle.tc_isa.specs.FromFields.{shape_from_fields}
 
 -- bounds of the fields of a form
-small_in : (form : Form) (f : Fields) → AreFieldsBelow f (bounds form) → AreSmall f
+small_in : (form : Form) (f : Fields) → AreFieldsBelow f (bounds form) → AreFieldsSmall f
 unfolding bounds
 small_in Rlc f b = record { c = omega arith; s1 = omega arith; s2 = omega arith; n = omega arith; k = omega arith }
 small_in _ f b = record { c = omega arith; s1 = omega arith; s2 = omega arith; n = omega arith; k = omega arith }
 
-pub small : (i : InstData) → IsInst i → AreSmall (fields_in i)
+pub small : (i : InstData) → IsInst i → AreFieldsSmall (fields_in i)
 small i is = small_in is.row.form (fields_in i) is.fits.below
 
 count_listed : length listed ≡ ROW_COUNT

@@ -7,7 +7,7 @@ use Rattle.std.proofs.lemmas.Bool.{ltb-true, and_parts}
 use Rattle.std.proofs.lemmas.List.Sums.{AllPass-from_list_all}
 use Rattle.tc_isa.specs.Rows.{RowData, listed}
 use Rattle.tc_isa.specs.Forms.{second_bound, bounds, is_long_form, form_index}
-use Rattle.tc_isa.specs.ValidRowFields.{IsRow, is_row, are_bools_equal, none_clash}
+use Rattle.tc_isa.specs.ValidRowFields.{IsRow, is_row, are_bools_equal, have_no_clashing_codes}
 
 same_tested : (a b : Bool) → are_bools_equal a b ≡ true → a ≡ b
 same_tested true true e = refl
@@ -48,6 +48,6 @@ rows_are = λ k d h. row_from _ (AllPass-from_list_all is_row listed all_tested 
 pub row_at : (place : ℕ) (r : RowData) → slice_get listed place ≡ Some r → IsRow r
 row_at place r at = subst IsRow (get_or_from_slice_get listed place r r at) (rows_are place r (slice_get_within listed place r at))
 
-pub rows_are_apart : none_clash listed ≡ true
+pub rows_are_apart : have_no_clashing_codes listed ≡ true
 unfolding form_index
 rows_are_apart = refl

@@ -35,12 +35,12 @@ one_if b = if b then 1 else 0
 
 -- the shift by a count of six bits: to the left if it is below 32, else to the right by 64 less the
 -- count, filled with zeros
-abbrev pub shift_by : ℕ → ℕ → ℕ
-shift_by x n = if nat_lt n 32 then x * 2 ^ n % 2 ^ 32 else x / 2 ^ (64 - n)
+abbrev pub logical_shift : ℕ → ℕ → ℕ
+logical_shift x n = if nat_lt n 32 then x * 2 ^ n % 2 ^ 32 else x / 2 ^ (64 - n)
 
 -- the shift by a count of six bits, to the right filled with the sign bit
-abbrev pub shifted_signed : ℕ → ℕ → ℕ
-shifted_signed x n = if nat_lt n 32 then x * 2 ^ n % 2 ^ 32 else if nat_lt x (2 ^ 31) then x / 2 ^ (64 - n) else complement (complement x / 2 ^ (64 - n))
+abbrev pub arithmetic_shift : ℕ → ℕ → ℕ
+arithmetic_shift x n = if nat_lt n 32 then x * 2 ^ n % 2 ^ 32 else if nat_lt x (2 ^ 31) then x / 2 ^ (64 - n) else complement (complement x / 2 ^ (64 - n))
 
 -- the result of an operation on two words
 unfoldable pub alu_of : Op → ℕ → ℕ → ℕ
@@ -61,5 +61,5 @@ alu_of op.Lt x y = one_if (nat_lt (signed_order_place x) (signed_order_place y))
 alu_of op.LtU x y = one_if (nat_lt x y)
 alu_of op.Ge x y = one_if (nat_le (signed_order_place y) (signed_order_place x))
 alu_of op.GeU x y = one_if (nat_le y x)
-alu_of op.Sh x y = shift_by x (y % 64)
-alu_of op.Sha x y = shifted_signed x (y % 64)
+alu_of op.Sh x y = logical_shift x (y % 64)
+alu_of op.Sha x y = arithmetic_shift x (y % 64)

@@ -138,22 +138,22 @@ form_index Slr = 16
 form_index Ssr = 17
 
 -- the form of loads and stores with a long offset
-abbrev pub is_bol : Form → Bool
-is_bol form = form_index form == 3
+abbrev pub is_bol_form : Form → Bool
+is_bol_form form = form_index form == 3
 
 -- the form of calls and jumps of 32 bits
-abbrev pub is_b : Form → Bool
-is_b form = form_index form == 7
+abbrev pub is_b_form : Form → Bool
+is_b_form form = form_index form == 7
 
 -- the form with an absolute address
-abbrev pub is_abs : Form → Bool
-is_abs form = form_index form == 8
+abbrev pub is_abs_form : Form → Bool
+is_abs_form form = form_index form == 8
 
 -- the form of an instruction word is SB, that of calls, jumps and branches of 16 bits that go both
 -- ways
-abbrev pub is_sb : Form → Bool
-is_sb form = form_index form == 12
+abbrev pub is_sb_form : Form → Bool
+is_sb_form form = form_index form == 12
 
 -- the form of branches of 16 bits, which only go forwards
-abbrev pub is_sbr : Form → Bool
-is_sbr form = form_index form == 13
+abbrev pub is_sbr_form : Form → Bool
+is_sbr_form form = form_index form == 13

@@ -56,8 +56,8 @@ abbrev pub doubled_displacement : ℕ → Fields → ℕ
 doubled_displacement n f = 2 * sk n f % 2 ^ 32
 
 -- the distance of a branch that only goes forwards: twice the displacement k, not sign-extended
-abbrev pub ahead_only : Fields → ℕ
-ahead_only f = 2 * f.k % 2 ^ 32
+abbrev pub forward_distance : Fields → ℕ
+forward_distance f = 2 * f.k % 2 ^ 32
 
 -- the register that a field names, or a fixed one
 abbrev pub shape_register : RegField → Fields → ℕ
@@ -93,7 +93,7 @@ abbrev pub shape_distance : Displacement → Fields → ℕ
 shape_distance Ahead8 f = doubled_displacement 8 f
 shape_distance Ahead15 f = doubled_displacement 15 f
 shape_distance Ahead24 f = doubled_displacement 24 f
-shape_distance AheadOnly f = ahead_only f
+shape_distance AheadOnly f = forward_distance f
 
 -- the target of a jump or a call, from the fields
 abbrev pub shape_target : Destination → Fields → Target

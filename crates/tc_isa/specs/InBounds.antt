@@ -51,7 +51,7 @@ IsShape (Mtcr src number) = IsRegister src × (number < 2 ^ 16)
 IsShape Nothing = Unit {0}
 
 -- register fields have four bits, n two, and k at most 24
-pub record AreSmall (f : Fields) : Type 0 where
+pub record AreFieldsSmall (f : Fields) : Type 0 where
   pub c : f.c < 16
   pub s1 : f.s1 < 16
   pub s2 : f.s2 < 16

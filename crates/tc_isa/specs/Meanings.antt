@@ -11,7 +11,7 @@ use Rattle.tc_isa.specs.declared.shapes.Shape.{Shape}
 use Rattle.tc_isa.specs.declared.shapes.Shape.TheVariants.{Compute, Scaled, Load, Store, Branch, Jump, Call, Ret, Rfe, Svlcx, Rslcx, Bisr, Enable, Disable, Syscall, Mfcr, Mtcr, Nothing}
 use Rattle.tc_isa.specs.Arithmetic.{sign_extended}
 use Rattle.tc_isa.specs.Insts.{InstData, fields_in}
-use Rattle.tc_isa.specs.FromFields.{a, address_in_constant, ahead_only, code_address_in_constant, d, doubled_displacement, high_constant, sk, uk}
+use Rattle.tc_isa.specs.FromFields.{a, address_in_constant, forward_distance, code_address_in_constant, d, doubled_displacement, high_constant, sk, uk}
 
 -- a meaning: what an instruction with given fields does
 abbrev pub Meaning : Type 0
@@ -196,8 +196,8 @@ meanings =
     line (codes "j16") (λ f. Jump (target.Rel (doubled_displacement 8 f))) ∷
     line (codes "jz16.d15") (λ f. Branch cond.Eq (d 15) (Word 0) (doubled_displacement 8 f) false) ∷
     line (codes "jnz16.d15") (λ f. Branch cond.Ne (d 15) (Word 0) (doubled_displacement 8 f) false) ∷
-    line (codes "jz16") (λ f. Branch cond.Eq (d f.s2) (Word 0) (ahead_only f) false) ∷
-    line (codes "jnz16") (λ f. Branch cond.Ne (d f.s2) (Word 0) (ahead_only f) false) ∷
+    line (codes "jz16") (λ f. Branch cond.Eq (d f.s2) (Word 0) (forward_distance f) false) ∷
+    line (codes "jnz16") (λ f. Branch cond.Ne (d f.s2) (Word 0) (forward_distance f) false) ∷
     line (codes "mov16") (λ f. Compute Second (d f.s1) (Word 0) (Reg (d f.s2))) ∷
     line (codes "add16") (own Add) ∷
     line (codes "sub16") (own Sub) ∷

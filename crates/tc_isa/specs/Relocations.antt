@@ -33,8 +33,8 @@ abbrev pub word32 : ℕ
 word32 = 7
 
 -- the kinds of relocations, from 1 to 7
-abbrev pub is_reloc : ℕ → Bool
-is_reloc kind = nat_le rel24 kind && nat_le kind word32
+abbrev pub is_relocation_kind : ℕ → Bool
+is_relocation_kind kind = nat_le rel24 kind && nat_le kind word32
 
 -- a relocation of this kind fills the constant of an instruction of this form (manual, volume 2,
 -- instruction formats)

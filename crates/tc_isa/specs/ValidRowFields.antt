@@ -68,10 +68,10 @@ is_row r = nat_lt r.op1 256 && nat_lt r.op2 (second_bound r.form) && are_fields_
 
 -- two rows clash if some word could be both: they have one first code, and different forms or equal
 -- second codes
-abbrev pub clash : RowData → RowData → Bool
-clash r s = r.op1 == s.op1 && (not (form_index r.form == form_index s.form) || r.op2 == s.op2)
+abbrev pub have_clashing_codes : RowData → RowData → Bool
+have_clashing_codes r s = r.op1 == s.op1 && (not (form_index r.form == form_index s.form) || r.op2 == s.op2)
 
 -- no two rows clash
-abbrev pub none_clash : List RowData → Bool
-none_clash [] = true
-none_clash (r ∷ rs) = not (list_any (clash r) rs) && none_clash rs
+abbrev pub have_no_clashing_codes : List RowData → Bool
+have_no_clashing_codes [] = true
+have_no_clashing_codes (r ∷ rs) = not (list_any (have_clashing_codes r) rs) && have_no_clashing_codes rs

@@ -1,6 +1,6 @@
 // Arithmetic and comparisons of 32-bit words.
 ghost use Rattle.std.specs.Prelude.{◌≡◌, ◌<◌};
-ghost use Rattle.tc_isa.specs.Arithmetic.{alu_of, taken_of, shift_by, shifted_signed, signed_order_place, complement, one_if};
+ghost use Rattle.tc_isa.specs.Arithmetic.{alu_of, taken_of, logical_shift, arithmetic_shift, signed_order_place, complement, one_if};
 
 use crate::{Cond, Op};
 
@@ -74,7 +74,7 @@ fn signed_order_place(x: u32) -> u32
 /// Shifts to the left by `n` if it is below 32, else to the right by 64 - `n`, filled with zeros.
 fn shift_logical(x: u32, n: u8) -> u32
     requires { n < 64 }
-    ensures { result ≡ shift_by x n }
+    ensures { result ≡ logical_shift x n }
 {
     if n < 32 {
         x << n
@@ -89,7 +89,7 @@ fn shift_logical(x: u32, n: u8) -> u32
 /// bit.
 fn shift_arithmetic(x: u32, n: u8) -> u32
     requires { n < 64 }
-    ensures { result ≡ shifted_signed x n }
+    ensures { result ≡ arithmetic_shift x n }
 {
     if n < 32 || x < 0x8000_0000 {
         shift_logical(x, n)

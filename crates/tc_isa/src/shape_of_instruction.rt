@@ -3,7 +3,7 @@ ghost use Rattle.std.specs.Prelude.{◌≡◌, map};
 ghost use Rattle.tc_isa.specs.Insts.{InstData, IsInst};
 ghost use Rattle.tc_isa.specs.Rows.{listed};
 ghost use Rattle.tc_isa.specs.Meanings.{shape_of, meanings};
-ghost use Rattle.tc_isa.specs.InBounds.{IsShape, AreSmall};
+ghost use Rattle.tc_isa.specs.InBounds.{IsShape, AreFieldsSmall};
 ghost use Rattle.tc_isa.specs.FromFields.{shape_register, shape_operand, shape_distance, shape_target, shape_from_fields, shape_constant};
 
 use crate::meaning::{Destination, Displacement, Immediate, Meaning, Operand, RegField};
@@ -54,7 +54,7 @@ pub(crate) fn shape_constant(constant: Immediate, f: &Fields) -> u32
 
 /// Returns what an instruction of this meaning does with these fields.
 fn shape_from_fields(meaning: &Meaning, f: &Fields) -> Shape
-    requires { AreSmall f.now }
+    requires { AreFieldsSmall f.now }
     ensures { result ≡ shape_from_fields meaning.now f.now }
 {
     match *meaning {
@@ -119,7 +119,7 @@ fn shape_from_fields(meaning: &Meaning, f: &Fields) -> Shape
 /// Returns the number of a register in what an instruction does (its shape), by the meaning of its
 /// row: that of a field, or a fixed one.
 fn shape_register(place: RegField, f: &Fields) -> u8
-    requires { AreSmall f.now }
+    requires { AreFieldsSmall f.now }
     ensures { result ≡ shape_register place f.now }
 {
     match place {
@@ -136,7 +136,7 @@ fn shape_register(place: RegField, f: &Fields) -> u8
 
 /// Returns an operand of an instruction's shape: a register, or the word of a constant.
 fn shape_operand(operand: Operand, f: &Fields) -> Arg
-    requires { AreSmall f.now }
+    requires { AreFieldsSmall f.now }
     ensures { result ≡ shape_operand operand f.now }
 {
     match operand {
@@ -159,7 +159,7 @@ fn shape_distance(distance: Displacement, f: &Fields) -> u32
 
 /// Returns the target of a jump or a call, from the fields.
 fn shape_target(goal: Destination, f: &Fields) -> Target
-    requires { AreSmall f.now }
+    requires { AreFieldsSmall f.now }
     ensures { result ≡ shape_target goal f.now }
 {
     match goal {

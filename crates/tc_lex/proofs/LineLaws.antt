@@ -13,7 +13,7 @@ use Rattle.tc_lex.specs.declared.kinds.Front.{Front}
 use Rattle.tc_lex.specs.declared.kinds.Front.TheVariants as front
 use Rattle.tcd_base.specs.NameBytes.{is_name_first}
 use Rattle.tc_lex.specs.Bytes.{is_digit, is_blank}
-use Rattle.tc_lex.specs.Cut.{cut, token_front_by_byte, cut_from_front, with_front, token, tokens_of, IsLongest, BeginsNoToken, AreBlanks, IsNext, AreTokens, IsCut, IsStray, IsTokenPastLimit, IsCutFault}
+use Rattle.tc_lex.specs.Cut.{cut, token_front_by_byte, cut_from_front, with_first_tokens, token, tokens_of, IsLongestToken, BeginsNoToken, AreBlanks, IsNextToken, AreTokens, IsCut, IsStrayByte, IsTokenPastLimit, IsCutFault}
 use Rattle.tc_lex.proofs.TextLaws.{empty_none}
 use Rattle.tc_lex.proofs.LongestLaws.{comma_longest, colon_longest, open_longest, close_longest, plus_longest, minus_longest, word_longest, number_longest, begins_none}
 
@@ -22,19 +22,19 @@ data Says (c : ℕ) (cs : List ℕ) : Front → Type 0 where
   ended : c ≡ 35 → Says c cs front.End
   blank : is_blank c ≡ true → Says c cs front.Blank
   bad : (is_blank c || c == 35) ≡ false → BeginsNoToken (c ∷ cs) → Says c cs front.Bad
-  told : {kind : TokenKind} {len : ℕ} → IsLongest kind len (c ∷ cs) → Says c cs (front.Token kind len)
+  told : {kind : TokenKind} {len : ℕ} → IsLongestToken kind len (c ∷ cs) → Says c cs (front.Token kind len)
 
 says_if : (c : ℕ) (cs : List ℕ) (b : Bool) (x y : Front) → (b ≡ true → Says c cs x) → (b ≡ false → Says c cs y) → Says c cs (cond b x y)
 says_if c cs true x y p q = p refl
 says_if c cs false x y p q = q refl
 
 -- a token has bytes
-some_of : (kind : TokenKind) (len : ℕ) (text : List ℕ) → IsLongest kind len text → 0 < len
+some_of : (kind : TokenKind) (len : ℕ) (text : List ℕ) → IsLongestToken kind len text → 0 < len
 some_of kind zero text longest = let none = empty_none kind in let stands = longest.stands in cc
 some_of kind (suc len) text longest = omega arith
 
 -- a token of one byte
-alone : (c k : ℕ) (cs : List ℕ) (kind : TokenKind) → IsLongest kind 1 (k ∷ cs) → (c == k) ≡ true → Says c cs (front.Token kind 1)
+alone : (c k : ℕ) (cs : List ℕ) (kind : TokenKind) → IsLongestToken kind 1 (k ∷ cs) → (c == k) ≡ true → Says c cs (front.Token kind 1)
 alone c k cs kind longest e = told (rw ((Decides-eqb c k).0 e) longest)
 
 not_passed : (c : ℕ) → (c == 35) ≡ false → (c == 32) ≡ false → (c == 9) ≡ false → (is_blank c || c == 35) ≡ false
@@ -82,11 +82,11 @@ module _ (line : List ℕ) where
   earlier at most (Err e) b more = record { before = more.before; tokens = tokens_earlier at e more.before b more.tokens; fault = more.fault }
 
   -- a token before what follows it
-  in_front : (at most : ℕ) (t : Token) (r : Result (List Token) ℕ) → IsNext line at t → Meaning t.to most r → Meaning at (suc most) (with_front (t ∷ []) r)
+  in_front : (at most : ℕ) (t : Token) (r : Result (List Token) ℕ) → IsNextToken line at t → Meaning t.to most r → Meaning at (suc most) (with_first_tokens (t ∷ []) r)
   in_front at most t (Ok ts) next more = record { stop = more.stop; ends = more.ends; tokens = (next, more.tokens); few = omega (arith, more.few) }
   in_front at most t (Err e) next more = record { before = t ∷ more.before; tokens = (next, more.tokens); fault = by more.fault }
     where
-      by : IsStray line e ⊎ IsTokenPastLimit line e (length more.before) most → IsStray line e ⊎ IsTokenPastLimit line e (length (t ∷ more.before)) (suc most)
+      by : IsStrayByte line e ⊎ IsTokenPastLimit line e (length more.before) most → IsStrayByte line e ⊎ IsTokenPastLimit line e (length (t ∷ more.before)) (suc most)
       by (inl stray) = inl stray
       by (inr past) = inr (record { full = ap suc past.full; kind = past.kind; len = past.len; some = past.some; longest = past.longest })
 
@@ -99,7 +99,7 @@ module _ (line : List ℕ) where
     inside : at < length line
     inside = omega (arith, length-drop at line, ap length text_is)
 
-    next_is : (kind : TokenKind) (len : ℕ) → IsLongest kind len (c ∷ cs) → IsNext line at (token kind at len)
+    next_is : (kind : TokenKind) (len : ℕ) → IsLongestToken kind len (c ∷ cs) → IsNextToken line at (token kind at len)
     next_is kind len longest =
         let some : 0 < len = some_of kind len (c ∷ cs) longest in
         let bytes : at + len - at ≡ len = omega arith in

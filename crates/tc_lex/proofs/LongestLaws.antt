@@ -11,8 +11,8 @@ use Rattle.tc_lex.specs.declared.kinds.TokenKind.{TokenKind}
 use Rattle.tc_lex.specs.declared.kinds.TokenKind.TheVariants.{Word, Number, Comma, Colon, Open, Close, Plus, Minus}
 use Rattle.tcd_base.specs.NameBytes.{is_name_byte, is_name_first}
 use Rattle.tc_lex.specs.Bytes.{is_digit, is_hex}
-use Rattle.tc_lex.specs.Cut.{number_len, has_hex_front, IsLongest, BeginsNoToken}
-use Rattle.tc_lex.specs.Texts.{is_run, is_hex_text, is_token}
+use Rattle.tc_lex.specs.Cut.{number_len, has_hex_front, IsLongestToken, BeginsNoToken}
+use Rattle.tc_lex.specs.Texts.{is_run, is_hex_text, is_token_text}
 use Rattle.tc_lex.proofs.FrontLaws.{prefix_len_some}
 use Rattle.tc_lex.proofs.TextLaws.{run_taken, run_past, is_run-take, digit_of_name, starts, not_begun, past_one, hex_text}
 
@@ -22,16 +22,16 @@ abbrev OnlyStarts : TokenKind → ℕ → Type 0
 OnlyStarts kind c = (other : TokenKind) → (other ≡ kind) ⊎ (starts other c ≡ false)
 
 -- the longest token, from what its own kind says and from the first byte
-longest_of : (kind : TokenKind) (len c : ℕ) (cs : List ℕ) → OnlyStarts kind c → len ≤ length (c ∷ cs) → is_token kind (take len (c ∷ cs)) ≡ true
-    → ((n : ℕ) → len < n → n ≤ length (c ∷ cs) → is_token kind (take n (c ∷ cs)) ≡ false) → IsLongest kind len (c ∷ cs)
+longest_of : (kind : TokenKind) (len c : ℕ) (cs : List ℕ) → OnlyStarts kind c → len ≤ length (c ∷ cs) → is_token_text kind (take len (c ∷ cs)) ≡ true
+    → ((n : ℕ) → len < n → n ≤ length (c ∷ cs) → is_token_text kind (take n (c ∷ cs)) ≡ false) → IsLongestToken kind len (c ∷ cs)
 longest_of kind len c cs only within stands own = record {
   within = within;
   stands = stands;
   longest = λ other n past fits. by other n past fits (only other);
 }
   where
-    by : (other : TokenKind) (n : ℕ) → len < n → n ≤ length (c ∷ cs) → (other ≡ kind) ⊎ (starts other c ≡ false) → is_token other (take n (c ∷ cs)) ≡ false
-    by other n past fits (inl e) = ap (λ k. is_token k (take n (c ∷ cs))) e ∙ own n past fits
+    by : (other : TokenKind) (n : ℕ) → len < n → n ≤ length (c ∷ cs) → (other ≡ kind) ⊎ (starts other c ≡ false) → is_token_text other (take n (c ∷ cs)) ≡ false
+    by other n past fits (inl e) = ap (λ k. is_token_text k (take n (c ∷ cs))) e ∙ own n past fits
     by other n past fits (inr e) = not_begun other c cs n e
 
 only_comma : OnlyStarts Comma 44
@@ -64,28 +64,28 @@ unfolding is_name_first is_digit
 only_minus Minus = inl refl
 only_minus other = inr refl
 
-pub comma_longest : (cs : List ℕ) → IsLongest Comma 1 (44 ∷ cs)
-unfolding is_token
+pub comma_longest : (cs : List ℕ) → IsLongestToken Comma 1 (44 ∷ cs)
+unfolding is_token_text
 comma_longest cs = longest_of Comma 1 44 cs only_comma (omega arith) refl (past_one 44 cs)
 
-pub colon_longest : (cs : List ℕ) → IsLongest Colon 1 (58 ∷ cs)
-unfolding is_token
+pub colon_longest : (cs : List ℕ) → IsLongestToken Colon 1 (58 ∷ cs)
+unfolding is_token_text
 colon_longest cs = longest_of Colon 1 58 cs only_colon (omega arith) refl (past_one 58 cs)
 
-pub open_longest : (cs : List ℕ) → IsLongest Open 1 (91 ∷ cs)
-unfolding is_token
+pub open_longest : (cs : List ℕ) → IsLongestToken Open 1 (91 ∷ cs)
+unfolding is_token_text
 open_longest cs = longest_of Open 1 91 cs only_open (omega arith) refl (past_one 91 cs)
 
-pub close_longest : (cs : List ℕ) → IsLongest Close 1 (93 ∷ cs)
-unfolding is_token
+pub close_longest : (cs : List ℕ) → IsLongestToken Close 1 (93 ∷ cs)
+unfolding is_token_text
 close_longest cs = longest_of Close 1 93 cs only_close (omega arith) refl (past_one 93 cs)
 
-pub plus_longest : (cs : List ℕ) → IsLongest Plus 1 (43 ∷ cs)
-unfolding is_token
+pub plus_longest : (cs : List ℕ) → IsLongestToken Plus 1 (43 ∷ cs)
+unfolding is_token_text
 plus_longest cs = longest_of Plus 1 43 cs only_plus (omega arith) refl (past_one 43 cs)
 
-pub minus_longest : (cs : List ℕ) → IsLongest Minus 1 (45 ∷ cs)
-unfolding is_token
+pub minus_longest : (cs : List ℕ) → IsLongestToken Minus 1 (45 ∷ cs)
+unfolding is_token_text
 minus_longest cs = longest_of Minus 1 45 cs only_minus (omega arith) refl (past_one 45 cs)
 
 -- ---- numbers
@@ -104,30 +104,30 @@ module _ (h : ℕ) (hs : List ℕ) (hex : is_hex h ≡ true) (only : OnlyStarts 
   some_hex : 0 < prefix_len is_hex (h ∷ hs)
   some_hex = prefix_len_some is_hex (h ∷ hs) (omega arith) hex
 
-  hex_stands : (m : ℕ) → m ≡ prefix_len is_hex (h ∷ hs) → is_token Number (take (suc (suc m)) (48 ∷ 120 ∷ h ∷ hs)) ≡ true
-  unfolding is_token
+  hex_stands : (m : ℕ) → m ≡ prefix_len is_hex (h ∷ hs) → is_token_text Number (take (suc (suc m)) (48 ∷ 120 ∷ h ∷ hs)) ≡ true
+  unfolding is_token_text
   hex_stands m e =
       let some : 0 < length (take m (h ∷ hs)) = omega (arith, length-take-le m (h ∷ hs), prefix_len-le-length is_hex (h ∷ hs), some_hex) in
       let all : list_all is_hex (take m (h ∷ hs)) ≡ true = rw e (run_taken is_hex (h ∷ hs)) in
       ap (λ b. is_run is_digit is_digit (48 ∷ 120 ∷ take m (h ∷ hs)) || b) (hex_text 48 120 (take m (h ∷ hs)) some ∙ all) ∙ or_true _
 
-  hex_past : (n : ℕ) → 2 + prefix_len is_hex (h ∷ hs) < n → n ≤ length (48 ∷ 120 ∷ h ∷ hs) → is_token Number (take n (48 ∷ 120 ∷ h ∷ hs)) ≡ false
-  unfolding is_token is_digit
+  hex_past : (n : ℕ) → 2 + prefix_len is_hex (h ∷ hs) < n → n ≤ length (48 ∷ 120 ∷ h ∷ hs) → is_token_text Number (take n (48 ∷ 120 ∷ h ∷ hs)) ≡ false
+  unfolding is_token_text is_digit
   hex_past zero past within = absurd (omega arith)
   hex_past (suc zero) past within = absurd (omega arith)
   hex_past (suc (suc m)) past within =
       let some : 0 < length (take m (h ∷ hs)) = omega (arith, length-take-le m (h ∷ hs), some_hex) in
       hex_text 48 120 (take m (h ∷ hs)) some ∙ run_past is_hex (h ∷ hs) m (omega arith) (omega arith)
 
-  hex_longest : IsLongest Number (2 + prefix_len is_hex (h ∷ hs)) (48 ∷ 120 ∷ h ∷ hs)
+  hex_longest : IsLongestToken Number (2 + prefix_len is_hex (h ∷ hs)) (48 ∷ 120 ∷ h ∷ hs)
   hex_longest =
       let two : 2 + prefix_len is_hex (h ∷ hs) ≡ suc (suc (prefix_len is_hex (h ∷ hs))) = omega arith in
       longest_of Number (2 + prefix_len is_hex (h ∷ hs)) 48 (120 ∷ h ∷ hs) only (omega (arith, prefix_len-le-length is_hex (h ∷ hs)))
-      (ap (λ n. is_token Number (take n (48 ∷ 120 ∷ h ∷ hs))) two ∙ hex_stands (prefix_len is_hex (h ∷ hs)) refl)
+      (ap (λ n. is_token_text Number (take n (48 ∷ 120 ∷ h ∷ hs))) two ∙ hex_stands (prefix_len is_hex (h ∷ hs)) refl)
       hex_past
 
 -- a text that has this front
-hex_front : (c : ℕ) (cs : List ℕ) → has_hex_front (c ∷ cs) ≡ true → OnlyStarts Number c → IsLongest Number (2 + prefix_len is_hex (drop 2 (c ∷ cs))) (c ∷ cs)
+hex_front : (c : ℕ) (cs : List ℕ) → has_hex_front (c ∷ cs) ≡ true → OnlyStarts Number c → IsLongestToken Number (2 + prefix_len is_hex (drop 2 (c ∷ cs))) (c ∷ cs)
 unfolding has_hex_front
 hex_front c [] e only = cc
 hex_front c (x ∷ []) e only = cc
@@ -152,8 +152,8 @@ no_hex c (x ∷ xs) (suc (suc zero)) e = refl
 no_hex c (x ∷ []) (suc (suc (suc n))) e = refl
 no_hex c (x ∷ h ∷ hs) (suc (suc (suc n))) e = hidden _ (c == 48) (x == 120) (is_hex h) (list_all is_hex (take n hs)) (grind (arith, nat_tests)) e
 
-digits_longest : (c : ℕ) (cs : List ℕ) → has_hex_front (c ∷ cs) ≡ false → is_digit c ≡ true → OnlyStarts Number c → IsLongest Number (prefix_len is_digit (c ∷ cs)) (c ∷ cs)
-unfolding is_token
+digits_longest : (c : ℕ) (cs : List ℕ) → has_hex_front (c ∷ cs) ≡ false → is_digit c ≡ true → OnlyStarts Number c → IsLongestToken Number (prefix_len is_digit (c ∷ cs)) (c ∷ cs)
+unfolding is_token_text
 digits_longest c cs e d only =
     let some : 0 < prefix_len is_digit (c ∷ cs) = prefix_len_some is_digit (c ∷ cs) (omega arith) d in
     let run : is_run is_digit is_digit (take (prefix_len is_digit (c ∷ cs)) (c ∷ cs)) ≡ true = is_run-take is_digit is_digit c cs (prefix_len is_digit (c ∷ cs)) some ∙ and_from (is_digit c) _ d (run_taken is_digit (c ∷ cs)) in
@@ -163,7 +163,7 @@ digits_longest c cs e d only =
     ap (λ b. b || is_hex_text (take n (c ∷ cs))) (is_run-take is_digit is_digit c cs n (omega arith) ∙ ap (λ b. is_digit c && b) (run_past is_digit (c ∷ cs) n past fits) ∙ and-false (is_digit c))
     ∙ no_hex c cs n e)
 
-number_by : (c : ℕ) (cs : List ℕ) (b : Bool) → has_hex_front (c ∷ cs) ≡ b → is_digit c ≡ true → OnlyStarts Number c → IsLongest Number (cond b (2 + prefix_len is_hex (drop 2 (c ∷ cs))) (prefix_len is_digit (c ∷ cs))) (c ∷ cs)
+number_by : (c : ℕ) (cs : List ℕ) (b : Bool) → has_hex_front (c ∷ cs) ≡ b → is_digit c ≡ true → OnlyStarts Number c → IsLongestToken Number (cond b (2 + prefix_len is_hex (drop 2 (c ∷ cs))) (prefix_len is_digit (c ∷ cs))) (c ∷ cs)
 number_by c cs true e d only = hex_front c cs e only
 number_by c cs false e d only = digits_longest c cs e d only
 
@@ -215,14 +215,14 @@ module _ (c : ℕ) (cs : List ℕ) (symbol : NoSymbol c) where
   unfolding is_name_byte
   named_byte h = rw h refl
 
-  pub word_longest : is_name_first c ≡ true → IsLongest Word (prefix_len is_name_byte (c ∷ cs)) (c ∷ cs)
-  unfolding is_token
+  pub word_longest : is_name_first c ≡ true → IsLongestToken Word (prefix_len is_name_byte (c ∷ cs)) (c ∷ cs)
+  unfolding is_token_text
   word_longest h =
       let some : 0 < prefix_len is_name_byte (c ∷ cs) = prefix_len_some is_name_byte (c ∷ cs) (omega arith) (named_byte h) in
       longest_of Word (prefix_len is_name_byte (c ∷ cs)) c cs (only_word h) (prefix_len-le-length is_name_byte (c ∷ cs))
       (is_run-take is_name_first is_name_byte c cs (prefix_len is_name_byte (c ∷ cs)) some ∙ and_from (is_name_first c) _ h (run_taken is_name_byte (c ∷ cs)))
       (λ n past fits. is_run-take is_name_first is_name_byte c cs n (omega arith) ∙ ap (λ b. is_name_first c && b) (run_past is_name_byte (c ∷ cs) n past fits) ∙ and-false (is_name_first c))
 
-  pub number_longest : is_name_first c ≡ false → is_digit c ≡ true → IsLongest Number (number_len (c ∷ cs)) (c ∷ cs)
+  pub number_longest : is_name_first c ≡ false → is_digit c ≡ true → IsLongestToken Number (number_len (c ∷ cs)) (c ∷ cs)
   unfolding number_len
   number_longest h d = number_by c cs (has_hex_front (c ∷ cs)) refl d (only_number h)

@@ -3,7 +3,7 @@ use Rattle.std.proofs.Common.{◌≡◌, ◌<◌, ◌≤◌, ◌+◌, ℕ, List,
 use Rattle.tc_lex.specs.declared.kinds.Token.{Token}
 use Rattle.tc_lex.specs.declared.kinds.TokenKind.{TokenKind}
 use Rattle.tc_lex.specs.declared.kinds.Front.TheVariants as front
-use Rattle.tc_lex.specs.Cut.{cut, token_front_of, with_front, token}
+use Rattle.tc_lex.specs.Cut.{cut, token_front_of, with_first_tokens, token}
 use Rattle.tc_lex.specs.Pieces.{PieceData, piece_in, pieces_of}
 use Rattle.tc_lex.proofs.CutLaws.{cut_done, cut_end, cut_bad, cut_blank, cut_full, cut_token}
 
@@ -12,12 +12,12 @@ abbrev pub with_pieces : List PieceData → Result (List PieceData) ℕ → Resu
 with_pieces ps (Ok qs) = Ok (ps ++ qs)
 with_pieces ps (Err at) = Err at
 
-alone : (r : Result (List Token) ℕ) → with_front [] r ≡ r
+alone : (r : Result (List Token) ℕ) → with_first_tokens [] r ≡ r
 alone (Ok ts) = refl
 alone (Err at) = refl
 
 one_more : (line : List ℕ) (t : Token) (r : Result (List Token) ℕ) (ps : List PieceData)
-    → with_pieces ps (pieces_of line (with_front (t ∷ []) r)) ≡ with_pieces (ps ++ piece_in line t ∷ []) (pieces_of line r)
+    → with_pieces ps (pieces_of line (with_first_tokens (t ∷ []) r)) ≡ with_pieces (ps ++ piece_in line t ∷ []) (pieces_of line r)
 one_more line t (Ok ts) ps = ap (λ x. Ok x) (sym (append_assoc ps (piece_in line t ∷ []) (map (piece_in line) ts)))
 one_more line t (Err at) ps = refl
 
@@ -25,7 +25,7 @@ module _ (line : List ℕ) (ps : List PieceData) (at : ℕ) where
   abbrev pub rest_of : ℕ → Result (List PieceData) ℕ
   rest_of room = with_pieces ps (pieces_of line (cut (drop at line) room at 0))
 
-  told : (room : ℕ) (r : Result (List Token) ℕ) → with_front [] (cut (drop at line) room at 0) ≡ r → rest_of room ≡ with_pieces ps (pieces_of line r)
+  told : (room : ℕ) (r : Result (List Token) ℕ) → with_first_tokens [] (cut (drop at line) room at 0) ≡ r → rest_of room ≡ with_pieces ps (pieces_of line r)
   told room r e = ap (λ x. with_pieces ps (pieces_of line x)) (sym (alone (cut (drop at line) room at 0)) ∙ e)
 
   none_left : with_pieces ps (Ok []) ≡ Ok ps

@@ -12,7 +12,7 @@ use Rattle.tc_lex.specs.declared.kinds.TokenKind.{TokenKind}
 use Rattle.tc_lex.specs.declared.kinds.TokenKind.TheVariants.{Word, Number, Comma, Colon, Open, Close, Plus, Minus}
 use Rattle.tcd_base.specs.NameBytes.{is_name_first}
 use Rattle.tc_lex.specs.Bytes.{is_digit, is_hex}
-use Rattle.tc_lex.specs.Texts.{is_run, is_hex_text, is_token}
+use Rattle.tc_lex.specs.Texts.{is_run, is_hex_text, is_token_text}
 
 -- ---- runs of bytes that pass a test
 one_more : (p : ℕ → Bool) (x : ℕ) (xs : List ℕ) (n : ℕ) (b : Bool) → p x ≡ b → list_all p (take n xs) ≡ true → list_all p (take (cond b (1 + n) 0) (x ∷ xs)) ≡ true
@@ -60,8 +60,8 @@ hex_not_begun c (x ∷ []) e = refl
 hex_not_begun c (x ∷ h ∷ hs) e = rw e refl
 
 -- a text that begins with another byte is no token of the kind
-pub not_begun : (kind : TokenKind) (c : ℕ) (cs : List ℕ) (n : ℕ) → starts kind c ≡ false → is_token kind (take n (c ∷ cs)) ≡ false
-unfolding is_token
+pub not_begun : (kind : TokenKind) (c : ℕ) (cs : List ℕ) (n : ℕ) → starts kind c ≡ false → is_token_text kind (take n (c ∷ cs)) ≡ false
+unfolding is_token_text
 not_begun Word c cs zero e = refl
 not_begun Word c cs (suc n) e = rw e refl
 not_begun Number c cs zero e = refl
@@ -92,7 +92,7 @@ hex_text z x [] some = absurd (omega arith)
 hex_text z x (h ∷ hs) some = refl
 
 -- no token is empty
-pub empty_none : (kind : TokenKind) → is_token kind [] ≡ false
-unfolding is_token
+pub empty_none : (kind : TokenKind) → is_token_text kind [] ≡ false
+unfolding is_token_text
 empty_none Word = refl
 empty_none _ = refl

@@ -9,7 +9,7 @@ use Rattle.tc_lex.specs.declared.kinds.Front.{Front}
 use Rattle.tc_lex.specs.declared.kinds.Front.TheVariants as front
 use Rattle.tcd_base.specs.NameBytes.{is_name_byte, is_name_first}
 use Rattle.tc_lex.specs.Bytes.{is_digit, is_hex, is_blank}
-use Rattle.tc_lex.specs.Texts.{is_token}
+use Rattle.tc_lex.specs.Texts.{is_token_text}
 
 -- the text that is cut begins with `0x` and a hex digit, so that its first token is a hexadecimal
 -- number
@@ -53,9 +53,9 @@ abbrev pub token : TokenKind → ℕ → ℕ → Token
 token kind at len = record { kind = kind; from = at; to = at + len }
 
 -- these tokens, then those of the rest; a fault of the rest remains the answer
-abbrev pub with_front : List Token → Result (List Token) ℕ → Result (List Token) ℕ
-with_front ts (Ok us) = Ok (ts ++ us)
-with_front ts (Err e) = Err e
+abbrev pub with_first_tokens : List Token → Result (List Token) ℕ → Result (List Token) ℕ
+with_first_tokens ts (Ok us) = Ok (ts ++ us)
+with_first_tokens ts (Err e) = Err e
 
 -- What follows from the front at a place: `next room at skip` is the answer for the rest of the
 -- line after its first byte.
@@ -63,7 +63,7 @@ abbrev pub cut_from_front : Front → ℕ → ℕ → (ℕ → ℕ → ℕ → R
 cut_from_front front.End room at next = Ok []
 cut_from_front front.Blank room at next = next room (at + 1) 0
 cut_from_front front.Bad room at next = Err at
-cut_from_front (front.Token kind len) room at next = if room == 0 then Err at else with_front (token kind at len ∷ []) (next (room - 1) (at + 1) (len - 1))
+cut_from_front (front.Token kind len) room at next = if room == 0 then Err at else with_first_tokens (token kind at len ∷ []) (next (room - 1) (at + 1) (len - 1))
 
 -- The tokens of a text at this place of its line, at most `room`, after the first `skip` bytes.
 unfoldable pub cut : List ℕ → ℕ → ℕ → ℕ → Result (List Token) ℕ
@@ -76,27 +76,27 @@ abbrev pub tokens_of : List ℕ → Result (List Token) ℕ
 tokens_of line = cut line 64 0 0
 
 -- the code's answer for a line is this: the tokens, or the place of a fault
-abbrev pub Cuts : Result (ArrayVec Token) ℕ → Result (List Token) ℕ → Type 0
-Cuts (Ok ts) r = r ≡ Ok ts.items
-Cuts (Err e) r = r ≡ Err e
+abbrev pub GivesTokens : Result (ArrayVec Token) ℕ → Result (List Token) ℕ → Type 0
+GivesTokens (Ok ts) r = r ≡ Ok ts.items
+GivesTokens (Err e) r = r ≡ Err e
 
 -- the code's answer, with the tokens in a list of the caller, is this: the tokens, or the place of
 -- a fault
-abbrev pub CutsInto : {U : Type 0} → Result U ℕ → List Token → Result (List Token) ℕ → Type 0
-CutsInto (Ok u) ts r = r ≡ Ok ts
-CutsInto (Err e) ts r = r ≡ Err e
+abbrev pub GivesTokensInto : {U : Type 0} → Result U ℕ → List Token → Result (List Token) ℕ → Type 0
+GivesTokensInto (Ok u) ts r = r ≡ Ok ts
+GivesTokensInto (Err e) ts r = r ≡ Err e
 
 -- ---- what the tokens of a line are, apart from how it is cut
 -- where a line is cut: the first `len` bytes are a token, and no longer start of the text is a
 -- token of any kind
-pub record IsLongest (kind : TokenKind) (len : ℕ) (text : List ℕ) : Type 0 where
+pub record IsLongestToken (kind : TokenKind) (len : ℕ) (text : List ℕ) : Type 0 where
   pub within : len ≤ length text
-  pub stands : is_token kind (take len text) ≡ true
-  pub longest : (other : TokenKind) (n : ℕ) → len < n → n ≤ length text → is_token other (take n text) ≡ false
+  pub stands : is_token_text kind (take len text) ≡ true
+  pub longest : (other : TokenKind) (n : ℕ) → len < n → n ≤ length text → is_token_text other (take n text) ≡ false
 
 -- where a line can't be cut: no start of the text is a token
 abbrev pub BeginsNoToken : List ℕ → Type 0
-BeginsNoToken text = (kind : TokenKind) (n : ℕ) → n ≤ length text → is_token kind (take n text) ≡ false
+BeginsNoToken text = (kind : TokenKind) (n : ℕ) → n ≤ length text → is_token_text kind (take n text) ≡ false
 
 -- the places of a line from low on and below high hold only blanks and tabs
 pub record AreBlanks (line : List ℕ) (low high : ℕ) : Type 0 where
@@ -105,15 +105,15 @@ pub record AreBlanks (line : List ℕ) (low high : ℕ) : Type 0 where
   pub each : (q : ℕ) → low ≤ q → q < high → is_blank (slice_index line q) ≡ true
 
 -- a token is a slice of the line after `low` and blanks, and the longest token there
-pub record IsNext (line : List ℕ) (low : ℕ) (t : Token) : Type 0 where
+pub record IsNextToken (line : List ℕ) (low : ℕ) (t : Token) : Type 0 where
   pub blanks : AreBlanks line low t.from
   pub some : t.from < t.to
-  pub longest : IsLongest t.kind (t.to - t.from) (drop t.from line)
+  pub longest : IsLongestToken t.kind (t.to - t.from) (drop t.from line)
 
 -- tokens one after another from low to stop, with only blanks and tabs between them
 abbrev pub AreTokens : List ℕ → ℕ → ℕ → List Token → Type 0
 AreTokens line low stop [] = AreBlanks line low stop
-AreTokens line low stop (t ∷ ts) = IsNext line low t × AreTokens line t.to stop ts
+AreTokens line low stop (t ∷ ts) = IsNextToken line low t × AreTokens line t.to stop ts
 
 -- the line ends, or a comment begins
 abbrev pub IsLineEnd : List ℕ → ℕ → Type 0
@@ -127,7 +127,7 @@ pub record IsCut (line : List ℕ) (low most : ℕ) (ts : List Token) : Type 0 w
   pub few : length ts ≤ most
 
 -- a byte that begins no token and isn't skipped
-pub record IsStray (line : List ℕ) (at : ℕ) : Type 0 where
+pub record IsStrayByte (line : List ℕ) (at : ℕ) : Type 0 where
   pub within : at < length line
   pub shown : (is_blank (slice_index line at) || slice_index line at == 35) ≡ false
   pub none : BeginsNoToken (drop at line)
@@ -138,15 +138,15 @@ pub record IsTokenPastLimit (line : List ℕ) (at count most : ℕ) : Type 0 whe
   pub kind : TokenKind
   pub len : ℕ
   pub some : 0 < len
-  pub longest : IsLongest kind len (drop at line)
+  pub longest : IsLongestToken kind len (drop at line)
 
 -- a line with a byte that can't be taken
 pub record IsCutFault (line : List ℕ) (low most at : ℕ) : Type 0 where
   pub before : List Token
   pub tokens : AreTokens line low at before
-  pub fault : IsStray line at ⊎ IsTokenPastLimit line at (length before) most
+  pub fault : IsStrayByte line at ⊎ IsTokenPastLimit line at (length before) most
 
 -- the answer is the line's tokens, at most 64, or the place of the first byte that can't be taken
-abbrev pub Reads : List ℕ → Result (ArrayVec Token) ℕ → Type 0
-Reads line (Ok ts) = IsCut line 0 64 ts.items
-Reads line (Err at) = IsCutFault line 0 64 at
+abbrev pub IsCutOrFault : List ℕ → Result (ArrayVec Token) ℕ → Type 0
+IsCutOrFault line (Ok ts) = IsCut line 0 64 ts.items
+IsCutOrFault line (Err at) = IsCutFault line 0 64 at

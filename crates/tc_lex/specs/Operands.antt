@@ -8,7 +8,7 @@ use Rattle.tc_lex.specs.declared.operand.Shape.{Shape}
 use Rattle.tc_lex.specs.declared.operand.Shape.TheVariants as shape
 use Rattle.tc_lex.specs.declared.operand.Value.{Value}
 use Rattle.tc_lex.specs.declared.operand.Operand.{Operand}
-use Rattle.tc_lex.specs.Pieces.{PieceData, is_kind, text_at, kind_index}
+use Rattle.tc_lex.specs.Pieces.{PieceData, is_token_kind, token_text, kind_index}
 use Rattle.tc_lex.specs.Numbers.{token_number}
 
 -- a value as plain data; a wide one adds a number of 2^128 or more to its name, which no field
@@ -47,8 +47,8 @@ bad_operand_value = operand_value_data shape.Bad [] false 0
 -- it is below 2^128
 unfoldable pub operand_number_at : List PieceData → ℕ → Option (Bool × Option ℕ)
 operand_number_at ps at =
-    if is_kind ps at kind.Number && length ps == at + 1 then Some (false, token_number (text_at ps at))
-    else (if is_kind ps at kind.Minus && is_kind ps (at + 1) kind.Number && length ps == at + 2 then Some (true, token_number (text_at ps (at + 1)))
+    if is_token_kind ps at kind.Number && length ps == at + 1 then Some (false, token_number (token_text ps at))
+    else (if is_token_kind ps at kind.Minus && is_token_kind ps (at + 1) kind.Number && length ps == at + 2 then Some (true, token_number (token_text ps (at + 1)))
     else None)
 
 -- the value that is a number alone
@@ -57,34 +57,34 @@ plain_number minus (Some n) = operand_value_data shape.Number [] minus n
 plain_number minus None = operand_value_data shape.Huge [] minus 0
 
 -- the value that is a name plus a number; None is a number of 2^128 or more
-abbrev pub with_number : Shape → List ℕ → Bool → Option ℕ → ValueData
-with_number s name minus (Some n) = operand_value_data s name minus n
-with_number s name minus None = record (operand_value_data s name minus 0) { wide = true }
+abbrev pub sum_operand_value : Shape → List ℕ → Bool → Option ℕ → ValueData
+sum_operand_value s name minus (Some n) = operand_value_data s name minus n
+sum_operand_value s name minus None = record (operand_value_data s name minus 0) { wide = true }
 
 -- the name at this place, with or without a number added
-unfoldable pub sum_at : List PieceData → ℕ → Shape → Shape → ValueData
-sum_at ps at plain summed =
-    if is_kind ps at kind.Word
-    then (if length ps == at + 1 then operand_value_data plain (text_at ps at) false 0
-    else (if is_kind ps (at + 1) kind.Plus then option_map_or (λ n. with_number summed (text_at ps at) n.0 n.1) (operand_number_at ps (at + 2)) bad_operand_value
-    else (if is_kind ps (at + 1) kind.Minus then option_map_or (λ n. with_number summed (text_at ps at) (not n.0) n.1) (operand_number_at ps (at + 2)) bad_operand_value
+unfoldable pub name_or_sum_at : List PieceData → ℕ → Shape → Shape → ValueData
+name_or_sum_at ps at plain summed =
+    if is_token_kind ps at kind.Word
+    then (if length ps == at + 1 then operand_value_data plain (token_text ps at) false 0
+    else (if is_token_kind ps (at + 1) kind.Plus then option_map_or (λ n. sum_operand_value summed (token_text ps at) n.0 n.1) (operand_number_at ps (at + 2)) bad_operand_value
+    else (if is_token_kind ps (at + 1) kind.Minus then option_map_or (λ n. sum_operand_value summed (token_text ps at) (not n.0) n.1) (operand_number_at ps (at + 2)) bad_operand_value
     else bad_operand_value)))
     else bad_operand_value
 
 -- the upper or lower half of a symbol, or a symbol
-unfoldable pub named_at : List PieceData → ℕ → ValueData
-named_at ps at =
-    if is_kind ps (at + 1) kind.Colon
-    then (if bytes_eq (text_at ps at) (codes "hi") then sum_at ps (at + 2) shape.High shape.High
-    else (if bytes_eq (text_at ps at) (codes "lo") then sum_at ps (at + 2) shape.Low shape.Low
+unfoldable pub symbol_value_at : List PieceData → ℕ → ValueData
+symbol_value_at ps at =
+    if is_token_kind ps (at + 1) kind.Colon
+    then (if bytes_eq (token_text ps at) (codes "hi") then name_or_sum_at ps (at + 2) shape.High shape.High
+    else (if bytes_eq (token_text ps at) (codes "lo") then name_or_sum_at ps (at + 2) shape.Low shape.Low
     else bad_operand_value))
-    else sum_at ps at shape.Word shape.Sum
+    else name_or_sum_at ps at shape.Word shape.Sum
 
 -- the value from this place to the end
 unfoldable pub operand_value_at : List PieceData → ℕ → ValueData
 operand_value_at ps at =
     if length ps == at then operand_value_data shape.Absent [] false 0
-    else option_map_or (λ n. plain_number n.0 n.1) (operand_number_at ps at) (named_at ps at)
+    else option_map_or (λ n. plain_number n.0 n.1) (operand_number_at ps at) (symbol_value_at ps at)
 
 -- an operand that is a value alone
 abbrev pub plain_operand : ValueData → OperandData
@@ -97,10 +97,10 @@ bracketed_operand plus base v = record { is_memory = true; plus = plus; base = b
 -- an operand: `[BASE]` or `[BASE+]` and a value, or a value alone
 unfoldable pub operand : List PieceData → OperandData
 operand ps =
-    if is_kind ps 0 kind.Open
-    then (if is_kind ps 1 kind.Word
-    then (if is_kind ps 2 kind.Close then bracketed_operand false (text_at ps 1) (operand_value_at ps 3)
-    else (if is_kind ps 2 kind.Plus && is_kind ps 3 kind.Close then bracketed_operand true (text_at ps 1) (operand_value_at ps 4)
+    if is_token_kind ps 0 kind.Open
+    then (if is_token_kind ps 1 kind.Word
+    then (if is_token_kind ps 2 kind.Close then bracketed_operand false (token_text ps 1) (operand_value_at ps 3)
+    else (if is_token_kind ps 2 kind.Plus && is_token_kind ps 3 kind.Close then bracketed_operand true (token_text ps 1) (operand_value_at ps 4)
     else plain_operand bad_operand_value))
     else plain_operand bad_operand_value)
     else plain_operand (operand_value_at ps 0)

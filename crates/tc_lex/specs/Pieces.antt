@@ -28,12 +28,12 @@ kind_index Plus = 6
 kind_index Minus = 7
 
 -- the token at this place exists and has this kind
-unfoldable pub is_kind : List PieceData → ℕ → TokenKind → Bool
-is_kind ps i kind = option_map_or (λ p. kind_index p.kind == kind_index kind) (slice_get ps i) false
+unfoldable pub is_token_kind : List PieceData → ℕ → TokenKind → Bool
+is_token_kind ps i kind = option_map_or (λ p. kind_index p.kind == kind_index kind) (slice_get ps i) false
 
 -- the text of the token at this place, and an empty text if there is none
-unfoldable pub text_at : List PieceData → ℕ → List ℕ
-text_at ps i = option_map_or (λ p. p.text) (slice_get ps i) []
+unfoldable pub token_text : List PieceData → ℕ → List ℕ
+token_text ps i = option_map_or (λ p. p.text) (slice_get ps i) []
 
 -- the text of a piece, which is a token with its text: the bytes of the line from one place to
 -- another; a token is always within its line
@@ -50,6 +50,6 @@ pieces_of line (Ok ts) = Ok (map (piece_in line) ts)
 pieces_of line (Err at) = Err at
 
 -- the code's answer is this: the tokens with their texts, or the place of a fault
-abbrev pub CutsPieces : {U : Type 0} → Result U ℕ → List PieceData → Result (List PieceData) ℕ → Type 0
-CutsPieces (Ok u) ps r = r ≡ Ok ps
-CutsPieces (Err at) ps r = r ≡ Err at
+abbrev pub GivesTokenTexts : {U : Type 0} → Result U ℕ → List PieceData → Result (List PieceData) ℕ → Type 0
+GivesTokenTexts (Ok u) ps r = r ≡ Ok ps
+GivesTokenTexts (Err at) ps r = r ≡ Err at

@@ -19,12 +19,12 @@ is_hex_text (z ∷ x ∷ c ∷ cs) = z == 48 && (x == 120 && list_all is_hex (c 
 is_hex_text bs = false
 
 -- the texts of each kind of token
-unfoldable pub is_token : TokenKind → List ℕ → Bool
-is_token Word text = is_run is_name_first is_name_byte text
-is_token Number text = is_run is_digit is_digit text || is_hex_text text
-is_token Comma text = bytes_eq text (codes ",")
-is_token Colon text = bytes_eq text (codes ":")
-is_token Open text = bytes_eq text (codes "[")
-is_token Close text = bytes_eq text (codes "]")
-is_token Plus text = bytes_eq text (codes "+")
-is_token Minus text = bytes_eq text (codes "-")
+unfoldable pub is_token_text : TokenKind → List ℕ → Bool
+is_token_text Word text = is_run is_name_first is_name_byte text
+is_token_text Number text = is_run is_digit is_digit text || is_hex_text text
+is_token_text Comma text = bytes_eq text (codes ",")
+is_token_text Colon text = bytes_eq text (codes ":")
+is_token_text Open text = bytes_eq text (codes "[")
+is_token_text Close text = bytes_eq text (codes "]")
+is_token_text Plus text = bytes_eq text (codes "+")
+is_token_text Minus text = bytes_eq text (codes "-")

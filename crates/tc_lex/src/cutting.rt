@@ -1,6 +1,6 @@
 // Cuts a line into tokens.
 ghost use Rattle.std.specs.Prelude.{◌<◌};
-ghost use Rattle.tc_lex.specs.Cut.{tokens_of, Cuts, CutsInto, Reads};
+ghost use Rattle.tc_lex.specs.Cut.{tokens_of, GivesTokens, GivesTokensInto, IsCutOrFault};
 
 use crate::kinds::{Front, Token};
 use crate::longest_token::longest_token_at;
@@ -10,7 +10,7 @@ use arrayvec::ArrayVec;
 /// first byte that begins no token, or that begins a 65th one. Blanks, tabs and a comment, from `#`
 /// on, are skipped.
 pub fn cut_into(line: &[u8], out: &mut ArrayVec<Token, 64>) -> Result<(), usize>
-    ensures { CutsInto result out.new.items (tokens_of line.now) }
+    ensures { GivesTokensInto result out.new.items (tokens_of line.now) }
 {
     out.clear();
     let mut at = 0;
@@ -38,11 +38,11 @@ pub fn cut_into(line: &[u8], out: &mut ArrayVec<Token, 64>) -> Result<(), usize>
 /// The tokens of a line. The error is the byte offset of the first byte that begins no token, or
 /// that begins a 65th one. Blanks, tabs and a comment, from `#` on, are skipped.
 pub fn tokens(line: &[u8]) -> Result<ArrayVec<Token, 64>, usize>
-    ensures cut { Cuts result (tokens_of line.now) }
+    ensures cut { GivesTokens result (tokens_of line.now) }
 
     // The tokens are slices of the line in order, each the longest at its place. Between them are
     // only blanks and tabs.
-    ensures read { Reads line.now result }
+    ensures read { IsCutOrFault line.now result }
 {
     let mut out = ArrayVec::new();
     match cut_into(line, &mut out) {

@@ -1,7 +1,7 @@
 // Cuts a line into tokens with their texts.
 ghost use Rattle.std.specs.Prelude.{◌≡◌, ◌<◌, ◌≤◌, ◌+◌, length, map};
 ghost use Rattle.tc_lex.specs.Cut.{tokens_of, token};
-ghost use Rattle.tc_lex.specs.Pieces.{piece_of, piece_in, pieces_of, CutsPieces};
+ghost use Rattle.tc_lex.specs.Pieces.{piece_of, piece_in, pieces_of, GivesTokenTexts};
 
 use crate::kinds::{Front, TokenKind};
 use crate::longest_token::longest_token_at;
@@ -11,7 +11,7 @@ use crate::scratch::Scratch;
 /// Cuts a line into tokens with their texts, which replace the contents of `out`. The error is the
 /// offset of the first byte that begins no token, or a 65th one.
 pub fn cut_pieces<'a>(line: &'a [u8], out: &mut Scratch<Piece<'a>, 64>) -> Result<(), usize>
-    ensures pieces { CutsPieces result
+    ensures pieces { GivesTokenTexts result
         (map piece_of out.new.items) (pieces_of line.now (tokens_of line.now)) }
     ensures few { length out.new.items ≤ 64 }
 {

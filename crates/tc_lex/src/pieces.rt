@@ -1,6 +1,6 @@
 // Tokens with their texts.
 ghost use Rattle.std.specs.Prelude.{◌≡◌, ◌<◌, map, length, true};
-ghost use Rattle.tc_lex.specs.Pieces.{piece_of, is_kind, text_at, kind_index};
+ghost use Rattle.tc_lex.specs.Pieces.{piece_of, is_token_kind, token_text, kind_index};
 
 use crate::TokenKind;
 use crate::kinds::kind_index;
@@ -15,9 +15,9 @@ pub struct Piece<'a> {
 }
 
 /// Whether token `i` exists and has this kind.
-#[tactic(auto, unfolding(crate::specs::Pieces::is_kind))]
+#[tactic(auto, unfolding(crate::specs::Pieces::is_token_kind))]
 pub fn is_token_kind(ps: &[Piece], i: usize, kind: TokenKind) -> bool
-    ensures value { result ≡ is_kind (map piece_of ps.now) i kind }
+    ensures value { result ≡ is_token_kind (map piece_of ps.now) i kind }
     ensures there { result ≡ true → i < length ps.now }
 {
     if i < ps.len() {
@@ -28,9 +28,9 @@ pub fn is_token_kind(ps: &[Piece], i: usize, kind: TokenKind) -> bool
 }
 
 /// The text of token `i`, and an empty text if there is no such token.
-#[tactic(auto, unfolding(crate::specs::Pieces::text_at))]
+#[tactic(auto, unfolding(crate::specs::Pieces::token_text))]
 pub fn token_text<'a>(ps: &[Piece<'a>], i: usize) -> &'a [u8]
-    ensures { result.now ≡ text_at (map piece_of ps.now) i }
+    ensures { result.now ≡ token_text (map piece_of ps.now) i }
 {
     if i < ps.len() { ps[i].text } else { &[] }
 }

@@ -1,8 +1,8 @@
 // Reads an operand from its tokens.
 ghost use Rattle.std.specs.Prelude.{◌≡◌, ◌≢◌, ◌<◌, ◌≤◌, ◌+◌, ◌++◌, ◌∷◌, [], map, length, true};
 ghost use Rattle.tc_lex.specs.declared.kinds.TokenKind.TheVariants.{Word, Number, Colon, Open};
-ghost use Rattle.tc_lex.specs.Pieces.{piece_of, is_kind as is_kind_at};
-ghost use Rattle.tc_lex.specs.Operands.{value_of, operand_of, operand_number_at, sum_at, named_at, operand_value_at, operand, operand_value_data as data_of, plain_operand as plain_of, bracketed_operand as memory_of, plain_number as number_value, with_number as sum_value, operands};
+ghost use Rattle.tc_lex.specs.Pieces.{piece_of, is_token_kind as is_kind_at};
+ghost use Rattle.tc_lex.specs.Operands.{value_of, operand_of, operand_number_at, name_or_sum_at, symbol_value_at, operand_value_at, operand, operand_value_data as data_of, plain_operand as plain_of, bracketed_operand as memory_of, plain_number as number_value, sum_operand_value as sum_value, operands};
 
 use crate::TokenKind;
 use crate::numbers::token_number;
@@ -152,10 +152,10 @@ fn make_operand_value(shape: Shape, name: &[u8], minus: bool, size: u128) -> Val
 }
 
 /// Reads a symbol, or its upper or lower half, at this token as a value.
-#[tactic(auto, unfolding(crate::specs::Operands::named_at))]
+#[tactic(auto, unfolding(crate::specs::Operands::symbol_value_at))]
 fn symbol_value_at<'a>(ps: &[Piece<'a>], at: usize) -> Value<'a>
     requires { at ≤ length ps.now }
-    ensures { value_of result ≡ named_at (map piece_of ps.now) at }
+    ensures { value_of result ≡ symbol_value_at (map piece_of ps.now) at }
 {
     if is_token_kind(ps, at + 1, TokenKind::Colon) {
         symbol_half_at(ps, at)
@@ -194,11 +194,11 @@ fn plain_number<'a>(minus: bool, n: Option<u128>) -> Value<'a>
 
 // Reads the upper or lower half of a symbol, as in `hi:NAME`.
 #[inline(never)]
-#[tactic(auto, unfolding(crate::specs::Operands::named_at))]
+#[tactic(auto, unfolding(crate::specs::Operands::symbol_value_at))]
 fn symbol_half_at<'a>(ps: &[Piece<'a>], at: usize) -> Value<'a>
     requires place { at + 1 < length ps.now }
     requires colon { is_kind_at (map piece_of ps.now) (at + 1) Colon ≡ true }
-    ensures { value_of result ≡ named_at (map piece_of ps.now) at }
+    ensures { value_of result ≡ symbol_value_at (map piece_of ps.now) at }
 {
     let name = token_text(ps, at);
     if is_same_text(name, "hi") {
@@ -211,10 +211,10 @@ fn symbol_half_at<'a>(ps: &[Piece<'a>], at: usize) -> Value<'a>
 }
 
 /// Reads the name at this token, with or without a number added, as a value.
-#[tactic(auto, unfolding(crate::specs::Operands::sum_at))]
+#[tactic(auto, unfolding(crate::specs::Operands::name_or_sum_at))]
 fn name_or_sum_at<'a>(ps: &[Piece<'a>], at: usize, plain: Shape, summed: Shape) -> Value<'a>
     requires { at ≤ length ps.now }
-    ensures { value_of result ≡ sum_at (map piece_of ps.now) at plain summed }
+    ensures { value_of result ≡ name_or_sum_at (map piece_of ps.now) at plain summed }
 {
     if is_token_kind(ps, at, TokenKind::Word) {
         if ps.len() - at == 1 {
@@ -229,12 +229,12 @@ fn name_or_sum_at<'a>(ps: &[Piece<'a>], at: usize, plain: Shape, summed: Shape) 
 
 // Reads the name at this token, with the number that is added to it.
 #[inline(never)]
-#[tactic(auto, unfolding(crate::specs::Operands::sum_at))]
+#[tactic(auto, unfolding(crate::specs::Operands::name_or_sum_at))]
 fn name_plus_number_at<'a>(ps: &[Piece<'a>], at: usize, plain: Shape, summed: Shape) -> Value<'a>
     requires place { at ≤ length ps.now }
     requires word { is_kind_at (map piece_of ps.now) at Word ≡ true }
     requires more { length ps.now ≢ at + 1 }
-    ensures { value_of result ≡ sum_at (map piece_of ps.now) at plain summed }
+    ensures { value_of result ≡ name_or_sum_at (map piece_of ps.now) at plain summed }
 {
     if is_token_kind(ps, at + 1, TokenKind::Plus) {
         match operand_number_at(ps, at + 2) {

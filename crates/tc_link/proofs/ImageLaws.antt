@@ -5,7 +5,7 @@ use Rattle.std.specs.List.{sum_by, list_any, list_all}
 use Rattle.std.proofs.lemmas.Bool.{le-leb, leb-false, ltb-false, ltb-true, and_from}
 use Rattle.std.proofs.lemmas.List.Folds.{list_any-append}
 use Rattle.std.proofs.lemmas.List.Sums.{sum_by-cons}
-use Rattle.elf_image.specs.Images.{SegmentData, ImageData, AreSegmentBytes, IsImage, is_segment, are_apart, all_apart}
+use Rattle.elf_image.specs.Images.{SegmentData, ImageData, AreSegmentBytes, IsImage, is_segment, are_segments_apart, are_all_segments_apart}
 use Rattle.tc_object.specs.Objects.{SectionData, InTurn}
 use Rattle.tc_link.specs.Layouts.{PlaceData, LayoutData, IsPlace, IsPlaceAfter, IsLayout, are_overlapping_places}
 use Rattle.tc_link.specs.PlaceSizes.{taken_place_size, are_places_overfull, total_place_size}
@@ -75,19 +75,19 @@ two_apart p q m n fm fn sm sn e = by_first (leb (p.at + m) q.at) refl
     by_first false f = le-leb _ _ (omega (arith, leb-false _ _ f, met))
 
 apart_one : (contents : List SectionData) (p : PlaceData) (qs : List PlaceData) → length (joined_sections p.section contents) ≤ p.most → 0 < length (joined_sections p.section contents) → Fits contents qs → ApartFrom p qs
-    → list_all (are_apart (segment_of contents p)) (segments contents qs) ≡ true
+    → list_all (are_segments_apart (segment_of contents p)) (segments contents qs) ≡ true
 apart_one contents p [] few some h apart = refl
 apart_one contents p (q ∷ qs) few some h apart = by_bytes (apart_one contents p qs few some h.1 apart.1) (has_bytes (segment_of contents q)) refl
   where
-    by_bytes : list_all (are_apart (segment_of contents p)) (segments contents qs) ≡ true → (b : Bool) → has_bytes (segment_of contents q) ≡ b → list_all (are_apart (segment_of contents p)) (cond b (segment_of contents q ∷ segments contents qs) (segments contents qs)) ≡ true
+    by_bytes : list_all (are_segments_apart (segment_of contents p)) (segments contents qs) ≡ true → (b : Bool) → has_bytes (segment_of contents q) ≡ b → list_all (are_segments_apart (segment_of contents p)) (cond b (segment_of contents q ∷ segments contents qs) (segments contents qs)) ≡ true
     by_bytes rest true e = and_from _ _ (two_apart p q (length (joined_sections p.section contents)) (length (joined_sections q.section contents)) few h.0.1 some (ltb-true _ _ e) apart.0) rest
     by_bytes rest false e = rest
 
-apart_all : (contents : List SectionData) (before ps : List PlaceData) → InTurn IsPlaceAfter before ps → Fits contents ps → all_apart (segments contents ps) ≡ true
+apart_all : (contents : List SectionData) (before ps : List PlaceData) → InTurn IsPlaceAfter before ps → Fits contents ps → are_all_segments_apart (segments contents ps) ≡ true
 apart_all contents before [] turn h = refl
 apart_all contents before (p ∷ ps) turn h = by_bytes (apart_all contents (before ++ p ∷ []) ps turn.1 h.1) (has_bytes (segment_of contents p)) refl
   where
-    by_bytes : all_apart (segments contents ps) ≡ true → (b : Bool) → has_bytes (segment_of contents p) ≡ b → all_apart (cond b (segment_of contents p ∷ segments contents ps) (segments contents ps)) ≡ true
+    by_bytes : are_all_segments_apart (segments contents ps) ≡ true → (b : Bool) → has_bytes (segment_of contents p) ≡ b → are_all_segments_apart (cond b (segment_of contents p ∷ segments contents ps) (segments contents ps)) ≡ true
     by_bytes rest true e = and_from _ _ (apart_one contents p ps h.0.1 (ltb-true _ _ e) h.1 (apart_from p (before ++ p ∷ []) ps (of_last before p) turn.1)) rest
     by_bytes rest false e = rest
 
@@ -124,7 +124,7 @@ pub record KeepsLimits (i : ImageData) : Type 0 where
   pub entry : i.entry < 2 ^ 32
   pub few : length i.segments ≤ 64
   pub segments : IsTrue (list_all is_segment i.segments)
-  pub apart : IsTrue (all_apart i.segments)
+  pub apart : IsTrue (are_all_segments_apart i.segments)
   pub small : sum_by (λ s. length s.bytes) i.segments ≤ 2 ^ 24
 
 pub image_of_bytes : (i : ImageData) → KeepsLimits i → AreSegmentBytes i.segments → IsImage i

@@ -16,7 +16,7 @@ use Rattle.tc_object.specs.Objects.{SectionData, ObjectData}
 use Rattle.tc_link.specs.Layouts.{PlaceData}
 use Rattle.tc_link.specs.Placing.{PlacedData, sections_to_link, base_of, bases_after, placed_after}
 use Rattle.tc_link.specs.PlaceSizes.{round_up_place_size, place_size_with_section, taken_place_size, AreTaken, are_places_overfull, total_place_size}
-use Rattle.tc_link.specs.Refusals.{Refusal, no_room, no_room_of, no_room_after}
+use Rattle.tc_link.specs.Refusals.{Refusal, no_room, no_room_refusal, no_room_refusal_after}
 use Rattle.std.specs.Bool.{then_some}
 use Rattle.std.proofs.lemmas.Bool.Decides.{nat_tests}
 
@@ -41,13 +41,13 @@ or_assoc None b c = refl
 or_assoc (Some x) b c = refl
 
 -- sections in two parts
-pub no_room_parts : (places : List PlaceData) (before xs ys : List SectionData) → no_room_after places before (xs ++ ys) ≡ option_or (no_room_after places before xs) (no_room_after places (before ++ xs) ys)
-unfolding no_room_after
-no_room_parts places before [] ys = ap (λ (b : List SectionData). no_room_after places b ys) (sym (append-nil before))
+pub no_room_parts : (places : List PlaceData) (before xs ys : List SectionData) → no_room_refusal_after places before (xs ++ ys) ≡ option_or (no_room_refusal_after places before xs) (no_room_refusal_after places (before ++ xs) ys)
+unfolding no_room_refusal_after
+no_room_parts places before [] ys = ap (λ (b : List SectionData). no_room_refusal_after places b ys) (sym (append-nil before))
 no_room_parts places before (x ∷ xs) ys =
-    ap (option_or (no_room_of places before x)) (no_room_parts places (before ++ x ∷ []) xs ys)
-    ∙ or_assoc (no_room_of places before x) (no_room_after places (before ++ x ∷ []) xs) (no_room_after places ((before ++ x ∷ []) ++ xs) ys)
-    ∙ ap (λ (b : List SectionData). option_or (option_or (no_room_of places before x) (no_room_after places (before ++ x ∷ []) xs)) (no_room_after places b ys)) (append_assoc before (x ∷ []) xs)
+    ap (option_or (no_room_refusal places before x)) (no_room_parts places (before ++ x ∷ []) xs ys)
+    ∙ or_assoc (no_room_refusal places before x) (no_room_refusal_after places (before ++ x ∷ []) xs) (no_room_refusal_after places ((before ++ x ∷ []) ++ xs) ys)
+    ∙ ap (λ (b : List SectionData). option_or (option_or (no_room_refusal places before x) (no_room_refusal_after places (before ++ x ∷ []) xs)) (no_room_refusal_after places b ys)) (append_assoc before (x ∷ []) xs)
 
 none_or : {A : Type 0} (a b : Option A) → a ≡ None → option_or a b ≡ b
 none_or a b e = ap (λ (o : Option _). option_or o b) e
@@ -57,13 +57,13 @@ or_none None = refl
 or_none (Some x) = refl
 
 -- room so far, and the answer of a further section
-pub no_room_push : (places : List PlaceData) (before ss : List SectionData) (s : SectionData) → no_room_after places before ss ≡ None → no_room_after places before (ss ++ s ∷ []) ≡ no_room_of places (before ++ ss) s
-unfolding no_room_after
-no_room_push places before ss s e = no_room_parts places before ss (s ∷ []) ∙ none_or _ _ e ∙ or_none (no_room_of places (before ++ ss) s)
+pub no_room_push : (places : List PlaceData) (before ss : List SectionData) (s : SectionData) → no_room_refusal_after places before ss ≡ None → no_room_refusal_after places before (ss ++ s ∷ []) ≡ no_room_refusal places (before ++ ss) s
+unfolding no_room_refusal_after
+no_room_push places before ss s e = no_room_parts places before ss (s ∷ []) ∙ none_or _ _ e ∙ or_none (no_room_refusal places (before ++ ss) s)
 
 -- no room in the first part is none in the whole
-pub no_room_front : (places : List PlaceData) (before xs ys : List SectionData) (r : Refusal) → no_room_after places before xs ≡ Some r → no_room_after places before (xs ++ ys) ≡ Some r
-no_room_front places before xs ys r e = no_room_parts places before xs ys ∙ ap (λ (o : Option Refusal). option_or o (no_room_after places (before ++ xs) ys)) e
+pub no_room_front : (places : List PlaceData) (before xs ys : List SectionData) (r : Refusal) → no_room_refusal_after places before xs ≡ Some r → no_room_refusal_after places before (xs ++ ys) ≡ Some r
+no_room_front places before xs ys r e = no_room_parts places before xs ys ∙ ap (λ (o : Option Refusal). option_or o (no_room_refusal_after places (before ++ xs) ys)) e
 
 pub placed_push : (places : List PlaceData) (before : List SectionData) (os : List ObjectData) (o : ObjectData)
     → placed_after places before (os ++ o ∷ []) ≡ placed_after places before os ++ record { object = o; bases = bases_after places (before ++ sections_to_link os) o.sections } ∷ []
@@ -121,11 +121,11 @@ none_parts None b e = (refl, e)
 none_parts (Some x) b e = cc
 
 -- if there is room for each section, there is room for all
-pub room_end : (places : List PlaceData) (before ss : List SectionData) → are_places_overfull places before ≡ false → no_room_after places before ss ≡ None → are_places_overfull places (before ++ ss) ≡ false
-unfolding no_room_after
+pub room_end : (places : List PlaceData) (before ss : List SectionData) → are_places_overfull places before ≡ false → no_room_refusal_after places before ss ≡ None → are_places_overfull places (before ++ ss) ≡ false
+unfolding no_room_refusal_after
 room_end places before [] room e = ap (are_places_overfull places) (append-nil before) ∙ room
 room_end places before (s ∷ ss) room e =
-    let p = none_parts (no_room_of places before s) (no_room_after places (before ++ s ∷ []) ss) e in
+    let p = none_parts (no_room_refusal places before s) (no_room_refusal_after places (before ++ s ∷ []) ss) e in
     ap (are_places_overfull places) (sym (append_assoc before (s ∷ []) ss)) ∙ room_end places (before ++ s ∷ []) ss (then_none _ _ p.0) p.1
 
 never_below : (n : ℕ) → ltb n 0 ≡ false
@@ -160,23 +160,23 @@ pub taken_step : (places : List PlaceData) (before sections : List SectionData) 
     → AreTaken places ((before ++ take i sections) ++ s ∷ []) sizes → AreTaken places (before ++ take (i + 1) sections) sizes
 taken_step places before sections i s sizes next t = subst (λ (l : List SectionData). AreTaken places l sizes) (append_assoc before (take i sections) (s ∷ []) ∙ ap (λ (l : List SectionData). before ++ l) (sym next)) t
 
-room_of : (places : List PlaceData) (before : List SectionData) (s : SectionData) (over : Bool) → over ≡ are_places_overfull places (before ++ s ∷ []) → over ≡ false → no_room_of places before s ≡ None
+room_of : (places : List PlaceData) (before : List SectionData) (s : SectionData) (over : Bool) → over ≡ are_places_overfull places (before ++ s ∷ []) → over ≡ false → no_room_refusal places before s ≡ None
 room_of places before s over e f = ap (λ b. then_some b (no_room s.name)) (sym e ∙ f)
 
-no_room_here : (places : List PlaceData) (before : List SectionData) (s : SectionData) (over : Bool) → over ≡ are_places_overfull places (before ++ s ∷ []) → over ≡ true → no_room_of places before s ≡ Some (no_room s.name)
+no_room_here : (places : List PlaceData) (before : List SectionData) (s : SectionData) (over : Bool) → over ≡ are_places_overfull places (before ++ s ∷ []) → over ≡ true → no_room_refusal places before s ≡ Some (no_room s.name)
 no_room_here places before s over e f = ap (λ b. then_some b (no_room s.name)) (sym e ∙ f)
 
 pub room_step : (places : List PlaceData) (before sections : List SectionData) (i : ℕ) (s : SectionData) (over : Bool) → take (i + 1) sections ≡ take i sections ++ s ∷ []
-    → no_room_after places before (take i sections) ≡ None → over ≡ are_places_overfull places ((before ++ take i sections) ++ s ∷ []) → over ≡ false → no_room_after places before (take (i + 1) sections) ≡ None
+    → no_room_refusal_after places before (take i sections) ≡ None → over ≡ are_places_overfull places ((before ++ take i sections) ++ s ∷ []) → over ≡ false → no_room_refusal_after places before (take (i + 1) sections) ≡ None
 room_step places before sections i s over next e o f =
-    ap (no_room_after places before) next ∙ no_room_push places before (take i sections) s e ∙ room_of places (before ++ take i sections) s over o f
+    ap (no_room_refusal_after places before) next ∙ no_room_push places before (take i sections) s e ∙ room_of places (before ++ take i sections) s over o f
 
 pub room_fault : (places : List PlaceData) (before sections : List SectionData) (i : ℕ) (s : SectionData) (over : Bool) → take (i + 1) sections ≡ take i sections ++ s ∷ []
-    → no_room_after places before (take i sections) ≡ None → over ≡ are_places_overfull places ((before ++ take i sections) ++ s ∷ []) → over ≡ true → no_room_after places before sections ≡ Some (no_room s.name)
+    → no_room_refusal_after places before (take i sections) ≡ None → over ≡ are_places_overfull places ((before ++ take i sections) ++ s ∷ []) → over ≡ true → no_room_refusal_after places before sections ≡ Some (no_room s.name)
 room_fault places before sections i s over next e o f =
-    ap (no_room_after places before) (sym (take-append-drop (i + 1) sections))
+    ap (no_room_refusal_after places before) (sym (take-append-drop (i + 1) sections))
     ∙ no_room_front places before (take (i + 1) sections) (drop (i + 1) sections) (no_room s.name)
-    (ap (no_room_after places before) next ∙ no_room_push places before (take i sections) s e ∙ no_room_here places (before ++ take i sections) s over o f)
+    (ap (no_room_refusal_after places before) next ∙ no_room_push places before (take i sections) s e ∙ no_room_here places (before ++ take i sections) s over o f)
 
 -- ---- objects
 pub sections_next : (objects : List ObjectData) (i : ℕ) (o : ObjectData) → i < length objects → o ≡ get_or objects i o → sections_to_link (take (i + 1) objects) ≡ sections_to_link (take i objects) ++ o.sections
@@ -208,24 +208,24 @@ pub taken_next : (places : List PlaceData) (objects : List ObjectData) (i : ℕ)
 taken_next places objects i o sizes h is t = subst (λ (l : List SectionData). AreTaken places l sizes) (sym (sections_next objects i o h is)) t
 
 pub room_next : (places : List PlaceData) (objects : List ObjectData) (i : ℕ) (o : ObjectData) → i < length objects → o ≡ get_or objects i o
-    → no_room_after places [] (sections_to_link (take i objects)) ≡ None → no_room_after places (sections_to_link (take i objects)) o.sections ≡ None
-    → no_room_after places [] (sections_to_link (take (i + 1) objects)) ≡ None
+    → no_room_refusal_after places [] (sections_to_link (take i objects)) ≡ None → no_room_refusal_after places (sections_to_link (take i objects)) o.sections ≡ None
+    → no_room_refusal_after places [] (sections_to_link (take (i + 1) objects)) ≡ None
 room_next places objects i o h is e f =
-    ap (no_room_after places []) (sections_next objects i o h is)
+    ap (no_room_refusal_after places []) (sections_next objects i o h is)
     ∙ no_room_parts places [] (sections_to_link (take i objects)) o.sections
     ∙ none_or _ _ e ∙ f
 
 room_past : (places : List PlaceData) (objects : List ObjectData) (i : ℕ) (o : ObjectData) (r : Refusal) → i < length objects → o ≡ get_or objects i o
-    → no_room_after places [] (sections_to_link (take i objects)) ≡ None → no_room_after places (sections_to_link (take i objects)) o.sections ≡ Some r
-    → no_room_after places [] (sections_to_link objects) ≡ Some r
+    → no_room_refusal_after places [] (sections_to_link (take i objects)) ≡ None → no_room_refusal_after places (sections_to_link (take i objects)) o.sections ≡ Some r
+    → no_room_refusal_after places [] (sections_to_link objects) ≡ Some r
 room_past places objects i o r h is e f =
-    ap (no_room_after places []) (sections_rest objects i o h is)
+    ap (no_room_refusal_after places []) (sections_rest objects i o h is)
     ∙ no_room_front places [] (sections_to_link (take i objects) ++ o.sections) (sections_to_link (drop (i + 1) objects)) r
     (no_room_parts places [] (sections_to_link (take i objects)) o.sections ∙ none_or _ _ e ∙ f)
 
 -- an object without room is a refusal for all objects
 pub room_told : (places : List PlaceData) (objects : List ObjectData) (i : ℕ) (o : ObjectData) (x : Option Refusal) → i < length objects → o ≡ get_or objects i o
-    → no_room_after places [] (sections_to_link (take i objects)) ≡ None → IfSome x (λ r. no_room_after places (sections_to_link (take i objects)) o.sections ≡ Some r)
-    → IfSome x (λ r. no_room_after places [] (sections_to_link objects) ≡ Some r)
+    → no_room_refusal_after places [] (sections_to_link (take i objects)) ≡ None → IfSome x (λ r. no_room_refusal_after places (sections_to_link (take i objects)) o.sections ≡ Some r)
+    → IfSome x (λ r. no_room_refusal_after places [] (sections_to_link objects) ≡ Some r)
 room_told places objects i o None h is e t = tt
 room_told places objects i o (Some r) h is e t = room_past places objects i o r h is e t

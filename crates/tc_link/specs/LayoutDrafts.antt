@@ -4,7 +4,7 @@ use Rattle.std.specs.Option.{option_and_then, option_to_list}
 use Rattle.tc_object.specs.Names.{object_name_of}
 use Rattle.tc_object.specs.Objects.{InTurn}
 use Rattle.tc_link.specs.Layouts.{PlaceData, IsPlaceAfter, LayoutData}
-use Rattle.tc_link.specs.LayoutLines.{LayoutLineData, entry, entry_in, region_in}
+use Rattle.tc_link.specs.LayoutLines.{LayoutLineData, entry, entry_in_line, place_in_line}
 use Rattle.tc_link.specs.declared.layout_errors.LayoutErr.{LayoutErr}
 use Rattle.tc_link.specs.declared.layout_errors.LayoutErr.TheVariants.{BadLine}
 
@@ -22,8 +22,8 @@ pub record IsLayoutDraft (d : LayoutDraftData) : Type 0 where
 -- the entries and places after a further line
 abbrev pub with_layout_line : LayoutDraftData → Option LayoutLineData → LayoutDraftData
 with_layout_line d line = record {
-  entries = d.entries ++ option_to_list (option_and_then entry_in line);
-  places = d.places ++ option_to_list (option_and_then region_in line);
+  entries = d.entries ++ option_to_list (option_and_then entry_in_line line);
+  places = d.places ++ option_to_list (option_and_then place_in_line line);
 }
 
 -- the layout of a draft, with the first of its entries; without an entry, a fault at the line after

@@ -24,35 +24,35 @@ place_of_words (Some section) None most = None
 place_of_words None at most = None
 
 -- the line of these words: none, `entry NAME`, or `place SECTION AT MOST`
-abbrev pub line_in : List (List ℕ) → Option LayoutLineData
-line_in (word ∷ []) = then_some (length word == 0) blank
-line_in (word ∷ name ∷ []) = if bytes_eq word (codes "entry") then option_map entry (object_name_of name) else None
-line_in (word ∷ section ∷ at ∷ most ∷ []) = if bytes_eq word (codes "place") then place_of_words (object_name_of section) (hex_number_of at) (hex_number_of most) else None
-line_in _ = None
+abbrev pub layout_line_of_words : List (List ℕ) → Option LayoutLineData
+layout_line_of_words (word ∷ []) = then_some (length word == 0) blank
+layout_line_of_words (word ∷ name ∷ []) = if bytes_eq word (codes "entry") then option_map entry (object_name_of name) else None
+layout_line_of_words (word ∷ section ∷ at ∷ most ∷ []) = if bytes_eq word (codes "place") then place_of_words (object_name_of section) (hex_number_of at) (hex_number_of most) else None
+layout_line_of_words _ = None
 
 -- the contents of a line, with one space between two words; None for a line in none of these forms
 unfoldable pub layout_line_contents : List ℕ → Option LayoutLineData
-layout_line_contents line = line_in (line_words line)
+layout_line_contents line = layout_line_of_words (line_words line)
 
 -- the name in the line of an entry
-abbrev pub entry_in : LayoutLineData → Option (List ℕ)
-entry_in blank = None
-entry_in (entry name) = Some name
-entry_in (place p) = None
+abbrev pub entry_in_line : LayoutLineData → Option (List ℕ)
+entry_in_line blank = None
+entry_in_line (entry name) = Some name
+entry_in_line (place p) = None
 
 -- the place in the line of a place
-abbrev pub region_in : LayoutLineData → Option PlaceData
-region_in blank = None
-region_in (entry name) = None
-region_in (place p) = Some p
+abbrev pub place_in_line : LayoutLineData → Option PlaceData
+place_in_line blank = None
+place_in_line (entry name) = None
+place_in_line (place p) = Some p
 
 -- the names of entries in these lines, in order
 unfoldable pub layout_entries : List (List ℕ) → List (List ℕ)
-layout_entries lines = filter_map (λ l. option_and_then entry_in (layout_line_contents l)) lines
+layout_entries lines = filter_map (λ l. option_and_then entry_in_line (layout_line_contents l)) lines
 
 -- the places in these lines, in order
-unfoldable pub places_of : List (List ℕ) → List PlaceData
-places_of lines = filter_map (λ l. option_and_then region_in (layout_line_contents l)) lines
+unfoldable pub places_in_lines : List (List ℕ) → List PlaceData
+places_in_lines lines = filter_map (λ l. option_and_then place_in_line (layout_line_contents l)) lines
 
 -- a line's name is one, and its place is valid
 abbrev pub IsGoodLayoutLine : LayoutLineData → Type 0

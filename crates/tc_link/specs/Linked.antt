@@ -6,23 +6,23 @@ use Rattle.elf_image.specs.Images.{ImageData}
 use Rattle.tc_link.specs.Layouts.{PlaceData, LayoutData}
 use Rattle.tc_link.specs.Placing.{PlacedData, placed_of}
 use Rattle.tc_link.specs.GlobalSymbols.{globals_of, global_address}
-use Rattle.tc_link.specs.Relocated.{contents_of}
+use Rattle.tc_link.specs.Relocated.{relocated_contents}
 use Rattle.tc_link.specs.Segments.{segments_of}
-use Rattle.tc_link.specs.Refusals.{Refusal, no_entry, reloc_in, refused_early}
+use Rattle.tc_link.specs.Refusals.{Refusal, no_entry, reloc_refusal_in, refusal_before_relocs}
 
 -- the image with this entry address; a refusal if the entry is no global symbol
 abbrev pub image_with_entry : Option ℕ → List PlaceData → List PlacedData → Result ImageData Refusal
 image_with_entry None places placed = Err no_entry
-image_with_entry (Some address) places placed = Ok (record { entry = address; segments = segments_of places (contents_of placed) })
+image_with_entry (Some address) places placed = Ok (record { entry = address; segments = segments_of places (relocated_contents placed) })
 
 -- the image of placed objects, if no relocation is refused
 abbrev pub image_of : LayoutData → List PlacedData → Result ImageData Refusal
 image_of layout placed = image_with_entry (global_address (globals_of placed) layout.entry) layout.places placed
 
 -- the image of placed objects, or the first relocation that is refused
-abbrev pub made_of : LayoutData → List PlacedData → Result ImageData Refusal
-made_of layout placed = unless_refused (reloc_in (globals_of placed) placed) (image_of layout placed)
+abbrev pub relocated_image_of : LayoutData → List PlacedData → Result ImageData Refusal
+relocated_image_of layout placed = unless_refused (reloc_refusal_in (globals_of placed) placed) (image_of layout placed)
 
 -- the image, or the first refusal
 unfoldable pub image_of_objects : List ObjectData → LayoutData → Result ImageData Refusal
-image_of_objects objects layout = unless_refused (refused_early layout objects) (made_of layout (placed_of layout objects))
+image_of_objects objects layout = unless_refused (refusal_before_relocs layout objects) (relocated_image_of layout (placed_of layout objects))

@@ -34,12 +34,12 @@ abbrev pub first_refusal_over : {A B : Type 0} → (ℕ → A → Option B) → 
 first_refusal_over f xs = first_refusal_from f 0 xs
 
 -- a global symbol that is defined in two objects
-abbrev pub twice_of : List ObjectData → ℕ → SymbolData → Option Refusal
-twice_of objects number s = then_some (is_global s && nat_lt 1 (globals_named objects s.name)) (twice s.name)
+abbrev pub repeated_symbol_refusal : List ObjectData → ℕ → SymbolData → Option Refusal
+repeated_symbol_refusal objects number s = then_some (is_global s && nat_lt 1 (globals_named objects s.name)) (twice s.name)
 
 -- the first global symbol that is defined in two objects, if there is one
-unfoldable pub twice_in : List ObjectData → Option Refusal
-twice_in objects = first_refusal_over (λ _ o. first_refusal_over (twice_of objects) o.symbols) objects
+unfoldable pub repeated_symbol_refusal_in : List ObjectData → Option Refusal
+repeated_symbol_refusal_in objects = first_refusal_over (λ _ o. first_refusal_over (repeated_symbol_refusal objects) o.symbols) objects
 
 -- a relocation uses the symbol with this number, so that the linker refuses the objects if the
 -- symbol is missing
@@ -47,12 +47,12 @@ abbrev pub is_used_by_relocs : List Reloc → ℕ → Bool
 is_used_by_relocs relocs number = list_any (λ r. r.symbol == number) relocs
 
 -- a symbol that a relocation uses, undefined in its object and global in none
-abbrev pub missing_of : List ObjectData → List Reloc → ℕ → SymbolData → Option Refusal
-missing_of objects relocs number s = then_some (s.kind == undefined_symbol && is_used_by_relocs relocs number && globals_named objects s.name == 0) (missing s.name)
+abbrev pub missing_symbol_refusal : List ObjectData → List Reloc → ℕ → SymbolData → Option Refusal
+missing_symbol_refusal objects relocs number s = then_some (s.kind == undefined_symbol && is_used_by_relocs relocs number && globals_named objects s.name == 0) (missing s.name)
 
 -- the first symbol that is used, undefined in its object and global in none, if there is one
-unfoldable pub missing_in : List ObjectData → Option Refusal
-missing_in objects = first_refusal_over (λ _ o. first_refusal_over (missing_of objects o.relocs) o.symbols) objects
+unfoldable pub missing_symbol_refusal_in : List ObjectData → Option Refusal
+missing_symbol_refusal_in objects = first_refusal_over (λ _ o. first_refusal_over (missing_symbol_refusal objects o.relocs) o.symbols) objects
 
 -- a symbol is defined in the section with this number, so that the linker refuses the section if it
 -- has no place
@@ -60,21 +60,21 @@ abbrev pub has_symbol : List SymbolData → ℕ → Bool
 has_symbol symbols number = list_any (λ s. not (s.kind == undefined_symbol) && s.section == number) symbols
 
 -- a section without a place that has bytes or in which a symbol is defined
-abbrev pub no_place_of : List PlaceData → List SymbolData → ℕ → SectionData → Option Refusal
-no_place_of places symbols number s = then_some ((nat_lt 0 (length s.bytes) || has_symbol symbols number) && not (is_placed places s.name)) (no_place s.name)
+abbrev pub no_place_refusal : List PlaceData → List SymbolData → ℕ → SectionData → Option Refusal
+no_place_refusal places symbols number s = then_some ((nat_lt 0 (length s.bytes) || has_symbol symbols number) && not (is_placed places s.name)) (no_place s.name)
 
 -- the first section that needs a place and has none, if there is one
-unfoldable pub no_place_in : List PlaceData → List ObjectData → Option Refusal
-no_place_in places objects = first_refusal_over (λ _ o. first_refusal_over (no_place_of places o.symbols) o.sections) objects
+unfoldable pub no_place_refusal_in : List PlaceData → List ObjectData → Option Refusal
+no_place_refusal_in places objects = first_refusal_over (λ _ o. first_refusal_over (no_place_refusal places o.symbols) o.sections) objects
 
 -- a section for which there is no room after these sections
-abbrev pub no_room_of : List PlaceData → List SectionData → SectionData → Option Refusal
-no_room_of places before s = then_some (are_places_overfull places (before ++ s ∷ [])) (no_room s.name)
+abbrev pub no_room_refusal : List PlaceData → List SectionData → SectionData → Option Refusal
+no_room_refusal places before s = then_some (are_places_overfull places (before ++ s ∷ [])) (no_room s.name)
 
 -- the first section for which there is no room, after these sections and those before it
-unfoldable pub no_room_after : List PlaceData → List SectionData → List SectionData → Option Refusal
-no_room_after places before [] = None
-no_room_after places before (s ∷ ss) = option_or (no_room_of places before s) (no_room_after places (before ++ s ∷ []) ss)
+unfoldable pub no_room_refusal_after : List PlaceData → List SectionData → List SectionData → Option Refusal
+no_room_refusal_after places before [] = None
+no_room_refusal_after places before (s ∷ ss) = option_or (no_room_refusal places before s) (no_room_refusal_after places (before ++ s ∷ []) ss)
 
 -- the reason why a relocation can't be written, so that the linker refuses it, if there is one
 abbrev pub reloc_refusal : List GlobalData → PlacedData → Reloc → Option RelocErr
@@ -85,12 +85,12 @@ abbrev pub refusal_at : List GlobalData → ℕ → PlacedData → ℕ → Reloc
 refusal_at globals object p number r = option_map (λ err. reloc object r.section r.offset err) (reloc_refusal globals p r)
 
 -- the first relocation that can't be written, in the order of the objects, if there is one
-unfoldable pub reloc_in : List GlobalData → List PlacedData → Option Refusal
-reloc_in globals placed = first_refusal_over (λ object p. first_refusal_over (refusal_at globals object p) p.object.relocs) placed
+unfoldable pub reloc_refusal_in : List GlobalData → List PlacedData → Option Refusal
+reloc_refusal_in globals placed = first_refusal_over (λ object p. first_refusal_over (refusal_at globals object p) p.object.relocs) placed
 
 -- the first refusal before relocations are written, in this order
-abbrev pub refused_early : LayoutData → List ObjectData → Option Refusal
-refused_early layout objects =
-    option_or (twice_in objects)
-    (option_or (missing_in objects)
-    (option_or (no_place_in layout.places objects) (no_room_after layout.places [] (sections_to_link objects))))
+abbrev pub refusal_before_relocs : LayoutData → List ObjectData → Option Refusal
+refusal_before_relocs layout objects =
+    option_or (repeated_symbol_refusal_in objects)
+    (option_or (missing_symbol_refusal_in objects)
+    (option_or (no_place_refusal_in layout.places objects) (no_room_refusal_after layout.places [] (sections_to_link objects))))

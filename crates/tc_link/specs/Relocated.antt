@@ -41,21 +41,21 @@ with_filled_field r place value s = record {
 }
 
 -- a section with the field of a relocation written
-abbrev pub with_relocation : List GlobalData → PlacedData → Reloc → SectionData → SectionData
-with_relocation globals p r s = with_filled_field r (field_place p r) (reloc_value globals p r) s
+abbrev pub section_with_reloc : List GlobalData → PlacedData → Reloc → SectionData → SectionData
+section_with_reloc globals p r s = with_filled_field r (field_place p r) (reloc_value globals p r) s
 
 -- a list with the item of this number changed, if it's there
 abbrev pub with_relocated_item : {A : Type 0} → (A → A) → ℕ → List A → List A
 with_relocated_item f n xs = option_map_or (λ x. slice_set xs n (f x)) (slice_get xs n) xs
 
 -- the sections of a placed object after one of its relocations is written
-abbrev pub with_reloc : List GlobalData → PlacedData → List SectionData → Reloc → List SectionData
-with_reloc globals p sections r = with_relocated_item (with_relocation globals p r) r.section sections
+abbrev pub sections_with_reloc : List GlobalData → PlacedData → List SectionData → Reloc → List SectionData
+sections_with_reloc globals p sections r = with_relocated_item (section_with_reloc globals p r) r.section sections
 
 -- the sections of a placed object after all its relocations are written, in order
 unfoldable pub relocated_sections : List GlobalData → PlacedData → List SectionData
-relocated_sections globals p = fold (with_reloc globals p) p.object.sections p.object.relocs
+relocated_sections globals p = fold (sections_with_reloc globals p) p.object.sections p.object.relocs
 
 -- all sections, with their relocations written
-unfoldable pub contents_of : List PlacedData → List SectionData
-contents_of placed = flat_map (relocated_sections (globals_of placed)) placed
+unfoldable pub relocated_contents : List PlacedData → List SectionData
+relocated_contents placed = flat_map (relocated_sections (globals_of placed)) placed

@@ -35,7 +35,7 @@ impl Draft {
     ghost use Rattle.std.specs.List.{list_any};
     ghost use Rattle.tc_link.specs.Layouts.{IsPlace, IsPlaceAfter, is_placed, is_overlapping_place};
     ghost use Rattle.tc_link.specs.LayoutLines.{layout_line_contents, place};
-    ghost use Rattle.tc_link.specs.LayoutFaults.{fault_of, IsFaultOf, IsFault};
+    ghost use Rattle.tc_link.specs.LayoutFaults.{line_fault, IsLayoutFaultOf, IsLayoutFault};
     ghost use Rattle.tc_link.specs.LayoutDrafts.{with_entry, with_layout_line};
     ghost use Rattle.tc_link.specs.declared.layout_errors.LayoutErr.TheVariants.{Twice, TooMany, Overlap};
 
@@ -57,12 +57,12 @@ impl Draft {
         line: &[u8],
     ) -> Result<(), LayoutErr>
         ensures good { OnOk result
-            (fault_of number self.old.entries self.old.places (layout_line_contents line.now)
+            (line_fault number self.old.entries self.old.places (layout_line_contents line.now)
             ≡ None) }
         ensures ok { OnOk result (self.new
             ≡ with_layout_line self.old (layout_line_contents line.now)) }
         ensures err { IfErr result
-            (IsFault (fault_of number self.old.entries self.old.places
+            (IsLayoutFault (line_fault number self.old.entries self.old.places
             (layout_line_contents line.now))) }
     {
         let Some(line) = layout_line_contents(line) else {
@@ -92,7 +92,7 @@ impl Draft {
     pub(crate) fn finish(self, count: u32) -> Result<Layout, LayoutErr>
         requires { count < 2 ^ 31 }
         ensures ok { IfOk result (λ l. with_entry count self.entries self.places ≡ Ok l) }
-        ensures err { IfErr result (IsFaultOf (with_entry count self.entries self.places)) }
+        ensures err { IfErr result (IsLayoutFaultOf (with_entry count self.entries self.places)) }
     {
         let Draft { entry, places } = self;
         match entry {
@@ -104,7 +104,7 @@ impl Draft {
     // The fault of a place in line `number`, if it has one.
     fn place_fault(&self, number: u32, section: &str, at: u32, most: u32) -> Option<LayoutErr>
         requires { IsPlace (record { section = section.now; at = at; most = most }) }
-        ensures fault { result ≡ fault_of number self.now.entries self.now.places
+        ensures fault { result ≡ line_fault number self.now.entries self.now.places
             (Some (place (record { section = section.now; at = at; most = most }))) }
         ensures after { IfNone result (IsPlaceAfter self.now.places
             (record { section = section.now; at = at; most = most })) }

@@ -55,7 +55,7 @@ impl Model for Layout {
 
 impl Layout {
     ghost use Rattle.std.specs.Prelude.{◌≡◌, ◌≤◌, ◌^◌, length, Ok, IfOk, IfErr};
-    ghost use Rattle.tc_link.specs.LayoutFaults.{layout_of, IsFaultOf};
+    ghost use Rattle.tc_link.specs.LayoutFaults.{layout_of, IsLayoutFaultOf};
 
     /// The layout in a text, or its first fault. The lines are `entry NAME` and `place SECTION AT
     /// MOST`, with numbers of eight upper-case hex digits. One space separates two words. Empty
@@ -63,7 +63,7 @@ impl Layout {
     pub fn read(alloc: Global, bytes: &[u8]) -> Result<Layout, LayoutErr>
         requires { length bytes.now ≤ 2 ^ 30 }
         ensures ok { IfOk result (λ l. layout_of bytes.now ≡ Ok l) }
-        ensures err { IfErr result (IsFaultOf (layout_of bytes.now)) }
+        ensures err { IfErr result (IsLayoutFaultOf (layout_of bytes.now)) }
     {
         let mut draft = Draft::new(alloc);
         let mut number = 0u32;

@@ -3,7 +3,7 @@ ghost use Rattle.std.specs.Prelude.{◌≡◌, ◌≤◌, ◌<◌, length, Ok, E
 ghost use Rattle.tc_link.specs.Segments.{segments_of};
 ghost use Rattle.tc_link.specs.Linked.{image_of_objects};
 ghost use Rattle.tc_link.specs.Placing.{placed_of};
-ghost use Rattle.tc_link.specs.Relocated.{contents_of};
+ghost use Rattle.tc_link.specs.Relocated.{relocated_contents};
 ghost use Rattle.tc_link.specs.Errors.{refusal_of};
 
 use crate::addresses::address_named;

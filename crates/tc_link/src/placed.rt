@@ -2,7 +2,7 @@
 ghost use Rattle.std.specs.Prelude.{◌≡◌, ◌≤◌, ◌<◌, [], ℕ, IfOk, IfErr, length, slice_index_or, None, List, ◌+◌, ◌++◌, OnOk};
 ghost use Rattle.tc_object.specs.Objects.{ObjectData, IsObject, SectionData};
 ghost use Rattle.tc_link.specs.Placing.{placed_after, sections_to_link, base_of, bases_after};
-ghost use Rattle.tc_link.specs.Refusals.{no_room_after};
+ghost use Rattle.tc_link.specs.Refusals.{no_room_refusal_after};
 ghost use Rattle.tc_link.specs.PlaceSizes.{AreTaken, AreSmallPlaceSizes, round_up_place_size, are_places_overfull};
 ghost use Rattle.tc_link.specs.Errors.{IsRefusal};
 
@@ -39,9 +39,9 @@ pub(crate) fn place_objects<'a, 'b>(
     ensures good { IfOk result (λ _. (k : ℕ) (d : ObjectData) → k < length objects.now
         → IsObject (slice_index_or objects.now k d)) }
     ensures room { IfOk result
-        (λ _. no_room_after places.now [] (sections_to_link objects.now) ≡ None) }
+        (λ _. no_room_refusal_after places.now [] (sections_to_link objects.now) ≡ None) }
     ensures err { IfErr result
-        (IsRefusal (no_room_after places.now [] (sections_to_link objects.now))) }
+        (IsRefusal (no_room_refusal_after places.now [] (sections_to_link objects.now))) }
 {
     let mut zeros = vec![in alloc; 0u64; places.len()]?;
     let sizes: &mut [u64] = &mut zeros;
@@ -87,11 +87,11 @@ pub(crate) fn place_sections(
     ensures taken { OnOk result ((before : List SectionData) → AreTaken places.now before sizes.old
         → AreTaken places.now (before ++ sections.now) sizes.new) }
     ensures room { OnOk result ((before : List SectionData) → AreTaken places.now before sizes.old
-        → no_room_after places.now before sections.now ≡ None) }
+        → no_room_refusal_after places.now before sections.now ≡ None) }
     ensures small { OnOk result (AreSmallPlaceSizes sizes.new) }
     ensures err { IfErr result (λ e. (before : List SectionData)
         → AreTaken places.now before sizes.old
-        → IsRefusal (no_room_after places.now before sections.now) e) }
+        → IsRefusal (no_room_refusal_after places.now before sections.now) e) }
 {
     let mut bases = Vec::new(alloc);
     for section in sections {

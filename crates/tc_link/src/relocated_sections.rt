@@ -3,8 +3,8 @@ ghost use Rattle.std.specs.Prelude.{◌≡◌, ◌≤◌, ◌<◌, ◌+◌, List
 ghost use Rattle.tc_object.specs.Objects.{section_size_at};
 ghost use Rattle.tc_reloc.specs.Refusals.{reloc_value_refusal};
 ghost use Rattle.tc_link.specs.GlobalSymbols.{GlobalData, globals_of, AreGlobals};
-ghost use Rattle.tc_link.specs.Relocated.{symbol_addresses, with_relocated_field, with_filled_field, with_reloc, relocated_sections, contents_of, reloc_value, reloc_field_at};
-ghost use Rattle.tc_link.specs.Refusals.{reloc_refusal, first_refusal_over, refusal_at, reloc_in};
+ghost use Rattle.tc_link.specs.Relocated.{symbol_addresses, with_relocated_field, with_filled_field, sections_with_reloc, relocated_sections, relocated_contents, reloc_value, reloc_field_at};
+ghost use Rattle.tc_link.specs.Refusals.{reloc_refusal, first_refusal_over, refusal_at, reloc_refusal_in};
 ghost use Rattle.tc_link.specs.Shapes.{section_shape};
 ghost use Rattle.tc_link.specs.Errors.{IsRefusal};
 ghost use Rattle.tc_link.specs.Placing.{PlacedData};
@@ -21,7 +21,7 @@ use tc_reloc::{RelocErr, apply};
 
 /// Returns the sections of all objects, with their relocations written, or the first relocation
 /// that is refused.
-#[tactic(auto, unfolding(crate::specs::Relocated::contents_of, crate::specs::Refusals::reloc_in))]
+#[tactic(auto, unfolding(crate::specs::Relocated::relocated_contents, crate::specs::Refusals::reloc_refusal_in))]
 pub(crate) fn relocated_contents<'a>(
     alloc: Global,
     names: &HashMap<&str, Definition>,
@@ -29,9 +29,9 @@ pub(crate) fn relocated_contents<'a>(
 ) -> Result<Vec<WrittenSection<'a>>, LinkErr>
     requires few { length placed.now ≤ 65535 }
     requires globals { AreGlobals names.now placed.now (globals_of placed.now) }
-    ensures sections { IfOk result (λ ss. ss.items ≡ contents_of placed.now) }
-    ensures none { OnOk result (reloc_in (globals_of placed.now) placed.now ≡ None) }
-    ensures err { IfErr result (IsRefusal (reloc_in (globals_of placed.now) placed.now)) }
+    ensures sections { IfOk result (λ ss. ss.items ≡ relocated_contents placed.now) }
+    ensures none { OnOk result (reloc_refusal_in (globals_of placed.now) placed.now ≡ None) }
+    ensures err { IfErr result (IsRefusal (reloc_refusal_in (globals_of placed.now) placed.now)) }
 {
     let mut contents = Vec::new(alloc);
     for (number, each) in placed.iter().enumerate() {
@@ -123,7 +123,7 @@ fn write_reloc_in_object(
         (λ err. reloc_refusal all placed.now reloc.now ≡ Some err) }
     ensures written { OnOk result ((all : List GlobalData)
         → addresses.now ≡ symbol_addresses all placed.now
-        → sections.new ≡ with_reloc all placed.now sections.old reloc.now) }
+        → sections.new ≡ sections_with_reloc all placed.now sections.old reloc.now) }
     ensures shapes { OnOk result (map section_shape sections.new ≡ map section_shape sections.old) }
 {
     let place = address_in_section(&placed.bases, reloc.section, reloc.offset);

@@ -3,7 +3,7 @@ ghost use Rattle.std.specs.Prelude.{◌≡◌, ◌<◌, ◌&&◌, ◌||◌, nat_
 ghost use Rattle.std.specs.Option.{option_map};
 ghost use Rattle.tc_object.specs.Objects.{SymbolData};
 ghost use Rattle.tc_link.specs.Layouts.{is_placed};
-ghost use Rattle.tc_link.specs.Refusals.{no_place, no_place_of, no_place_in, first_refusal_over, has_symbol};
+ghost use Rattle.tc_link.specs.Refusals.{no_place, no_place_refusal, no_place_refusal_in, first_refusal_over, has_symbol};
 ghost use Rattle.tc_link.specs.Errors.{IsRefusal};
 ghost use Rattle.tc_link.specs.declared.errors.LinkErr.TheVariants.{NoMemory};
 
@@ -19,8 +19,8 @@ pub(crate) fn check_places(
     places: &[Place],
     objects: &[ObjectRef<'_>],
 ) -> Result<(), LinkErr>
-    ensures ok { OnOk result (no_place_in places.now objects.now ≡ None) }
-    ensures err { IfErr result (IsRefusal (no_place_in places.now objects.now)) }
+    ensures ok { OnOk result (no_place_refusal_in places.now objects.now ≡ None) }
+    ensures err { IfErr result (IsRefusal (no_place_refusal_in places.now objects.now)) }
 {
     for object in objects {
         let held = sections_with_symbols(alloc, object)?;
@@ -57,7 +57,7 @@ fn first_unplaced_section<'a>(
     ensures { (symbols : List SymbolData)
         → ((k : ℕ) (d : Bool) → k < length sections.now
         → slice_index_or held.now k d ≡ has_symbol symbols k)
-        → first_refusal_over (no_place_of places.now symbols) sections.now
+        → first_refusal_over (no_place_refusal places.now symbols) sections.now
         ≡ option_map (λ name. no_place name.now) result }
 {
     for (number, section) in sections.iter().enumerate() {

@@ -4,7 +4,7 @@ ghost use Rattle.std.specs.Option.{option_map};
 ghost use Rattle.tc_object.specs.declared.relocs.Reloc.{Reloc};
 ghost use Rattle.tc_object.specs.Objects.{ObjectData};
 ghost use Rattle.tc_link.specs.GlobalSymbols.{is_global, globals_named, CountsGlobals};
-ghost use Rattle.tc_link.specs.Refusals.{twice, missing, twice_of, twice_in, missing_of, missing_in, first_refusal_over, is_used_by_relocs};
+ghost use Rattle.tc_link.specs.Refusals.{twice, missing, repeated_symbol_refusal, repeated_symbol_refusal_in, missing_symbol_refusal, missing_symbol_refusal_in, first_refusal_over, is_used_by_relocs};
 ghost use Rattle.tc_link.specs.Errors.{IsRefusal};
 ghost use Rattle.tc_link.specs.declared.errors.LinkErr.TheVariants.{NoMemory};
 
@@ -22,8 +22,8 @@ pub(crate) fn check_repeated_symbols(
     objects: &[ObjectRef<'_>],
 ) -> Result<(), LinkErr>
     requires { CountsGlobals names.now objects.now }
-    ensures ok { OnOk result (twice_in objects.now ≡ None) }
-    ensures err { IfErr result (IsRefusal (twice_in objects.now)) }
+    ensures ok { OnOk result (repeated_symbol_refusal_in objects.now ≡ None) }
+    ensures err { IfErr result (IsRefusal (repeated_symbol_refusal_in objects.now)) }
 {
     if names.values().all(|definition| !definition.is_twice) {
         return Ok(());
@@ -53,8 +53,8 @@ pub(crate) fn check_missing_symbols(
     objects: &[ObjectRef<'_>],
 ) -> Result<(), LinkErr>
     requires { CountsGlobals names.now objects.now }
-    ensures ok { OnOk result (missing_in objects.now ≡ None) }
-    ensures err { IfErr result (IsRefusal (missing_in objects.now)) }
+    ensures ok { OnOk result (missing_symbol_refusal_in objects.now ≡ None) }
+    ensures err { IfErr result (IsRefusal (missing_symbol_refusal_in objects.now)) }
 {
     for object in objects {
         let used = used_symbols(alloc, object)?;
@@ -71,7 +71,7 @@ fn first_repeated_symbol<'a>(
     symbols: &[SymbolRef<'a>],
 ) -> Option<&'a str>
     ensures { (objects : List ObjectData) → CountsGlobals names.now objects
-        → first_refusal_over (twice_of objects) symbols.now
+        → first_refusal_over (repeated_symbol_refusal objects) symbols.now
         ≡ option_map (λ name. twice name.now) result }
 {
     for symbol in symbols {
@@ -115,7 +115,7 @@ fn first_missing_symbol<'a>(
         → (relocs : List Reloc)
         → ((k : ℕ) (d : Bool) → k < length symbols.now
         → slice_index_or used.now k d ≡ is_used_by_relocs relocs k)
-        → first_refusal_over (missing_of objects relocs) symbols.now
+        → first_refusal_over (missing_symbol_refusal objects relocs) symbols.now
         ≡ option_map (λ name. missing name.now) result }
 {
     for (number, symbol) in symbols.iter().enumerate() {

@@ -9,7 +9,7 @@ use Rattle.csa_chain.proofs.ContextLaws.{link_in-with_link, with_link-lt, link_i
 use Rattle.elf_image.specs.Images.{ImageData}
 use Rattle.tcd_plan.specs.PlanData.{PlanData, IsPlan}
 use Rattle.tc_machine.specs.declared.state.Machine.{Machine}
-use Rattle.tc_machine.specs.PlanAreas.{area_links_up, first_link, plan_areas}
+use Rattle.tc_machine.specs.PlanAreas.{consecutive_links, first_link, plan_areas}
 use Rattle.tc_machine.specs.Safe.{ChainsAreWhole}
 use Rattle.tc_machine.specs.Starting.{Starts}
 use Rattle.tc_machine.proofs.PlanLaws.{length-links_up, Distinct-links_up, length-reverse_onto, place_of, link_address-area, some_link, link_lt}
@@ -136,7 +136,7 @@ module _ (image : ImageData) (plan : PlanData) (ok : IsPlan plan) (m : Machine) 
       are_mapped_from m.mem _ 64 (λ j h. (start.memory _).1 (let at = link_address-area ok i lt in inr (inr (omega arith, omega arith))))
 
   -- the areas from area i on are a chain
-  links_from : (i n : ℕ) (word : ℕ) → i + n ≡ plan.areas → link_in word ≡ cond (nat_lt i plan.areas) (first_link plan + i) 0 → Links m.mem word (area_links_up (first_link plan + i) n)
+  links_from : (i n : ℕ) (word : ℕ) → i + n ≡ plan.areas → link_in word ≡ cond (nat_lt i plan.areas) (first_link plan + i) 0 → Links m.mem word (consecutive_links (first_link plan + i) n)
   links_from i zero word e w = w ∙ ap (λ t. cond t (first_link plan + i) 0) (le-ltb i plan.areas (omega arith))
   links_from i (suc n) word e w =
       let lt : i < plan.areas = omega arith in
@@ -144,7 +144,7 @@ module _ (image : ImageData) (plan : PlanData) (ok : IsPlan plan) (m : Machine) 
         some_link ok i,
         here,
         area_mapped i lt,
-        subst (λ l. Links m.mem (area_word m.mem (first_link plan + i) 0) (area_links_up l n)) (add_one_more (first_link plan) i)
+        subst (λ l. Links m.mem (area_word m.mem (first_link plan + i) 0) (consecutive_links l n)) (add_one_more (first_link plan) i)
             (links_from (i + 1) n (area_word m.mem (first_link plan + i) 0) (omega arith)
             (ap link_in (start.linked i lt) ∙ small_link (nat_lt (i + 1) plan.areas) (first_link plan + (i + 1)) (λ b. link_lt ok (i + 1) (ltb-true (i + 1) plan.areas b)))),
       )
@@ -152,7 +152,7 @@ module _ (image : ImageData) (plan : PlanData) (ok : IsPlan plan) (m : Machine) 
   free_links : Links m.mem m.fcx (plan_areas plan)
   free_links =
       let some = (ok.areas).some in
-      subst (λ l. Links m.mem m.fcx (area_links_up l plan.areas)) (plus_zero (first_link plan))
+      subst (λ l. Links m.mem m.fcx (consecutive_links l plan.areas)) (plus_zero (first_link plan))
       (links_from 0 plan.areas m.fcx (zero_plus plan.areas)
       (ap link_in (start.fcx ∙ sym (plus_zero (first_link plan))) ∙ link_mod (first_link plan + 0) (link_lt ok 0 (omega arith)) ∙ sym (ap (λ t. cond t (first_link plan + 0) 0) (lt-ltb 0 plan.areas (omega arith)))))
 

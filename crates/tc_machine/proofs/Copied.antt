@@ -15,7 +15,7 @@ use Rattle.elf_image.specs.declared.segments.Segment.{Segment}
 use Rattle.elf_image.specs.Images.{ImageData, SegmentData, segment_data, is_segment, segments_byte, image_byte}
 use Rattle.tcd_base.specs.declared.range.Range.{Range}
 use Rattle.tc_mem.specs.Written.{IsMemoryWritten}
-use Rattle.tc_machine.specs.Starting.{with_image, IsCopiedToMemory}
+use Rattle.tc_machine.specs.Starting.{with_image_in_range, IsCopiedToMemory}
 use Rattle.tc_machine.proofs.Filled.{image_mapped, image_none, image_outside, image_put}
 
 -- ---- the byte of a segment
@@ -126,15 +126,15 @@ gone : (o : Option ℕ) → is_some o ≡ false → o ≡ None
 gone None e = refl
 gone (Some x) e = cc
 
-in_range : (image : ImageData) (r : Range) (m new : Memory) → IsCopiedToMemory image.segments r m new → (q : ℕ) → r.at ≤ q → q < r.at + r.len → (o : Option ℕ) → image_byte image q ≡ o → (t : Bool) → is_mapped m q ≡ t → finite.get new q ≡ finite.get (with_image image m r.at r.len) q
+in_range : (image : ImageData) (r : Range) (m new : Memory) → IsCopiedToMemory image.segments r m new → (q : ℕ) → r.at ≤ q → q < r.at + r.len → (o : Option ℕ) → image_byte image q ≡ o → (t : Bool) → is_mapped m q ≡ t → finite.get new q ≡ finite.get (with_image_in_range image m r.at r.len) q
 in_range image r m new c q low high None e t is = c.none q e ∙ sym (image_none image m r.at r.len q e)
 in_range image r m new c q low high (Some b) e true is = c.held q b low high is e ∙ sym (image_put image m r.at r.len q b low high is e)
 in_range image r m new c q low high (Some b) e false is =
-    gone (finite.get new q) (c.mapped q ∙ is) ∙ sym (gone (finite.get (with_image image m r.at r.len) q) (image_mapped image m r.at r.len q ∙ is))
+    gone (finite.get new q) (c.mapped q ∙ is) ∙ sym (gone (finite.get (with_image_in_range image m r.at r.len) q) (image_mapped image m r.at r.len q ∙ is))
 
-pub copied_image : (image : ImageData) (r : Range) (m new : Memory) → IsCopiedToMemory image.segments r m new → new ≡ with_image image m r.at r.len
+pub copied_image : (image : ImageData) (r : Range) (m new : Memory) → IsCopiedToMemory image.segments r m new → new ≡ with_image_in_range image m r.at r.len
 copied_image image r m new c =
-    same_map nat_cmp_total nat_cmp-IsAntisymmetric new (with_image image m r.at r.len) (λ q.
+    same_map nat_cmp_total nat_cmp-IsAntisymmetric new (with_image_in_range image m r.at r.len) (λ q.
     elim (cases_lt q r.at) [
       | inl below ↦ c.outside q (inl below) ∙ sym (image_outside image m r.at r.len q (inl below))
       | inr above ↦ elim (cases_lt q (r.at + r.len)) [

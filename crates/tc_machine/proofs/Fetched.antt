@@ -11,7 +11,7 @@ use Rattle.tc_encode.specs.Decoding.{decoded_of}
 use Rattle.tc_encode.proofs.DecodeProofs.{decode_laws}
 use Rattle.tc_machine.specs.declared.events.Cause.TheVariants.{NoCode}
 use Rattle.tc_machine.specs.declared.state.Machine.{Machine}
-use Rattle.tc_machine.specs.Fetching.{fetched_byte_before, mapped_bytes, fetched_shape, fetched}
+use Rattle.tc_machine.specs.Fetching.{prepend_mapped_byte, mapped_bytes, fetched_shape, fetched_instruction}
 use Rattle.tc_machine.specs.Safe.{SpellsAt, IsAtCode}
 use Rattle.tc_mem.specs.PlanMemory.{HoldsRom}
 use Rattle.tcd_base.proofs.RangeLaws.{in_one}
@@ -33,7 +33,7 @@ mapped_bytes-front (suc n) m x (b ∷ []) le fits there =
 mapped_bytes-front (suc n) m x (b ∷ c ∷ bytes) le fits there =
     let more = mapped_bytes-front n m (x + 1) (c ∷ bytes) (omega arith) (omega arith) (λ i lt. rw (next_place x i) at (there (suc i) (omega arith))) in (
       more.0,
-      ap (λ o. fetched_byte_before o (mapped_bytes n m ((x + 1) % 2 ^ 32))) (rw add-zero at (there 0 (omega arith)))
+      ap (λ o. prepend_mapped_byte o (mapped_bytes n m ((x + 1) % 2 ^ 32))) (rw add-zero at (there 0 (omega arith)))
           ∙ ap (λ y. b ∷ mapped_bytes n m y) (small_mod (x + 1) (omega arith)) ∙ ap (λ bs. b ∷ bs) more.1,
     )
 
@@ -43,8 +43,8 @@ module _ (image : ImageData) {plan : PlanData} (ok : IsPlan plan) where
   code_there m rom bytes inst s i lt = rom (m.pc + i) (get_or bytes i 0) (in_one m.pc (length bytes) i plan.rom lt s.in_rom) (s.held i lt)
 
   -- and is what the machine fetches
-  pub fetched-is : (m : Machine) → HoldsRom image plan m.mem → m.pc % 2 ≡ 0 → (bytes : List ℕ) (inst : InstData) → SpellsAt image plan m.pc bytes inst → fetched m ≡ Ok (shape_of inst, length bytes)
-  unfolding fetched
+  pub fetched-is : (m : Machine) → HoldsRom image plan m.mem → m.pc % 2 ≡ 0 → (bytes : List ℕ) (inst : InstData) → SpellsAt image plan m.pc bytes inst → fetched_instruction m ≡ Ok (shape_of inst, length bytes)
+  unfolding fetched_instruction
   fetched-is m rom even bytes inst s =
       let short = (decode_laws.lengths (bytes ++ []) inst (length bytes) (decode_laws.spelled bytes [] inst s.spelled)).1 in
       let front = mapped_bytes-front 4 m.mem m.pc bytes short (rom_fits ok m.pc (length bytes) s.in_rom) (code_there m rom bytes inst s) in

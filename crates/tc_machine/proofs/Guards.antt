@@ -18,7 +18,7 @@ use Rattle.tc_machine.specs.PlanAreas.{first_link, plan_areas}
 use Rattle.tc_machine.specs.Instructions.{access_address}
 use Rattle.tc_machine.specs.Stepping.{load_at_pc, run, stored}
 use Rattle.tc_machine.specs.Safe.{Fits, AllFit, IsSafeAt}
-use Rattle.tc_machine.specs.MachineLaws.{EveryEventFits, first_events, EveryRunFits, EveryStartStarts, IsAreaWalk, LiesInRange, HasFiveParts, SafeHasFiveParts, StoreInstructionStores}
+use Rattle.tc_machine.specs.MachineLaws.{EveryEventFits, first_events, EveryRunFits, StartEquationsSuffice, IsAreaWalk, LiesInRange, HasFiveParts, SafeHasFiveParts, StoreInstructionStores}
 use Rattle.tc_machine.proofs.PlanLaws.{link_lt, length-links_up, length-reverse_onto, get_or-links_up}
 use Rattle.tc_machine.proofs.Steps.{stored-is}
 
@@ -52,7 +52,7 @@ every_run plan states events (suc n) walk fits =
     )
 
 -- ---- start states
-pub every_start : EveryStartStarts
+pub every_start : StartEquationsSuffice
 every_start image plan d a psw mem whole ok d_count d_words a_count a_words psw_word small mapped rom next last sp globals is io =
     let areas = ok.areas in
     let first : first_link plan < 2 ^ 20 = let some = areas.some in let lt = link_lt ok 0 (omega arith) in omega arith in

@@ -16,10 +16,10 @@ use Rattle.tc_machine.specs.declared.events.Event.{Event}
 use Rattle.tc_machine.specs.declared.events.End.{End}
 use Rattle.tc_machine.specs.declared.events.End.TheVariants.{Running, Dead}
 use Rattle.tc_machine.specs.declared.state.Machine.{Machine}
-use Rattle.tc_machine.specs.Machine.{with_reg, then_, goes_on, psw_with_status}
-use Rattle.tc_machine.specs.Instructions.{does, with_base, lowered, access_address}
-use Rattle.tc_machine.specs.Fetching.{fetched, mapped_bytes, fetched_shape}
-use Rattle.tc_machine.specs.Stepping.{is_taken, executed, machine_after_event, step, used_area_count}
+use Rattle.tc_machine.specs.Machine.{with_reg, if_running, if_end_running, psw_with_status}
+use Rattle.tc_machine.specs.Instructions.{does, with_base_incremented, with_register_decremented, access_address}
+use Rattle.tc_machine.specs.Fetching.{fetched_instruction, mapped_bytes, fetched_shape}
+use Rattle.tc_machine.specs.Stepping.{is_interrupt_taken, after_found_instruction, machine_after_event, step, used_area_count}
 use Rattle.tc_machine.specs.InstructionKinds.{is_area_keeping_shape}
 
 -- two states with equal memory and PCXI
@@ -47,12 +47,12 @@ same_reg m r w = of_cond m (record m { d = set m.d r w }) (record m { a = set m.
 same_pc : (m n : Machine) (pc : ℕ) → Same m n → Same m (record n { pc = pc })
 same_pc m n pc s = record { mem = s.mem; pcxi = s.pcxi }
 
-same_base : (m : Machine) (base : Arg) (offset : ℕ) (after : Bool) → Same m (with_base m base offset after)
+same_base : (m : Machine) (base : Arg) (offset : ℕ) (after : Bool) → Same m (with_base_incremented m base offset after)
 same_base m (Reg r) offset true = same_reg m r _
 same_base m (Reg r) offset false = itself m
 same_base m (Word w) offset after = itself m
 
-same_lowered : (m : Machine) (x : ℕ) (lowers : Bool) → Same m (lowered m x lowers)
+same_lowered : (m : Machine) (x : ℕ) (lowers : Bool) → Same m (with_register_decremented m x lowers)
 same_lowered m x true = same_reg m x _
 same_lowered m x false = itself m
 
@@ -76,39 +76,39 @@ same_does e Nothing k m n = record { mem = refl; pcxi = refl }
 same_does e _ k m n = cc
 
 -- ---- an event that does it
-same_executed : (m : Machine) (e : Event) (shape : Shape) (n : ℕ) (even : Bool) → is_area_keeping_shape e shape ≡ true → Same m (executed m e (cond even (Ok (shape, n)) (Err NoCode)))
+same_executed : (m : Machine) (e : Event) (shape : Shape) (n : ℕ) (even : Bool) → is_area_keeping_shape e shape ≡ true → Same m (after_found_instruction m e (cond even (Ok (shape, n)) (Err NoCode)))
 same_executed m e shape n true k = same_does e shape k m n
 same_executed m e shape n false k = record { mem = refl; pcxi = refl }
 
-same_done : (m : Machine) (e : Event) (shape : Shape) (n : ℕ) → is_taken m e ≡ false → Ok (shape, n) ≡ fetched_shape (decoded_of (mapped_bytes 4 m.mem m.pc)) → is_area_keeping_shape e shape ≡ true → Same m (machine_after_event m e)
-unfolding fetched
+same_done : (m : Machine) (e : Event) (shape : Shape) (n : ℕ) → is_interrupt_taken m e ≡ false → Ok (shape, n) ≡ fetched_shape (decoded_of (mapped_bytes 4 m.mem m.pc)) → is_area_keeping_shape e shape ≡ true → Same m (machine_after_event m e)
+unfolding fetched_instruction
 same_done m e shape n free at k =
     rw (free, ← at) (same_executed m e shape n (m.pc % 2 == 0) k)
 
-status_set : (n : Machine) (e : Event) (end : End) → Same n (goes_on end n (λ n. record n { psw = psw_with_status n.psw e.status }))
+status_set : (n : Machine) (e : Event) (end : End) → Same n (if_end_running end n (λ n. record n { psw = psw_with_status n.psw e.status }))
 status_set n e Running = record { mem = refl; pcxi = refl }
 status_set n e (Dead cause) = itself n
 
-same_then : (m : Machine) (end : End) (next : Machine → Machine) → Same m (next m) → Same m (goes_on end m next)
+same_then : (m : Machine) (end : End) (next : Machine → Machine) → Same m (next m) → Same m (if_end_running end m next)
 same_then m Running next s = s
 same_then m (Dead cause) next s = itself m
 
-pub kept_areas : (m : Machine) (e : Event) (shape : Shape) (n : ℕ) → is_taken m e ≡ false → Ok (shape, n) ≡ fetched_shape (decoded_of (mapped_bytes 4 m.mem m.pc)) → is_area_keeping_shape e shape ≡ true → used_area_count (step m e) ≡ used_area_count m
+pub kept_areas : (m : Machine) (e : Event) (shape : Shape) (n : ℕ) → is_interrupt_taken m e ≡ false → Ok (shape, n) ≡ fetched_shape (decoded_of (mapped_bytes 4 m.mem m.pc)) → is_area_keeping_shape e shape ≡ true → used_area_count (step m e) ≡ used_area_count m
 unfolding step
 kept_areas m e shape n free at k =
-    same_used m _ (same_then m m.end (λ m. then_ (machine_after_event m e) (λ n. record n { psw = psw_with_status n.psw e.status })) (through m (machine_after_event m e) _ (same_done m e shape n free at k) (status_set (machine_after_event m e) e (machine_after_event m e).end)))
+    same_used m _ (same_then m m.end (λ m. if_running (machine_after_event m e) (λ n. record n { psw = psw_with_status n.psw e.status })) (through m (machine_after_event m e) _ (same_done m e shape n free at k) (status_set (machine_after_event m e) e (machine_after_event m e).end)))
 
 -- no interrupt is taken if interrupts are disabled, or its priority isn't above the current one
-pub none_when_off : (m : Machine) (e : Event) → m.ie ≡ false → is_taken m e ≡ false
+pub none_when_off : (m : Machine) (e : Event) → m.ie ≡ false → is_interrupt_taken m e ≡ false
 none_when_off m e off = ap (λ (t : Bool). t && nat_lt m.ccpn e.irq) off
 
 and_false : (b : Bool) → (b && false) ≡ false
 and_false true = refl
 and_false false = refl
 
-pub none_when_low : (m : Machine) (e : Event) → e.irq ≤ m.ccpn → is_taken m e ≡ false
+pub none_when_low : (m : Machine) (e : Event) → e.irq ≤ m.ccpn → is_interrupt_taken m e ≡ false
 none_when_low m e low = ap (λ (t : Bool). m.ie && t) (lt-leb (suc m.ccpn) e.irq (omega arith)) ∙ and_false m.ie
 
-pub kept_where : (m : Machine) (e : Event) (shape : Shape) (n : ℕ) (t : Bool) → is_taken m e ≡ false → Ok (shape, n) ≡ fetched_shape (decoded_of (mapped_bytes 4 m.mem m.pc)) → t ≡ is_area_keeping_shape e shape → OnTrue t (used_area_count (step m e) ≡ used_area_count m)
+pub kept_where : (m : Machine) (e : Event) (shape : Shape) (n : ℕ) (t : Bool) → is_interrupt_taken m e ≡ false → Ok (shape, n) ≡ fetched_shape (decoded_of (mapped_bytes 4 m.mem m.pc)) → t ≡ is_area_keeping_shape e shape → OnTrue t (used_area_count (step m e) ≡ used_area_count m)
 kept_where m e shape n true free at is = kept_areas m e shape n free at (sym is)
 kept_where m e shape n false free at is = tt

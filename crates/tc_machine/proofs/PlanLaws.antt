@@ -8,23 +8,23 @@ use Rattle.csa_chain.proofs.ChainLaws.{Avoids, Distinct, reverse_onto}
 use Rattle.elf_image.specs.Images.{ImageData}
 use Rattle.tcd_plan.specs.PlanData.{PlanData, IsPlan}
 use Rattle.tcd_plan.proofs.ApartLaws.{rom_apart}
-use Rattle.tc_machine.specs.PlanAreas.{area_links_up, first_link}
+use Rattle.tc_machine.specs.PlanAreas.{consecutive_links, first_link}
 use Rattle.tc_mem.specs.PlanMemory.{HoldsRom}
 
 -- ---- links
-pub length-links_up : (l n : ℕ) → length (area_links_up l n) ≡ n
+pub length-links_up : (l n : ℕ) → length (consecutive_links l n) ≡ n
 length-links_up l zero = refl
 length-links_up l (suc n) = ap suc (length-links_up (l + 1) n)
 
-Avoids-links_up : (k l n : ℕ) → k < l → Avoids k (area_links_up l n)
+Avoids-links_up : (k l n : ℕ) → k < l → Avoids k (consecutive_links l n)
 Avoids-links_up k l zero lt = tt
 Avoids-links_up k l (suc n) lt = (omega arith, Avoids-links_up k (l + 1) n (omega arith))
 
-pub Distinct-links_up : (l n : ℕ) → Distinct (area_links_up l n)
+pub Distinct-links_up : (l n : ℕ) → Distinct (consecutive_links l n)
 Distinct-links_up l zero = tt
 Distinct-links_up l (suc n) = (Avoids-links_up l (l + 1) n (omega arith), Distinct-links_up (l + 1) n)
 
-pub get_or-links_up : (l n i : ℕ) → i < n → get_or (area_links_up l n) i 0 ≡ l + i
+pub get_or-links_up : (l n i : ℕ) → i < n → get_or (consecutive_links l n) i 0 ≡ l + i
 get_or-links_up l zero i lt = absurd (omega arith)
 get_or-links_up l (suc n) zero lt = omega arith
 get_or-links_up l (suc n) (suc i) lt = let e = get_or-links_up (l + 1) n i (omega arith) in omega arith
@@ -47,7 +47,7 @@ get_or-reverse_onto [] ys i = ap (λ j. get_or ys j 0) (zero_plus i)
 get_or-reverse_onto (x ∷ xs) ys i = ap (λ j. get_or (reverse_onto xs (x ∷ ys)) j 0) (suc_plus (length xs) i) ∙ get_or-reverse_onto xs (x ∷ ys) (suc i)
 
 -- a link after those of xs is the one at that place
-pub place_of : (xs ys : List ℕ) (y l n : ℕ) → reverse_onto xs (y ∷ ys) ≡ area_links_up l n → (length xs < n) × (y ≡ l + length xs)
+pub place_of : (xs ys : List ℕ) (y l n : ℕ) → reverse_onto xs (y ∷ ys) ≡ consecutive_links l n → (length xs < n) × (y ≡ l + length xs)
 place_of xs ys y l n e =
     let long = length-reverse_onto xs (y ∷ ys) in
     let all : length (reverse_onto xs (y ∷ ys)) ≡ n = ap length e ∙ length-links_up l n in

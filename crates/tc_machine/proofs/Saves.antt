@@ -5,28 +5,28 @@ use Rattle.csa_chain.specs.Chain.{link_in, is_area}
 use Rattle.tc_machine.specs.declared.events.End.TheVariants.{Running}
 use Rattle.tc_machine.specs.declared.events.Cause.TheVariants.{Fcd, Fcu, Csu, Ctyp, NoArea}
 use Rattle.tc_machine.specs.declared.state.Machine.{Machine}
-use Rattle.tc_machine.specs.Machine.{died, goes_on, then_}
+use Rattle.tc_machine.specs.Machine.{dead_machine, if_end_running, if_running}
 use Rattle.tc_machine.specs.Instructions.{machine_address_ahead}
-use Rattle.tc_machine.specs.SavesAndRestores.{context_of, saved, save, has_kind, restored, restore}
+use Rattle.tc_machine.specs.SavesAndRestores.{context_of, with_context_saved, save, has_kind, with_context_restored, restore}
 
 -- a save succeeds if the first free area is mapped and isn't the limit of the list
-pub save-is : (m : Machine) (upper : Bool) → link_in m.fcx ≢ 0 → is_area m.mem (link_in m.fcx) ≡ true → link_in m.fcx ≢ link_in m.lcx → save m upper ≡ saved m upper
+pub save-is : (m : Machine) (upper : Bool) → link_in m.fcx ≢ 0 → is_area m.mem (link_in m.fcx) ≡ true → link_in m.fcx ≢ link_in m.lcx → save m upper ≡ with_context_saved m upper
 unfolding save
 save-is m upper some here last =
-    ap (λ t. cond t (died Fcu m) (cond (is_area m.mem (link_in m.fcx)) (cond (link_in m.fcx == link_in m.lcx) (died Fcd (saved m upper)) (saved m upper)) (died NoArea m))) (ne_eqb _ _ some)
-    ∙ ap (λ t. cond t (cond (link_in m.fcx == link_in m.lcx) (died Fcd (saved m upper)) (saved m upper)) (died NoArea m)) here
-    ∙ ap (λ t. cond t (died Fcd (saved m upper)) (saved m upper)) (ne_eqb _ _ last)
+    ap (λ t. cond t (dead_machine Fcu m) (cond (is_area m.mem (link_in m.fcx)) (cond (link_in m.fcx == link_in m.lcx) (dead_machine Fcd (with_context_saved m upper)) (with_context_saved m upper)) (dead_machine NoArea m))) (ne_eqb _ _ some)
+    ∙ ap (λ t. cond t (cond (link_in m.fcx == link_in m.lcx) (dead_machine Fcd (with_context_saved m upper)) (with_context_saved m upper)) (dead_machine NoArea m)) here
+    ∙ ap (λ t. cond t (dead_machine Fcd (with_context_saved m upper)) (with_context_saved m upper)) (ne_eqb _ _ last)
 
 -- a restore succeeds if PCXI names a mapped area with a context of its kind
-pub restore-is : (m : Machine) (upper : Bool) → link_in m.pcxi ≢ 0 → has_kind m upper ≡ true → is_area m.mem (link_in m.pcxi) ≡ true → restore m upper ≡ restored m upper
+pub restore-is : (m : Machine) (upper : Bool) → link_in m.pcxi ≢ 0 → has_kind m upper ≡ true → is_area m.mem (link_in m.pcxi) ≡ true → restore m upper ≡ with_context_restored m upper
 unfolding restore
 restore-is m upper some kind here =
-    ap (λ t. cond t (died Csu m) (cond (has_kind m upper) (cond (is_area m.mem (link_in m.pcxi)) (restored m upper) (died NoArea m)) (died Ctyp m))) (ne_eqb _ _ some)
-    ∙ ap (λ t. cond t (cond (is_area m.mem (link_in m.pcxi)) (restored m upper) (died NoArea m)) (died Ctyp m)) kind
-    ∙ ap (λ t. cond t (restored m upper) (died NoArea m)) here
+    ap (λ t. cond t (dead_machine Csu m) (cond (has_kind m upper) (cond (is_area m.mem (link_in m.pcxi)) (with_context_restored m upper) (dead_machine NoArea m)) (dead_machine Ctyp m))) (ne_eqb _ _ some)
+    ∙ ap (λ t. cond t (cond (is_area m.mem (link_in m.pcxi)) (with_context_restored m upper) (dead_machine NoArea m)) (dead_machine Ctyp m)) kind
+    ∙ ap (λ t. cond t (with_context_restored m upper) (dead_machine NoArea m)) here
 
-pub then_-running : (m : Machine) (next : Machine → Machine) → m.end ≡ Running → then_ m next ≡ next m
-then_-running m next e = ap (λ end. goes_on end m next) e
+pub then_-running : (m : Machine) (next : Machine → Machine) → m.end ≡ Running → if_running m next ≡ next m
+then_-running m next e = ap (λ end. if_end_running end m next) e
 
 -- a context has 16 words
 pub length-context_of : (m : Machine) (upper : Bool) → length (context_of m upper) ≡ 16

@@ -10,7 +10,7 @@ use Rattle.elf_image.specs.Images.{ImageData, image_byte}
 use Rattle.tcd_plan.specs.PlanData.{PlanData, IsPlan, areas_range, are_all_ranges_apart}
 use Rattle.tc_mem.specs.PlanMemory.{IsMemoryOfZeros, HoldsRom, IsPlanMemory}
 use Rattle.tcd_base.specs.Ranges.{is_address_in_ranges, IsInOneRange}
-use Rattle.tc_machine.specs.Starting.{IsLinkedUp, with_images, next_start_link, with_area_links, start_memory_ranges, IsFilledStartMemory}
+use Rattle.tc_machine.specs.Starting.{AreAreasLinked, with_image_in_ranges, next_start_link, with_area_links, start_memory_ranges, IsFilledStartMemory}
 use Rattle.tc_machine.proofs.Filled.{images_put, images_mapped, images_none, images_outside, links_mapped, links_bytes, links_outside}
 use Rattle.tc_machine.proofs.PlanLaws.{link_address-area, link_lt}
 use Rattle.tc_machine.proofs.Zeros.{is_in-one, zero_at}
@@ -39,7 +39,7 @@ next_lt false x h = omega arith
 pub record IsStartMemory (image : ImageData) (plan : PlanData) (mem : Memory) : Type 0 where
   pub memory : IsPlanMemory plan mem
   pub holds : HoldsRom image plan mem
-  pub linked : IsLinkedUp plan mem
+  pub linked : AreAreasLinked plan mem
   pub bytes : HasBytes mem
   pub ram : (x : ℕ) → IsInOneRange x 1 plan.ram → finite.get mem x ≡ Some 0
   pub rom : (x : ℕ) → IsInOneRange x 1 plan.rom → image_byte image x ≡ None → finite.get mem x ≡ Some 0
@@ -90,21 +90,21 @@ module _ (image : ImageData) (plan : PlanData) (ok : IsPlan plan) (zeros : Memor
       ]
 
   -- ---- the memory
-  mapped : (k x : ℕ) → is_mapped (with_area_links plan.csa_at (first_link plan) plan.areas (with_images image zeros plan.rom) k) x ≡ is_mapped zeros x
-  mapped k x = links_mapped plan.csa_at (first_link plan) plan.areas (with_images image zeros plan.rom) k x ∙ images_mapped image zeros plan.rom x
+  mapped : (k x : ℕ) → is_mapped (with_area_links plan.csa_at (first_link plan) plan.areas (with_image_in_ranges image zeros plan.rom) k) x ≡ is_mapped zeros x
+  mapped k x = links_mapped plan.csa_at (first_link plan) plan.areas (with_image_in_ranges image zeros plan.rom) k x ∙ images_mapped image zeros plan.rom x
 
-  get_out : (x : ℕ) → (IsInAreas plan x → ⊥) → finite.get (with_area_links plan.csa_at (first_link plan) plan.areas (with_images image zeros plan.rom) plan.areas) x ≡ finite.get (with_images image zeros plan.rom) x
-  get_out x out = links_outside plan.csa_at (first_link plan) plan.areas (with_images image zeros plan.rom) plan.areas x (out_of_areas x out)
+  get_out : (x : ℕ) → (IsInAreas plan x → ⊥) → finite.get (with_area_links plan.csa_at (first_link plan) plan.areas (with_image_in_ranges image zeros plan.rom) plan.areas) x ≡ finite.get (with_image_in_ranges image zeros plan.rom) x
+  get_out x out = links_outside plan.csa_at (first_link plan) plan.areas (with_image_in_ranges image zeros plan.rom) plan.areas x (out_of_areas x out)
 
-  area_there : (k i : ℕ) → i < plan.areas → is_area (with_area_links plan.csa_at (first_link plan) plan.areas (with_images image zeros plan.rom) k) (first_link plan + i) ≡ true
+  area_there : (k i : ℕ) → i < plan.areas → is_area (with_area_links plan.csa_at (first_link plan) plan.areas (with_image_in_ranges image zeros plan.rom) k) (first_link plan + i) ≡ true
   area_there k i lt =
       are_mapped_from _ _ 64 (λ j h. mapped k _ ∙ ap is_some (zero_in _ (areas_in _ (let at = link_address-area ok i lt in (omega arith, omega arith)))))
 
-  linked_at : (k i : ℕ) → i < k → k ≤ plan.areas → area_word (with_area_links plan.csa_at (first_link plan) plan.areas (with_images image zeros plan.rom) k) (first_link plan + i) 0 ≡ next_start_link (first_link plan) plan.areas i
+  linked_at : (k i : ℕ) → i < k → k ≤ plan.areas → area_word (with_area_links plan.csa_at (first_link plan) plan.areas (with_image_in_ranges image zeros plan.rom) k) (first_link plan + i) 0 ≡ next_start_link (first_link plan) plan.areas i
   unfolding with_area_links
   linked_at zero i lt most = absurd (omega arith)
   linked_at (suc k) i lt most =
-      let before = with_area_links plan.csa_at (first_link plan) plan.areas (with_images image zeros plan.rom) k in
+      let before = with_area_links plan.csa_at (first_link plan) plan.areas (with_image_in_ranges image zeros plan.rom) k in
       let ws = next_start_link (first_link plan) plan.areas k ∷ [] in
       let below : k < plan.areas = omega arith in
       let small : first_link plan + (k + 1) < 2 ^ 32 = (let s = link_lt ok k below in omega arith) in
@@ -119,13 +119,13 @@ module _ (image : ImageData) (plan : PlanData) (ok : IsPlan plan) (zeros : Memor
             ∙ linked_at k i (omega arith) (omega arith)
       ]
 
-  word_zero : (i w : ℕ) → i < plan.areas → 0 < w → w < 16 → area_word (with_area_links plan.csa_at (first_link plan) plan.areas (with_images image zeros plan.rom) plan.areas) (first_link plan + i) w ≡ 0
+  word_zero : (i w : ℕ) → i < plan.areas → 0 < w → w < 16 → area_word (with_area_links plan.csa_at (first_link plan) plan.areas (with_image_in_ranges image zeros plan.rom) plan.areas) (first_link plan + i) w ≡ 0
   word_zero i w lt some few =
       let at = link_address-area ok i lt in
       word_of_zeros _ _ (λ t small.
       let y = link_address (first_link plan + i) + 4 * w + t in
       let inside : IsInAreas plan y = (omega arith, omega arith) in
-      links_outside plan.csa_at (first_link plan) plan.areas (with_images image zeros plan.rom) plan.areas y (λ j h. not_first plan.csa_at i j w t y some few small (omega arith))
+      links_outside plan.csa_at (first_link plan) plan.areas (with_image_in_ranges image zeros plan.rom) plan.areas y (λ j h. not_first plan.csa_at i j w t y some few small (omega arith))
       ∙ images_outside image zeros plan.rom y (λ rom. rom_apart ok y rom inside) ∙ zero_in y (areas_in y inside))
 
   is_mapped_by : (x : ℕ) → IsInOneRange x 1 (start_memory_ranges plan.rom plan.ram plan.csa_at plan.areas) → IsMappedBy plan x
@@ -141,7 +141,7 @@ module _ (image : ImageData) (plan : PlanData) (ok : IsPlan plan) (zeros : Memor
   is_in_ranges x (inr (inl ram)) = ram_in x ram
   is_in_ranges x (inr (inr at)) = areas_in x at
 
-  pub start_memory : HasBytes (with_images image zeros plan.rom) → IsStartMemory image plan (with_area_links plan.csa_at (first_link plan) plan.areas (with_images image zeros plan.rom) plan.areas)
+  pub start_memory : HasBytes (with_image_in_ranges image zeros plan.rom) → IsStartMemory image plan (with_area_links plan.csa_at (first_link plan) plan.areas (with_image_in_ranges image zeros plan.rom) plan.areas)
   start_memory bytes = record {
     memory = λ x. (
       λ h. is_mapped_by x (is_in-one x (start_memory_ranges plan.rom plan.ram plan.csa_at plan.areas)
@@ -150,7 +150,7 @@ module _ (image : ImageData) (plan : PlanData) (ok : IsPlan plan) (zeros : Memor
     );
     holds = λ x b rom held. get_out x (rom_apart ok x rom) ∙ images_put image zeros plan.rom x b rom (ap is_some (zero_in x (rom_in x rom))) held;
     linked = λ i lt. linked_at plan.areas i lt (omega arith);
-    bytes = links_bytes plan.csa_at (first_link plan) plan.areas (with_images image zeros plan.rom) bytes plan.areas;
+    bytes = links_bytes plan.csa_at (first_link plan) plan.areas (with_image_in_ranges image zeros plan.rom) bytes plan.areas;
     ram = λ x ram. get_out x (ram_apart x ram) ∙ images_outside image zeros plan.rom x (λ rom. rom_and_ram x rom ram) ∙ zero_in x (ram_in x ram);
     rom = λ x rom none. get_out x (rom_apart ok x rom) ∙ images_none image zeros plan.rom x none ∙ zero_in x (rom_in x rom);
     words = word_zero;

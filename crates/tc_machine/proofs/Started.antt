@@ -7,7 +7,7 @@ use Rattle.std.specs.List.{list_all}
 use Rattle.csa_chain.specs.MemoryBytes.{Memory}
 use Rattle.elf_image.specs.Images.{ImageData}
 use Rattle.tcd_base.specs.declared.range.Range.{Range}
-use Rattle.tcd_plan.specs.PlanData.{PlanData, IsPlan, is_range, areas_range}
+use Rattle.tcd_plan.specs.PlanData.{PlanData, IsPlan, is_plan_range, areas_range}
 use Rattle.tc_machine.specs.declared.events.End.TheVariants.{Running}
 use Rattle.tc_machine.specs.declared.state.Machine.{Machine}
 use Rattle.tc_machine.specs.Machine.{is_interrupt_stack_used, AreRegisters, IsMachine}
@@ -20,9 +20,9 @@ use Rattle.tc_machine.proofs.StartMemory.{IsStartMemory}
 abbrev fits : Range → Bool
 fits r = nat_le (r.at + r.len) (2 ^ 32)
 
-fits_each : (rs : List Range) → list_all is_range rs ≡ true → list_all fits rs ≡ true
+fits_each : (rs : List Range) → list_all is_plan_range rs ≡ true → list_all fits rs ≡ true
 fits_each [] e = refl
-fits_each (r ∷ rs) e = and_from (fits r) (list_all fits rs) (and_parts _ (fits r) (and_parts (is_range r) (list_all is_range rs) e).0).1 (fits_each rs (and_parts (is_range r) (list_all is_range rs) e).1)
+fits_each (r ∷ rs) e = and_from (fits r) (list_all fits rs) (and_parts _ (fits r) (and_parts (is_plan_range r) (list_all is_plan_range rs) e).0).1 (fits_each rs (and_parts (is_plan_range r) (list_all is_plan_range rs) e).1)
 
 pub mapped_fit : (plan : PlanData) → IsPlan plan → All (λ r. r.at + r.len ≤ 2 ^ 32) (start_memory_ranges plan.rom plan.ram plan.csa_at plan.areas)
 mapped_fit plan ok =

@@ -26,13 +26,13 @@ use Rattle.tc_machine.specs.declared.events.End.{End}
 use Rattle.tc_machine.specs.declared.events.End.TheVariants.{Running, Dead}
 use Rattle.tc_machine.specs.declared.events.Event.{Event}
 use Rattle.tc_machine.specs.declared.state.Machine.{Machine}
-use Rattle.tc_machine.specs.Machine.{reg, with_reg, a10, a11, is_interrupt_stack_used, died, goes_on, then_, psw_with_status, AreRegisters, IsMachine, core_register, with_core_register}
-use Rattle.tc_machine.specs.Instructions.{machine_address_ahead, arg, advanced, access_address, with_base, is_trapping_access, misaligned, target_of, lowered, does}
-use Rattle.tc_machine.specs.Handlers.{handler_psw, handler_stack, at_handler, trap, interrupt}
-use Rattle.tc_machine.specs.Stepping.{is_taken, executed, machine_after_event, step, run}
-use Rattle.tc_machine.specs.SavesAndRestores.{context_of, saved, save, has_kind, last_context, released, restored, restore}
-use Rattle.csa_chain.specs.MemoryBytes.{load_number, with_bytes, extend_loaded_bytes}
-use Rattle.tc_machine.specs.Fetching.{mapped_bytes, fetched_shape, fetched}
+use Rattle.tc_machine.specs.Machine.{reg, with_reg, a10, a11, is_interrupt_stack_used, dead_machine, if_end_running, if_running, psw_with_status, AreRegisters, IsMachine, core_register, with_core_register}
+use Rattle.tc_machine.specs.Instructions.{machine_address_ahead, operand_value, with_pc_advanced, access_address, with_base_incremented, is_trapping_access, misaligned_access_trap, target_of, with_register_decremented, does}
+use Rattle.tc_machine.specs.Handlers.{handler_psw, handler_stack, at_handler_entry, trap, interrupt}
+use Rattle.tc_machine.specs.Stepping.{is_interrupt_taken, after_found_instruction, machine_after_event, step, run}
+use Rattle.tc_machine.specs.SavesAndRestores.{context_of, with_context_saved, save, has_kind, last_context, with_area_released, with_context_restored, restore}
+use Rattle.csa_chain.specs.MemoryBytes.{loaded_number, with_bytes, extend_loaded_bytes}
+use Rattle.tc_machine.specs.Fetching.{mapped_bytes, fetched_shape, fetched_instruction}
 use Rattle.tc_machine.specs.Safe.{Fits, AllFit}
 use Rattle.tc_machine.proofs.Saves.{moved-lt}
 use Rattle.tc_machine.proofs.ShapeWords.{IsArg, IsTarget, IsShape, shape_of-suits}
@@ -51,7 +51,7 @@ are_registers ws h = record { count = h.0; words = h.1 }
 reg_lt : (m : Machine) → IsMachine m → (r : ℕ) → reg m r < 2 ^ 32
 reg_lt m k r = cond_both (nat_lt r 16) (get_or m.d r 0) (get_or m.a (r - 16) 0) (λ w. w < 2 ^ 32) (λ _. register_lt m.d k.d r) (λ _. register_lt m.a k.a (r - 16))
 
-arg_lt : (m : Machine) → IsMachine m → (x : Arg) → IsArg x → arg m x < 2 ^ 32
+arg_lt : (m : Machine) → IsMachine m → (x : Arg) → IsArg x → operand_value m x < 2 ^ 32
 arg_lt m k (Reg r) h = reg_lt m k r
 arg_lt m k (Word w) h = h
 
@@ -82,10 +82,10 @@ core_register_lt m k e small number =
 stays_at : (m : Machine) → IsMachine m → (pc : ℕ) → pc < 2 ^ 32 → IsMachine (record m { pc = pc })
 stays_at m k pc small = record { d = k.d; a = k.a; pc = small; psw = k.psw; pcxi = k.pcxi; fcx = k.fcx; lcx = k.lcx; ccpn = k.ccpn; biv = k.biv; btv = k.btv; isp = k.isp; bytes = k.bytes }
 
-stays_advanced : (m : Machine) → IsMachine m → (n : ℕ) → IsMachine (advanced n m)
+stays_advanced : (m : Machine) → IsMachine m → (n : ℕ) → IsMachine (with_pc_advanced n m)
 stays_advanced m k n = stays_at m k (machine_address_ahead m.pc n) (moved-lt m.pc n)
 
-stays_died : (m : Machine) → IsMachine m → (cause : Cause) → IsMachine (died cause m)
+stays_died : (m : Machine) → IsMachine m → (cause : Cause) → IsMachine (dead_machine cause m)
 stays_died m k cause = record { d = k.d; a = k.a; pc = k.pc; psw = k.psw; pcxi = k.pcxi; fcx = k.fcx; lcx = k.lcx; ccpn = k.ccpn; biv = k.biv; btv = k.btv; isp = k.isp; bytes = k.bytes }
 
 stays_reg : (m : Machine) → IsMachine m → (r w : ℕ) → w < 2 ^ 32 → IsMachine (with_reg m r w)
@@ -94,15 +94,15 @@ stays_reg m k r w small =
     (λ _. record { d = AreRegisters-set m.d r w small k.d; a = k.a; pc = k.pc; psw = k.psw; pcxi = k.pcxi; fcx = k.fcx; lcx = k.lcx; ccpn = k.ccpn; biv = k.biv; btv = k.btv; isp = k.isp; bytes = k.bytes })
     (λ _. record { d = k.d; a = AreRegisters-set m.a (r - 16) w small k.a; pc = k.pc; psw = k.psw; pcxi = k.pcxi; fcx = k.fcx; lcx = k.lcx; ccpn = k.ccpn; biv = k.biv; btv = k.btv; isp = k.isp; bytes = k.bytes })
 
-goes_on-stays : (end : End) (m : Machine) → IsMachine m → (next : Machine → Machine) → ((n : Machine) → IsMachine n → IsMachine (next n)) → IsMachine (goes_on end m next)
+goes_on-stays : (end : End) (m : Machine) → IsMachine m → (next : Machine → Machine) → ((n : Machine) → IsMachine n → IsMachine (next n)) → IsMachine (if_end_running end m next)
 goes_on-stays Running m k next h = h m k
 goes_on-stays (Dead cause) m k next h = k
 
-stays_then : (m : Machine) → IsMachine m → (next : Machine → Machine) → ((n : Machine) → IsMachine n → IsMachine (next n)) → IsMachine (then_ m next)
+stays_then : (m : Machine) → IsMachine m → (next : Machine → Machine) → ((n : Machine) → IsMachine n → IsMachine (next n)) → IsMachine (if_running m next)
 stays_then m k next h = goes_on-stays m.end m k next h
 
 -- ---- saves and restores
-stays_saved : (m : Machine) → IsMachine m → (upper : Bool) → IsMachine (saved m upper)
+stays_saved : (m : Machine) → IsMachine m → (upper : Bool) → IsMachine (with_context_saved m upper)
 stays_saved m k upper =
     let free = link_in m.fcx in
     let next = link_in (area_word m.mem free 0) in
@@ -124,11 +124,11 @@ stays_saved m k upper =
 pub stays_save : (m : Machine) → IsMachine m → (upper : Bool) → IsMachine (save m upper)
 unfolding save
 stays_save m k upper =
-    cond_both (link_in m.fcx == 0) (died Fcu m) (cond (is_area m.mem (link_in m.fcx)) (cond (link_in m.fcx == link_in m.lcx) (died Fcd (saved m upper)) (saved m upper)) (died NoArea m)) IsMachine
+    cond_both (link_in m.fcx == 0) (dead_machine Fcu m) (cond (is_area m.mem (link_in m.fcx)) (cond (link_in m.fcx == link_in m.lcx) (dead_machine Fcd (with_context_saved m upper)) (with_context_saved m upper)) (dead_machine NoArea m)) IsMachine
     (λ _. stays_died m k Fcu)
-    (λ _. cond_both (is_area m.mem (link_in m.fcx)) (cond (link_in m.fcx == link_in m.lcx) (died Fcd (saved m upper)) (saved m upper)) (died NoArea m) IsMachine
-    (λ _. cond_both (link_in m.fcx == link_in m.lcx) (died Fcd (saved m upper)) (saved m upper) IsMachine
-    (λ _. stays_died (saved m upper) (stays_saved m k upper) Fcd) (λ _. stays_saved m k upper))
+    (λ _. cond_both (is_area m.mem (link_in m.fcx)) (cond (link_in m.fcx == link_in m.lcx) (dead_machine Fcd (with_context_saved m upper)) (with_context_saved m upper)) (dead_machine NoArea m) IsMachine
+    (λ _. cond_both (link_in m.fcx == link_in m.lcx) (dead_machine Fcd (with_context_saved m upper)) (with_context_saved m upper) IsMachine
+    (λ _. stays_died (with_context_saved m upper) (stays_saved m k upper) Fcd) (λ _. stays_saved m k upper))
     (λ _. stays_died m k NoArea))
 
 last_words : (m : Machine) → IsMachine m → HasContextWords 16 (last_context m)
@@ -136,7 +136,7 @@ last_words m k =
     let w = area_word-lt m.mem k.bytes (link_in m.pcxi) in
     (refl, All-16 IsWord _ _ _ _ _ _ _ _ _ _ _ _ _ _ _ _ (w 0) (w 1) (w 2) (w 3) (w 4) (w 5) (w 6) (w 7) (w 8) (w 9) (w 10) (w 11) (w 12) (w 13) (w 14) (w 15))
 
-stays_released : (m : Machine) → IsMachine m → IsMachine (released m)
+stays_released : (m : Machine) → IsMachine m → IsMachine (with_area_released m)
 stays_released m k =
     let used = link_in m.pcxi in
     record {
@@ -154,7 +154,7 @@ stays_released m k =
       bytes = HasBytes-with_words m.mem (link_address used) (m.fcx ∷ []) k.bytes;
     }
 
-stays_restored : (m : Machine) → IsMachine m → (upper : Bool) → IsMachine (restored m upper)
+stays_restored : (m : Machine) → IsMachine m → (upper : Bool) → IsMachine (with_context_restored m upper)
 stays_restored m k true =
     let r = stays_released m k in
     let last = last_words m k in
@@ -197,10 +197,10 @@ stays_restored m k false =
 pub stays_restore : (m : Machine) → IsMachine m → (upper : Bool) → IsMachine (restore m upper)
 unfolding restore
 stays_restore m k upper =
-    cond_both (link_in m.pcxi == 0) (died Csu m) (cond (has_kind m upper) (cond (is_area m.mem (link_in m.pcxi)) (restored m upper) (died NoArea m)) (died Ctyp m)) IsMachine
+    cond_both (link_in m.pcxi == 0) (dead_machine Csu m) (cond (has_kind m upper) (cond (is_area m.mem (link_in m.pcxi)) (with_context_restored m upper) (dead_machine NoArea m)) (dead_machine Ctyp m)) IsMachine
     (λ _. stays_died m k Csu)
-    (λ _. cond_both (has_kind m upper) (cond (is_area m.mem (link_in m.pcxi)) (restored m upper) (died NoArea m)) (died Ctyp m) IsMachine
-    (λ _. cond_both (is_area m.mem (link_in m.pcxi)) (restored m upper) (died NoArea m) IsMachine (λ _. stays_restored m k upper) (λ _. stays_died m k NoArea))
+    (λ _. cond_both (has_kind m upper) (cond (is_area m.mem (link_in m.pcxi)) (with_context_restored m upper) (dead_machine NoArea m)) (dead_machine Ctyp m) IsMachine
+    (λ _. cond_both (is_area m.mem (link_in m.pcxi)) (with_context_restored m upper) (dead_machine NoArea m) IsMachine (λ _. stays_restored m k upper) (λ _. stays_died m k NoArea))
     (λ _. stays_died m k Ctyp))
 
 -- ---- handlers
@@ -210,7 +210,7 @@ handler_psw-lt psw h = omega arith
 stack_lt : (m : Machine) → IsMachine m → handler_stack m < 2 ^ 32
 stack_lt m k = cond_both (is_interrupt_stack_used m.psw) (a10 m) m.isp IsWord (λ _. register_lt m.a k.a 10) (λ _. k.isp)
 
-stays_handler : (m : Machine) → IsMachine m → (s : Machine) → IsMachine s → (back entry ccpn : ℕ) → back < 2 ^ 32 → entry < 2 ^ 32 → ccpn < 2 ^ 8 → IsMachine (record (at_handler m s back entry) { ccpn = ccpn })
+stays_handler : (m : Machine) → IsMachine m → (s : Machine) → IsMachine s → (back entry ccpn : ℕ) → back < 2 ^ 32 → entry < 2 ^ 32 → ccpn < 2 ^ 8 → IsMachine (record (at_handler_entry m s back entry) { ccpn = ccpn })
 stays_handler m k s h back entry ccpn back_small entry_small ccpn_small = record {
   d = h.d;
   a = AreRegisters-set _ 10 (handler_stack m) (stack_lt m k) (AreRegisters-set s.a 11 back back_small h.a);
@@ -236,22 +236,22 @@ with_d15 m k w small = record { d = AreRegisters-set m.d 15 w small k.d; a = k.a
 pub stays_trap : (m : Machine) → IsMachine m → (class tin back : ℕ) → class < 8 → tin < 2 ^ 32 → back < 2 ^ 32 → IsMachine (trap m class tin back)
 stays_trap m k class tin back low small back_small =
     stays_then (save m true) (stays_save m k true) _
-    (λ s h. with_d15 (at_handler m s back (bit_or m.btv (class * 2 ^ 5))) (stays_handler m k s h back (bit_or m.btv (class * 2 ^ 5)) s.ccpn back_small (or_lt 32 m.btv (class * 2 ^ 5) k.btv (omega arith)) h.ccpn) tin small)
+    (λ s h. with_d15 (at_handler_entry m s back (bit_or m.btv (class * 2 ^ 5))) (stays_handler m k s h back (bit_or m.btv (class * 2 ^ 5)) s.ccpn back_small (or_lt 32 m.btv (class * 2 ^ 5) k.btv (omega arith)) h.ccpn) tin small)
 
-stays_misaligned : (m : Machine) → IsMachine m → IsMachine (misaligned m)
+stays_misaligned : (m : Machine) → IsMachine m → IsMachine (misaligned_access_trap m)
 stays_misaligned m k = stays_trap m k 2 4 m.pc (omega arith) (omega arith) k.pc
 
 -- ---- parts of instructions
-stays_base : (m : Machine) → IsMachine m → (base : Arg) (offset : ℕ) (after : Bool) → IsMachine (with_base m base offset after)
+stays_base : (m : Machine) → IsMachine m → (base : Arg) (offset : ℕ) (after : Bool) → IsMachine (with_base_incremented m base offset after)
 stays_base m k (Reg r) offset after = cond_both after (with_reg m r (machine_address_ahead (reg m r) offset)) m IsMachine (λ _. stays_reg m k r (machine_address_ahead (reg m r) offset) (moved-lt (reg m r) offset)) (λ _. k)
 stays_base m k (Word w) offset after = k
 
-stays_stored : (m : Machine) → IsMachine m → (base : Arg) (offset : ℕ) (after : Bool) (x w size : ℕ) → IsMachine (record (with_base m base offset after) { mem = with_bytes m.mem x w size })
+stays_stored : (m : Machine) → IsMachine m → (base : Arg) (offset : ℕ) (after : Bool) (x w size : ℕ) → IsMachine (record (with_base_incremented m base offset after) { mem = with_bytes m.mem x w size })
 stays_stored m k base offset after x w size =
     let b = stays_base m k base offset after in
     record { d = b.d; a = b.a; pc = b.pc; psw = b.psw; pcxi = b.pcxi; fcx = b.fcx; lcx = b.lcx; ccpn = b.ccpn; biv = b.biv; btv = b.btv; isp = b.isp; bytes = HasBytes-with_bytes m.mem x w size k.bytes }
 
-stays_lowered : (m : Machine) → IsMachine m → (x : ℕ) (lowers : Bool) → IsMachine (lowered m x lowers)
+stays_lowered : (m : Machine) → IsMachine m → (x : ℕ) (lowers : Bool) → IsMachine (with_register_decremented m x lowers)
 stays_lowered m k x lowers = cond_both lowers (with_reg m x (machine_address_ahead (reg m x) (2 ^ 32 - 1))) m IsMachine (λ _. stays_reg m k x (machine_address_ahead (reg m x) (2 ^ 32 - 1)) (moved-lt (reg m x) (2 ^ 32 - 1))) (λ _. k)
 
 stays_core : (m : Machine) → IsMachine m → (number w : ℕ) → w < 2 ^ 32 → IsMachine (with_core_register m number w)
@@ -275,19 +275,19 @@ stays_called m k back to small at = record { d = k.d; a = AreRegisters-set m.a 1
 -- ---- instructions
 pub stays_does : (m : Machine) → IsMachine m → (e : Event) → e.input < 2 ^ 32 → (shape : Shape) (n : ℕ) → IsShape shape → IsMachine (does m e shape n)
 unfolding does
-stays_does m k e small (Compute op dst x y) n h = stays_advanced _ (stays_reg m k dst (alu_of op (arg m x) (arg m y)) (alu_lt op (arg m x) (arg m y) (arg_lt m k x h.0) (arg_lt m k y h.1))) n
+stays_does m k e small (Compute op dst x y) n h = stays_advanced _ (stays_reg m k dst (alu_of op (operand_value m x) (operand_value m y)) (alu_lt op (operand_value m x) (operand_value m y) (arg_lt m k x h.0) (arg_lt m k y h.1))) n
 stays_does m k e small (Scaled dst base index c) n h = stays_advanced _ (stays_reg m k dst (machine_address_ahead (reg m base) (reg m index * 2 ^ c)) (moved-lt (reg m base) (reg m index * 2 ^ c))) n
 stays_does m k e small (Load dst base offset size signed after) n h =
     let x = access_address m base offset after in
-    cond_both (is_trapping_access e x size) (misaligned m) (advanced n (with_reg (with_base m base offset after) dst (extend_loaded_bytes signed size (load_number m.mem e.input x size)))) IsMachine (λ _. stays_misaligned m k)
-    (λ _. stays_advanced _ (stays_reg (with_base m base offset after) (stays_base m k base offset after) dst (extend_loaded_bytes signed size (load_number m.mem e.input x size)) (load_lt m.mem k.bytes signed e.input x size h)) n)
+    cond_both (is_trapping_access e x size) (misaligned_access_trap m) (with_pc_advanced n (with_reg (with_base_incremented m base offset after) dst (extend_loaded_bytes signed size (loaded_number m.mem e.input x size)))) IsMachine (λ _. stays_misaligned m k)
+    (λ _. stays_advanced _ (stays_reg (with_base_incremented m base offset after) (stays_base m k base offset after) dst (extend_loaded_bytes signed size (loaded_number m.mem e.input x size)) (load_lt m.mem k.bytes signed e.input x size h)) n)
 stays_does m k e small (Store src base offset size after) n h =
     let x = access_address m base offset after in
-    cond_both (is_trapping_access e x size) (misaligned m) (advanced n (record (with_base m base offset after) { mem = with_bytes m.mem x (reg m src) size })) IsMachine (λ _. stays_misaligned m k)
+    cond_both (is_trapping_access e x size) (misaligned_access_trap m) (with_pc_advanced n (record (with_base_incremented m base offset after) { mem = with_bytes m.mem x (reg m src) size })) IsMachine (λ _. stays_misaligned m k)
     (λ _. stays_advanced _ (stays_stored m k base offset after x (reg m src) size) n)
 stays_does m k e small (Branch cond' x y by lowers) n h =
-    stays_at (lowered m x lowers) (stays_lowered m k x lowers) (cond (taken_of cond' (reg m x) (arg m y)) (machine_address_ahead m.pc by) (machine_address_ahead m.pc n))
-    (cond_both (taken_of cond' (reg m x) (arg m y)) (machine_address_ahead m.pc by) (machine_address_ahead m.pc n) IsWord (λ _. moved-lt m.pc by) (λ _. moved-lt m.pc n))
+    stays_at (with_register_decremented m x lowers) (stays_lowered m k x lowers) (cond (taken_of cond' (reg m x) (operand_value m y)) (machine_address_ahead m.pc by) (machine_address_ahead m.pc n))
+    (cond_both (taken_of cond' (reg m x) (operand_value m y)) (machine_address_ahead m.pc by) (machine_address_ahead m.pc n) IsWord (λ _. moved-lt m.pc by) (λ _. moved-lt m.pc n))
 stays_does m k e small (Jump to) n h = stays_at m k (target_of m to) (target_lt m k to h)
 stays_does m k e small (Call to) n h = stays_then (save m true) (stays_save m k true) _ (λ s ks. stays_called s ks (machine_address_ahead m.pc n) (target_of m to) (moved-lt m.pc n) (target_lt m k to h))
 stays_does m k e small Ret n h = stays_then (restore m true) (stays_restore m k true) _ (λ r kr. stays_at r kr (a11 m / 2 * 2) (half_lt (a11 m) (register_lt m.a k.a 11)))
@@ -313,19 +313,19 @@ shaped-suits : (r : Result (InstData × ℕ) DecodeErr) → ((i : InstData) (n :
 shaped-suits (Ok found) h = shape_of-suits found.0 (h found.0 found.1 refl)
 shaped-suits (Err e) h = tt
 
-fetched-suits : (m : Machine) → IfShape (fetched m)
-unfolding fetched
+fetched-suits : (m : Machine) → IfShape (fetched_instruction m)
+unfolding fetched_instruction
 fetched-suits m =
     let bytes = mapped_bytes 4 m.mem m.pc in
     cond_both (m.pc % 2 == 0) (fetched_shape (decoded_of bytes)) (Err NoCode) IfShape (λ _. shaped-suits (decoded_of bytes) (λ i n is. (decode_laws.decoded bytes i n is).inst)) (λ _. tt)
 
-stays_executed : (m : Machine) → IsMachine m → (e : Event) → e.input < 2 ^ 32 → (r : Result (Shape × ℕ) Cause) → IfShape r → IsMachine (executed m e r)
+stays_executed : (m : Machine) → IsMachine m → (e : Event) → e.input < 2 ^ 32 → (r : Result (Shape × ℕ) Cause) → IfShape r → IsMachine (after_found_instruction m e r)
 stays_executed m k e small (Ok found) h = stays_does m k e small found.0 found.1 h
 stays_executed m k e small (Err cause) h = stays_died m k cause
 
 stays_done : (m : Machine) → IsMachine m → (e : Event) → e.irq < 2 ^ 8 → e.input < 2 ^ 32 → IsMachine (machine_after_event m e)
 stays_done m k e irq small =
-    cond_both (is_taken m e) (interrupt m e.irq) (executed m e (fetched m)) IsMachine (λ _. stays_interrupt m k e.irq irq) (λ _. stays_executed m k e small (fetched m) (fetched-suits m))
+    cond_both (is_interrupt_taken m e) (interrupt m e.irq) (after_found_instruction m e (fetched_instruction m)) IsMachine (λ _. stays_interrupt m k e.irq irq) (λ _. stays_executed m k e small (fetched_instruction m) (fetched-suits m))
 
 with_status-lt : (psw status : ℕ) → status < 2 ^ 8 → psw_with_status psw status < 2 ^ 32
 with_status-lt psw status h = omega arith

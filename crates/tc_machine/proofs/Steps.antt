@@ -7,17 +7,17 @@ use Rattle.tc_machine.specs.declared.events.Cause.{Cause}
 use Rattle.tc_machine.specs.declared.events.Event.{Event}
 use Rattle.tc_machine.specs.declared.events.End.TheVariants.{Running}
 use Rattle.tc_machine.specs.declared.state.Machine.{Machine}
-use Rattle.tc_machine.specs.Machine.{a11, then_, psw_with_status}
-use Rattle.tc_machine.specs.Instructions.{machine_address_ahead, advanced, target_of, does}
-use Rattle.tc_machine.specs.Stepping.{is_taken, executed, machine_after_event, step, store_in, where_running, stored}
+use Rattle.tc_machine.specs.Machine.{a11, if_running, psw_with_status}
+use Rattle.tc_machine.specs.Instructions.{machine_address_ahead, with_pc_advanced, target_of, does}
+use Rattle.tc_machine.specs.Stepping.{is_interrupt_taken, after_found_instruction, machine_after_event, step, store_of_fetched, none_if_dead, stored}
 use Rattle.tc_machine.specs.Handlers.{interrupt}
 use Rattle.tc_machine.specs.SavesAndRestores.{save, restore}
-use Rattle.tc_machine.specs.Fetching.{fetched}
+use Rattle.tc_machine.specs.Fetching.{fetched_instruction}
 use Rattle.tc_machine.proofs.Saves.{then_-running}
 
 -- if no interrupt is taken, the instruction at pc is executed
-pub done-is : (m : Machine) (e : Event) (shape : Shape) (n : ℕ) → is_taken m e ≡ false → fetched m ≡ Ok (shape, n) → machine_after_event m e ≡ does m e shape n
-done-is m e shape n none at = ap (λ t. cond t (interrupt m e.irq) (executed m e (fetched m))) none ∙ ap (executed m e) at
+pub done-is : (m : Machine) (e : Event) (shape : Shape) (n : ℕ) → is_interrupt_taken m e ≡ false → fetched_instruction m ≡ Ok (shape, n) → machine_after_event m e ≡ does m e shape n
+done-is m e shape n none at = ap (λ t. cond t (interrupt m e.irq) (after_found_instruction m e (fetched_instruction m))) none ∙ ap (after_found_instruction m e) at
 
 -- the machine after an event that left it running
 abbrev pub with_event : Machine → Event → Machine
@@ -26,26 +26,26 @@ with_event n e = record n { psw = psw_with_status n.psw e.status }
 pub step-is : (m : Machine) (e : Event) → m.end ≡ Running → (machine_after_event m e).end ≡ Running → step m e ≡ with_event (machine_after_event m e) e
 unfolding step
 step-is m e here after =
-    then_-running m (λ m. then_ (machine_after_event m e) (λ n. with_event n e)) here ∙ then_-running (machine_after_event m e) (λ n. with_event n e) after
+    then_-running m (λ m. if_running (machine_after_event m e) (λ n. with_event n e)) here ∙ then_-running (machine_after_event m e) (λ n. with_event n e) after
 
-pub step_does : (m : Machine) (e : Event) (shape : Shape) (n : ℕ) → m.end ≡ Running → is_taken m e ≡ false → fetched m ≡ Ok (shape, n) → (does m e shape n).end ≡ Running → step m e ≡ with_event (does m e shape n) e
+pub step_does : (m : Machine) (e : Event) (shape : Shape) (n : ℕ) → m.end ≡ Running → is_interrupt_taken m e ≡ false → fetched_instruction m ≡ Ok (shape, n) → (does m e shape n).end ≡ Running → step m e ≡ with_event (does m e shape n) e
 step_does m e shape n here none at after =
     let is = done-is m e shape n none at in
     step-is m e here (ap (λ r. r.end) is ∙ after) ∙ ap (λ r. with_event r e) is
 
 -- what stores is the instruction at pc, if the machine runs and no interrupt is taken
-pub stored-is : (m : Machine) (e : Event) (found : Result (Shape × ℕ) Cause) → m.end ≡ Running → is_taken m e ≡ false → fetched m ≡ found → stored m e ≡ store_in m e found
+pub stored-is : (m : Machine) (e : Event) (found : Result (Shape × ℕ) Cause) → m.end ≡ Running → is_interrupt_taken m e ≡ false → fetched_instruction m ≡ found → stored m e ≡ store_of_fetched m e found
 unfolding stored
 stored-is m e found here none at =
-    ap (λ end. where_running end (cond (is_taken m e) None (store_in m e (fetched m)))) here
-    ∙ ap (λ t. cond t None (store_in m e (fetched m))) none ∙ ap (store_in m e) at
+    ap (λ end. none_if_dead end (cond (is_interrupt_taken m e) None (store_of_fetched m e (fetched_instruction m)))) here
+    ∙ ap (λ t. cond t None (store_of_fetched m e (fetched_instruction m))) none ∙ ap (store_of_fetched m e) at
 
 -- ---- instructions
 abbrev pub called : Machine → ℕ → ℕ → Machine
-called m to back = then_ (save m true) (λ s. record s { a = set s.a 11 back; pc = to })
+called m to back = if_running (save m true) (λ s. record s { a = set s.a 11 back; pc = to })
 
 abbrev pub returned : Machine → Machine
-returned m = then_ (restore m true) (λ r. record r { pc = a11 m / 2 * 2 })
+returned m = if_running (restore m true) (λ r. record r { pc = a11 m / 2 * 2 })
 
 pub does-call : (m : Machine) (e : Event) (to : Target) (n : ℕ) → does m e (Call to) n ≡ called m (target_of m to) (machine_address_ahead m.pc n)
 unfolding does
@@ -55,6 +55,6 @@ pub does-ret : (m : Machine) (e : Event) (n : ℕ) → does m e Ret n ≡ return
 unfolding does
 does-ret m e n = refl
 
-pub does-nothing : (m : Machine) (e : Event) (n : ℕ) → does m e Nothing n ≡ advanced n m
+pub does-nothing : (m : Machine) (e : Event) (n : ℕ) → does m e Nothing n ≡ with_pc_advanced n m
 unfolding does
 does-nothing m e n = refl

@@ -5,7 +5,7 @@ use Rattle.std.specs.Bool.{MatchBool}
 use Rattle.std.proofs.lemmas.Bool.{and_parts, leb-true}
 use Rattle.std.proofs.lemmas.Option.{cond_some}
 use Rattle.std.specs.FinMap as map
-use Rattle.csa_chain.specs.MemoryBytes.{Memory, is_mapped, byte_at, are_mapped, word_at, with_word, load_number, with_bytes, HasBytes}
+use Rattle.csa_chain.specs.MemoryBytes.{Memory, is_mapped, byte_at, are_mapped, word_at, with_word, loaded_number, with_bytes, HasBytes}
 use Rattle.csa_chain.specs.Chain.{link_address, is_area, area_word}
 use Rattle.csa_chain.proofs.ChainLaws.{are_mapped_each}
 use Rattle.tcd_base.specs.Bytes.{bytes_of_word}
@@ -47,8 +47,8 @@ next_3 : (x : ℕ) → x + 4 ≤ 2 ^ 32 → (x + 2 + 1) % 2 ^ 32 ≡ x + 3
 next_3 x h = omega arith
 
 -- ---- loads
-pub loaded_word : (m : Memory) (input x w : ℕ) → x < 2 ^ 32 → Some w ≡ mapped_block_word m x → w ≡ load_number m input x 4
-unfolding load_number word_at
+pub loaded_word : (m : Memory) (input x w : ℕ) → x < 2 ^ 32 → Some w ≡ mapped_block_word m x → w ≡ loaded_number m input x 4
+unfolding loaded_number word_at
 loaded_word m input x w small is =
     let parts = cond_some (are_in_block m x 4) (word_at m x) w (sym is) in
     let block = is_block m x 4 small parts.0 in
@@ -62,8 +62,8 @@ loaded_word m input x w small is =
     let value : w ≡ byte_at m x + 2 ^ 8 * byte_at m (x + 1) + 2 ^ 16 * byte_at m (x + 2) + 2 ^ 24 * byte_at m (x + 3) = sym parts.1 in
     rw (e1, e2, e3, b0, b1, b2, b3) (omega (arith, value))
 
-pub loaded_half : (m : Memory) (input x h : ℕ) → x < 2 ^ 32 → Some h ≡ mapped_block_half m x → h ≡ load_number m input x 2
-unfolding load_number
+pub loaded_half : (m : Memory) (input x h : ℕ) → x < 2 ^ 32 → Some h ≡ mapped_block_half m x → h ≡ loaded_number m input x 2
+unfolding loaded_number
 loaded_half m input x h small is =
     let parts = cond_some (are_in_block m x 2) (memory_half_at m x) h (sym is) in
     let block = is_block m x 2 small parts.0 in

@@ -6,11 +6,11 @@ use Rattle.std.proofs.lemmas.List.Elements.{All-set}
 use Rattle.std.proofs.Math.Nat.{div-le_self}
 use Rattle.std.proofs.lemmas.Nat.{or_lt, and_le_l, xor_lt}
 use Rattle.std.specs.FinMap as map
-use Rattle.csa_chain.specs.MemoryBytes.{Memory, with_byte, load_number, with_bytes, extend_loaded_bytes, HasBytes}
+use Rattle.csa_chain.specs.MemoryBytes.{Memory, with_byte, loaded_number, with_bytes, extend_loaded_bytes, HasBytes}
 use Rattle.csa_chain.proofs.WordLaws.{HasBytes-with_byte}
 use Rattle.tc_isa.specs.declared.shapes.Op.{Op}
 use Rattle.tc_isa.specs.declared.shapes.Op.TheVariants as op
-use Rattle.tc_isa.specs.Arithmetic.{signed_order_place, complement, one_if, shift_by, shifted_signed, alu_of}
+use Rattle.tc_isa.specs.Arithmetic.{signed_order_place, complement, one_if, logical_shift, arithmetic_shift, alu_of}
 use Rattle.tc_machine.specs.Machine.{AreRegisters}
 use Rattle.tc_machine.proofs.ShapeWords.{IsSize, extended_lt}
 
@@ -39,10 +39,10 @@ one_if_lt false = omega arith
 divided_lt : (x k : ℕ) → x < 2 ^ 32 → x / k < 2 ^ 32
 divided_lt x k h = let le = div-le_self x k in omega arith
 
-shifted_lt : (x n : ℕ) → x < 2 ^ 32 → shift_by x n < 2 ^ 32
+shifted_lt : (x n : ℕ) → x < 2 ^ 32 → logical_shift x n < 2 ^ 32
 shifted_lt x n h = cond_both (nat_lt n 32) (x * 2 ^ n % 2 ^ 32) (x / 2 ^ (64 - n)) (λ w. w < 2 ^ 32) (λ _. omega arith) (λ _. divided_lt x (2 ^ (64 - n)) h)
 
-shifted_signed_lt : (x n : ℕ) → x < 2 ^ 32 → shifted_signed x n < 2 ^ 32
+shifted_signed_lt : (x n : ℕ) → x < 2 ^ 32 → arithmetic_shift x n < 2 ^ 32
 shifted_signed_lt x n h =
     cond_both (nat_lt n 32) (x * 2 ^ n % 2 ^ 32) (cond (nat_lt x (2 ^ 31)) (x / 2 ^ (64 - n)) (complement (complement x / 2 ^ (64 - n)))) (λ w. w < 2 ^ 32) (λ _. omega arith)
     (λ _. cond_both (nat_lt x (2 ^ 31)) (x / 2 ^ (64 - n)) (complement (complement x / 2 ^ (64 - n))) (λ w. w < 2 ^ 32) (λ _. divided_lt x (2 ^ (64 - n)) h) (λ _. complement_lt (complement x / 2 ^ (64 - n))))
@@ -77,36 +77,36 @@ module _ (m : Memory) (bytes : HasBytes m) where
   loaded_byte : (input x : ℕ) → unwrap_or (map.get m x) (input % 2 ^ 8) < 2 ^ 8
   loaded_byte input x = byte_lt (map.get m x) (input % 2 ^ 8) (bytes x) (omega arith)
 
-  loaded_1 : (input x : ℕ) → load_number m input x 1 < 2 ^ 8
-  unfolding load_number
+  loaded_1 : (input x : ℕ) → loaded_number m input x 1 < 2 ^ 8
+  unfolding loaded_number
   loaded_1 input x = let b = loaded_byte input x in omega arith
 
-  loaded_more : (n : ℕ) (p : ℕ) → ((input x : ℕ) → load_number m input x n < p) → (input x : ℕ) → load_number m input x (suc n) < 2 ^ 8 * p
-  unfolding load_number
+  loaded_more : (n : ℕ) (p : ℕ) → ((input x : ℕ) → loaded_number m input x n < p) → (input x : ℕ) → loaded_number m input x (suc n) < 2 ^ 8 * p
+  unfolding loaded_number
   loaded_more n p h input x = let b = loaded_byte input x in let rest = h (input / 2 ^ 8) ((x + 1) % 2 ^ 32) in omega arith
 
-  loaded_2 : (input x : ℕ) → load_number m input x 2 < 2 ^ 16
+  loaded_2 : (input x : ℕ) → loaded_number m input x 2 < 2 ^ 16
   loaded_2 = loaded_more 1 (2 ^ 8) loaded_1
 
-  loaded_4 : (input x : ℕ) → load_number m input x 4 < 2 ^ 32
+  loaded_4 : (input x : ℕ) → loaded_number m input x 4 < 2 ^ 32
   loaded_4 = loaded_more 3 (2 ^ 24) (loaded_more 2 (2 ^ 16) loaded_2)
 
-  extended_1 : (signed : Bool) (input x : ℕ) → extend_loaded_bytes signed 1 (load_number m input x 1) < 2 ^ 32
-  extended_1 true input x = let l = loaded_1 input x in extended_lt (load_number m input x 1) (2 ^ 8) (nat_lt (load_number m input x 1) (2 ^ 7)) l (omega arith)
+  extended_1 : (signed : Bool) (input x : ℕ) → extend_loaded_bytes signed 1 (loaded_number m input x 1) < 2 ^ 32
+  extended_1 true input x = let l = loaded_1 input x in extended_lt (loaded_number m input x 1) (2 ^ 8) (nat_lt (loaded_number m input x 1) (2 ^ 7)) l (omega arith)
   extended_1 false input x = let l = loaded_1 input x in omega arith
 
-  extended_2 : (signed : Bool) (input x : ℕ) → extend_loaded_bytes signed 2 (load_number m input x 2) < 2 ^ 32
-  extended_2 true input x = let l = loaded_2 input x in extended_lt (load_number m input x 2) (2 ^ 16) (nat_lt (load_number m input x 2) (2 ^ 15)) l (omega arith)
+  extended_2 : (signed : Bool) (input x : ℕ) → extend_loaded_bytes signed 2 (loaded_number m input x 2) < 2 ^ 32
+  extended_2 true input x = let l = loaded_2 input x in extended_lt (loaded_number m input x 2) (2 ^ 16) (nat_lt (loaded_number m input x 2) (2 ^ 15)) l (omega arith)
   extended_2 false input x = let l = loaded_2 input x in omega arith
 
-  extended_4 : (signed : Bool) (input x : ℕ) → extend_loaded_bytes signed 4 (load_number m input x 4) < 2 ^ 32
-  extended_4 true input x = let l = loaded_4 input x in extended_lt (load_number m input x 4) (2 ^ 32) (nat_lt (load_number m input x 4) (2 ^ 31)) l (omega arith)
+  extended_4 : (signed : Bool) (input x : ℕ) → extend_loaded_bytes signed 4 (loaded_number m input x 4) < 2 ^ 32
+  extended_4 true input x = let l = loaded_4 input x in extended_lt (loaded_number m input x 4) (2 ^ 32) (nat_lt (loaded_number m input x 4) (2 ^ 31)) l (omega arith)
   extended_4 false input x = loaded_4 input x
 
-  pub load_lt : (signed : Bool) (input x size : ℕ) → IsSize size → extend_loaded_bytes signed size (load_number m input x size) < 2 ^ 32
-  load_lt signed input x size (inl e) = subst (λ n. extend_loaded_bytes signed n (load_number m input x n) < 2 ^ 32) (sym e) (extended_1 signed input x)
-  load_lt signed input x size (inr (inl e)) = subst (λ n. extend_loaded_bytes signed n (load_number m input x n) < 2 ^ 32) (sym e) (extended_2 signed input x)
-  load_lt signed input x size (inr (inr e)) = subst (λ n. extend_loaded_bytes signed n (load_number m input x n) < 2 ^ 32) (sym e) (extended_4 signed input x)
+  pub load_lt : (signed : Bool) (input x size : ℕ) → IsSize size → extend_loaded_bytes signed size (loaded_number m input x size) < 2 ^ 32
+  load_lt signed input x size (inl e) = subst (λ n. extend_loaded_bytes signed n (loaded_number m input x n) < 2 ^ 32) (sym e) (extended_1 signed input x)
+  load_lt signed input x size (inr (inl e)) = subst (λ n. extend_loaded_bytes signed n (loaded_number m input x n) < 2 ^ 32) (sym e) (extended_2 signed input x)
+  load_lt signed input x size (inr (inr e)) = subst (λ n. extend_loaded_bytes signed n (loaded_number m input x n) < 2 ^ 32) (sym e) (extended_4 signed input x)
 
 pub HasBytes-with_bytes : (m : Memory) (x w n : ℕ) → HasBytes m → HasBytes (with_bytes m x w n)
 unfolding with_bytes

@@ -13,14 +13,14 @@ use Rattle.tc_machine.specs.declared.events.Cause.TheVariants.{NotListed, NoCode
 use Rattle.tc_machine.specs.declared.state.Machine.{Machine}
 
 -- a byte before others; if it isn't mapped, none
-abbrev pub fetched_byte_before : Option ℕ → List ℕ → List ℕ
-fetched_byte_before None bytes = []
-fetched_byte_before (Some b) bytes = b ∷ bytes
+abbrev pub prepend_mapped_byte : Option ℕ → List ℕ → List ℕ
+prepend_mapped_byte None bytes = []
+prepend_mapped_byte (Some b) bytes = b ∷ bytes
 
 -- the mapped bytes from x on, at most n, up to the first that isn't mapped
 unfoldable pub mapped_bytes : ℕ → Memory → ℕ → List ℕ
 mapped_bytes zero m x = []
-mapped_bytes (suc n) m x = fetched_byte_before (map.get m x) (mapped_bytes n m ((x + 1) % 2 ^ 32))
+mapped_bytes (suc n) m x = prepend_mapped_byte (map.get m x) (mapped_bytes n m ((x + 1) % 2 ^ 32))
 
 -- bytes that are the beginning of an instruction are no code; others aren't listed
 abbrev pub fetch_failure_cause : DecodeErr → Cause
@@ -33,8 +33,8 @@ fetched_shape (Ok found) = Ok (shape_of found.0, found.1)
 fetched_shape (Err e) = Err (fetch_failure_cause e)
 
 -- the instruction at pc, decoded from at most four mapped bytes; there is none at an odd address
-unfoldable pub fetched : Machine → Result (Shape × ℕ) Cause
-fetched m = if m.pc % 2 == 0 then fetched_shape (decoded_of (mapped_bytes 4 m.mem m.pc)) else Err NoCode
+unfoldable pub fetched_instruction : Machine → Result (Shape × ℕ) Cause
+fetched_instruction m = if m.pc % 2 == 0 then fetched_shape (decoded_of (mapped_bytes 4 m.mem m.pc)) else Err NoCode
 
 -- the size of what was fetched
 abbrev pub fetched_size : Result (Shape × ℕ) Cause → ℕ

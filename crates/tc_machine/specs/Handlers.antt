@@ -1,7 +1,7 @@
 -- Entries of handlers of traps and interrupts.
 use Rattle.std.specs.Prelude.{ℕ, ◌+◌, ◌*◌, ◌/◌, ◌%◌, ◌^◌, true, false, if◌then◌else◌, slice_set, bit_or}
 use Rattle.tc_machine.specs.declared.state.Machine.{Machine}
-use Rattle.tc_machine.specs.Machine.{a10, is_interrupt_stack_used, then_}
+use Rattle.tc_machine.specs.Machine.{a10, is_interrupt_stack_used, if_running}
 use Rattle.tc_machine.specs.SavesAndRestores.{save}
 
 -- A10 in a handler of a trap or an interrupt: the interrupt stack's pointer, or A10 as it is if
@@ -16,8 +16,8 @@ handler_psw psw = psw / 2 ^ 14 * 2 ^ 14 + 2 * 2 ^ 10 + 2 ^ 9 + psw % 2 ^ 8
 
 -- the machine at the entry of a handler, after the save s: A11 is the address to return to, A10 and
 -- PSW are the handler's, IE is off, and pc is the entry
-abbrev pub at_handler : Machine → Machine → ℕ → ℕ → Machine
-at_handler m s back entry = record s {
+abbrev pub at_handler_entry : Machine → Machine → ℕ → ℕ → Machine
+at_handler_entry m s back entry = record s {
   a = slice_set (slice_set s.a 11 back) 10 (handler_stack m);
   psw = handler_psw m.psw;
   ie = false;
@@ -28,9 +28,9 @@ at_handler m s back entry = record s {
 -- the handler of its class is entered, and D15 is set to the trap's number
 abbrev pub trap : Machine → ℕ → ℕ → ℕ → Machine
 trap m class tin back =
-    then_ (save m true) (λ s. record (at_handler m s back (bit_or m.btv (class * 2 ^ 5))) { d = slice_set s.d 15 tin })
+    if_running (save m true) (λ s. record (at_handler_entry m s back (bit_or m.btv (class * 2 ^ 5))) { d = slice_set s.d 15 tin })
 
 -- an interrupt: volume 1, interrupts
 abbrev pub interrupt : Machine → ℕ → Machine
 interrupt m irq =
-    then_ (save m true) (λ s. record (at_handler m s m.pc (bit_or m.biv (irq * 2 ^ 5))) { ccpn = irq })
+    if_running (save m true) (λ s. record (at_handler_entry m s m.pc (bit_or m.biv (irq * 2 ^ 5))) { ccpn = irq })

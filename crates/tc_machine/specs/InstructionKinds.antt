@@ -6,7 +6,7 @@ use Rattle.std.specs.Prelude.{ℕ, Bool, true, false, not, ◌&&◌, Result, Ok,
 use Rattle.tc_machine.specs.declared.events.Cause.{Cause}
 use Rattle.tc_machine.specs.declared.events.Event.{Event}
 use Rattle.tc_machine.specs.declared.state.Machine.{Machine}
-use Rattle.tc_machine.specs.Stepping.{is_taken}
+use Rattle.tc_machine.specs.Stepping.{is_interrupt_taken}
 
 -- P for a load or a store instruction; no statement for others
 abbrev pub OnAccessInstruction : Shape → Type 0 → Type 0
@@ -48,11 +48,11 @@ is_area_keeping_shape e Nothing = true
 is_area_keeping_shape e _ = false
 
 -- what was found is an instruction that never changes the memory or PCXI
-abbrev pub keeps_found : Event → Result (Shape × ℕ) Cause → Bool
-keeps_found e (Ok found) = is_area_keeping_shape e found.0
-keeps_found e (Err cause) = false
+abbrev pub is_area_keeping_fetch : Event → Result (Shape × ℕ) Cause → Bool
+is_area_keeping_fetch e (Ok found) = is_area_keeping_shape e found.0
+is_area_keeping_fetch e (Err cause) = false
 
 -- no interrupt is taken in this event of the machine, and the instruction found at pc is of the
 -- kind that never changes the memory or PCXI
 abbrev pub is_area_keeping_event : Machine → Event → Result (Shape × ℕ) Cause → Bool
-is_area_keeping_event m e found = not (is_taken m e) && keeps_found e found
+is_area_keeping_event m e found = not (is_interrupt_taken m e) && is_area_keeping_fetch e found

@@ -10,17 +10,17 @@ use Rattle.tc_isa.specs.declared.shapes.Shape.TheVariants.{Compute, Scaled, Load
 use Rattle.tc_isa.specs.declared.shapes.Target.TheVariants as target
 use Rattle.tc_machine.specs.declared.events.Event.{Event}
 use Rattle.tc_machine.specs.declared.state.Machine.{Machine}
-use Rattle.tc_machine.specs.Machine.{reg, with_reg, a11, then_, core_register, with_core_register}
+use Rattle.tc_machine.specs.Machine.{reg, with_reg, a11, if_running, core_register, with_core_register}
 use Rattle.tc_machine.specs.SavesAndRestores.{save, restore}
-use Rattle.csa_chain.specs.MemoryBytes.{load_number, with_bytes, extend_loaded_bytes}
+use Rattle.csa_chain.specs.MemoryBytes.{loaded_number, with_bytes, extend_loaded_bytes}
 use Rattle.tc_machine.specs.Handlers.{trap}
 
 -- ---- entries of handlers
 
 -- the value of an operand
-abbrev pub arg : Machine → Arg → ℕ
-arg m (Reg r) = reg m r
-arg m (Word w) = w
+abbrev pub operand_value : Machine → Arg → ℕ
+operand_value m (Reg r) = reg m r
+operand_value m (Word w) = w
 
 -- the sum of an address and a number of bytes, modulo 2 ^ 32, as instructions add to pc and to
 -- registers
@@ -28,18 +28,18 @@ abbrev pub machine_address_ahead : ℕ → ℕ → ℕ
 machine_address_ahead at by = (at + by) % 2 ^ 32
 
 -- the machine after an instruction of n bytes that is followed by the next one
-abbrev pub advanced : ℕ → Machine → Machine
-advanced n m = record m { pc = machine_address_ahead m.pc n }
+abbrev pub with_pc_advanced : ℕ → Machine → Machine
+with_pc_advanced n m = record m { pc = machine_address_ahead m.pc n }
 
 -- ---- loads and stores
 -- the address of an access
 abbrev pub access_address : Machine → Arg → ℕ → Bool → ℕ
-access_address m base offset after = if after then arg m base else machine_address_ahead (arg m base) offset
+access_address m base offset after = if after then operand_value m base else machine_address_ahead (operand_value m base) offset
 
 -- post-increment: the base register is increased by the offset
-abbrev pub with_base : Machine → Arg → ℕ → Bool → Machine
-with_base m (Reg r) offset after = if after then with_reg m r (machine_address_ahead (reg m r) offset) else m
-with_base m (Word w) offset after = m
+abbrev pub with_base_incremented : Machine → Arg → ℕ → Bool → Machine
+with_base_incremented m (Reg r) offset after = if after then with_reg m r (machine_address_ahead (reg m r) offset) else m
+with_base_incremented m (Word w) offset after = m
 
 -- an access traps if its address is no multiple of its size and the event says so
 abbrev pub is_trapping_access : Event → ℕ → ℕ → Bool
@@ -47,8 +47,8 @@ is_trapping_access e x size = e.aln && not (x % size == 0)
 
 -- what a load or store instruction does if its access is misaligned and traps: the trap of class 2,
 -- number 4, back to the instruction itself
-abbrev pub misaligned : Machine → Machine
-misaligned m = trap m 2 4 m.pc
+abbrev pub misaligned_access_trap : Machine → Machine
+misaligned_access_trap m = trap m 2 4 m.pc
 
 -- ---- instructions
 -- the address that a jump or a call goes to; bit 0 of a register's value is dropped
@@ -58,38 +58,38 @@ target_of m (target.Abs x) = x
 target_of m (target.Reg r) = reg m r / 2 * 2
 
 -- the machine after the branch's register was decremented by 1, if the branch does that
-abbrev pub lowered : Machine → ℕ → Bool → Machine
-lowered m x lowers = if lowers then with_reg m x (machine_address_ahead (reg m x) (2 ^ 32 - 1)) else m
+abbrev pub with_register_decremented : Machine → ℕ → Bool → Machine
+with_register_decremented m x lowers = if lowers then with_reg m x (machine_address_ahead (reg m x) (2 ^ 32 - 1)) else m
 
 -- what an instruction of n bytes does
 unfoldable pub does : Machine → Event → Shape → ℕ → Machine
-does m e (Compute op dst x y) n = advanced n (with_reg m dst (alu_of op (arg m x) (arg m y)))
-does m e (Scaled dst base index k) n = advanced n (with_reg m dst (machine_address_ahead (reg m base) (reg m index * 2 ^ k)))
+does m e (Compute op dst x y) n = with_pc_advanced n (with_reg m dst (alu_of op (operand_value m x) (operand_value m y)))
+does m e (Scaled dst base index k) n = with_pc_advanced n (with_reg m dst (machine_address_ahead (reg m base) (reg m index * 2 ^ k)))
 does m e (Load dst base offset size signed after) n =
     let x = access_address m base offset after in
-    if is_trapping_access e x size then misaligned m
-    else advanced n (with_reg (with_base m base offset after) dst (extend_loaded_bytes signed size (load_number m.mem e.input x size)))
+    if is_trapping_access e x size then misaligned_access_trap m
+    else with_pc_advanced n (with_reg (with_base_incremented m base offset after) dst (extend_loaded_bytes signed size (loaded_number m.mem e.input x size)))
 does m e (Store src base offset size after) n =
     let x = access_address m base offset after in
-    if is_trapping_access e x size then misaligned m
-    else advanced n (record (with_base m base offset after) { mem = with_bytes m.mem x (reg m src) size })
+    if is_trapping_access e x size then misaligned_access_trap m
+    else with_pc_advanced n (record (with_base_incremented m base offset after) { mem = with_bytes m.mem x (reg m src) size })
 does m e (Branch cond x y by lowers) n =
-    let goes = taken_of cond (reg m x) (arg m y) in
-    record (lowered m x lowers) { pc = if goes then machine_address_ahead m.pc by else machine_address_ahead m.pc n }
+    let goes = taken_of cond (reg m x) (operand_value m y) in
+    record (with_register_decremented m x lowers) { pc = if goes then machine_address_ahead m.pc by else machine_address_ahead m.pc n }
 does m e (Jump to) n = record m { pc = target_of m to }
-does m e (Call to) n = then_ (save m true) (λ s. record s { a = slice_set s.a 11 (machine_address_ahead m.pc n); pc = target_of m to })
-does m e Ret n = then_ (restore m true) (λ r. record r { pc = a11 m / 2 * 2 })
+does m e (Call to) n = if_running (save m true) (λ s. record s { a = slice_set s.a 11 (machine_address_ahead m.pc n); pc = target_of m to })
+does m e Ret n = if_running (restore m true) (λ r. record r { pc = a11 m / 2 * 2 })
 does m e Rfe n =
-    then_ (restore m true) (λ r. record r { pc = a11 m / 2 * 2; ie = pie_of m.core m.pcxi; ccpn = pcpn_of m.core m.pcxi })
-does m e Svlcx n = then_ (save m false) (advanced n)
-does m e Rslcx n = then_ (restore m false) (advanced n)
-does m e (Bisr c) n = then_ (save m false) (λ s. record (advanced n s) { ccpn = c; ie = true })
-does m e Enable n = record (advanced n m) { ie = true }
-does m e Disable n = record (advanced n m) { ie = false }
+    if_running (restore m true) (λ r. record r { pc = a11 m / 2 * 2; ie = pie_of m.core m.pcxi; ccpn = pcpn_of m.core m.pcxi })
+does m e Svlcx n = if_running (save m false) (with_pc_advanced n)
+does m e Rslcx n = if_running (restore m false) (with_pc_advanced n)
+does m e (Bisr c) n = if_running (save m false) (λ s. record (with_pc_advanced n s) { ccpn = c; ie = true })
+does m e Enable n = record (with_pc_advanced n m) { ie = true }
+does m e Disable n = record (with_pc_advanced n m) { ie = false }
 does m e (Syscall tin) n = trap m 6 tin (machine_address_ahead m.pc n)
-does m e (Mfcr dst number) n = advanced n (with_reg m dst (core_register m e number))
-does m e (Mtcr src number) n = advanced n (with_core_register m number (reg m src))
-does m e Nothing n = advanced n m
+does m e (Mfcr dst number) n = with_pc_advanced n (with_reg m dst (core_register m e number))
+does m e (Mtcr src number) n = with_pc_advanced n (with_core_register m number (reg m src))
+does m e Nothing n = with_pc_advanced n m
 
 -- this instruction is a load or a store whose access is misaligned, and the event says that such
 -- accesses trap

@@ -29,17 +29,17 @@ abbrev pub is_interrupt_stack_used : ℕ → Bool
 is_interrupt_stack_used psw = psw / 2 ^ 9 % 2 == 1
 
 -- a machine that dies: only its end changes
-abbrev pub died : Cause → Machine → Machine
-died cause m = record m { end = Dead cause }
+abbrev pub dead_machine : Cause → Machine → Machine
+dead_machine cause m = record m { end = Dead cause }
 
 -- the machine after its next change, if its end says that it runs; a dead machine stays as it is
-abbrev pub goes_on : End → Machine → (Machine → Machine) → Machine
-goes_on Running m next = next m
-goes_on (Dead cause) m next = m
+abbrev pub if_end_running : End → Machine → (Machine → Machine) → Machine
+if_end_running Running m next = next m
+if_end_running (Dead cause) m next = m
 
 -- what follows if the machine still runs; a dead machine doesn't change
-abbrev pub then_ : Machine → (Machine → Machine) → Machine
-then_ m next = goes_on m.end m next
+abbrev pub if_running : Machine → (Machine → Machine) → Machine
+if_running m next = if_end_running m.end m next
 
 -- the machine's end is a death, of any cause
 abbrev pub IsDead : End → Type 0

@@ -14,9 +14,9 @@ use Rattle.tc_machine.specs.declared.events.End.TheVariants.{Running, Dead}
 use Rattle.tc_machine.specs.declared.state.Machine.{Machine}
 use Rattle.tc_machine.specs.Instructions.{does, access_address}
 use Rattle.tc_machine.specs.Machine.{psw_with_status, IsMachine}
-use Rattle.tc_machine.specs.SavesAndRestores.{saved, save, has_kind, restored, restore}
-use Rattle.tc_machine.specs.Fetching.{fetched}
-use Rattle.tc_machine.specs.Stepping.{is_taken, step, run, load_at_pc, stored, IsRun}
+use Rattle.tc_machine.specs.SavesAndRestores.{with_context_saved, save, has_kind, with_context_restored, restore}
+use Rattle.tc_machine.specs.Fetching.{fetched_instruction}
+use Rattle.tc_machine.specs.Stepping.{is_interrupt_taken, step, run, load_at_pc, stored, IsRun}
 use Rattle.tc_machine.specs.Safe.{AllFit, SpellsAt, ChainsAreWhole, Fits, Safe}
 use Rattle.tc_machine.specs.Starting.{Starts}
 use Rattle.tc_mem.specs.PlanMemory.{HoldsRom}
@@ -31,30 +31,30 @@ use Rattle.tc_machine.specs.PlanAreas.{first_link}
 use Rattle.std.specs.FinMap as bytes
 
 -- in a start state all areas are free
-abbrev pub StartsWhole : Type 0
-StartsWhole = (image : ImageData) (plan : PlanData) (m : Machine) → IsPlan plan → Starts image plan m → ChainsAreWhole plan 0 m
+abbrev pub AllAreasFreeAtStart : Type 0
+AllAreasFreeAtStart = (image : ImageData) (plan : PlanData) (m : Machine) → IsPlan plan → Starts image plan m → ChainsAreWhole plan 0 m
 
 -- law for all programs: if the machine's memory has the image's bytes in rom, bytes in rom at an
 -- even pc that spell an instruction are fetched as that instruction
-abbrev pub FetchesSpelled : Type 0
-FetchesSpelled =
+abbrev pub SpelledCodeIsFetched : Type 0
+SpelledCodeIsFetched =
     (image : ImageData) (plan : PlanData) (m : Machine) (bytes : List ℕ) (inst : InstData) → IsPlan plan → HoldsRom image plan m.mem →
-    m.pc % 2 ≡ 0 → SpellsAt image plan m.pc bytes inst → fetched m ≡ Ok (shape_of inst, length bytes)
+    m.pc % 2 ≡ 0 → SpellsAt image plan m.pc bytes inst → fetched_instruction m ≡ Ok (shape_of inst, length bytes)
 
 -- a save succeeds if the first free area is mapped and isn't the limit of the list
 abbrev pub MachineSaveSucceeds : Type 0
 MachineSaveSucceeds =
-    (m : Machine) (upper : Bool) → link_in m.fcx ≢ 0 → is_area m.mem (link_in m.fcx) ≡ true → link_in m.fcx ≢ link_in m.lcx → save m upper ≡ saved m upper
+    (m : Machine) (upper : Bool) → link_in m.fcx ≢ 0 → is_area m.mem (link_in m.fcx) ≡ true → link_in m.fcx ≢ link_in m.lcx → save m upper ≡ with_context_saved m upper
 
 -- a restore succeeds if PCXI names a mapped area with a context of its kind
 abbrev pub MachineRestoreSucceeds : Type 0
 MachineRestoreSucceeds =
-    (m : Machine) (upper : Bool) → link_in m.pcxi ≢ 0 → has_kind m upper ≡ true → is_area m.mem (link_in m.pcxi) ≡ true → restore m upper ≡ restored m upper
+    (m : Machine) (upper : Bool) → link_in m.pcxi ≢ 0 → has_kind m upper ≡ true → is_area m.mem (link_in m.pcxi) ≡ true → restore m upper ≡ with_context_restored m upper
 
 -- a step of a running machine, if no interrupt is taken and the instruction leaves it running
 abbrev pub MachineStepExecutes : Type 0
 MachineStepExecutes =
-    (m : Machine) (e : Event) (shape : Shape) (n : ℕ) → m.end ≡ Running → is_taken m e ≡ false → fetched m ≡ Ok (shape, n) → (does m e shape n).end ≡ Running →
+    (m : Machine) (e : Event) (shape : Shape) (n : ℕ) → m.end ≡ Running → is_interrupt_taken m e ≡ false → fetched_instruction m ≡ Ok (shape, n) → (does m e shape n).end ≡ Running →
     step m e ≡ record (does m e shape n) { psw = psw_with_status (does m e shape n).psw e.status }
 
 -- A machine that died in an event, and not of Fcd, is the machine before it with that end: nothing
@@ -95,8 +95,8 @@ EveryRunFits =
 
 -- guard law of start states: a machine starts the image under the plan if its fields are as these
 -- plain equations say; all other registers, bits of PSW and bytes can be anything
-abbrev pub EveryStartStarts : Type 0
-EveryStartStarts =
+abbrev pub StartEquationsSuffice : Type 0
+StartEquationsSuffice =
     (image : ImageData) (plan : PlanData) (d a : List ℕ) (psw : ℕ) (mem : Memory) → IsImage image → IsPlan plan
     → length d ≡ 16 → All (λ w. w < 2 ^ 32) d → length a ≡ 16 → All (λ w. w < 2 ^ 32) a → psw < 2 ^ 32
     → ((x b : ℕ) → bytes.get mem x ≡ Some b → b < 2 ^ 8)
@@ -172,6 +172,6 @@ SafeHasFiveParts =
 -- at its address
 abbrev pub StoreInstructionStores : Type 0
 StoreInstructionStores =
-    (m : Machine) (e : Event) (src : ℕ) (base : Arg) (offset size : ℕ) (after : Bool) (n : ℕ) → m.end ≡ Running → is_taken m e ≡ false
-    → fetched m ≡ Ok (Store src base offset size after, n) → (e.aln ≡ true → access_address m base offset after % size ≡ 0)
+    (m : Machine) (e : Event) (src : ℕ) (base : Arg) (offset size : ℕ) (after : Bool) (n : ℕ) → m.end ≡ Running → is_interrupt_taken m e ≡ false
+    → fetched_instruction m ≡ Ok (Store src base offset size after, n) → (e.aln ≡ true → access_address m base offset after % size ≡ 0)
     → stored m e ≡ Some (access_address m base offset after, size)

@@ -5,7 +5,7 @@ use Rattle.csa_chain.specs.Chain.{link_in, link_address, is_area, area_word, wor
 use Rattle.csa_chain.specs.ContextWords.{pcxi_word_of, ul_of, upper_words_of, lower_words_of, d_after_upper, a_after_upper, d_after_lower, a_after_lower}
 use Rattle.tc_machine.specs.declared.events.Cause.TheVariants.{Fcd, Fcu, Csu, Ctyp, NoArea}
 use Rattle.tc_machine.specs.declared.state.Machine.{Machine}
-use Rattle.tc_machine.specs.Machine.{died}
+use Rattle.tc_machine.specs.Machine.{dead_machine}
 
 -- the 16 words of the upper or the lower context
 abbrev pub context_of : Machine → Bool → List ℕ
@@ -13,8 +13,8 @@ context_of m upper = if upper then upper_words_of m.pcxi m.psw m.d m.a else lowe
 
 -- The machine after a context was saved to the first free area. Word 0 of that area was the link of
 -- the next free one.
-abbrev pub saved : Machine → Bool → Machine
-saved m upper =
+abbrev pub with_context_saved : Machine → Bool → Machine
+with_context_saved m upper =
     let free = link_in m.fcx in
     record m {
       mem = with_words m.mem (link_address free) (context_of m upper);
@@ -26,18 +26,18 @@ saved m upper =
 -- it dies if the limit of the list is reached.
 unfoldable pub save : Machine → Bool → Machine
 save m upper =
-    if link_in m.fcx == 0 then died Fcu m
+    if link_in m.fcx == 0 then dead_machine Fcu m
     else if is_area m.mem (link_in m.fcx) then
-    (if link_in m.fcx == link_in m.lcx then died Fcd (saved m upper) else saved m upper)
-    else died NoArea m
+    (if link_in m.fcx == link_in m.lcx then dead_machine Fcd (with_context_saved m upper) else with_context_saved m upper)
+    else dead_machine NoArea m
 
 -- the last context that was saved is of this kind, as PCXI says
 abbrev pub has_kind : Machine → Bool → Bool
 has_kind m upper = if upper then ul_of m.core m.pcxi else not (ul_of m.core m.pcxi)
 
 -- the machine after the area that PCXI names was moved to the front of the free list
-abbrev pub released : Machine → Machine
-released m =
+abbrev pub with_area_released : Machine → Machine
+with_area_released m =
     let used = link_in m.pcxi in
     record m {
       pcxi = area_word m.mem used 0;
@@ -54,29 +54,29 @@ abbrev pub last_context : Machine → List ℕ
 last_context m = saved_area_words m.mem (link_in m.pcxi)
 
 -- the machine after the upper context, PSW included, was restored from the area that PCXI names
-abbrev pub restored_upper : Machine → Machine
-restored_upper m = record (released m) {
+abbrev pub with_upper_restored : Machine → Machine
+with_upper_restored m = record (with_area_released m) {
   psw = area_word m.mem (link_in m.pcxi) 1;
   d = d_after_upper (last_context m) m.d;
   a = a_after_upper (last_context m) m.a;
 }
 
 -- the machine after the lower context was restored from the area that PCXI names
-abbrev pub restored_lower : Machine → Machine
-restored_lower m = record (released m) {
+abbrev pub with_lower_restored : Machine → Machine
+with_lower_restored m = record (with_area_released m) {
   d = d_after_lower (last_context m) m.d;
   a = a_after_lower (last_context m) m.a;
 }
 
 -- the machine after the upper or the lower context was restored from the area that PCXI names
-abbrev pub restored : Machine → Bool → Machine
-restored m upper = if upper then restored_upper m else restored_lower m
+abbrev pub with_context_restored : Machine → Bool → Machine
+with_context_restored m upper = if upper then with_upper_restored m else with_lower_restored m
 
 -- a restore: the machine dies if there is no context, if it is of the other kind, or if its area
 -- isn't mapped
 unfoldable pub restore : Machine → Bool → Machine
 restore m upper =
-    if link_in m.pcxi == 0 then died Csu m
+    if link_in m.pcxi == 0 then dead_machine Csu m
     else if has_kind m upper then
-    (if is_area m.mem (link_in m.pcxi) then restored m upper else died NoArea m)
-    else died Ctyp m
+    (if is_area m.mem (link_in m.pcxi) then with_context_restored m upper else dead_machine NoArea m)
+    else dead_machine Ctyp m

@@ -20,14 +20,14 @@ with_image_byte m x (Some b) = with_byte m x b
 with_image_byte m x None = m
 
 -- the memory with the image's bytes in the n bytes from x on
-unfoldable pub with_image : ImageData → Memory → ℕ → ℕ → Memory
-with_image image m x zero = m
-with_image image m x (suc n) = with_image_byte (with_image image m x n) (x + n) (image_byte image (x + n))
+unfoldable pub with_image_in_range : ImageData → Memory → ℕ → ℕ → Memory
+with_image_in_range image m x zero = m
+with_image_in_range image m x (suc n) = with_image_byte (with_image_in_range image m x n) (x + n) (image_byte image (x + n))
 
 -- the memory with the image's bytes in all of these ranges
-abbrev pub with_images : ImageData → Memory → List Range → Memory
-with_images image m [] = m
-with_images image m (r ∷ rs) = with_images image (with_image image m r.at r.len) rs
+abbrev pub with_image_in_ranges : ImageData → Memory → List Range → Memory
+with_image_in_ranges image m [] = m
+with_image_in_ranges image m (r ∷ rs) = with_image_in_ranges image (with_image_in_range image m r.at r.len) rs
 
 -- The memory after the copy of segments' bytes into a range. Each mapped byte of the range that a
 -- segment holds is the segment's. All else is as it was, and no byte is mapped or unmapped.
@@ -56,8 +56,8 @@ start_memory_ranges rom ram at n = rom ++ ram ++ record { at = at; len = 64 * n 
 pub record IsFilledStartMemory (image : ImageData) (rom ram : List Range) (at n : ℕ) (mem : Memory) : Type 0 where
   pub zeros : Memory
   pub are_zeros : IsMemoryOfZeros (start_memory_ranges rom ram at n) zeros
-  pub bytes : HasBytes (with_images image zeros rom)
-  pub is : mem ≡ with_area_links at (link_at at) n (with_images image zeros rom) n
+  pub bytes : HasBytes (with_image_in_ranges image zeros rom)
+  pub is : mem ≡ with_area_links at (link_at at) n (with_image_in_ranges image zeros rom) n
 
 -- ---- the start
 -- A0 to A15 at the start: the globals, the stack pointer, and 0 in the others
@@ -71,8 +71,8 @@ abbrev pub psw_at_start : Bool → ℕ
 psw_at_start is = if is then 2 * 2 ^ 10 + 2 ^ 9 else 2 * 2 ^ 10
 
 -- in a start state, word 0 of each area is the link of the next one, and 0 in the last
-abbrev pub IsLinkedUp : PlanData → Memory → Type 0
-IsLinkedUp plan mem =
+abbrev pub AreAreasLinked : PlanData → Memory → Type 0
+AreAreasLinked plan mem =
     (i : ℕ) → i < plan.areas → area_word mem (first_link plan + i) 0 ≡ (if nat_lt (i + 1) plan.areas then first_link plan + (i + 1) else 0)
 
 -- in a start state, A0, A1, A8 and A9 are the plan's globals
@@ -85,7 +85,7 @@ pub record Starts (image : ImageData) (plan : PlanData) (m : Machine) : Type 0 w
   pub machine : IsMachine m
   pub memory : IsPlanMemory plan m.mem
   pub rom : HoldsRom image plan m.mem
-  pub linked : IsLinkedUp plan m.mem
+  pub linked : AreAreasLinked plan m.mem
   pub fcx : m.fcx ≡ first_link plan
   pub lcx : m.lcx ≡ first_link plan + (plan.areas - plan.reserve)
   pub pcxi : m.pcxi ≡ 0

@@ -3,7 +3,7 @@ ghost use Rattle.std.specs.Prelude.{◌≡◌, ◌%◌, ◌^◌, unwrap_or};
 ghost use Rattle.std.specs.Bool.{MatchBool};
 ghost use Rattle.std.specs.FinMap as map;
 ghost use Rattle.tc_isa.specs.InBounds.{IsShapeAccessSize};
-ghost use Rattle.csa_chain.specs.MemoryBytes.{load_number, with_bytes, extend_loaded_bytes};
+ghost use Rattle.csa_chain.specs.MemoryBytes.{loaded_number, with_bytes, extend_loaded_bytes};
 ghost use Rattle.tc_machine.specs.Instructions.{is_trapping_access};
 
 use crate::Event;
@@ -14,7 +14,7 @@ use tcd_base::sext;
 /// Returns the value of a load of `size` bytes from an address, extended to a word.
 pub(crate) fn load(mem: &Mem, input: u32, addr: u32, size: u8, signed: bool) -> u32
     requires { IsShapeAccessSize size }
-    ensures { result ≡ extend_loaded_bytes signed size (load_number mem.now input addr size) }
+    ensures { result ≡ extend_loaded_bytes signed size (loaded_number mem.now input addr size) }
 {
     if size == 4 {
         return load_word_or_input(mem, input, addr);
@@ -52,7 +52,7 @@ pub fn is_trapping_access(event: &Event, addr: u32, size: u8) -> bool
 
 /// Returns the word at an address.
 fn load_word_or_input(mem: &Mem, input: u32, addr: u32) -> u32
-    ensures { result ≡ load_number mem.now input addr 4 }
+    ensures { result ≡ loaded_number mem.now input addr 4 }
 {
     match mem.word(addr) {
         Some(word) => word,
@@ -62,7 +62,7 @@ fn load_word_or_input(mem: &Mem, input: u32, addr: u32) -> u32
 
 /// Returns the halfword at an address.
 fn load_half_or_input(mem: &Mem, input: u32, addr: u32) -> u16
-    ensures { result ≡ load_number mem.now input addr 2 }
+    ensures { result ≡ loaded_number mem.now input addr 2 }
 {
     match mem.half(addr) {
         Some(half) => half,
@@ -71,17 +71,17 @@ fn load_half_or_input(mem: &Mem, input: u32, addr: u32) -> u16
 }
 
 /// Returns the byte at an address, for a load.
-#[tactic(auto, unfolding(csa_chain::specs::MemoryBytes::load_number))]
+#[tactic(auto, unfolding(csa_chain::specs::MemoryBytes::loaded_number))]
 fn load_single_byte(mem: &Mem, input: u32, addr: u32) -> u8
-    ensures { result ≡ load_number mem.now input addr 1 }
+    ensures { result ≡ loaded_number mem.now input addr 1 }
 {
     load_byte_or_input(mem, input, addr)
 }
 
 /// Returns the word at an address, byte by byte.
-#[tactic(auto, unfolding(csa_chain::specs::MemoryBytes::load_number))]
+#[tactic(auto, unfolding(csa_chain::specs::MemoryBytes::loaded_number))]
 fn load_word_by_bytes(mem: &Mem, input: u32, addr: u32) -> u32
-    ensures { result ≡ load_number mem.now input addr 4 }
+    ensures { result ≡ loaded_number mem.now input addr 4 }
 {
     let low = load_byte_or_input(mem, input, addr);
     let second = load_byte_or_input(mem, input / 256, machine_address_ahead(addr, 1));
@@ -101,9 +101,9 @@ fn load_byte_or_input(mem: &Mem, input: u32, addr: u32) -> u8
 }
 
 /// Returns the halfword at an address, byte by byte.
-#[tactic(auto, unfolding(csa_chain::specs::MemoryBytes::load_number))]
+#[tactic(auto, unfolding(csa_chain::specs::MemoryBytes::loaded_number))]
 fn load_half_by_bytes(mem: &Mem, input: u32, addr: u32) -> u16
-    ensures { result ≡ load_number mem.now input addr 2 }
+    ensures { result ≡ loaded_number mem.now input addr 2 }
 {
     let low = load_byte_or_input(mem, input, addr);
     let high = load_byte_or_input(mem, input / 256, machine_address_ahead(addr, 1));

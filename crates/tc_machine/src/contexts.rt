@@ -3,7 +3,7 @@ ghost use Rattle.std.specs.Prelude.{◌≡◌, ◌<◌, ◌%◌, ◌^◌, Some, 
 ghost use Rattle.csa_chain.specs.MemoryBytes.{with_word};
 ghost use Rattle.csa_chain.specs.Chain.{link_in, is_area, area_word};
 ghost use Rattle.csa_chain.specs.ContextWords.{pcxi_word_of};
-ghost use Rattle.tc_machine.specs.SavesAndRestores.{context_of, saved, save, saved_area_words, last_context, released, restored_upper, restored_lower, restore};
+ghost use Rattle.tc_machine.specs.SavesAndRestores.{context_of, with_context_saved, save, saved_area_words, last_context, with_area_released, with_upper_restored, with_lower_restored, restore};
 
 use crate::{Cause, Machine};
 use csa_chain::{
@@ -137,7 +137,7 @@ impl Machine {
         requires free { free ≡ link_in self.old.fcx }
         requires mapped { is_area self.old.mem free ≡ true }
         requires next { next ≡ area_word self.old.mem free 0 }
-        ensures { self.new ≡ saved self.old upper }
+        ensures { self.new ≡ with_context_saved self.old upper }
     {
         let words = self.context(upper);
         self.mem.set_area(address_of(free), &words);
@@ -149,7 +149,7 @@ impl Machine {
     fn restore_upper_registers(&mut self, used: u32, words: &[u32; 16])
         requires used { used ≡ link_in self.old.pcxi }
         requires words { words.now ≡ last_context self.old }
-        ensures { self.new ≡ restored_upper self.old }
+        ensures { self.new ≡ with_upper_restored self.old }
     {
         let (before, psw) = load_upper(words, &mut self.d, &mut self.a);
         self.psw = psw;
@@ -160,7 +160,7 @@ impl Machine {
     fn restore_lower_registers(&mut self, used: u32, words: &[u32; 16])
         requires used { used ≡ link_in self.old.pcxi }
         requires words { words.now ≡ last_context self.old }
-        ensures { self.new ≡ restored_lower self.old }
+        ensures { self.new ≡ with_lower_restored self.old }
     {
         let before = load_lower(words, &mut self.d, &mut self.a);
         self.release(used, before);
@@ -172,7 +172,7 @@ impl Machine {
     fn release(&mut self, used: u32, before: u32)
         requires used { used ≡ link_in self.old.pcxi }
         requires before { before ≡ area_word self.old.mem used 0 }
-        ensures { self.new ≡ released self.old }
+        ensures { self.new ≡ with_area_released self.old }
     {
         put_area_word(&mut self.mem, address_of(used), self.fcx);
         self.pcxi = before;

@@ -3,7 +3,7 @@ ghost use Rattle.std.specs.Prelude.{◌≡◌, ◌<◌, ◌≤◌, IfOk};
 ghost use Rattle.tcd_base.specs.Bytes.{bytes_of_word};
 ghost use Rattle.tc_isa.specs.InBounds.{IsShape};
 ghost use Rattle.tc_encode.specs.Decoding.{decoded_of};
-ghost use Rattle.tc_machine.specs.Fetching.{mapped_bytes, fetch_failure_cause, fetched, fetched_shape};
+ghost use Rattle.tc_machine.specs.Fetching.{mapped_bytes, fetch_failure_cause, fetched_instruction, fetched_shape};
 
 use crate::operand_addresses::machine_address_ahead;
 use crate::{Cause, Machine};
@@ -88,12 +88,12 @@ impl Machine {
 
     /// Returns the instruction at pc; `found` is what the bytes there do. At an odd address there
     /// is none.
-    #[tactic(auto, unfolding(crate::specs::Fetching::fetched))]
+    #[tactic(auto, unfolding(crate::specs::Fetching::fetched_instruction))]
     pub(crate) fn fetch(&self, found: Result<(Shape, u32), Cause>) -> Result<(Shape, u32), Cause>
         requires found { found ≡ fetched_shape
             (decoded_of (mapped_bytes 4 self.now.mem self.now.pc)) }
         requires bounded { IfOk found (λ it. IsShape it.0) }
-        ensures shape { result ≡ fetched self.now }
+        ensures shape { result ≡ fetched_instruction self.now }
         ensures bounded { IfOk result (λ it. IsShape it.0) }
     {
         if self.pc % 2 == 0 {

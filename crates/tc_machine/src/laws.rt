@@ -1,12 +1,12 @@
 // Laws of the machine for all programs, and laws that pin the definitions under the headline.
 
-ghost use Rattle.tc_machine.specs.MachineLaws.{EveryEventFits, EveryRunFits, EveryStartStarts, SafeHasFiveParts, StoreInstructionStores, StartsWhole, FetchesSpelled, MachineSaveSucceeds, MachineRestoreSucceeds, MachineStepExecutes, DeathChangesEndOnly, StepKeepsMachine, RunKeepsMachine};
+ghost use Rattle.tc_machine.specs.MachineLaws.{EveryEventFits, EveryRunFits, StartEquationsSuffice, SafeHasFiveParts, StoreInstructionStores, AllAreasFreeAtStart, SpelledCodeIsFetched, MachineSaveSucceeds, MachineRestoreSucceeds, MachineStepExecutes, DeathChangesEndOnly, StepKeepsMachine, RunKeepsMachine};
 
 /// The laws of the machine: its areas at the start, what it fetches, saves, restores, steps and
 /// deaths.
 pub fn machine_laws()
-    ensures start { StartsWhole }
-    ensures fetch { FetchesSpelled }
+    ensures start { AllAreasFreeAtStart }
+    ensures fetch { SpelledCodeIsFetched }
     ensures save { MachineSaveSucceeds }
     ensures restore { MachineRestoreSucceeds }
     ensures does { MachineStepExecutes }
@@ -20,7 +20,7 @@ pub fn machine_laws()
 pub fn guard_laws()
     ensures events { EveryEventFits }
     ensures runs { EveryRunFits }
-    ensures starts { EveryStartStarts }
+    ensures starts { StartEquationsSuffice }
     ensures safe { SafeHasFiveParts }
     ensures stores { StoreInstructionStores }
 {}

@@ -5,7 +5,7 @@ ghost use Rattle.csa_chain.specs.Chain.{link_in, is_area, area_word};
 ghost use Rattle.tc_isa.specs.InBounds.{IsShape};
 ghost use Rattle.tc_encode.specs.Decoding.{decoded_of};
 ghost use Rattle.tc_machine.specs.Fetching.{mapped_bytes, fetched_shape};
-ghost use Rattle.tc_machine.specs.Stepping.{load_in, next_load_of, used_area_count, step};
+ghost use Rattle.tc_machine.specs.Stepping.{load_of_fetched, next_load_of, used_area_count, step};
 ghost use Rattle.tc_machine.specs.InstructionKinds.{is_area_keeping_shape, is_area_keeping_event};
 
 use crate::contexts::context_link;
@@ -94,7 +94,7 @@ impl Machine {
     /// is at pc, or `None` if it is no load.
     fn load_of(&self, shape: Shape) -> Option<(u32, u8)>
         requires { IsShape shape }
-        ensures { result ≡ load_in self.now (Ok (shape, 0)) }
+        ensures { result ≡ load_of_fetched self.now (Ok (shape, 0)) }
     {
         match shape {
             Shape::Load {

@@ -2,7 +2,7 @@
 ghost use Rattle.std.specs.Prelude.{◌≡◌, ◌<◌};
 ghost use Rattle.tc_isa.specs.InBounds.{IsArg, IsTarget};
 ghost use Rattle.tc_machine.specs.Machine.{reg};
-ghost use Rattle.tc_machine.specs.Instructions.{machine_address_ahead, arg, access_address, with_base, target_of, lowered};
+ghost use Rattle.tc_machine.specs.Instructions.{machine_address_ahead, operand_value, access_address, with_base_incremented, target_of, with_register_decremented};
 
 use crate::Machine;
 use tc_isa::{Arg, Target};
@@ -25,7 +25,7 @@ impl Machine {
     /// with post-increment.
     pub(crate) fn post_increment_base(&mut self, base: Arg, offset: u32, after: bool)
         requires { IsArg base }
-        ensures { self.new ≡ with_base self.old base offset after }
+        ensures { self.new ≡ with_base_incremented self.old base offset after }
     {
         match base {
             Arg::Reg(r) => {
@@ -53,7 +53,7 @@ impl Machine {
     /// Decrements by 1 the register that a branch compares, if the branch does that.
     pub(crate) fn decrement_compared_register(&mut self, x: u8, lowers: bool)
         requires { x < 32 }
-        ensures { self.new ≡ lowered self.old x lowers }
+        ensures { self.new ≡ with_register_decremented self.old x lowers }
     {
         if lowers {
             let less = machine_address_ahead(self.reg(x), u32::MAX);

@@ -1,8 +1,8 @@
 // Reads and writes registers and operands.
 ghost use Rattle.std.specs.Prelude.{◌≡◌, ◌<◌};
 ghost use Rattle.tc_isa.specs.InBounds.{IsArg};
-ghost use Rattle.tc_machine.specs.Machine.{reg, with_reg, died};
-ghost use Rattle.tc_machine.specs.Instructions.{machine_address_ahead, arg, advanced};
+ghost use Rattle.tc_machine.specs.Machine.{reg, with_reg, dead_machine};
+ghost use Rattle.tc_machine.specs.Instructions.{machine_address_ahead, operand_value, with_pc_advanced};
 
 use crate::operand_addresses::machine_address_ahead;
 use crate::{Cause, End, Machine};
@@ -36,7 +36,7 @@ impl Machine {
     /// Returns what an operand stands for: the word read from its register, or its own word.
     pub(crate) fn operand_value(&self, x: Arg) -> u32
         requires { IsArg x }
-        ensures { result ≡ arg self.now x }
+        ensures { result ≡ operand_value self.now x }
     {
         match x {
             Arg::Reg(r) => self.reg(r),
@@ -46,14 +46,14 @@ impl Machine {
 
     /// Sets the register pc to the address after the instruction, which has `n` bytes.
     pub(crate) fn advance(&mut self, n: u32)
-        ensures { self.new ≡ advanced n self.old }
+        ensures { self.new ≡ with_pc_advanced n self.old }
     {
         self.pc = machine_address_ahead(self.pc, n);
     }
 
     /// Ends the machine with this cause of death; the rest of its state stays.
     pub(crate) fn die(&mut self, cause: Cause)
-        ensures { self.new ≡ died cause self.old }
+        ensures { self.new ≡ dead_machine cause self.old }
     {
         self.end = End::Dead(cause);
     }

@@ -3,7 +3,7 @@ ghost use Rattle.std.specs.Prelude.{◌≡◌, ◌<◌, ◌≤◌, ◌+◌, ◌*
 ghost use Rattle.std.specs.List.{list_all};
 ghost use Rattle.elf_image.specs.Images.{segment_data, is_segment};
 ghost use Rattle.csa_chain.specs.MemoryBytes.{HasBytes};
-ghost use Rattle.tc_machine.specs.Starting.{with_image, with_images, next_start_link, with_area_links, start_memory_ranges, IsFilledStartMemory, IsCopiedToMemory};
+ghost use Rattle.tc_machine.specs.Starting.{with_image_in_range, with_image_in_ranges, next_start_link, with_area_links, start_memory_ranges, IsFilledStartMemory, IsCopiedToMemory};
 ghost use Rattle.csa_chain.specs.Chain.{link_at};
 
 use crate::contexts::put_area_word;
@@ -62,7 +62,7 @@ fn start_memory_ranges(
 /// Copies the image's bytes into the ranges.
 fn copy_image(mem: &mut Mem, image: &Image, ranges: &[Range])
     requires { All (λ r. r.at + r.len ≤ 2 ^ 32) ranges.now }
-    ensures copied { mem.new ≡ with_images image.now mem.old ranges.now }
+    ensures copied { mem.new ≡ with_image_in_ranges image.now mem.old ranges.now }
     ensures bytes { HasBytes mem.old → HasBytes mem.new }
 {
     for range in ranges {
@@ -85,7 +85,7 @@ fn link_start_areas(mem: &mut Mem, at: u32, first: u32, n: u32)
 /// Copies the image's bytes into a range.
 fn copy_image_to_range(mem: &mut Mem, image: &Image, range: &Range)
     requires { range.now.at + range.now.len ≤ 2 ^ 32 }
-    ensures copied { mem.new ≡ with_image image.now mem.old range.now.at range.now.len }
+    ensures copied { mem.new ≡ with_image_in_range image.now mem.old range.now.at range.now.len }
     ensures bytes { HasBytes mem.old → HasBytes mem.new }
 {
     copy_segments(mem, &image.segments, range);

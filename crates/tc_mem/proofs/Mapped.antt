@@ -10,7 +10,7 @@ use Rattle.std.specs.FinMap as finite
 use Rattle.std.specs.FinMap.{find, get-from_entries}
 use Rattle.std.specs.Ordering.{nat_cmp, eq_by_cmp}
 use Rattle.std.specs.Cmp.{nat_cmp_total, unsigned_tied}
-use Rattle.tc_mem.specs.Pages.{is_page_bit_set, byte_of, page_entries_from, entries_of, memory_of, IsPage, ArePages, number_of}
+use Rattle.tc_mem.specs.Pages.{is_page_bit_set, page_byte_at, page_entries_from, entries_of, memory_of, IsPage, ArePages, page_number_of}
 use Rattle.tc_mem.specs.declared.page.Page.{Page}
 use Rattle.tc_mem.proofs.Search.{no_page, number_at_is, rises}
 
@@ -21,7 +21,7 @@ or_else (Some x) other = Some x
 -- the byte at an address, of the first page that has it
 abbrev pub byte_in : ℕ → List Page → Option ℕ
 byte_in q [] = None
-byte_in q (p ∷ ps) = or_else (byte_of q p) (byte_in q ps)
+byte_in q (p ∷ ps) = or_else (page_byte_at q p) (byte_in q ps)
 
 -- ---- a look through the entries of a page
 -- the byte at q, of bytes from an address on
@@ -82,18 +82,18 @@ entries_find q mapped at (b ∷ bs) rest =
 
 -- ---- a page
 -- the page of another number has no such byte
-pub byte_of_other : (q : ℕ) (p : Page) → number_of p ≢ q / 4096 → byte_of q p ≡ None
+pub byte_of_other : (q : ℕ) (p : Page) → page_number_of p ≢ q / 4096 → page_byte_at q p ≡ None
 byte_of_other q p other =
     let no : (q / 4096 == p.number) ≡ false = ne_eqb (q / 4096) p.number (λ e. other (sym e)) in
     ap (λ (t : Bool). cond t (cond (is_page_bit_set p.mapped (q % 4096)) (Some (get_or p.bytes (q % 4096) 0)) None) None) no
 
 -- the page of that number has the byte if its bit is set
-pub byte_of_same : (q : ℕ) (p : Page) → number_of p ≡ q / 4096 → byte_of q p ≡ cond (is_page_bit_set p.mapped (q % 4096)) (Some (get_or p.bytes (q % 4096) 0)) None
+pub byte_of_same : (q : ℕ) (p : Page) → page_number_of p ≡ q / 4096 → page_byte_at q p ≡ cond (is_page_bit_set p.mapped (q % 4096)) (Some (get_or p.bytes (q % 4096) 0)) None
 byte_of_same q p same =
     let yes : (q / 4096 == p.number) ≡ true = eq-eqb (q / 4096) p.number (sym same) in
     ap (λ (t : Bool). cond t (cond (is_page_bit_set p.mapped (q % 4096)) (Some (get_or p.bytes (q % 4096) 0)) None) None) yes
 
-part_is : (q : ℕ) (p : Page) → IsPage p → part q p.mapped (p.number * 4096) p.bytes ≡ byte_of q p
+part_is : (q : ℕ) (p : Page) → IsPage p → part q p.mapped (p.number * 4096) p.bytes ≡ page_byte_at q p
 part_is q p page =
     let size = page.bytes in
     elim (cases_eq p.number (q / 4096)) [
@@ -125,7 +125,7 @@ all_find q [] whole = refl
 all_find q (p ∷ ps) whole =
     entries_find q p.mapped (p.number * 4096) p.bytes (entries_of ps)
     ∙ ap (λ (o : Option ℕ). or_else o (find nat_cmp q (entries_of ps))) (part_is q p (All-head IsPage p ps whole))
-    ∙ ap (or_else (byte_of q p)) (all_find q ps (All-tail IsPage p ps whole))
+    ∙ ap (or_else (page_byte_at q p)) (all_find q ps (All-tail IsPage p ps whole))
 
 -- what the memory has at an address
 pub get-memory_of : (ps : List Page) (q : ℕ) → All IsPage ps → finite.get (memory_of ps) q ≡ byte_in q ps
@@ -133,10 +133,10 @@ unfolding memory_of
 get-memory_of ps q whole = get-from_entries nat_cmp_total (entries_of ps) q ∙ all_find q ps whole
 
 -- no page has the number: no byte
-pub byte_in_none : (q : ℕ) (ps : List Page) → All (λ p. number_of p ≢ q / 4096) ps → byte_in q ps ≡ None
+pub byte_in_none : (q : ℕ) (ps : List Page) → All (λ p. page_number_of p ≢ q / 4096) ps → byte_in q ps ≡ None
 byte_in_none q [] none = refl
 byte_in_none q (p ∷ ps) none =
-    let P : Page → Type 0 = λ r. number_of r ≢ q / 4096 in
+    let P : Page → Type 0 = λ r. page_number_of r ≢ q / 4096 in
     ap (λ (o : Option ℕ). or_else o (byte_in q ps)) (byte_of_other q p (All-head P p ps none))
     ∙ byte_in_none q ps (All-tail P p ps none)
 
@@ -145,38 +145,38 @@ or_none None = refl
 or_none (Some x) = refl
 
 -- the page of that number decides
-alone : (q : ℕ) (ps : List Page) (i : ℕ) → i < length ps → ((k : ℕ) → k < length ps → k ≢ i → number_of (get_or ps k no_page) ≢ q / 4096) → byte_in q ps ≡ byte_of q (get_or ps i no_page)
+alone : (q : ℕ) (ps : List Page) (i : ℕ) → i < length ps → ((k : ℕ) → k < length ps → k ≢ i → page_number_of (get_or ps k no_page) ≢ q / 4096) → byte_in q ps ≡ page_byte_at q (get_or ps i no_page)
 alone q [] i lt others = absurd (omega arith)
 alone q (p ∷ ps) zero lt others =
-    let rest = All-from_get_or (λ r. number_of r ≢ q / 4096) ps no_page (λ k h. others (suc k) (omega arith) (omega arith)) in
-    ap (or_else (byte_of q p)) (byte_in_none q ps rest) ∙ or_none (byte_of q p)
+    let rest = All-from_get_or (λ r. page_number_of r ≢ q / 4096) ps no_page (λ k h. others (suc k) (omega arith) (omega arith)) in
+    ap (or_else (page_byte_at q p)) (byte_in_none q ps rest) ∙ or_none (page_byte_at q p)
 alone q (p ∷ ps) (suc i) lt others =
     ap (λ (o : Option ℕ). or_else o (byte_in q ps)) (byte_of_other q p (others zero (omega arith) (omega arith)))
     ∙ alone q ps i (omega arith) (λ k h ne. others (suc k) (omega arith) (omega arith))
 
 -- the numbers of other pages differ
-others_differ : (ps : List Page) → ArePages ps → (i k : ℕ) → i < length ps → k < length ps → k ≢ i → number_of (get_or ps k no_page) ≢ number_of (get_or ps i no_page)
+others_differ : (ps : List Page) → ArePages ps → (i k : ℕ) → i < length ps → k < length ps → k ≢ i → page_number_of (get_or ps k no_page) ≢ page_number_of (get_or ps i no_page)
 others_differ ps pages i k lt lk ne same =
     let at_i = number_at_is ps i lt in
     let at_k = number_at_is ps k lk in
-    let size : length (map number_of ps) ≡ length ps = simp length-map in
+    let size : length (map page_number_of ps) ≡ length ps = simp length-map in
     elim (cases_lt i k) [
-      | inl l ↦ let r = rises (map number_of ps) pages.rising i k l (omega arith) in absurd (omega arith)
-      | inr g ↦ let r = rises (map number_of ps) pages.rising k i (omega arith) (omega arith) in absurd (omega arith)
+      | inl l ↦ let r = rises (map page_number_of ps) pages.rising i k l (omega arith) in absurd (omega arith)
+      | inr g ↦ let r = rises (map page_number_of ps) pages.rising k i (omega arith) (omega arith) in absurd (omega arith)
     ]
 
-pub byte_in_found : (q : ℕ) (ps : List Page) (i : ℕ) → ArePages ps → i < length ps → number_of (get_or ps i no_page) ≡ q / 4096 → byte_in q ps ≡ byte_of q (get_or ps i no_page)
+pub byte_in_found : (q : ℕ) (ps : List Page) (i : ℕ) → ArePages ps → i < length ps → page_number_of (get_or ps i no_page) ≡ q / 4096 → byte_in q ps ≡ page_byte_at q (get_or ps i no_page)
 byte_in_found q ps i pages lt is = alone q ps i lt (λ k h ne e. others_differ ps pages i k lt h ne (e ∙ sym is))
 
 -- a page in which only the byte at another address differs
-pub byte_in_set : (q : ℕ) (ps : List Page) (i : ℕ) (p : Page) → i < length ps → byte_of q p ≡ byte_of q (get_or ps i no_page) → byte_in q (set ps i p) ≡ byte_in q ps
+pub byte_in_set : (q : ℕ) (ps : List Page) (i : ℕ) (p : Page) → i < length ps → page_byte_at q p ≡ page_byte_at q (get_or ps i no_page) → byte_in q (set ps i p) ≡ byte_in q ps
 byte_in_set q [] i p lt same = absurd (omega arith)
 byte_in_set q (r ∷ ps) zero p lt same = ap (λ (o : Option ℕ). or_else o (byte_in q ps)) same
-byte_in_set q (r ∷ ps) (suc i) p lt same = ap (or_else (byte_of q r)) (byte_in_set q ps i p (omega arith) same)
+byte_in_set q (r ∷ ps) (suc i) p lt same = ap (or_else (page_byte_at q r)) (byte_in_set q ps i p (omega arith) same)
 
 -- a page whose number and sizes stay
-pub ArePages-set : (ps : List Page) (i : ℕ) (p : Page) → ArePages ps → IsPage p → number_of p ≡ number_of (get_or ps i no_page) → ArePages (set ps i p)
+pub ArePages-set : (ps : List Page) (i : ℕ) (p : Page) → ArePages ps → IsPage p → page_number_of p ≡ page_number_of (get_or ps i no_page) → ArePages (set ps i p)
 ArePages-set ps i p pages page same = record {
   whole = All-set IsPage ps i p page pages.whole;
-  rising = rw (map-set_same number_of ps i p no_page same) pages.rising;
+  rising = rw (map-set_same page_number_of ps i p no_page same) pages.rising;
 }

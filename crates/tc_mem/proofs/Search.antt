@@ -3,12 +3,12 @@ use Rattle.std.proofs.Common.{◌≡◌, ◌≢◌, ◌+◌, ◌<◌, ◌≤◌,
 use Rattle.std.proofs.lemmas.List.{length-map, get_or-map}
 use Rattle.std.proofs.lemmas.Bool.{cases_lt}
 use Rattle.std.specs.List.Sorted.{IsStrictlyIncreasing}
-use Rattle.tc_mem.specs.Pages.{number_of}
+use Rattle.tc_mem.specs.Pages.{page_number_of}
 use Rattle.tc_mem.specs.declared.page.Page.{Page}
 
 -- the number of the page at a place
 abbrev pub number_at : List Page → ℕ → ℕ
-number_at ps i = get_or (map number_of ps) i 0
+number_at ps i = get_or (map page_number_of ps) i 0
 
 -- pages before `from` have lower numbers, and pages from `to` on higher ones
 pub record Narrowed (ps : List Page) (number from to : ℕ) : Type 0 where
@@ -40,39 +40,39 @@ rises_or_stays xs h i j le below =
 abbrev pub no_page : Page
 no_page = record { number = 0; mapped = []; bytes = [] }
 
-pub number_at_is : (ps : List Page) (i : ℕ) → i < length ps → number_at ps i ≡ number_of (get_or ps i no_page)
-number_at_is ps i lt = get_or-map number_of ps i no_page 0 lt
+pub number_at_is : (ps : List Page) (i : ℕ) → i < length ps → number_at ps i ≡ page_number_of (get_or ps i no_page)
+number_at_is ps i lt = get_or-map page_number_of ps i no_page 0 lt
 
 -- a page in the middle has a lower number: go on after it
-pub narrowed_up : (ps : List Page) (number from to middle : ℕ) → IsStrictlyIncreasing (map number_of ps) → Narrowed ps number from to → middle < to → number_of (get_or ps middle no_page) < number → Narrowed ps number (middle + 1) to
+pub narrowed_up : (ps : List Page) (number from to middle : ℕ) → IsStrictlyIncreasing (map page_number_of ps) → Narrowed ps number from to → middle < to → page_number_of (get_or ps middle no_page) < number → Narrowed ps number (middle + 1) to
 narrowed_up ps number from to middle up n below low = record {
   ordered = omega arith;
   within = n.within;
   lower = λ k lt.
-      let inside : middle < length (map number_of ps) = rw length-map (omega arith) in
-      let le = rises_or_stays (map number_of ps) up k middle (omega arith) inside in
+      let inside : middle < length (map page_number_of ps) = rw length-map (omega arith) in
+      let le = rises_or_stays (map page_number_of ps) up k middle (omega arith) inside in
       let is = number_at_is ps middle (omega arith) in
       omega arith;
   higher = n.higher;
 }
 
 -- a page in the middle has a higher number: go on before it
-pub narrowed_down : (ps : List Page) (number from to middle : ℕ) → IsStrictlyIncreasing (map number_of ps) → Narrowed ps number from to → from ≤ middle → middle < to → number_of (get_or ps middle no_page) ≢ number → number ≤ number_of (get_or ps middle no_page) → Narrowed ps number from middle
+pub narrowed_down : (ps : List Page) (number from to middle : ℕ) → IsStrictlyIncreasing (map page_number_of ps) → Narrowed ps number from to → from ≤ middle → middle < to → page_number_of (get_or ps middle no_page) ≢ number → number ≤ page_number_of (get_or ps middle no_page) → Narrowed ps number from middle
 narrowed_down ps number from to middle up n above below other high = record {
   ordered = above;
   within = omega arith;
   lower = n.lower;
   higher = λ k ge lt.
-      let inside : k < length (map number_of ps) = rw length-map lt in
-      let le = rises_or_stays (map number_of ps) up middle k ge inside in
+      let inside : k < length (map page_number_of ps) = rw length-map lt in
+      let le = rises_or_stays (map page_number_of ps) up middle k ge inside in
       let is = number_at_is ps middle (omega arith) in
       omega arith;
 }
 
 -- if no place is left, no page has the number
-pub narrowed_out : (ps : List Page) (number from to : ℕ) → Narrowed ps number from to → to ≤ from → (k : ℕ) (d : Page) → k < length ps → number_of (get_or ps k d) ≡ number → ⊥
+pub narrowed_out : (ps : List Page) (number from to : ℕ) → Narrowed ps number from to → to ≤ from → (k : ℕ) (d : Page) → k < length ps → page_number_of (get_or ps k d) ≡ number → ⊥
 narrowed_out ps number from to n out k d lt e =
-    let at : number_at ps k ≡ number = get_or-map number_of ps k d 0 lt ∙ e in
+    let at : number_at ps k ≡ number = get_or-map page_number_of ps k d 0 lt ∙ e in
     elim (cases_lt k from) [
       | inl l ↦ let low = n.lower k l in absurd (omega arith)
       | inr g ↦ let high = n.higher k (omega arith) lt in absurd (omega arith)

@@ -2,7 +2,7 @@
 use Rattle.std.proofs.Common.{◌≡◌, ◌+◌, ◌/◌, ◌%◌, ◌<◌, ◌==◌, ℕ, zero, suc, Bool, true, false, cond, List, [], ◌∷◌, get_or, set, replicate, lit<, Option, Some, None, sym, ◌∙◌, arith}
 use Rattle.std.proofs.lemmas.List.Elements.{All-head, All-tail, All-set}
 use Rattle.csa_chain.specs.MemoryBytes.{HasBytes}
-use Rattle.tc_mem.specs.Pages.{is_page_bit_set, byte_of, memory_of, page_bytes_with_words, ArePages, ArePageBytesSmall, IsMem}
+use Rattle.tc_mem.specs.Pages.{is_page_bit_set, page_byte_at, memory_of, page_bytes_with_words, ArePages, ArePageBytesSmall, AreMemoryPages}
 use Rattle.tc_mem.specs.declared.page.Page.{Page}
 use Rattle.tc_mem.proofs.Search.{no_page}
 use Rattle.tc_mem.proofs.Mapped.{or_else, byte_in, get-memory_of}
@@ -44,14 +44,14 @@ from_either (Some x) r b one other e = one e
 pub byte_in_small : (q : ℕ) (ps : List Page) (b : ℕ) → ArePageBytesSmall ps → byte_in q ps ≡ Some b → b < 256
 byte_in_small q [] b small e = cc
 byte_in_small q (p ∷ ps) b small e =
-    from_either (byte_of q p) (byte_in q ps) b
+    from_either (page_byte_at q p) (byte_in q ps) b
     (byte_of_small q p b (All-head IsSmall p ps small) (q / 4096 == p.number) (is_page_bit_set p.mapped (q % 4096)))
     (byte_in_small q ps b (All-tail IsSmall p ps small)) e
 
 pub HasBytes-memory_of : (ps : List Page) → ArePages ps → ArePageBytesSmall ps → HasBytes (memory_of ps)
 HasBytes-memory_of ps pages small q b e = byte_in_small q ps b small (sym (get-memory_of ps q pages.whole) ∙ e)
 
-pub HasBytes-mem : (ps : List Page) → IsMem ps → HasBytes (memory_of ps)
+pub HasBytes-mem : (ps : List Page) → AreMemoryPages ps → HasBytes (memory_of ps)
 HasBytes-mem ps mem = HasBytes-memory_of ps mem.pages mem.small
 
 -- a new page has zeros

@@ -10,7 +10,7 @@ use Rattle.std.specs.FinMap.{same_map, nat_cmp-IsAntisymmetric}
 use Rattle.std.specs.Cmp.{nat_cmp_total}
 use Rattle.csa_chain.specs.MemoryBytes.{Memory, is_mapped, with_byte, with_word, with_words}
 use Rattle.csa_chain.proofs.MemoryLaws.{get-with_byte_other, get-with_byte_same}
-use Rattle.tc_mem.specs.Pages.{is_page_bit_set, byte_of, memory_of, page_bytes_with_words, IsPage, ArePages, number_of}
+use Rattle.tc_mem.specs.Pages.{is_page_bit_set, page_byte_at, memory_of, page_bytes_with_words, IsPage, ArePages, page_number_of}
 use Rattle.tc_mem.specs.declared.page.Page.{Page}
 use Rattle.tc_mem.proofs.Search.{no_page}
 use Rattle.tc_mem.proofs.Mapped.{byte_in, byte_of_same, byte_of_other, get-memory_of, byte_in_found, byte_in_set, ArePages-set}
@@ -52,16 +52,16 @@ ArePages-changed ps i bytes pages lt size =
     ArePages-set ps i (with_bytes (get_or ps i no_page) bytes) pages (record { bytes = size; bits = page.bits }) refl
 
 -- the byte of a page at an address, if one byte is replaced
-written_same : (a b : ℕ) (p : Page) → IsPage p → number_of p ≡ a / 4096 → is_page_bit_set p.mapped (a % 4096) ≡ true → byte_of a (with_bytes p (set p.bytes (a % 4096) b)) ≡ Some b
+written_same : (a b : ℕ) (p : Page) → IsPage p → page_number_of p ≡ a / 4096 → is_page_bit_set p.mapped (a % 4096) ≡ true → page_byte_at a (with_bytes p (set p.bytes (a % 4096) b)) ≡ Some b
 written_same a b p page is here =
     let size = page.bytes in
     byte_of_same a (with_bytes p (set p.bytes (a % 4096) b)) is
     ∙ ap (λ (t : Bool). cond t (Some (get_or (set p.bytes (a % 4096) b) (a % 4096) 0)) None) here
     ∙ ap (λ (x : ℕ). Some x) (get_or-set_same p.bytes (a % 4096) b 0 (omega arith))
 
-written_other : (a b q : ℕ) (p : Page) → number_of p ≡ a / 4096 → q ≢ a → byte_of q (with_bytes p (set p.bytes (a % 4096) b)) ≡ byte_of q p
+written_other : (a b q : ℕ) (p : Page) → page_number_of p ≡ a / 4096 → q ≢ a → page_byte_at q (with_bytes p (set p.bytes (a % 4096) b)) ≡ page_byte_at q p
 written_other a b q p is other =
-    elim (cases_eq (number_of p) (q / 4096)) [
+    elim (cases_eq (page_number_of p) (q / 4096)) [
       | inl same ↦
           let apart : q % 4096 ≢ a % 4096 = λ e. other (omega arith) in
           byte_of_same q (with_bytes p (set p.bytes (a % 4096) b)) same
@@ -71,10 +71,10 @@ written_other a b q p is other =
     ]
 
 -- the byte at an address of a page that was found
-pub get_found : (a : ℕ) (ps : List Page) (i : ℕ) → ArePages ps → i < length ps → number_of (get_or ps i no_page) ≡ a / 4096 → finite.get (memory_of ps) a ≡ byte_of a (get_or ps i no_page)
+pub get_found : (a : ℕ) (ps : List Page) (i : ℕ) → ArePages ps → i < length ps → page_number_of (get_or ps i no_page) ≡ a / 4096 → finite.get (memory_of ps) a ≡ page_byte_at a (get_or ps i no_page)
 get_found a ps i pages lt is = get-memory_of ps a pages.whole ∙ byte_in_found a ps i pages lt is
 
-pub mapped_found : (a : ℕ) (ps : List Page) (i : ℕ) → ArePages ps → i < length ps → number_of (get_or ps i no_page) ≡ a / 4096 → is_mapped (memory_of ps) a ≡ is_page_bit_set (get_or ps i no_page).mapped (a % 4096)
+pub mapped_found : (a : ℕ) (ps : List Page) (i : ℕ) → ArePages ps → i < length ps → page_number_of (get_or ps i no_page) ≡ a / 4096 → is_mapped (memory_of ps) a ≡ is_page_bit_set (get_or ps i no_page).mapped (a % 4096)
 mapped_found a ps i pages lt is =
     ap is_some (get_found a ps i pages lt is ∙ byte_of_same a (get_or ps i no_page) is) ∙ some_of (is_page_bit_set (get_or ps i no_page).mapped (a % 4096)) (get_or (get_or ps i no_page).bytes (a % 4096) 0)
   where
@@ -83,7 +83,7 @@ mapped_found a ps i pages lt is =
     some_of false x = refl
 
 -- a byte that is written into a page is the byte that is written into the memory
-pub memory_of-changed : (a b : ℕ) (ps : List Page) (i : ℕ) → ArePages ps → i < length ps → number_of (get_or ps i no_page) ≡ a / 4096 → is_page_bit_set (get_or ps i no_page).mapped (a % 4096) ≡ true → memory_of (changed ps i (set (get_or ps i no_page).bytes (a % 4096) b)) ≡ with_byte (memory_of ps) a b
+pub memory_of-changed : (a b : ℕ) (ps : List Page) (i : ℕ) → ArePages ps → i < length ps → page_number_of (get_or ps i no_page) ≡ a / 4096 → is_page_bit_set (get_or ps i no_page).mapped (a % 4096) ≡ true → memory_of (changed ps i (set (get_or ps i no_page).bytes (a % 4096) b)) ≡ with_byte (memory_of ps) a b
 memory_of-changed a b ps i pages lt is here =
     let p : Page = get_or ps i no_page in
     let page : IsPage p = page_at ps i pages lt in
@@ -96,8 +96,8 @@ memory_of-changed a b ps i pages lt is here =
       | inl same ↦
           let there : get_or (changed ps i bytes) i no_page ≡ with_bytes p bytes = get_or-set_same ps i (with_bytes p bytes) no_page lt in
           ap (λ (k : ℕ). byte_in k (changed ps i bytes)) same
-          ∙ byte_in_found a (changed ps i bytes) i after (rw length-set lt) (ap number_of there ∙ is)
-          ∙ ap (byte_of a) there
+          ∙ byte_in_found a (changed ps i bytes) i after (rw length-set lt) (ap page_number_of there ∙ is)
+          ∙ ap (page_byte_at a) there
           ∙ written_same a b p page is here
           ∙ sym (get-with_byte_same (memory_of ps) a b (mapped_found a ps i pages lt is ∙ here))
           ∙ ap (λ (k : ℕ). finite.get (with_byte (memory_of ps) a b) k) (sym same)
@@ -120,7 +120,7 @@ changed_again ps i bytes others lt =
 pub record IsAt (ps : List Page) (i n : ℕ) : Type 0 where
   pub pages : ArePages ps
   pub within : i < length ps
-  pub number : number_of (get_or ps i no_page) ≡ n
+  pub number : page_number_of (get_or ps i no_page) ≡ n
 
 -- one more byte
 pub step : (ps : List Page) (i n : ℕ) (bytes : List ℕ) (j b : ℕ) → IsAt ps i n → length bytes ≡ 4096 → j < 4096 → is_page_bit_set (get_or ps i no_page).mapped j ≡ true → memory_of (changed ps i (set bytes j b)) ≡ with_byte (memory_of (changed ps i bytes)) (n * 4096 + j) b
@@ -129,7 +129,7 @@ step ps i n bytes j b at size lt here =
     let low : a % 4096 ≡ j = omega arith in
     let high : n ≡ a / 4096 = omega arith in
     let there = changed_there ps i bytes at.within in
-    let after = memory_of-changed a b (changed ps i bytes) i (ArePages-changed ps i bytes at.pages at.within size) (rw length-set at.within) (ap number_of there ∙ at.number ∙ high) (ap (λ (p : Page). is_page_bit_set p.mapped (a % 4096)) there ∙ ap (is_page_bit_set (get_or ps i no_page).mapped) low ∙ here) in
+    let after = memory_of-changed a b (changed ps i bytes) i (ArePages-changed ps i bytes at.pages at.within size) (rw length-set at.within) (ap page_number_of there ∙ at.number ∙ high) (ap (λ (p : Page). is_page_bit_set p.mapped (a % 4096)) there ∙ ap (is_page_bit_set (get_or ps i no_page).mapped) low ∙ here) in
     ap memory_of (sym (changed_again ps i bytes (set bytes j b) at.within))
     ∙ ap (λ (k : ℕ). memory_of (changed (changed ps i bytes) i (set bytes k b))) (sym low)
     ∙ ap (λ (p : Page). memory_of (changed (changed ps i bytes) i (set p.bytes (a % 4096) b))) (sym there)

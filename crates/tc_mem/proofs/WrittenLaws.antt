@@ -7,7 +7,7 @@ use Rattle.std.proofs.lemmas.List.Elements.{All-get_or}
 use Rattle.std.proofs.lemmas.List.Edits.{length-between, get_or-between}
 use Rattle.std.specs.FinMap as finite
 use Rattle.csa_chain.specs.MemoryBytes.{Memory, is_mapped}
-use Rattle.tc_mem.specs.Pages.{is_page_bit_set, byte_of, memory_of, page_bytes_with, ArePages, number_of}
+use Rattle.tc_mem.specs.Pages.{is_page_bit_set, page_byte_at, memory_of, page_bytes_with, ArePages, page_number_of}
 use Rattle.tc_mem.specs.Written.{IsMemoryWritten}
 use Rattle.tc_mem.specs.declared.page.Page.{Page}
 use Rattle.tc_mem.proofs.Search.{no_page}
@@ -78,13 +78,13 @@ module _ (ps : List Page) (i n : ℕ) (bytes : List ℕ) (at : IsAt ps i n) (siz
 
   get_same : (q : ℕ) → n ≡ q / 4096 → finite.get (memory_of (changed ps i bytes)) q ≡ cond (is_page_bit_set (get_or ps i no_page).mapped (q % 4096)) (Some (get_or bytes (q % 4096) 0)) None
   get_same q same =
-      get_found q (changed ps i bytes) i after within_after (ap number_of there ∙ at.number ∙ same)
-      ∙ ap (byte_of q) there
+      get_found q (changed ps i bytes) i after within_after (ap page_number_of there ∙ at.number ∙ same)
+      ∙ ap (page_byte_at q) there
       ∙ byte_of_same q (with_bytes (get_or ps i no_page) bytes) (at.number ∙ same)
 
   get_other : (q : ℕ) → n ≢ q / 4096 → finite.get (memory_of (changed ps i bytes)) q ≡ finite.get (memory_of ps) q
   get_other q other =
-      let apart : number_of (get_or ps i no_page) ≢ q / 4096 = λ e. other (sym at.number ∙ e) in
+      let apart : page_number_of (get_or ps i no_page) ≢ q / 4096 = λ e. other (sym at.number ∙ e) in
       get-memory_of (changed ps i bytes) q after.whole
       ∙ byte_in_set q ps i (with_bytes (get_or ps i no_page) bytes) at.within (byte_of_other q (with_bytes (get_or ps i no_page) bytes) apart ∙ sym (byte_of_other q (get_or ps i no_page) apart))
       ∙ sym (get-memory_of ps q at.pages.whole)
@@ -93,7 +93,7 @@ module _ (ps : List Page) (i n : ℕ) (bytes : List ℕ) (at : IsAt ps i n) (siz
   mapped_same q =
       elim (cases_eq n (q / 4096)) [
         | inl same ↦
-            mapped_found q (changed ps i bytes) i after within_after (ap number_of there ∙ at.number ∙ same)
+            mapped_found q (changed ps i bytes) i after within_after (ap page_number_of there ∙ at.number ∙ same)
             ∙ ap (λ (p : Page). is_page_bit_set p.mapped (q % 4096)) there
             ∙ sym (mapped_found q ps i at.pages at.within (at.number ∙ same))
         | inr other ↦ ap is_some (get_other q other)
@@ -135,12 +135,12 @@ page_written ps i a new at fit =
     }
 
 -- no page has the bytes
-pub none_written : (ps : List Page) (a : ℕ) (new : List ℕ) → ArePages ps → All (λ p. number_of p ≢ a / 4096) ps → a % 4096 + length new ≤ 4096 → IsMemoryWritten (memory_of ps) a new (memory_of ps)
+pub none_written : (ps : List Page) (a : ℕ) (new : List ℕ) → ArePages ps → All (λ p. page_number_of p ≢ a / 4096) ps → a % 4096 + length new ≤ 4096 → IsMemoryWritten (memory_of ps) a new (memory_of ps)
 none_written ps a new pages none fit = record {
   mapped = λ q. refl;
   here = λ k lt is.
       let same : a / 4096 ≡ (a + k) / 4096 = omega arith in
-      absurd (clash (sym is ∙ unmapped ps (a + k) pages (subst (λ (n : ℕ). All (λ p. number_of p ≢ n) ps) same none)));
+      absurd (clash (sym is ∙ unmapped ps (a + k) pages (subst (λ (n : ℕ). All (λ p. page_number_of p ≢ n) ps) same none)));
   elsewhere = λ q out. refl;
 }
 

@@ -15,8 +15,8 @@ abbrev pub are_page_bits_set : ℕ → List ℕ → ℕ → Bool
 are_page_bits_set n mapped offset = slice_index mapped (offset / 64) / 2 ^ (offset % 64) % 2 ^ n == 2 ^ n - 1
 
 -- the byte at an address, if it is in the page and mapped
-abbrev pub byte_of : ℕ → Page → Option ℕ
-byte_of q p = if q / 4096 == p.number then (if is_page_bit_set p.mapped (q % 4096) then Some (slice_index p.bytes (q % 4096)) else None) else None
+abbrev pub page_byte_at : ℕ → Page → Option ℕ
+page_byte_at q p = if q / 4096 == p.number then (if is_page_bit_set p.mapped (q % 4096) then Some (slice_index p.bytes (q % 4096)) else None) else None
 
 -- the mapped ones of the bytes from an address on, each with its address
 unfoldable pub page_entries_from : List ℕ → ℕ → List ℕ → List (ℕ × ℕ)
@@ -38,20 +38,20 @@ pub record IsPage (p : Page) : Type 0 where
   pub bits : length p.mapped ≡ 64
 
 -- the number of a page: its first address, divided by 4,096
-abbrev pub number_of : Page → ℕ
-number_of p = p.number
+abbrev pub page_number_of : Page → ℕ
+page_number_of p = p.number
 
 -- pages with ascending numbers
 pub record ArePages (ps : List Page) : Type 0 where
   pub whole : All IsPage ps
-  pub rising : IsStrictlyIncreasing (map number_of ps)
+  pub rising : IsStrictlyIncreasing (map page_number_of ps)
 
 -- each byte of the memory's pages is below 256
 abbrev pub ArePageBytesSmall : List Page → Type 0
 ArePageBytesSmall ps = All (λ p. (k : ℕ) → slice_index p.bytes k < 256) ps
 
 -- what holds of the pages of a memory
-pub record IsMem (ps : List Page) : Type 0 where
+pub record AreMemoryPages (ps : List Page) : Type 0 where
   pub pages : ArePages ps
   pub small : ArePageBytesSmall ps
 

@@ -5,7 +5,7 @@ ghost use Rattle.std.specs.FinMap as finite;
 ghost use Rattle.csa_chain.specs.MemoryBytes.{is_mapped, are_mapped, with_byte, HasBytes};
 ghost use Rattle.tc_mem.specs.Areas.{memory_area_of, memory_with_area, area_first_word};
 ghost use Rattle.tc_mem.specs.Blocks.{are_in_block, mapped_block_word, mapped_block_half, with_block_word, with_block_half};
-ghost use Rattle.tc_mem.specs.Pages.{memory_of, IsMem};
+ghost use Rattle.tc_mem.specs.Pages.{memory_of, AreMemoryPages};
 ghost use Rattle.tc_mem.specs.PlanMemory.{IsMemoryOfZeros};
 ghost use Rattle.tc_mem.specs.Written.{IsMemoryWritten};
 
@@ -31,7 +31,7 @@ impl Model for Mem {
     ghost use Rattle.std.specs.FinMap as finite;
     ghost use Rattle.std.specs.Coded.{coded_ℕ};
     ghost use Rattle.csa_chain.specs.MemoryBytes.{Memory};
-    ghost use Rattle.tc_mem.specs.Pages.{memory_of, IsMem};
+    ghost use Rattle.tc_mem.specs.Pages.{memory_of, AreMemoryPages};
 
     ghost Value = { Memory };
 
@@ -39,7 +39,7 @@ impl Model for Mem {
 
     ghost view = { λ m. memory_of m.pages.items };
 
-    ghost invariant = { λ m. IsMem m.pages.items };
+    ghost invariant = { λ m. AreMemoryPages m.pages.items };
 }
 
 impl Mem {

@@ -1,7 +1,7 @@
 // One page: its bytes, their bits, and what reads and writes them.
 ghost use Rattle.std.specs.Prelude.{◌≡◌, ◌<◌, ◌≤◌, ◌+◌, ◌-◌, ◌==◌, [], ◌∷◌, ℕ, ◌*◌, ◌/◌, ◌%◌, ◌^◌, All, IfSome, is_some, length, true, slice_index, slice_set, if◌then◌else◌, ◌||◌, ◌&&◌, nat_le, nat_lt, false, Some, None};
 ghost use Rattle.tcd_base.specs.Bytes.{word_in_bytes, half_in_bytes};
-ghost use Rattle.tc_mem.specs.Pages.{is_page_bit_set, byte_of, page_bytes_with_words, page_bytes_with, are_page_bits_set, IsPage};
+ghost use Rattle.tc_mem.specs.Pages.{is_page_bit_set, page_byte_at, page_bytes_with_words, page_bytes_with, are_page_bits_set, IsPage};
 ghost use Rattle.tcd_base.specs.Ranges.{is_address_in_ranges};
 
 use std::marker::Model;
@@ -19,7 +19,7 @@ pub(crate) struct Page {
 // Returns the byte at an address of the page, or `None` if it isn't mapped.
 pub(crate) fn page_byte_at(page: &Page, addr: u32) -> Option<u8>
     requires { page.now.number ≡ addr / 4096 }
-    ensures { result ≡ byte_of addr page.now }
+    ensures { result ≡ page_byte_at addr page.now }
 {
     let offset = (addr % 4096) as usize;
     if is_mapped(page, offset) {
@@ -236,7 +236,7 @@ pub(crate) fn page_of(number: u32, ranges: &[Range]) -> Page
     ensures page { IsPage result }
     ensures small { (k : ℕ) → slice_index result.bytes k < 256 }
     ensures zeros { (q : ℕ) → q / 4096 ≡ number
-        → byte_of q result ≡ (if is_address_in_ranges ranges.now q then Some 0 else None) }
+        → page_byte_at q result ≡ (if is_address_in_ranges ranges.now q then Some 0 else None) }
 {
     let mut mapped = unmapped_page_bits();
     for range in ranges {

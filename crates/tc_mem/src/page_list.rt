@@ -5,7 +5,7 @@ ghost use Rattle.std.specs.FinMap as finite;
 ghost use Rattle.csa_chain.specs.MemoryBytes.{are_mapped, with_byte, HasBytes, is_mapped as has_byte};
 ghost use Rattle.tc_mem.specs.Areas.{memory_area_of, memory_with_area, area_first_word};
 ghost use Rattle.tc_mem.specs.Blocks.{are_in_block, mapped_block_word, mapped_block_half, with_block_word, with_block_half};
-ghost use Rattle.tc_mem.specs.Pages.{memory_of, IsMem};
+ghost use Rattle.tc_mem.specs.Pages.{memory_of, AreMemoryPages};
 ghost use Rattle.tc_mem.specs.PlanMemory.{IsMemoryOfZeros};
 ghost use Rattle.tc_mem.specs.Written.{IsMemoryWritten};
 
@@ -20,7 +20,7 @@ use tcd_base::{NoMemory, Range};
 
 /// Returns the byte at an address of a whole memory, for `Mem::get`, or `None` if it isn't mapped.
 pub(crate) fn read_memory_byte(pages: &[Page], addr: u32, near: usize) -> Option<u8>
-    requires { IsMem pages.now }
+    requires { AreMemoryPages pages.now }
     ensures byte { result ≡ finite.get (memory_of pages.now) addr }
     ensures bytes { HasBytes (memory_of pages.now) }
 {
@@ -33,10 +33,10 @@ pub(crate) fn read_memory_byte(pages: &[Page], addr: u32, near: usize) -> Option
 /// Writes bytes to a whole memory from an address on, as a part of `Mem::set_bytes` that is all in
 /// one page. Those that aren't mapped are dropped.
 pub(crate) fn write_in_page(pages: &mut [Page], addr: u32, bytes: &[u8])
-    requires pages { IsMem pages.old }
+    requires pages { AreMemoryPages pages.old }
     requires within { addr % 4096 + length bytes.now ≤ 4096 }
     ensures written { IsMemoryWritten (memory_of pages.old) addr bytes.now (memory_of pages.new) }
-    ensures pages { IsMem pages.new }
+    ensures pages { AreMemoryPages pages.new }
 {
     let Some(i) = find_page(pages, addr / 4096, 0) else {
         return;
@@ -47,7 +47,7 @@ pub(crate) fn write_in_page(pages: &mut [Page], addr: u32, bytes: &[u8])
 /// Returns the word at an address of a whole memory, for `Mem::word`, if its bytes are mapped and
 /// in one block of 64.
 pub(crate) fn read_word(pages: &[Page], addr: u32, near: usize) -> Option<u32>
-    requires { IsMem pages.now }
+    requires { AreMemoryPages pages.now }
     ensures word { result ≡ mapped_block_word (memory_of pages.now) addr }
     ensures bytes { HasBytes (memory_of pages.now) }
 {
@@ -63,7 +63,7 @@ pub(crate) fn read_word(pages: &[Page], addr: u32, near: usize) -> Option<u32>
 /// Returns the halfword at an address of a whole memory, for `Mem::half`, if its bytes are mapped
 /// and in one block of 64.
 pub(crate) fn read_half(pages: &[Page], addr: u32, near: usize) -> Option<u16>
-    requires { IsMem pages.now }
+    requires { AreMemoryPages pages.now }
     ensures half { result ≡ mapped_block_half (memory_of pages.now) addr }
     ensures bytes { HasBytes (memory_of pages.now) }
 {
@@ -78,11 +78,11 @@ pub(crate) fn read_half(pages: &[Page], addr: u32, near: usize) -> Option<u16>
 
 /// Does the work of `Mem::set`: writes a byte if it is mapped, and returns whether it is.
 pub(crate) fn write_memory_byte(pages: &mut [Page], addr: u32, byte: u8, near: usize) -> bool
-    requires { IsMem pages.old }
+    requires { AreMemoryPages pages.old }
     ensures mapped { result ≡ has_byte (memory_of pages.old) addr }
     ensures written { memory_of pages.new ≡ with_byte (memory_of pages.old) addr byte }
     ensures kept { OnFalse result (memory_of pages.new ≡ memory_of pages.old) }
-    ensures pages { IsMem pages.new }
+    ensures pages { AreMemoryPages pages.new }
     ensures bytes { HasBytes (memory_of pages.new) }
 {
     let Some(i) = find_page(pages, addr / 4096, near) else {
@@ -94,10 +94,10 @@ pub(crate) fn write_memory_byte(pages: &mut [Page], addr: u32, byte: u8, near: u
 /// Writes bytes to a whole memory from an address on, for `Mem::set_bytes`, page by page. Those
 /// that aren't mapped are dropped.
 pub(crate) fn write_bytes(pages: &mut [Page], addr: u32, bytes: &[u8])
-    requires pages { IsMem pages.old }
+    requires pages { AreMemoryPages pages.old }
     requires fits { addr + length bytes.now ≤ 2 ^ 32 }
     ensures written { IsMemoryWritten (memory_of pages.old) addr bytes.now (memory_of pages.new) }
-    ensures pages { IsMem pages.new }
+    ensures pages { AreMemoryPages pages.new }
     ensures bytes { HasBytes (memory_of pages.new) }
 {
     let mut done = 0;
@@ -112,10 +112,10 @@ pub(crate) fn write_bytes(pages: &mut [Page], addr: u32, bytes: &[u8])
 /// Writes a word to a whole memory, for `Mem::set_word`, if its bytes are mapped and in one block
 /// of 64, and returns whether they are.
 pub(crate) fn write_word(pages: &mut [Page], addr: u32, word: u32, near: usize) -> bool
-    requires { IsMem pages.old }
+    requires { AreMemoryPages pages.old }
     ensures mapped { result ≡ are_in_block (memory_of pages.old) addr 4 }
     ensures written { memory_of pages.new ≡ with_block_word (memory_of pages.old) addr word }
-    ensures pages { IsMem pages.new }
+    ensures pages { AreMemoryPages pages.new }
     ensures bytes { HasBytes (memory_of pages.new) }
 {
     if addr % 64 > 60 {
@@ -130,10 +130,10 @@ pub(crate) fn write_word(pages: &mut [Page], addr: u32, word: u32, near: usize) 
 /// Writes a halfword to a whole memory, for `Mem::set_half`, if its bytes are mapped and in one
 /// block of 64, and returns whether they are.
 pub(crate) fn write_half(pages: &mut [Page], addr: u32, half: u16, near: usize) -> bool
-    requires { IsMem pages.old }
+    requires { AreMemoryPages pages.old }
     ensures mapped { result ≡ are_in_block (memory_of pages.old) addr 2 }
     ensures written { memory_of pages.new ≡ with_block_half (memory_of pages.old) addr half }
-    ensures pages { IsMem pages.new }
+    ensures pages { AreMemoryPages pages.new }
     ensures bytes { HasBytes (memory_of pages.new) }
 {
     if addr % 64 > 62 {
@@ -148,7 +148,7 @@ pub(crate) fn write_half(pages: &mut [Page], addr: u32, half: u16, near: usize) 
 /// Returns the first word of an area of a whole memory, for `Mem::first_word`, if all 64 bytes are
 /// mapped. The search begins at `near`, which becomes the place of the page if there is one.
 pub(crate) fn read_area_first_word(pages: &[Page], addr: u32, near: &mut usize) -> Option<u32>
-    requires pages { IsMem pages.now }
+    requires pages { AreMemoryPages pages.now }
     requires aligned { addr % 64 ≡ 0 }
     ensures word { result ≡ area_first_word (memory_of pages.now) addr }
     ensures bytes { HasBytes (memory_of pages.now) }
@@ -163,7 +163,7 @@ pub(crate) fn read_area_first_word(pages: &[Page], addr: u32, near: &mut usize) 
 /// Does the work of `Mem::area` on the memory's list of pages: returns the words of an area that is
 /// wholly mapped.
 pub(crate) fn read_area(pages: &[Page], addr: u32, near: usize) -> Option<[u32; 16]>
-    requires pages { IsMem pages.now }
+    requires pages { AreMemoryPages pages.now }
     requires aligned { addr % 64 ≡ 0 }
     ensures words { result ≡ memory_area_of (memory_of pages.now) addr }
     ensures bytes { HasBytes (memory_of pages.now) }
@@ -177,11 +177,11 @@ pub(crate) fn read_area(pages: &[Page], addr: u32, near: usize) -> Option<[u32; 
 /// Does the work of `Mem::set_area`: writes an area if it is wholly mapped, and returns whether it
 /// is.
 pub(crate) fn write_area(pages: &mut [Page], addr: u32, words: &[u32; 16], near: &mut usize) -> bool
-    requires pages { IsMem pages.old }
+    requires pages { AreMemoryPages pages.old }
     requires aligned { addr % 64 ≡ 0 }
     ensures mapped { result ≡ are_mapped (memory_of pages.old) addr 64 }
     ensures written { memory_of pages.new ≡ memory_with_area (memory_of pages.old) addr words.now }
-    ensures pages { IsMem pages.new }
+    ensures pages { AreMemoryPages pages.new }
     ensures bytes { HasBytes (memory_of pages.new) }
 {
     let Some(i) = find_page(pages, addr / 4096, *near) else {
@@ -194,7 +194,7 @@ pub(crate) fn write_area(pages: &mut [Page], addr: u32, words: &[u32; 16], near:
 /// Returns the pages of a whole new memory in which these ranges are mapped, all zero, for
 /// `Mem::of`. Room for all pages is reserved first, so that each is written where it stays.
 pub(crate) fn pages_of(alloc: Global, ranges: &[Range]) -> Result<Vec<Page>, NoMemory>
-    ensures pages { IfOk result (λ v. IsMem v.items) }
+    ensures pages { IfOk result (λ v. AreMemoryPages v.items) }
     ensures bytes { IfOk result (λ v. HasBytes (memory_of v.items)) }
     ensures zeros { IfOk result (λ v. IsMemoryOfZeros ranges.now (memory_of v.items)) }
 {

@@ -1,7 +1,7 @@
 // Pages by their numbers: the search for one, and the pages of ranges.
 ghost use Rattle.std.specs.Prelude.{◌≡◌, ◌≢◌, ◌<◌, All, IfSome, IfNone, map, length, slice_index, ◌≤◌, ◌+◌, ◌/◌, ℕ, Contains, IfOk, IsTrue, OnOk, Some, None};
 ghost use Rattle.std.specs.List.Sorted.{IsStrictlyIncreasing};
-ghost use Rattle.tc_mem.specs.Pages.{number_of};
+ghost use Rattle.tc_mem.specs.Pages.{page_number_of};
 ghost use Rattle.tcd_base.specs.Ranges.{is_address_in_ranges};
 
 use crate::page::Page;
@@ -10,10 +10,10 @@ use tcd_base::{NoMemory, Range};
 
 // Returns the place of the page with this number, which is looked for at `near` first.
 pub(crate) fn find_page_near(pages: &[Page], number: u32, near: usize) -> Option<usize>
-    requires { IsStrictlyIncreasing (map number_of pages.now) }
+    requires { IsStrictlyIncreasing (map page_number_of pages.now) }
     ensures within { IfSome result (λ i. i < length pages.now) }
-    ensures found { IfSome result (λ i. slice_index (map number_of pages.now) i ≡ number) }
-    ensures none { IfNone result (All (λ p. number_of p ≢ number) pages.now) }
+    ensures found { IfSome result (λ i. slice_index (map page_number_of pages.now) i ≡ number) }
+    ensures none { IfNone result (All (λ p. page_number_of p ≢ number) pages.now) }
 {
     if near < pages.len() && pages[near].number == number {
         return Some(near);
@@ -24,10 +24,10 @@ pub(crate) fn find_page_near(pages: &[Page], number: u32, near: usize) -> Option
 /// Returns the place of the page with this number. `near` is a hint for pages that are neither in
 /// sequence with the first one nor with the last one.
 pub(crate) fn find_page(pages: &[Page], number: u32, near: usize) -> Option<usize>
-    requires { IsStrictlyIncreasing (map number_of pages.now) }
+    requires { IsStrictlyIncreasing (map page_number_of pages.now) }
     ensures within { IfSome result (λ i. i < length pages.now) }
-    ensures found { IfSome result (λ i. slice_index (map number_of pages.now) i ≡ number) }
-    ensures none { IfNone result (All (λ p. number_of p ≢ number) pages.now) }
+    ensures found { IfSome result (λ i. slice_index (map page_number_of pages.now) i ≡ number) }
+    ensures none { IfNone result (All (λ p. page_number_of p ≢ number) pages.now) }
 {
     find_page_near(pages, number, likely_page_place(pages, number, near))
 }
@@ -49,10 +49,10 @@ pub(crate) fn page_numbers(alloc: Global, ranges: &[Range]) -> Result<Vec<u32>, 
 
 // Returns the place of the page with this number, by binary search.
 fn binary_search_page(pages: &[Page], number: u32) -> Option<usize>
-    requires { IsStrictlyIncreasing (map number_of pages.now) }
+    requires { IsStrictlyIncreasing (map page_number_of pages.now) }
     ensures within { IfSome result (λ i. i < length pages.now) }
-    ensures found { IfSome result (λ i. slice_index (map number_of pages.now) i ≡ number) }
-    ensures none { IfNone result (All (λ p. number_of p ≢ number) pages.now) }
+    ensures found { IfSome result (λ i. slice_index (map page_number_of pages.now) i ≡ number) }
+    ensures none { IfNone result (All (λ p. page_number_of p ≢ number) pages.now) }
 {
     let mut from = 0;
     let mut to = pages.len();

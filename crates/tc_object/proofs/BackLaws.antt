@@ -11,9 +11,9 @@ use Rattle.tcd_base.specs.FieldReaders.{◌>>=◌, many_fields_at}
 use Rattle.tcd_base.proofs.FieldReads.{u8_at-between, u16_at-between, u32_at-between, bytes_at-between}
 use Rattle.tc_object.specs.declared.relocs.Reloc.{Reloc}
 use Rattle.tc_object.specs.Names.{IsNewObjectName, is_name_length}
-use Rattle.tc_object.specs.Objects.{SectionData, SymbolData, ObjectData, InTurn, IsSection, IsSymbol, IsReloc, IsObject, is_section_name, is_symbol_name, last_reloc, is_behind, section_size_at}
+use Rattle.tc_object.specs.Objects.{SectionData, SymbolData, ObjectData, InTurn, IsSection, IsSymbol, IsReloc, IsObject, is_section_name, is_symbol_name, last_reloc, is_after_last_reloc, section_size_at}
 use Rattle.tc_object.specs.Grammar.{is_reloc_section_ordered, name_length_at, name_bytes_at, new_object_name_at, section_after, section_with, kind_at, symbol_section_at, symbol_offset_at, symbol_after, symbol_with, symbol_named, reloc_section_at, reloc_offset_at, reloc_symbol_at, reloc_after, magic_at, section_count_at, parts_at, object_at, object_of}
-use Rattle.tc_object.specs.Spelling.{bytes_of_name, bytes_of_section, bytes_of_symbol, bytes_of_reloc, bytes_of_header, bytes_of}
+use Rattle.tc_object.specs.Spelling.{bytes_of_name, bytes_of_section, bytes_of_symbol, bytes_of_reloc, bytes_of_header, bytes_of_object}
 
 -- a successful reading, and what follows it
 pub then_ok : {A B : Type 0} (r : Result A FormErr) (f : A → Result B FormErr) (x : A) (y : Result B FormErr) → r ≡ Ok x → f x ≡ y → r >>= f ≡ y
@@ -74,7 +74,7 @@ symbol_back sections before s good front rest =
 
 -- ---- relocations
 -- a place after another isn't in a lower section
-not_below_of_behind : (last : Option Reloc) (section offset : ℕ) → is_behind last section offset ≡ true → is_reloc_section_ordered last section ≡ true
+not_below_of_behind : (last : Option Reloc) (section offset : ℕ) → is_after_last_reloc last section offset ≡ true → is_reloc_section_ordered last section ≡ true
 not_below_of_behind None section offset h = refl
 not_below_of_behind (Some r) section offset h = le-leb r.section section (grind (arith, nat_tests))
 
@@ -100,8 +100,8 @@ reloc_back sections symbols before r few good front rest =
     simp append_assoc (simp append_assoc at inner)
 
 -- ---- objects
-object_back : (o : ObjectData) → IsObject o → (front rest : List ℕ) → object_at (place_between front (bytes_of o ++ rest)) ≡ Ok (o, place_between (front ++ bytes_of o) rest)
-unfolding object_at parts_at magic_at section_count_at bytes_of bytes_of_header
+object_back : (o : ObjectData) → IsObject o → (front rest : List ℕ) → object_at (place_between front (bytes_of_object o ++ rest)) ≡ Ok (o, place_between (front ++ bytes_of_object o) rest)
+unfolding object_at parts_at magic_at section_count_at bytes_of_object bytes_of_header
 object_back o good front rest =
     let f1 : List ℕ = front ++ bytes_of_word 0x314F4354 in
     let f2 : List ℕ = f1 ++ bytes_of_half (length o.sections) in
@@ -126,11 +126,11 @@ object_back o good front rest =
     simp append_assoc (simp append_assoc at inner)
 
 -- an object that is written is read back
-pub object_of-bytes_of : (o : ObjectData) → IsObject o → object_of (bytes_of o) ≡ Ok o
+pub object_of-bytes_of : (o : ObjectData) → IsObject o → object_of (bytes_of_object o) ≡ Ok o
 unfolding object_of
 object_of-bytes_of o good =
-    let whole : object_at (place_between [] (bytes_of o)) ≡ Ok (o, record { bytes = bytes_of o; place = length (bytes_of o) }) = rw append-nil at (object_back o good [] []) in
-    then_ok _ _ _ _ whole (checked_ok _ _ _ (same_length (length (bytes_of o))))
+    let whole : object_at (place_between [] (bytes_of_object o)) ≡ Ok (o, record { bytes = bytes_of_object o; place = length (bytes_of_object o) }) = rw append-nil at (object_back o good [] []) in
+    then_ok _ _ _ _ whole (checked_ok _ _ _ (same_length (length (bytes_of_object o))))
   where
     same_length : (n : ℕ) → eqb n n ≡ true
     same_length n = grind (arith, nat_tests)

@@ -11,9 +11,9 @@ use Rattle.tcd_base.specs.FieldReaders.{◌>>=◌, u8_at, u16_at, u32_at, field_
 use Rattle.tcd_base.proofs.FieldReads.{bytes_at_ok, bind_ok}
 use Rattle.tc_object.specs.declared.relocs.Reloc.{Reloc}
 use Rattle.tc_object.specs.Names.{IsNewObjectName, is_name_length, is_object_name}
-use Rattle.tc_object.specs.Objects.{SectionData, SymbolData, ObjectData, InTurn, IsSection, IsSymbol, IsReloc, IsObject, is_section_name, is_symbol_name, is_symbol_section, is_symbol_offset, last_reloc, is_behind, section_size_at}
+use Rattle.tc_object.specs.Objects.{SectionData, SymbolData, ObjectData, InTurn, IsSection, IsSymbol, IsReloc, IsObject, is_section_name, is_symbol_name, is_symbol_section, is_symbol_offset, last_reloc, is_after_last_reloc, section_size_at}
 use Rattle.tc_object.specs.Grammar.{is_reloc_section_ordered, checked_object_field, name_length_at, name_bytes_at, new_object_name_at, section_after, section_with, kind_at, symbol_section_at, symbol_offset_at, symbol_after, symbol_with, symbol_named, reloc_section_at, reloc_offset_at, reloc_symbol_at, reloc_after, magic_at, section_count_at, parts_at, object_at, object_of}
-use Rattle.tc_object.specs.Spelling.{bytes_of_name, bytes_of_section, bytes_of_symbol, bytes_of_reloc, bytes_of_header, bytes_of}
+use Rattle.tc_object.specs.Spelling.{bytes_of_name, bytes_of_section, bytes_of_symbol, bytes_of_reloc, bytes_of_header, bytes_of_object}
 use Rattle.tcd_base.proofs.PassedLaws.{AreBytes, bytes_from, Passed, passed_bytes, passed_both, ok_pair, passed_test, took_passed, byte_passed, half_passed, word_passed, many_passed}
 
 -- the next reading starts after the part
@@ -165,17 +165,17 @@ reloc_section_passed sections before front rest x q bytes e =
     (h.0, h.1, ltb-true _ _ (subst (λ (v : ℕ × Place). ltb v.0 (length sections) ≡ true) t2.1 t2.0))
 
 reloc_offset_passed : (sections : List SectionData) (before : List Reloc) (section : ℕ) (start : Place) (front rest : List ℕ) (x : ℕ) (q : Place) → AreBytes rest → reloc_offset_at sections before section start (place_between front rest) ≡ Ok (x, q)
-    → Passed (bytes_of_word x) front rest q × (x < 2 ^ 32) × (is_behind (last_reloc before) section x ≡ true) × (x + 4 ≤ section_size_at sections section)
+    → Passed (bytes_of_word x) front rest q × (x < 2 ^ 32) × (is_after_last_reloc (last_reloc before) section x ≡ true) × (x + 4 ≤ section_size_at sections section)
 unfolding reloc_offset_at
 reloc_offset_passed sections before section start front rest x q bytes e =
     let b = bind_ok (u32_at (place_between front rest)) _ _ e in
-    let c = bind_ok (checked_object_field 3 (is_behind (last_reloc before) section b.0.0) start b.0) _ _ b.2 in
-    let t1 = passed_test (is_behind (last_reloc before) section b.0.0) b.0 c.0 _ c.1 in
+    let c = bind_ok (checked_object_field 3 (is_after_last_reloc (last_reloc before) section b.0.0) start b.0) _ _ b.2 in
+    let t1 = passed_test (is_after_last_reloc (last_reloc before) section b.0.0) b.0 c.0 _ c.1 in
     let t2 = passed_test (leb (c.0.0 + 4) (section_size_at sections section)) c.0 (x, q) _ c.2 in
     let h = word_passed front rest x q bytes (b.1 ∙ ap (λ (v : ℕ × Place). Ok v) (t1.1 ∙ t2.1)) in (
       h.0,
       h.1,
-      subst (λ (v : ℕ × Place). is_behind (last_reloc before) section v.0 ≡ true) (t1.1 ∙ t2.1) t1.0,
+      subst (λ (v : ℕ × Place). is_after_last_reloc (last_reloc before) section v.0 ≡ true) (t1.1 ∙ t2.1) t1.0,
       leb-true _ _ (subst (λ (v : ℕ × Place). leb (v.0 + 4) (section_size_at sections section) ≡ true) t2.1 t2.0),
     )
 
@@ -249,11 +249,11 @@ parts_passed n m k front rest o q bytes e =
 
 -- the spelling, with its numbers as they were read
 header_bytes : (o : ObjectData) (magic n m k : ℕ) (parts : List ℕ) → parts ≡ flat_map bytes_of_section o.sections ++ (flat_map bytes_of_symbol o.symbols ++ flat_map bytes_of_reloc o.relocs)
-    → magic ≡ 0x314F4354 → n ≡ length o.sections → m ≡ length o.symbols → k ≡ length o.relocs → bytes_of_word magic ++ (bytes_of_half n ++ (bytes_of_half m ++ (bytes_of_half k ++ parts))) ≡ bytes_of o
-unfolding bytes_of bytes_of_header
+    → magic ≡ 0x314F4354 → n ≡ length o.sections → m ≡ length o.symbols → k ≡ length o.relocs → bytes_of_word magic ++ (bytes_of_half n ++ (bytes_of_half m ++ (bytes_of_half k ++ parts))) ≡ bytes_of_object o
+unfolding bytes_of_object bytes_of_header
 header_bytes o magic n m k parts p e a b c = rw (p, e, a, b, c) refl
 
-object_passed : (front rest : List ℕ) (o : ObjectData) (q : Place) → AreBytes rest → object_at (place_between front rest) ≡ Ok (o, q) → Passed (bytes_of o) front rest q × IsObject o
+object_passed : (front rest : List ℕ) (o : ObjectData) (q : Place) → AreBytes rest → object_at (place_between front rest) ≡ Ok (o, q) → Passed (bytes_of_object o) front rest q × IsObject o
 unfolding object_at magic_at section_count_at
 object_passed front rest o q bytes e =
     let magic = bind_ok (magic_at (place_between front rest)) _ _ e in
@@ -281,15 +281,15 @@ object_passed front rest o q bytes e =
     )
 
 -- the bytes of an object that was read are its spelling, and it keeps its limits
-pub read_is_object : (bytes : List ℕ) (o : ObjectData) → ((k : ℕ) → get_or bytes k 0 < 2 ^ 8) → object_of bytes ≡ Ok o → (bytes_of o ≡ bytes) × IsObject o
+pub read_is_object : (bytes : List ℕ) (o : ObjectData) → ((k : ℕ) → get_or bytes k 0 < 2 ^ 8) → object_of bytes ≡ Ok o → (bytes_of_object o ≡ bytes) × IsObject o
 unfolding object_of
 read_is_object bytes o small e =
     let b = bind_ok (object_at (place_between [] bytes)) _ _ e in
     let h = object_passed [] bytes b.0.0 b.0.1 (bytes_from bytes small) b.1 in
     let t = passed_test (eqb b.0.1.place (length bytes)) b.0.0 o _ b.2 in
-    let end : length (bytes_of b.0.0) ≡ length bytes = sym (ap (λ (p : Place). p.place) h.0.at) ∙ eqb-true _ _ t.0 in
-    let none : h.0.after ≡ [] = nothing h.0.after (omega (arith, ap length h.0.is, length-append (bytes_of b.0.0) h.0.after)) in
-    (ap bytes_of (sym t.1) ∙ sym (append-nil (bytes_of b.0.0)) ∙ ap (λ (l : List ℕ). bytes_of b.0.0 ++ l) (sym none) ∙ sym h.0.is, subst IsObject t.1 h.1)
+    let end : length (bytes_of_object b.0.0) ≡ length bytes = sym (ap (λ (p : Place). p.place) h.0.at) ∙ eqb-true _ _ t.0 in
+    let none : h.0.after ≡ [] = nothing h.0.after (omega (arith, ap length h.0.is, length-append (bytes_of_object b.0.0) h.0.after)) in
+    (ap bytes_of_object (sym t.1) ∙ sym (append-nil (bytes_of_object b.0.0)) ∙ ap (λ (l : List ℕ). bytes_of_object b.0.0 ++ l) (sym none) ∙ sym h.0.is, subst IsObject t.1 h.1)
   where
     nothing : (xs : List ℕ) → length xs ≤ 0 → xs ≡ []
     nothing [] h = refl

@@ -8,7 +8,7 @@ use Rattle.tcd_base.specs.Bytes.{half_in_bytes, word_in_bytes}
 use Rattle.tcd_base.specs.Place.{Place}
 use Rattle.tcd_base.specs.FieldReaders.{◌>>=◌, u8_at, u16_at, u32_at}
 use Rattle.tc_object.specs.declared.relocs.Reloc.{Reloc}
-use Rattle.tc_object.specs.Objects.{SectionData, SymbolData, is_symbol_section, is_symbol_offset, last_reloc, is_behind, section_size_at}
+use Rattle.tc_object.specs.Objects.{SectionData, SymbolData, is_symbol_section, is_symbol_offset, last_reloc, is_after_last_reloc, section_size_at}
 use Rattle.tc_object.specs.Grammar.{is_reloc_section_ordered, checked_object_field, kind_at, symbol_section_at, symbol_offset_at, symbol_named, reloc_section_at, reloc_offset_at, reloc_symbol_at, reloc_after}
 use Rattle.tc_object.specs.Faults.{object_field_fault, reloc_fault, symbol_fault}
 use Rattle.tcd_base.proofs.FieldReads.{chosen}
@@ -80,9 +80,9 @@ unfolding reloc_section_at
 section_then sections before p n x f next y h k = rw h (two_tests (is_reloc_section_ordered (last_reloc before) x) (λ s. nat_lt s.0 (length sections)) 3 4 p p (x, further p n) f next y k)
 
 offset_then : {B : Type 0} (sections : List SectionData) (before : List Reloc) (section : ℕ) (start p : Place) (n x : ℕ) (f : ℕ × Place → Result B FormErr) (next : Option FormErr) (y : B) → u32_at p ≡ Ok (x, further p n) → f (x, further p n) ≡ told next y
-    → (reloc_offset_at sections before section start p >>= f) ≡ told (object_field_fault (is_behind (last_reloc before) section x) 3 start.place (object_field_fault (nat_le (x + 4) (section_size_at sections section)) 4 p.place next)) y
+    → (reloc_offset_at sections before section start p >>= f) ≡ told (object_field_fault (is_after_last_reloc (last_reloc before) section x) 3 start.place (object_field_fault (nat_le (x + 4) (section_size_at sections section)) 4 p.place next)) y
 unfolding reloc_offset_at
-offset_then sections before section start p n x f next y h k = rw h (two_tests (is_behind (last_reloc before) section x) (λ o. nat_le (o.0 + 4) (section_size_at sections section)) 3 4 start p (x, further p n) f next y k)
+offset_then sections before section start p n x f next y h k = rw h (two_tests (is_after_last_reloc (last_reloc before) section x) (λ o. nat_le (o.0 + 4) (section_size_at sections section)) 3 4 start p (x, further p n) f next y k)
 
 symbol_then : {B : Type 0} (symbols : ℕ) (p : Place) (n x : ℕ) (f : ℕ × Place → Result B FormErr) (next : Option FormErr) (y : B) → u16_at p ≡ Ok (x, further p n) → f (x, further p n) ≡ told next y
     → (reloc_symbol_at symbols p >>= f) ≡ told (object_field_fault (nat_lt x symbols) 4 p.place next) y

@@ -2,7 +2,7 @@
 use Rattle.std.specs.Prelude.{◌+◌, ◌&&◌, nat_lt, nat_le, if◌then◌else◌, ℕ, Bool, List, length, Option, Some, None, ◌≡◌, Result, Err}
 use Rattle.tcd_base.specs.declared.errors.FormErr.{FormErr}
 use Rattle.tc_object.specs.declared.relocs.Reloc.{Reloc}
-use Rattle.tc_object.specs.Objects.{SectionData, SymbolData, is_symbol_section, is_symbol_offset, last_reloc, is_behind, section_size_at}
+use Rattle.tc_object.specs.Objects.{SectionData, SymbolData, is_symbol_section, is_symbol_offset, last_reloc, is_after_last_reloc, section_size_at}
 use Rattle.tc_object.specs.Grammar.{is_reloc_section_ordered}
 use Rattle.tc_object.specs.declared.errors.ObjErr.{ObjErr}
 use Rattle.tc_object.specs.declared.errors.ObjErr.TheVariants.{Bad, NoMemory}
@@ -17,7 +17,7 @@ unfoldable pub reloc_fault : List SectionData → ℕ → List Reloc → Reloc �
 reloc_fault sections symbols before r start =
     object_field_fault (is_reloc_section_ordered (last_reloc before) r.section) 3 start
     (object_field_fault (nat_lt r.section (length sections)) 4 start
-    (object_field_fault (is_behind (last_reloc before) r.section r.offset) 3 start
+    (object_field_fault (is_after_last_reloc (last_reloc before) r.section r.offset) 3 start
     (object_field_fault (nat_le (r.offset + 4) (section_size_at sections r.section)) 4 (start + 2)
     (object_field_fault (nat_le 1 r.kind && nat_le r.kind 7) 4 (start + 6)
     (object_field_fault (nat_lt r.symbol symbols) 4 (start + 7) None)))))

@@ -6,7 +6,7 @@ use Rattle.tcd_base.specs.Place.{Place}
 use Rattle.tcd_base.specs.FieldReaders.{◌>>=◌, u8_at, u16_at, u32_at, field_bytes_at, many_fields_at, field_fault_at}
 use Rattle.tc_object.specs.declared.relocs.Reloc.{Reloc}
 use Rattle.tc_object.specs.Names.{is_name_length, is_object_name}
-use Rattle.tc_object.specs.Objects.{SectionData, SymbolData, ObjectData, is_section_name, is_symbol_name, section_size_at, is_symbol_section, is_symbol_offset, last_reloc, is_behind}
+use Rattle.tc_object.specs.Objects.{SectionData, SymbolData, ObjectData, is_section_name, is_symbol_name, section_size_at, is_symbol_section, is_symbol_offset, last_reloc, is_after_last_reloc}
 
 -- ---- fields
 -- the value if the test holds, else the fault of this kind at this place
@@ -79,7 +79,7 @@ reloc_section_at sections before p =
 -- an offset in a section; the fault of a wrong order is at start, the relocation's section field
 unfoldable pub reloc_offset_at : List SectionData → List Reloc → ℕ → Place → Place → Result (ℕ × Place) FormErr
 reloc_offset_at sections before section start p =
-    u32_at p >>= λ o. checked_object_field 3 (is_behind (last_reloc before) section o.0) start o >>= λ o. checked_object_field 4 (nat_le (o.0 + 4) (section_size_at sections section)) p o
+    u32_at p >>= λ o. checked_object_field 3 (is_after_last_reloc (last_reloc before) section o.0) start o >>= λ o. checked_object_field 4 (nat_le (o.0 + 4) (section_size_at sections section)) p o
 
 -- a symbol's number, below the number of symbols
 unfoldable pub reloc_symbol_at : ℕ → Place → Result (ℕ × Place) FormErr

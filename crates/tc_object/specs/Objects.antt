@@ -92,15 +92,15 @@ last_reloc rs = slice_get rs (length rs - 1)
 
 -- in a valid object: a relocation's place comes after that of the last one, in a later section or
 -- at a greater offset
-abbrev pub is_behind : Option Reloc → ℕ → ℕ → Bool
-is_behind None section offset = true
-is_behind (Some r) section offset = nat_lt r.section section || (r.section == section && nat_lt r.offset offset)
+abbrev pub is_after_last_reloc : Option Reloc → ℕ → ℕ → Bool
+is_after_last_reloc None section offset = true
+is_after_last_reloc (Some r) section offset = nat_lt r.section section || (r.section == section && nat_lt r.offset offset)
 
 -- a relocation of a known kind, after the earlier ones: four bytes of a section, and a symbol's
 -- number
 pub record IsReloc (sections : List SectionData) (symbols : ℕ) (before : List Reloc) (r : Reloc) : Type 0 where
   pub section : r.section < length sections
-  pub behind : is_behind (last_reloc before) r.section r.offset ≡ true
+  pub behind : is_after_last_reloc (last_reloc before) r.section r.offset ≡ true
   pub room : r.offset + 4 ≤ section_size_at sections r.section
   pub some : 1 ≤ r.kind
   pub kind : r.kind ≤ 7

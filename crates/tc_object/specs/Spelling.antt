@@ -26,5 +26,5 @@ unfoldable pub bytes_of_header : ObjectData → List ℕ
 bytes_of_header o = bytes_of_word 0x314F4354 ++ (bytes_of_half (length o.sections) ++ (bytes_of_half (length o.symbols) ++ bytes_of_half (length o.relocs)))
 
 -- the object file: the header, the sections, the symbols, and the relocations
-unfoldable pub bytes_of : ObjectData → List ℕ
-bytes_of o = bytes_of_header o ++ (flat_map bytes_of_section o.sections ++ (flat_map bytes_of_symbol o.symbols ++ flat_map bytes_of_reloc o.relocs))
+unfoldable pub bytes_of_object : ObjectData → List ℕ
+bytes_of_object o = bytes_of_header o ++ (flat_map bytes_of_section o.sections ++ (flat_map bytes_of_symbol o.symbols ++ flat_map bytes_of_reloc o.relocs))

@@ -32,7 +32,7 @@ impl<'a> ObjectRef<'a> {
     ghost use Rattle.std.specs.Prelude.{◌≡◌, ◌≤◌, ◌^◌, length, Ok, IfOk, IfErr};
     ghost use Rattle.tc_object.specs.Faults.{IsFaultOf};
     ghost use Rattle.tc_object.specs.Grammar.{object_of};
-    ghost use Rattle.tc_object.specs.Spelling.{bytes_of};
+    ghost use Rattle.tc_object.specs.Spelling.{bytes_of_object};
 
     /// Returns the `ObjectRef` that the bytes spell, which borrows its names and contents from
     /// them, or their first fault.
@@ -42,7 +42,7 @@ impl<'a> ObjectRef<'a> {
         ensures err { IfErr result (IsFaultOf (object_of bytes.now)) }
 
         // each object has exactly one spelling
-        ensures one { IfOk result (λ o. bytes_of o ≡ bytes.now) }
+        ensures one { IfOk result (λ o. bytes_of_object o ≡ bytes.now) }
     {
         let parts = read_parts(alloc, bytes)?;
         Ok(ObjectRef {

@@ -34,7 +34,7 @@ impl Object {
     ghost use Rattle.tc_object.specs.declared.errors.ObjErr.TheVariants.{NoMemory};
     ghost use Rattle.tc_object.specs.Faults.{IsFaultOf};
     ghost use Rattle.tc_object.specs.Grammar.{object_of};
-    ghost use Rattle.tc_object.specs.Spelling.{bytes_of};
+    ghost use Rattle.tc_object.specs.Spelling.{bytes_of_object};
 
     /// Returns the `Object` that the bytes spell, which owns its names and contents, or their first
     /// fault.
@@ -44,7 +44,7 @@ impl Object {
         ensures err { IfErr result (IsFaultOf (object_of bytes.now)) }
 
         // each object has exactly one spelling
-        ensures one { IfOk result (λ o. bytes_of o ≡ bytes.now) }
+        ensures one { IfOk result (λ o. bytes_of_object o ≡ bytes.now) }
     {
         let object = ObjectRef::read(alloc, bytes)?;
         Ok(object.into_object(alloc)?)
@@ -52,9 +52,9 @@ impl Object {
 
     /// Returns the bytes that spell this object, which owns its names and contents. From them
     /// `read` reads the object back.
-    #[tactic(auto, unfolding(crate::specs::Spelling::bytes_of, crate::specs::Spelling::bytes_of_header))]
+    #[tactic(auto, unfolding(crate::specs::Spelling::bytes_of_object, crate::specs::Spelling::bytes_of_header))]
     pub fn write(&self, alloc: Global) -> Result<Vec<u8>, ObjErr>
-        ensures bytes { IfOk result (λ out. out.items ≡ bytes_of self.now) }
+        ensures bytes { IfOk result (λ out. out.items ≡ bytes_of_object self.now) }
         ensures again { IfOk result (λ out. object_of out.items ≡ Ok self.now) }
         ensures err { IfErr result (λ e. e ≡ NoMemory) }
     {

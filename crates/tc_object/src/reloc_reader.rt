@@ -3,7 +3,7 @@ ghost use Rattle.std.specs.Prelude.{◌≡◌, ◌≤◌, ◌+◌, ◌^◌, [], 
 ghost use Rattle.tcd_base.specs.Bytes.{half_in_bytes, word_in_bytes};
 ghost use Rattle.tcd_base.specs.FieldReaders.{ReadsField, many_fields_at};
 ghost use Rattle.tc_object.specs.Faults.{IsFaultOf, reloc_fault};
-ghost use Rattle.tc_object.specs.Objects.{section_size_at, last_reloc, is_behind};
+ghost use Rattle.tc_object.specs.Objects.{section_size_at, last_reloc, is_after_last_reloc};
 ghost use Rattle.tc_object.specs.Grammar.{is_reloc_section_ordered, reloc_section_at, reloc_offset_at, reloc_symbol_at, reloc_after};
 
 use crate::fields::{is_kind_between, read_kind};
@@ -215,7 +215,7 @@ fn is_reloc_section_ordered(before: &[Reloc], section: u16) -> bool
 
 // Whether an offset of a section comes after the place of the last relocation.
 fn is_after_last_reloc(before: &[Reloc], section: u16, offset: u32) -> bool
-    ensures { result ≡ is_behind (last_reloc before.now) section offset }
+    ensures { result ≡ is_after_last_reloc (last_reloc before.now) section offset }
 {
     match before.last() {
         None => true,

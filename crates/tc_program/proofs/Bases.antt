@@ -9,8 +9,8 @@ use Rattle.tc_link.specs.Layouts.{PlaceData, is_placed, place_of}
 use Rattle.tc_link.specs.Placing.{PlacedData, base_of, bases_after, placed_after}
 use Rattle.tc_link.specs.PlaceSizes.{round_up_place_size, taken_place_size}
 use Rattle.tc_link.specs.Placing as placing
-use Rattle.tc_link.specs.Refusals.{Refusal, no_place, first_refusal_from, has_symbol, no_place_of, no_place_in}
-use Rattle.tc_asm.specs.Objects.{object_of}
+use Rattle.tc_link.specs.Refusals.{Refusal, no_place, first_refusal_from, has_symbol, no_place_refusal, no_place_refusal_in}
+use Rattle.tc_asm.specs.Objects.{object_of_draft}
 use Rattle.tc_asm.specs.Statements.{sections_in}
 use Rattle.tc_asm.specs.DraftedSources.{draft_in}
 use Rattle.tc_program.specs.Addresses.{program_sections, SectionHasAddress}
@@ -90,21 +90,21 @@ refuted true true r e h = refl
 refuted true false r e h = cc
 refuted false placed r e h = cc
 
-pub place_for : (places : List PlaceData) (objects : List ObjectData) (i : ℕ) (o : ObjectData) (s : ℕ) (x : SectionData) → no_place_in places objects ≡ None → slice_get objects i ≡ Some o → slice_get o.sections s ≡ Some x →
+pub place_for : (places : List PlaceData) (objects : List ObjectData) (i : ℕ) (o : ObjectData) (s : ℕ) (x : SectionData) → no_place_refusal_in places objects ≡ None → slice_get objects i ≡ Some o → slice_get o.sections s ≡ Some x →
     (nat_lt 0 (length x.bytes) || has_symbol o.symbols s) ≡ true → (p : PlaceData) × (place_of places x.name ≡ Some p)
-unfolding no_place_in
+unfolding no_place_refusal_in
 place_for places objects i o s x e at there needs =
-    let here : first_refusal_from (no_place_of places o.symbols) 0 o.sections ≡ None = none_at (λ n (q : ObjectData). first_refusal_from (no_place_of places q.symbols) 0 q.sections) 0 objects i o e at in
-    let own : no_place_of places o.symbols s x ≡ None
-    = (let same : s ≡ 0 + s = omega arith in ap (λ k. no_place_of places o.symbols k x) same) ∙ none_at (no_place_of places o.symbols) 0 o.sections s x here there in
+    let here : first_refusal_from (no_place_refusal places o.symbols) 0 o.sections ≡ None = none_at (λ n (q : ObjectData). first_refusal_from (no_place_refusal places q.symbols) 0 q.sections) 0 objects i o e at in
+    let own : no_place_refusal places o.symbols s x ≡ None
+    = (let same : s ≡ 0 + s = omega arith in ap (λ k. no_place_refusal places o.symbols k x) same) ∙ none_at (no_place_refusal places o.symbols) 0 o.sections s x here there in
     place_there places x.name (refuted (nat_lt 0 (length x.bytes) || has_symbol o.symbols s) (is_placed places x.name) (no_place x.name) own needs)
 
 -- ---- the base of a section
 pub begins_at : (places : List PlaceData) (sources : List (List ℕ)) (objects : List ObjectData) (i : ℕ) (source : List ℕ) (s : ℕ) (x : SectionData) (p : PlaceData) → AreObjects sources objects → slice_get sources i ≡ Some source →
     slice_get (sections_in source) s ≡ Some x → place_of places x.name ≡ Some p →
-    SectionHasAddress places sources i s (slice_index (bases_after places (placing.sections_to_link (take i objects)) (object_of (draft_in source)).sections) s)
+    SectionHasAddress places sources i s (slice_index (bases_after places (placing.sections_to_link (take i objects)) (object_of_draft (draft_in source)).sections) s)
 begins_at places sources objects i source s x p are at there is =
-    let same : sections_in source ≡ (object_of (draft_in source)).sections = sections_are source in
+    let same : sections_in source ≡ (object_of_draft (draft_in source)).sections = sections_are source in
     let earlier : placing.sections_to_link (take i objects) ≡ program_sections (take i sources) = sym (all_sections (take i sources) (take i objects) (objects_take sources objects i are)) in
     record {
       source = source;

@@ -9,9 +9,9 @@ use Rattle.tc_object.specs.Objects.{SectionData}
 use Rattle.tc_asm.specs.Symbols.{SymbolData}
 use Rattle.tc_asm.specs.Drafts.{UseData, PartData}
 use Rattle.tc_asm.specs.Objects.{section_of, reloc_of, relocs_from}
-use Rattle.tc_asm.specs.Statements.{StatementData, section_bytes, offset_of, is_open_statement}
+use Rattle.tc_asm.specs.Statements.{StatementData, section_bytes, offset_of, has_unresolved_symbol}
 use Rattle.tc_reloc.specs.Fields.{reloc_field_number, with_reloc_field}
-use Rattle.tc_link.specs.Relocated.{reloc_field_at, field_place, reloc_value, with_relocation, with_reloc}
+use Rattle.tc_link.specs.Relocated.{reloc_field_at, field_place, reloc_value, section_with_reloc, sections_with_reloc}
 use Rattle.tc_link.specs.Placing.{PlacedData}
 use Rattle.tc_link.specs.GlobalSymbols.{GlobalData}
 use Rattle.tc_stmt.proofs.ListItems.{seam_get, seam_set, take_behind, drop_behind}
@@ -21,19 +21,19 @@ use Rattle.tc_asm.proofs.Uses.{use_at, uses_from, HaveFields}
 module _ (g : List GlobalData) (p : PlacedData) (symbols : List SymbolData) where
   -- the section of this number with the field of one use written
   abbrev pub stepped : ℕ → SectionData → UseData → SectionData
-  stepped n sec u = with_relocation g p (reloc_of symbols n u) sec
+  stepped n sec u = section_with_reloc g p (reloc_of symbols n u) sec
 
-  reloc_here : (before after : List SectionData) (sec : SectionData) (n : ℕ) (u : UseData) → n ≡ length before → with_reloc g p (before ++ sec ∷ after) (reloc_of symbols n u) ≡ before ++ stepped n sec u ∷ after
+  reloc_here : (before after : List SectionData) (sec : SectionData) (n : ℕ) (u : UseData) → n ≡ length before → sections_with_reloc g p (before ++ sec ∷ after) (reloc_of symbols n u) ≡ before ++ stepped n sec u ∷ after
   reloc_here before after sec n u e =
-      ap (λ k. option_map_or (λ x. slice_set (before ++ sec ∷ after) k (with_relocation g p (reloc_of symbols n u) x)) (slice_get (before ++ sec ∷ after) k) (before ++ sec ∷ after)) e
-      ∙ ap (λ (o : Option SectionData). option_map_or (λ x. slice_set (before ++ sec ∷ after) (length before) (with_relocation g p (reloc_of symbols n u) x)) o (before ++ sec ∷ after)) (seam_get before after sec)
+      ap (λ k. option_map_or (λ x. slice_set (before ++ sec ∷ after) k (section_with_reloc g p (reloc_of symbols n u) x)) (slice_get (before ++ sec ∷ after) k) (before ++ sec ∷ after)) e
+      ∙ ap (λ (o : Option SectionData). option_map_or (λ x. slice_set (before ++ sec ∷ after) (length before) (section_with_reloc g p (reloc_of symbols n u) x)) o (before ++ sec ∷ after)) (seam_get before after sec)
       ∙ seam_set before after sec (stepped n sec u)
 
   relocs_here : (before after : List SectionData) (sec : SectionData) (n : ℕ) (us : List UseData) (rest : List Reloc) → n ≡ length before →
-      fold (with_reloc g p) (before ++ sec ∷ after) (map (reloc_of symbols n) us ++ rest) ≡ fold (with_reloc g p) (before ++ fold (stepped n) sec us ∷ after) rest
+      fold (sections_with_reloc g p) (before ++ sec ∷ after) (map (reloc_of symbols n) us ++ rest) ≡ fold (sections_with_reloc g p) (before ++ fold (stepped n) sec us ∷ after) rest
   relocs_here before after sec n [] rest e = refl
   relocs_here before after sec n (u ∷ us) rest e =
-      ap (λ (ss : List SectionData). fold (with_reloc g p) ss (map (reloc_of symbols n) us ++ rest)) (reloc_here before after sec n u e)
+      ap (λ (ss : List SectionData). fold (sections_with_reloc g p) ss (map (reloc_of symbols n) us ++ rest)) (reloc_here before after sec n u e)
       ∙ relocs_here before after (stepped n sec u) n us rest e
 
   -- the sections of parts, numbered from this number on, with their uses written
@@ -41,17 +41,17 @@ module _ (g : List GlobalData) (p : PlacedData) (symbols : List SymbolData) wher
   finished n [] = []
   finished n (q ∷ qs) = fold (stepped n) (section_of q) q.uses ∷ finished (n + 1) qs
 
-  relocs_all : (before : List SectionData) (n : ℕ) (parts : List PartData) → n ≡ length before → fold (with_reloc g p) (before ++ map section_of parts) (relocs_from symbols n parts) ≡ before ++ finished n parts
+  relocs_all : (before : List SectionData) (n : ℕ) (parts : List PartData) → n ≡ length before → fold (sections_with_reloc g p) (before ++ map section_of parts) (relocs_from symbols n parts) ≡ before ++ finished n parts
   relocs_all before n [] e = refl
   relocs_all before n (q ∷ qs) e =
       let sec : SectionData = fold (stepped n) (section_of q) q.uses in
       let long : n + 1 ≡ length (before ++ sec ∷ []) = omega (arith, length-append before (sec ∷ [])) in
       relocs_here before (map section_of qs) (section_of q) n q.uses (relocs_from symbols (n + 1) qs) e
-      ∙ ap (λ (ss : List SectionData). fold (with_reloc g p) ss (relocs_from symbols (n + 1) qs)) (sym (append_assoc before (sec ∷ []) (map section_of qs)))
+      ∙ ap (λ (ss : List SectionData). fold (sections_with_reloc g p) ss (relocs_from symbols (n + 1) qs)) (sym (append_assoc before (sec ∷ []) (map section_of qs)))
       ∙ relocs_all (before ++ sec ∷ []) (n + 1) qs long
       ∙ append_assoc before (sec ∷ []) (finished (n + 1) qs)
 
-  pub relocs_written : (parts : List PartData) → fold (with_reloc g p) (map section_of parts) (relocs_from symbols 0 parts) ≡ finished 0 parts
+  pub relocs_written : (parts : List PartData) → fold (sections_with_reloc g p) (map section_of parts) (relocs_from symbols 0 parts) ≡ finished 0 parts
   relocs_written parts = relocs_all [] 0 parts refl
 
   pub finished_at : (n i : ℕ) (parts : List PartData) (q : PartData) → slice_get parts i ≡ Some q → slice_get (finished n parts) i ≡ Some (fold (stepped (n + i)) (section_of q) q.uses)
@@ -69,7 +69,7 @@ module _ (g : List GlobalData) (p : PlacedData) (symbols : List SymbolData) wher
   abbrev pub filled_bytes : ℕ → ℕ → Option ReferenceData → List ℕ → List ℕ
   filled_bytes s n None bytes = bytes
   filled_bytes s n (Some r) bytes =
-      if is_open_statement (Some r)
+      if has_unresolved_symbol (Some r)
       then with_reloc_field r.kind bytes (reloc_field_number r.kind (field_place p (reloc_of symbols s (record { offset = n; reference = r }))) (reloc_value g p (reloc_of symbols s (record { offset = n; reference = r }))))
       else bytes
 
@@ -80,7 +80,7 @@ module _ (g : List GlobalData) (p : PlacedData) (symbols : List SymbolData) wher
       if t.section == s then record t { bytes = filled_bytes s n t.reference t.bytes } ∷ filled_from s (n + length t.bytes) ts else t ∷ filled_from s n ts
 
   -- a single field
-  field_written : (name before bytes rest : List ℕ) (s : ℕ) (r : ReferenceData) → is_open_statement (Some r) ≡ true → length bytes ≡ 4 →
+  field_written : (name before bytes rest : List ℕ) (s : ℕ) (r : ReferenceData) → has_unresolved_symbol (Some r) ≡ true → length bytes ≡ 4 →
       stepped s (record { name = name; bytes = before ++ (bytes ++ rest) }) (record { offset = length before; reference = r }) ≡ record { name = name; bytes = before ++ (filled_bytes s (length before) (Some r) bytes ++ rest) }
   field_written name before bytes rest s r waits four =
       let u : UseData = record { offset = length before; reference = r } in
@@ -98,11 +98,11 @@ module _ (g : List GlobalData) (p : PlacedData) (symbols : List SymbolData) wher
       ∙ ap (λ (bs : List ℕ). record { name = name; bytes = before ++ (with_reloc_field r.kind bytes content ++ bs) }) back
       ∙ ap (λ b. record { name = name; bytes = before ++ (cond b (with_reloc_field r.kind bytes content) bytes ++ rest) }) (sym waits)
 
-  filled_length : (s n : ℕ) (o : Option ReferenceData) (bytes : List ℕ) → (is_open_statement o ≡ true → length bytes ≡ 4) → length (filled_bytes s n o bytes) ≡ length bytes
+  filled_length : (s n : ℕ) (o : Option ReferenceData) (bytes : List ℕ) → (has_unresolved_symbol o ≡ true → length bytes ≡ 4) → length (filled_bytes s n o bytes) ≡ length bytes
   filled_length s n None bytes four = refl
-  filled_length s n (Some r) bytes four = by (is_open_statement (Some r)) refl
+  filled_length s n (Some r) bytes four = by (has_unresolved_symbol (Some r)) refl
     where
-      by : (b : Bool) → is_open_statement (Some r) ≡ b
+      by : (b : Bool) → has_unresolved_symbol (Some r) ≡ b
           → length (cond b (with_reloc_field r.kind bytes (reloc_field_number r.kind (field_place p (reloc_of symbols s (record { offset = n; reference = r }))) (reloc_value g p (reloc_of symbols s (record { offset = n; reference = r }))))) bytes) ≡ length bytes
       by true e = let l = four e in omega arith
       by false e = refl
@@ -115,7 +115,7 @@ module _ (g : List GlobalData) (p : PlacedData) (symbols : List SymbolData) wher
   fields_written name s [] before h = refl
   fields_written name s (t ∷ ts) before h = by (t.section == s) refl (λ b. fields_written name s ts b h.1)
     where
-      by_reference : (o : Option ReferenceData) (bytes : List ℕ) → (is_open_statement o ≡ true → length bytes ≡ 4)
+      by_reference : (o : Option ReferenceData) (bytes : List ℕ) → (has_unresolved_symbol o ≡ true → length bytes ≡ 4)
           → ((b : List ℕ) → fold (stepped s) (record { name = name; bytes = b ++ section_bytes s ts }) (uses_from s (length b) ts) ≡ record { name = name; bytes = b ++ section_bytes s (filled_from s (length b) ts) })
           → fold (stepped s) (record { name = name; bytes = before ++ (bytes ++ section_bytes s ts) }) (use_at (length before) o ++ uses_from s (length before + length bytes) ts)
           ≡ record { name = name; bytes = before ++ (filled_bytes s (length before) o bytes ++ section_bytes s (filled_from s (length before + length bytes) ts)) }
@@ -125,12 +125,12 @@ module _ (g : List GlobalData) (p : PlacedData) (symbols : List SymbolData) wher
           ∙ rec (before ++ bytes)
           ∙ ap (λ n. whole name ((before ++ bytes) ++ section_bytes s (filled_from s n ts))) (length-append before bytes)
           ∙ ap (whole name) (append_assoc before bytes (section_bytes s (filled_from s (length before + length bytes) ts)))
-      by_reference (Some r) bytes four rec = by_open (is_open_statement (Some r)) refl
+      by_reference (Some r) bytes four rec = by_open (has_unresolved_symbol (Some r)) refl
         where
           more : List ℕ
           more = with_reloc_field r.kind bytes (reloc_field_number r.kind (field_place p (reloc_of symbols s (record { offset = length before; reference = r }))) (reloc_value g p (reloc_of symbols s (record { offset = length before; reference = r }))))
 
-          by_open : (b : Bool) → is_open_statement (Some r) ≡ b
+          by_open : (b : Bool) → has_unresolved_symbol (Some r) ≡ b
               → fold (stepped s) (record { name = name; bytes = before ++ (bytes ++ section_bytes s ts) }) (cond b (record { offset = length before; reference = r } ∷ []) [] ++ uses_from s (length before + length bytes) ts)
               ≡ record { name = name; bytes = before ++ (cond b (with_reloc_field r.kind bytes (reloc_field_number r.kind (field_place p (reloc_of symbols s (record { offset = length before; reference = r }))) (reloc_value g p (reloc_of symbols s (record { offset = length before; reference = r }))))) bytes ++ section_bytes s (filled_from s (length before + length bytes) ts)) }
           by_open false e =

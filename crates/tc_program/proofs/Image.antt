@@ -8,7 +8,7 @@ use Rattle.std.proofs.lemmas.List.{append-nil}
 use Rattle.std.proofs.lemmas.List.Sums.{fold-append}
 use Rattle.std.proofs.lemmas.Option.{slice_get_within}
 use Rattle.std.proofs.lemmas.Slice.Eq.{bytes_eq-Decides}
-use Rattle.elf_image.specs.Images.{SegmentData, is_held_by_segment, segments_byte, are_apart, all_apart}
+use Rattle.elf_image.specs.Images.{SegmentData, is_held_by_segment, segments_byte, are_segments_apart, are_all_segments_apart}
 use Rattle.tc_object.specs.Objects.{SectionData, InTurn}
 use Rattle.tc_link.specs.Layouts.{PlaceData, IsPlaceAfter, is_placed, place_of}
 use Rattle.tc_link.specs.PlaceSizes.{round_up_place_size, taken_place_size}
@@ -159,12 +159,12 @@ in_shaped name ss ts k e h =
     }
 
 -- ---- the segment of an address
-apart_all : (s : SegmentData) (ss : List SegmentData) (i : ℕ) (t : SegmentData) → list_all (are_apart s) ss ≡ true → slice_get ss i ≡ Some t → are_apart s t ≡ true
+apart_all : (s : SegmentData) (ss : List SegmentData) (i : ℕ) (t : SegmentData) → list_all (are_segments_apart s) ss ≡ true → slice_get ss i ≡ Some t → are_segments_apart s t ≡ true
 apart_all s [] i t all e = cc
-apart_all s (x ∷ xs) zero t all e = let same : x ≡ t = cc in ap (are_apart s) (sym same) ∙ (and_parts (are_apart s x) (list_all (are_apart s) xs) all).0
-apart_all s (x ∷ xs) (suc i) t all e = apart_all s xs i t (and_parts (are_apart s x) (list_all (are_apart s) xs) all).1 e
+apart_all s (x ∷ xs) zero t all e = let same : x ≡ t = cc in ap (are_segments_apart s) (sym same) ∙ (and_parts (are_segments_apart s x) (list_all (are_segments_apart s) xs) all).0
+apart_all s (x ∷ xs) (suc i) t all e = apart_all s xs i t (and_parts (are_segments_apart s x) (list_all (are_segments_apart s) xs) all).1 e
 
-not_both : (s t : SegmentData) (x : ℕ) → are_apart s t ≡ true → t.at ≤ x → x < t.at + length t.bytes → is_held_by_segment s x ≡ false
+not_both : (s t : SegmentData) (x : ℕ) → are_segments_apart s t ≡ true → t.at ≤ x → x < t.at + length t.bytes → is_held_by_segment s x ≡ false
 not_both s t x apart low high = by (is_held_by_segment s x) refl (or_cases (nat_le (s.at + length s.bytes) t.at) (nat_le (t.at + length t.bytes) s.at) apart)
   where
     by : (b : Bool) → is_held_by_segment s x ≡ b → (nat_le (s.at + length s.bytes) t.at ≡ true) ⊎ (nat_le (t.at + length t.bytes) s.at ≡ true) → b ≡ false
@@ -181,7 +181,7 @@ not_both s t x apart low high = by (is_held_by_segment s x) refl (or_cases (nat_
         absurd (omega arith)
 
 -- if no two segments share an address, the byte at an address is that of the segment that holds it
-pub byte_here : (ss : List SegmentData) (i : ℕ) (t : SegmentData) (k b : ℕ) → all_apart ss ≡ true → slice_get ss i ≡ Some t → slice_get t.bytes k ≡ Some b → segments_byte ss (t.at + k) ≡ Some b
+pub byte_here : (ss : List SegmentData) (i : ℕ) (t : SegmentData) (k b : ℕ) → are_all_segments_apart ss ≡ true → slice_get ss i ≡ Some t → slice_get t.bytes k ≡ Some b → segments_byte ss (t.at + k) ≡ Some b
 byte_here [] i t k b apart e h = cc
 byte_here (s ∷ ss) zero t k b apart e h =
     let same : s ≡ t = cc in
@@ -194,7 +194,7 @@ byte_here (s ∷ ss) zero t k b apart e h =
     ∙ ap (λ b. cond b (slice_get t.bytes (t.at + k - t.at)) (segments_byte ss (t.at + k))) there
     ∙ ap (slice_get t.bytes) back ∙ h
 byte_here (s ∷ ss) (suc i) t k b apart e h =
-    let p = and_parts (list_all (are_apart s) ss) (all_apart ss) apart in
+    let p = and_parts (list_all (are_segments_apart s) ss) (are_all_segments_apart ss) apart in
     let within = slice_get_within t.bytes k b h in
     let not_here = not_both s t (t.at + k) (apart_all s ss i t p.0 e) (omega arith) (omega arith) in
     ap (λ b. cond b (slice_get s.bytes (t.at + k - s.at)) (segments_byte ss (t.at + k))) not_here

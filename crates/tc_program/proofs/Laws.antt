@@ -7,11 +7,11 @@ use Rattle.tc_object.specs.Objects.{ObjectData, IsObject}
 use Rattle.tc_asm.specs.DraftInvariants.{IsDraft}
 use Rattle.tc_link.specs.Layouts.{LayoutData}
 use Rattle.tc_link.specs.GlobalSymbols.{globals_of, global_address}
-use Rattle.tc_link.specs.Relocated.{relocated_sections, contents_of}
+use Rattle.tc_link.specs.Relocated.{relocated_sections, relocated_contents}
 use Rattle.tc_link.specs.Segments.{segments_of}
 use Rattle.tcd_base.specs.Refusing.{unless_refused}
-use Rattle.tc_link.specs.Linked.{image_with_entry, made_of, image_of_objects}
-use Rattle.tc_link.specs.Refusals.{refused_early, Refusal, no_place_in, reloc_in}
+use Rattle.tc_link.specs.Linked.{image_with_entry, relocated_image_of, image_of_objects}
+use Rattle.tc_link.specs.Refusals.{refusal_before_relocs, Refusal, no_place_refusal_in, reloc_refusal_in}
 use Rattle.tc_link.specs.Placing.{placed_of}
 use Rattle.tc_link.specs.Shapes.{section_shape}
 use Rattle.tc_link.proofs.RelocLaws.{contents_shapes}
@@ -47,20 +47,20 @@ objects_good (x ∷ xs) (o ∷ os) h (suc k) d less = objects_good xs os h.1 k d
 
 -- ---- the results of the linker's checks
 pub record Parts (objects : List ObjectData) (layout : LayoutData) (image : ImageData) : Type 0 where
-  pub early : refused_early layout objects ≡ None
-  pub relocs : reloc_in (globals_of (placed_of layout objects)) (placed_of layout objects) ≡ None
+  pub early : refusal_before_relocs layout objects ≡ None
+  pub relocs : reloc_refusal_in (globals_of (placed_of layout objects)) (placed_of layout objects) ≡ None
   pub entry : global_address (globals_of (placed_of layout objects)) layout.entry ≡ Some image.entry
-  pub segments : image.segments ≡ segments_of layout.places (contents_of (placed_of layout objects))
+  pub segments : image.segments ≡ segments_of layout.places (relocated_contents (placed_of layout objects))
 
 pub parts_of : (objects : List ObjectData) (layout : LayoutData) (image : ImageData) → image_of_objects objects layout ≡ Ok image → Parts objects layout image
 unfolding image_of_objects
-parts_of objects layout image e = by_early (refused_early layout objects) refl e
+parts_of objects layout image e = by_early (refusal_before_relocs layout objects) refl e
   where
-    by_entry : (a : Option ℕ) → global_address (globals_of (placed_of layout objects)) layout.entry ≡ a → refused_early layout objects ≡ None
-        → reloc_in (globals_of (placed_of layout objects)) (placed_of layout objects) ≡ None → image_with_entry a layout.places (placed_of layout objects) ≡ Ok image → Parts objects layout image
+    by_entry : (a : Option ℕ) → global_address (globals_of (placed_of layout objects)) layout.entry ≡ a → refusal_before_relocs layout objects ≡ None
+        → reloc_refusal_in (globals_of (placed_of layout objects)) (placed_of layout objects) ≡ None → image_with_entry a layout.places (placed_of layout objects) ≡ Ok image → Parts objects layout image
     by_entry None at early relocs f = cc
     by_entry (Some a) at early relocs f =
-        let same : record { entry = a; segments = segments_of layout.places (contents_of (placed_of layout objects)) } ≡ image = cc in
+        let same : record { entry = a; segments = segments_of layout.places (relocated_contents (placed_of layout objects)) } ≡ image = cc in
         record {
           early = early;
           relocs = relocs;
@@ -68,21 +68,21 @@ parts_of objects layout image e = by_early (refused_early layout objects) refl e
           segments = sym (ap (λ (i : ImageData). i.segments) same);
         }
 
-    by_reloc : (r : Option Refusal) → reloc_in (globals_of (placed_of layout objects)) (placed_of layout objects) ≡ r → refused_early layout objects ≡ None
+    by_reloc : (r : Option Refusal) → reloc_refusal_in (globals_of (placed_of layout objects)) (placed_of layout objects) ≡ r → refusal_before_relocs layout objects ≡ None
         → unless_refused r (image_with_entry (global_address (globals_of (placed_of layout objects)) layout.entry) layout.places (placed_of layout objects)) ≡ Ok image → Parts objects layout image
     by_reloc (Some x) is early f = cc
     by_reloc None is early f = by_entry (global_address (globals_of (placed_of layout objects)) layout.entry) refl early is f
 
-    by_early : (r : Option Refusal) → refused_early layout objects ≡ r → unless_refused r (made_of layout (placed_of layout objects)) ≡ Ok image → Parts objects layout image
+    by_early : (r : Option Refusal) → refusal_before_relocs layout objects ≡ r → unless_refused r (relocated_image_of layout (placed_of layout objects)) ≡ Ok image → Parts objects layout image
     by_early (Some x) is f = cc
-    by_early None is f = by_reloc (reloc_in (globals_of (placed_of layout objects)) (placed_of layout objects)) refl is f
+    by_early None is f = by_reloc (reloc_refusal_in (globals_of (placed_of layout objects)) (placed_of layout objects)) refl is f
 
-pub placeable : (objects : List ObjectData) (layout : LayoutData) → refused_early layout objects ≡ None → no_place_in layout.places objects ≡ None
+pub placeable : (objects : List ObjectData) (layout : LayoutData) → refusal_before_relocs layout objects ≡ None → no_place_refusal_in layout.places objects ≡ None
 placeable objects layout e = (none_parts _ _ (none_parts _ _ (none_parts _ _ e).1).1).0
 
 -- ---- the laws
 pub segments_law : PlacedSegmentsLaw
-unfolding contents_of
+unfolding relocated_contents
 segments_law sources objects layout image are e =
     let parts = parts_of objects layout image e in
     let g = globals_of (placed_of layout objects) in

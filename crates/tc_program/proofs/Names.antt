@@ -14,9 +14,9 @@ use Rattle.tc_asm.specs.declared.symbols.Entry.{Entry}
 use Rattle.tc_asm.specs.Symbols.{SymbolData, entry_of, place_in, symbol_names}
 use Rattle.tc_asm.specs.Drafts.{PartData}
 use Rattle.tc_asm.specs.DraftInvariants.{EachInDraft, is_drafted_name, IsNewDraftName, AreDistinctDraftNames, IsLabelPlace, IsPlaced, IsDraft}
-use Rattle.tc_asm.specs.Objects.{section_of, symbol_at, symbol_of, object_of}
+use Rattle.tc_asm.specs.Objects.{section_of, symbol_at, symbol_of, object_of_draft}
 use Rattle.tc_link.specs.Layouts.{PlaceData}
-use Rattle.tc_link.specs.Refusals.{has_symbol, no_place_in}
+use Rattle.tc_link.specs.Refusals.{has_symbol, no_place_refusal_in}
 use Rattle.tc_link.specs.Placing.{PlacedData, bases_after, placed_after, address_in_section}
 use Rattle.tc_link.specs.GlobalSymbols.{GlobalData, is_global, global_data, globals_of, global_address}
 use Rattle.tc_link.specs.Placing as placing
@@ -95,10 +95,10 @@ part_there (p ∷ ps) zero h = (p, refl)
 part_there (p ∷ ps) (suc n) h = part_there ps n (omega arith)
 
 -- ---- the address of a label
-module _ (layout_places : List PlaceData) (sources : List (List ℕ)) (objects : List ObjectData) (are : AreObjects sources objects) (placeable : no_place_in layout_places objects ≡ None)
+module _ (layout_places : List PlaceData) (sources : List (List ℕ)) (objects : List ObjectData) (are : AreObjects sources objects) (placeable : no_place_refusal_in layout_places objects ≡ None)
     (good : (i : ℕ) (source : List ℕ) → slice_get sources i ≡ Some source → IsDraft (draft_in source)) where
   abbrev pub bases : ℕ → List ℕ → List ℕ
-  bases i source = bases_after layout_places (placing.sections_to_link (take i objects)) (object_of (draft_in source)).sections
+  bases i source = bases_after layout_places (placing.sections_to_link (take i objects)) (object_of_draft (draft_in source)).sections
 
   -- a section with a label has a base
   labelled : (i : ℕ) (source : List ℕ) (k : ℕ) (s : SymbolData) (p : Place) → slice_get sources i ≡ Some source → slice_get (draft_in source).symbols k ≡ Some s → s.entry.place ≡ Some p →
@@ -115,7 +115,7 @@ module _ (layout_places : List PlaceData) (sources : List (List ℕ)) (objects :
       = ap (λ (o : Option Place). not ((symbol_at s.name s.entry.is_global o).kind == 0) && (symbol_at s.name s.entry.is_global o).section == p.section) placed ∙ defined s.entry.is_global p in
       let used : has_symbol (map symbol_of (draft_in source).symbols) p.section ≡ true
       = any_at (λ (x : object.SymbolData). not (x.kind == 0) && x.section == p.section) (map symbol_of (draft_in source).symbols) k (symbol_of s) symbol is_there in
-      let place = place_for layout_places objects i (object_of (draft_in source)) p.section (section_of part.0) placeable (object_at sources objects i source are at) section
+      let place = place_for layout_places objects i (object_of_draft (draft_in source)) p.section (section_of part.0) placeable (object_at sources objects i source are at) section
       (or_right (nat_lt 0 (length part.0.bytes)) (has_symbol (map symbol_of (draft_in source).symbols) p.section) used) in
       begins_at layout_places sources objects i source p.section (section_of part.0) place.0 are at own place.1
     where
@@ -148,7 +148,7 @@ module _ (layout_places : List PlaceData) (sources : List (List ℕ)) (objects :
       let own = source_at sources objects flat.outer lent.0 are lent.1 in
       let item = map_at (global_data flat.item.bases) (filter is_global flat.item.object.symbols) flat.inner g.0 flat.is_inner in
       let passed = filter_at is_global flat.item.object.symbols flat.inner item.item item.is_item in
-      let object_is : flat.item.object ≡ object_of (draft_in own.0) = ap (λ (q : PlacedData). q.object) lent.2 ∙ own.2 in
+      let object_is : flat.item.object ≡ object_of_draft (draft_in own.0) = ap (λ (q : PlacedData). q.object) lent.2 ∙ own.2 in
       let bases_are : flat.item.bases ≡ bases flat.outer own.0 = ap (λ (q : PlacedData). q.bases) lent.2 ∙ ap (λ (o : ObjectData). bases_after layout_places (placing.sections_to_link (take flat.outer objects)) o.sections) own.2 in
       let symbol = map_at symbol_of (draft_in own.0).symbols passed.at item.item (ap (λ (o : ObjectData). slice_get o.symbols passed.at) (sym object_is) ∙ passed.is_item) in
       let kind = kind_of symbol.item.name symbol.item.entry.is_global symbol.item.entry.place ((Decides-eqb (symbol_of symbol.item).kind 2).0 (ap is_global symbol.is ∙ passed.holds)) in

@@ -2,7 +2,7 @@
 use Rattle.std.proofs.Common.{◌≡◌, ℕ, zero, suc, List, [], ◌∷◌, ◌++◌, take, Some, refl, sym, ap, ◌∙◌}
 use Rattle.std.specs.Prelude.{slice_get}
 use Rattle.tc_object.specs.Objects.{SectionData, ObjectData}
-use Rattle.tc_asm.specs.Objects.{object_of}
+use Rattle.tc_asm.specs.Objects.{object_of_draft}
 use Rattle.tc_link.specs.Placing as placing
 use Rattle.tc_asm.specs.DraftedSources.{draft_in}
 use Rattle.tc_program.specs.Addresses.{program_sections}
@@ -13,7 +13,7 @@ abbrev pub AreObjects : List (List ℕ) → List ObjectData → Type 0
 AreObjects [] [] = Unit {0}
 AreObjects [] (o ∷ os) = ⊥
 AreObjects (x ∷ xs) [] = ⊥
-AreObjects (x ∷ xs) (o ∷ os) = (o ≡ object_of (draft_in x)) × AreObjects xs os
+AreObjects (x ∷ xs) (o ∷ os) = (o ≡ object_of_draft (draft_in x)) × AreObjects xs os
 
 -- those of all
 pub all_sections : (sources : List (List ℕ)) (objects : List ObjectData) → AreObjects sources objects → program_sections sources ≡ placing.sections_to_link objects
@@ -33,13 +33,13 @@ objects_take (x ∷ xs) (o ∷ os) zero h = tt
 objects_take (x ∷ xs) (o ∷ os) (suc i) h = (h.0, objects_take xs os i h.1)
 
 -- the object of a source, and the source of an object
-pub object_at : (sources : List (List ℕ)) (objects : List ObjectData) (i : ℕ) (x : List ℕ) → AreObjects sources objects → slice_get sources i ≡ Some x → slice_get objects i ≡ Some (object_of (draft_in x))
+pub object_at : (sources : List (List ℕ)) (objects : List ObjectData) (i : ℕ) (x : List ℕ) → AreObjects sources objects → slice_get sources i ≡ Some x → slice_get objects i ≡ Some (object_of_draft (draft_in x))
 object_at [] objects i x h e = cc
 object_at (y ∷ ys) [] i x h e = absurd h
-object_at (y ∷ ys) (o ∷ os) zero x h e = let same : y ≡ x = cc in ap (λ (p : ObjectData). Some p) (h.0 ∙ ap (λ (z : List ℕ). object_of (draft_in z)) same)
+object_at (y ∷ ys) (o ∷ os) zero x h e = let same : y ≡ x = cc in ap (λ (p : ObjectData). Some p) (h.0 ∙ ap (λ (z : List ℕ). object_of_draft (draft_in z)) same)
 object_at (y ∷ ys) (o ∷ os) (suc i) x h e = object_at ys os i x h.1 e
 
-pub source_at : (sources : List (List ℕ)) (objects : List ObjectData) (i : ℕ) (o : ObjectData) → AreObjects sources objects → slice_get objects i ≡ Some o → (x : List ℕ) × (slice_get sources i ≡ Some x) × (o ≡ object_of (draft_in x))
+pub source_at : (sources : List (List ℕ)) (objects : List ObjectData) (i : ℕ) (o : ObjectData) → AreObjects sources objects → slice_get objects i ≡ Some o → (x : List ℕ) × (slice_get sources i ≡ Some x) × (o ≡ object_of_draft (draft_in x))
 source_at [] [] i o h e = cc
 source_at [] (p ∷ ps) i o h e = absurd h
 source_at (y ∷ ys) [] i o h e = absurd h

@@ -10,11 +10,11 @@ use Rattle.tc_stmt.specs.Items.{ReferenceData, ItemData, code, bytes, zeros}
 use Rattle.tc_reloc.specs.Fields.{with_reloc_field}
 use Rattle.tc_stmt.specs.Lines.{lines_in, items_in}
 use Rattle.tc_asm.specs.Symbols.{SymbolData}
-use Rattle.tc_asm.specs.Drafts.{DraftData, start, assembled_row_code, row_fields_with_target, code_bytes, draft_after_item}
-use Rattle.tc_isa.specs.Relocations.{is_reloc}
+use Rattle.tc_asm.specs.Drafts.{DraftData, empty_draft, assembled_row_code, row_fields_with_target, code_bytes, draft_after_item}
+use Rattle.tc_isa.specs.Relocations.{is_relocation_kind}
 use Rattle.tc_asm.specs.DraftedSources.{symbols_of}
 use Rattle.tc_asm.specs.DraftInvariants.{EachInDraft}
-use Rattle.tc_asm.specs.Statements.{StatementData, content_of, standing_statement, statements_from}
+use Rattle.tc_asm.specs.Statements.{StatementData, statement_of_item, statement_with_room, statements_from}
 use Rattle.tc_program.specs.PlacementLaws.{SourceFieldFillsRow, SourceFieldsLaw}
 use Rattle.tc_stmt.proofs.ListItems.{InRest, in_front_or_rest}
 use Rattle.tc_asm.specs.ItemInvariants.{IsAddedCode, IsAddedItem}
@@ -23,7 +23,7 @@ use Rattle.tc_asm.proofs.CodeSizes.{fits_true, resolved_fits}
 use Rattle.tc_reloc.proofs.FilledRows.{filled_row, filled_fits}
 
 -- ---- statements
-code_fills : (labels : List SymbolData) (d : DraftData) (k : ℕ) (f : Fields) (o : Option ReferenceData) (r : ReferenceData) → IsAddedCode k f o → o ≡ Some r → is_reloc r.kind ≡ true → SourceFieldFillsRow r.kind (code_bytes labels d k f o)
+code_fills : (labels : List SymbolData) (d : DraftData) (k : ℕ) (f : Fields) (o : Option ReferenceData) (r : ReferenceData) → IsAddedCode k f o → o ≡ Some r → is_relocation_kind r.kind ≡ true → SourceFieldFillsRow r.kind (code_bytes labels d k f o)
 unfolding code_bytes assembled_row_code
 code_fills labels d k f o r c is waits =
     let fit = resolved_fits labels d k f o c.row c.at c.symbols c.fits in
@@ -44,14 +44,14 @@ code_fills labels d k f o r c is waits =
 -- a statement that waits for an address is a word of data, or an instruction with a constant to
 -- fill
 record Waits (t : StatementData) : Type 0 where
-  so : (r : ReferenceData) → t.reference ≡ Some r → is_reloc r.kind ≡ true → (r.kind ≡ 7) ⊎ SourceFieldFillsRow r.kind t.bytes
+  so : (r : ReferenceData) → t.reference ≡ Some r → is_relocation_kind r.kind ≡ true → (r.kind ≡ 7) ⊎ SourceFieldFillsRow r.kind t.bytes
 
 standing_waits : (b : Bool) (t : StatementData) → Waits t → (j : ℕ) (x : StatementData) → slice_get (cond b (t ∷ []) []) j ≡ Some x → Waits x
 standing_waits true t h zero x e = let same : t ≡ x = cc in subst Waits same h
 standing_waits true t h (suc j) x e = cc
 standing_waits false t h j x e = cc
 
-item_waits : (labels : List SymbolData) (d : DraftData) (i : ItemData) → IsAddedItem i → (j : ℕ) (x : StatementData) → slice_get (standing_statement d (content_of labels d i)) j ≡ Some x → Waits x
+item_waits : (labels : List SymbolData) (d : DraftData) (i : ItemData) → IsAddedItem i → (j : ℕ) (x : StatementData) → slice_get (statement_with_room d (statement_of_item labels d i)) j ≡ Some x → Waits x
 item_waits labels d (code k f o) h j x e = standing_waits _ _ (record { so = λ r is waits. inr (code_fills labels d k f o r h is waits) }) j x e
 item_waits labels d (bytes bs o) h j x e = standing_waits _ _ (record { so = λ r is waits. inl (h.kind r is) }) j x e
 item_waits labels d (zeros n) h j x e = standing_waits _ _ (record { so = λ r is waits. cc }) j x e
@@ -59,12 +59,12 @@ item_waits labels d _ h j x e = cc
 
 items_wait : (labels : List SymbolData) (is : List ItemData) (d : DraftData) → EachInDraft IsAddedItem is → (j : ℕ) (x : StatementData) → slice_get (statements_from labels d is) j ≡ Some x → Waits x
 items_wait labels [] d h j x e = cc
-items_wait labels (i ∷ is) d h j x e = by (in_front_or_rest (standing_statement d (content_of labels d i)) (statements_from labels (draft_after_item labels d i) is) j x e) (λ k g. items_wait labels is (draft_after_item labels d i) h.1 k x g)
+items_wait labels (i ∷ is) d h j x e = by (in_front_or_rest (statement_with_room d (statement_of_item labels d i)) (statements_from labels (draft_after_item labels d i) is) j x e) (λ k g. items_wait labels is (draft_after_item labels d i) h.1 k x g)
   where
-    by : (slice_get (standing_statement d (content_of labels d i)) j ≡ Some x) ⊎ InRest StatementData (standing_statement d (content_of labels d i)) (statements_from labels (draft_after_item labels d i) is) j x
+    by : (slice_get (statement_with_room d (statement_of_item labels d i)) j ≡ Some x) ⊎ InRest StatementData (statement_with_room d (statement_of_item labels d i)) (statements_from labels (draft_after_item labels d i) is) j x
         → ((k : ℕ) → slice_get (statements_from labels (draft_after_item labels d i) is) k ≡ Some x → Waits x) → Waits x
     by (inl g) rec = item_waits labels d i h.0 j x g
     by (inr r) rec = rec r.at r.is
 
 pub fields_law : SourceFieldsLaw
-fields_law source index t r at is waits = (items_wait (symbols_of (lines_in source)) (items_in (lines_in source)) start (source_are source) index t at).so r is waits
+fields_law source index t r at is waits = (items_wait (symbols_of (lines_in source)) (items_in (lines_in source)) empty_draft (source_are source) index t at).so r is waits

@@ -19,21 +19,21 @@ use Rattle.tc_reloc.specs.Refusals.{reloc_value_refusal}
 use Rattle.tc_reloc.specs.Fields.{reloc_field_number, with_reloc_field}
 use Rattle.tc_stmt.specs.Lines.{lines_in, items_in}
 use Rattle.tc_asm.specs.Symbols.{SymbolData, symbol_number, symbol_names}
-use Rattle.tc_asm.specs.Drafts.{UseData, PartData, start, bytes_at}
-use Rattle.tc_isa.specs.Relocations.{is_reloc}
+use Rattle.tc_asm.specs.Drafts.{UseData, PartData, empty_draft, bytes_at}
+use Rattle.tc_isa.specs.Relocations.{is_relocation_kind}
 use Rattle.tc_asm.specs.DraftedSources.{symbols_of, draft_in}
 use Rattle.tc_asm.specs.Rules.{KeepsRules, items_rule}
 use Rattle.tc_asm.specs.DraftInvariants.{is_drafted_name, IsUse, IsPart}
-use Rattle.tc_asm.specs.Objects.{section_of, symbol_of, assembled_addend, reloc_of, relocs_from, object_of}
-use Rattle.tc_asm.specs.Statements.{StatementData, section_bytes, offset_of, statements_in, is_open_statement}
+use Rattle.tc_asm.specs.Objects.{section_of, symbol_of, assembled_addend, reloc_of, relocs_from, object_of_draft}
+use Rattle.tc_asm.specs.Statements.{StatementData, section_bytes, offset_of, statements_in, has_unresolved_symbol}
 use Rattle.tc_asm.proofs.LaidLaws.{drafted-bytes, stands}
 use Rattle.tc_asm.proofs.ListLaws.{position_first}
 use Rattle.tc_link.specs.Layouts.{PlaceData, LayoutData, IsLayout, place_of}
 use Rattle.tc_link.specs.Placing.{PlacedData, bases_after, placed_of}
 use Rattle.tc_link.specs.GlobalSymbols.{GlobalData, globals_of}
 use Rattle.tc_link.specs.PlaceSizes.{round_up_place_size, taken_place_size}
-use Rattle.tc_link.specs.Relocated.{symbol_address, relocated_sections, field_place, reloc_value, contents_of}
-use Rattle.tc_link.specs.Refusals.{reloc_refusal, Refusal, reloc, missing_in, is_used_by_relocs, has_symbol, refusal_at, reloc_in, first_refusal_from, refused_early}
+use Rattle.tc_link.specs.Relocated.{symbol_address, relocated_sections, field_place, reloc_value, relocated_contents}
+use Rattle.tc_link.specs.Refusals.{reloc_refusal, Refusal, reloc, missing_symbol_refusal_in, is_used_by_relocs, has_symbol, refusal_at, reloc_refusal_in, first_refusal_from, refusal_before_relocs}
 use Rattle.tc_link.specs.Placing as placing
 use Rattle.tc_link.specs.Segments.{joined_sections, segment_of, segments_of}
 use Rattle.tc_link.specs.Shapes.{SectionShape, section_shape}
@@ -67,7 +67,7 @@ a_use n r = record { offset = n; reference = r }
 behind : {A : Type 0} (xs ys : List A) (y : A) → IsIn A ys y → IsIn A (xs ++ ys) y
 behind xs ys y h = record { at = length xs + h.at; is = get_behind xs ys (length xs + h.at) h.at refl ∙ h.is }
 
-use_there : (s n j : ℕ) (ts : List StatementData) (t : StatementData) (r : ReferenceData) → slice_get ts j ≡ Some t → (t.section == s) ≡ true → t.reference ≡ Some r → is_reloc r.kind ≡ true →
+use_there : (s n j : ℕ) (ts : List StatementData) (t : StatementData) (r : ReferenceData) → slice_get ts j ≡ Some t → (t.section == s) ≡ true → t.reference ≡ Some r → is_relocation_kind r.kind ≡ true →
     IsIn UseData (uses_from s n ts) (a_use (n + offset_of ts j s) r)
 use_there s n j [] t r e here is waits = cc
 use_there s n zero (x ∷ xs) t r e here is waits =
@@ -152,7 +152,7 @@ object_good sources objects are i o e =
     got : slice_get objects i ≡ Some (get_or objects i o) → o ≡ get_or objects i o
     got f = cc
 
-pub none_missing : (objects : List ObjectData) (layout : LayoutData) → refused_early layout objects ≡ None → missing_in objects ≡ None
+pub none_missing : (objects : List ObjectData) (layout : LayoutData) → refusal_before_relocs layout objects ≡ None → missing_symbol_refusal_in objects ≡ None
 none_missing objects layout e = (none_parts _ _ (none_parts _ _ e).1).0
   where
     none_parts : (a b : Option Refusal) → option_or a b ≡ None → (a ≡ None) × (b ≡ None)
@@ -176,18 +176,18 @@ module _ (sources : List (List ℕ)) (objects : List ObjectData) (layout : Layou
   globals = globals_of (placed_of layout objects)
 
   abbrev object : ObjectData
-  object = object_of (draft_in source)
+  object = object_of_draft (draft_in source)
 
   abbrev bases : List ℕ
-  bases = bases_after layout.places (placing.sections_to_link (take number objects)) (object_of (draft_in source)).sections
+  bases = bases_after layout.places (placing.sections_to_link (take number objects)) (object_of_draft (draft_in source)).sections
 
   abbrev own : PlacedData
   own = record { object = object; bases = bases }
 
   abbrev contents : List SectionData
-  contents = contents_of (placed_of layout objects)
+  contents = relocated_contents (placed_of layout objects)
 
-  rules : 15 ≤ items_rule (symbols_of (lines_in source)) start (items_in (lines_in source))
+  rules : 15 ≤ items_rule (symbols_of (lines_in source)) empty_draft (items_in (lines_in source))
   rules = source_items source (rules_at sources objects are number source is_source)
 
   object_there : slice_get objects number ≡ Some object
@@ -211,7 +211,7 @@ module _ (sources : List (List ℕ)) (objects : List ObjectData) (layout : Layou
     after = drop (suc s) (relocated_sections globals own) ++ flat_map (relocated_sections globals) (drop (suc number) (placed_of layout objects))
 
     parted : contents ≡ before ++ done ∷ after
-    unfolding contents_of
+    unfolding relocated_contents
     parted = flat_parted (relocated_sections globals) (placed_of layout objects) number own s done own_there (final source (source_good source) rules globals own refl s q is_part)
 
     section_there : slice_get (map section_of (draft_in source).parts) s ≡ Some (section_of q)
@@ -220,7 +220,7 @@ module _ (sources : List (List ℕ)) (objects : List ObjectData) (layout : Layou
     placed : (p : PlaceData) × (place_of layout.places q.name ≡ Some p)
     placed =
         place_for layout.places objects number object s (section_of q) (placeable objects layout parts.early) object_there section_there
-        (ap (λ b. b || has_symbol (object_of (draft_in source)).symbols s) (lt-ltb 0 (length q.bytes) some))
+        (ap (λ b. b || has_symbol (object_of_draft (draft_in source)).symbols s) (lt-ltb 0 (length q.bytes) some))
 
     begins : SectionHasAddress layout.places sources number s (slice_index bases s)
     begins =
@@ -321,12 +321,12 @@ module _ (sources : List (List ℕ)) (objects : List ObjectData) (layout : Layou
         ap (image_byte image) far ∙ byte_there t.section part.0 part.1 part_long (off + k) b (byte_at k b h)
 
     -- without a symbol that waits
-    held_plain : (o : Option ReferenceData) → is_open_statement o ≡ false → filled_bytes globals own (draft_in source).symbols t.section (0 + off) o t.bytes ≡ t.bytes
+    held_plain : (o : Option ReferenceData) → has_unresolved_symbol o ≡ false → filled_bytes globals own (draft_in source).symbols t.section (0 + off) o t.bytes ≡ t.bytes
     held_plain None e = refl
     held_plain (Some r) e =
         ap (λ b. cond b (with_reloc_field r.kind t.bytes (reloc_field_number r.kind (field_place own (reloc_of (draft_in source).symbols t.section (a_use (0 + off) r))) (reloc_value globals own (reloc_of (draft_in source).symbols t.section (a_use (0 + off) r))))) t.bytes) e
 
-    plain_stands : is_open_statement t.reference ≡ false → StatementIsPlaced layout.places sources image number j (statements_in source) t
+    plain_stands : has_unresolved_symbol t.reference ≡ false → StatementIsPlaced layout.places sources image number j (statements_in source) t
     plain_stands e = record {
       base = base;
       begins = begins t.section part.0 part.1 part_long;
@@ -336,7 +336,7 @@ module _ (sources : List (List ℕ)) (objects : List ObjectData) (layout : Layou
     }
 
     -- with one
-    module _ (r : ReferenceData) (is : t.reference ≡ Some r) (waits : is_reloc r.kind ≡ true) where
+    module _ (r : ReferenceData) (is : t.reference ≡ Some r) (waits : is_relocation_kind r.kind ≡ true) where
       abbrev field : Reloc
       field = reloc_of (draft_in source).symbols t.section (a_use (0 + off) r)
 
@@ -374,7 +374,7 @@ module _ (sources : List (List ℕ)) (objects : List ObjectData) (layout : Layou
           (symbol_number (draft_in source).symbols r.name) symbol.0 is_source symbol.1 is_there)
 
       four : length t.bytes ≡ 4
-      four = (has_at (statements_in source) j t (have source (source_good source) rules) at).four (ap is_open_statement is ∙ waits)
+      four = (has_at (statements_in source) j t (have source (source_good source) rules) at).four (ap has_unresolved_symbol is ∙ waits)
 
       abbrev whole : ℕ → ℕ → List ℕ
       whole place value = with_reloc_field r.kind t.bytes (reloc_field_number r.kind place value)
@@ -401,7 +401,7 @@ module _ (sources : List (List ℕ)) (objects : List ObjectData) (layout : Layou
           (map_get symbol_of (draft_in source).symbols (symbol_number (draft_in source).symbols r.name) symbol.0 symbol.1)
 
       unrefused : reloc_refusal globals own field ≡ None
-      unfolding reloc_in
+      unfolding reloc_refusal_in
       unrefused =
           let here : first_refusal_from (refusal_at globals (0 + number) own) 0 object.relocs ≡ None
           = none_at (λ n (x : PlacedData). first_refusal_from (refusal_at globals n x) 0 x.object.relocs) 0 (placed_of layout objects) number own parts.relocs own_there in
@@ -432,10 +432,10 @@ module _ (sources : List (List ℕ)) (objects : List ObjectData) (layout : Layou
     pub statement_stands : StatementIsPlaced layout.places sources image number j (statements_in source) t
     statement_stands = by t.reference refl
       where
-        by_open : (r : ReferenceData) (b : Bool) → t.reference ≡ Some r → is_reloc r.kind ≡ b → StatementIsPlaced layout.places sources image number j (statements_in source) t
+        by_open : (r : ReferenceData) (b : Bool) → t.reference ≡ Some r → is_relocation_kind r.kind ≡ b → StatementIsPlaced layout.places sources image number j (statements_in source) t
         by_open r true e f = filled_stands r e f
-        by_open r false e f = plain_stands (ap is_open_statement e ∙ f)
+        by_open r false e f = plain_stands (ap has_unresolved_symbol e ∙ f)
 
         by : (o : Option ReferenceData) → t.reference ≡ o → StatementIsPlaced layout.places sources image number j (statements_in source) t
-        by None e = plain_stands (ap is_open_statement e)
-        by (Some r) e = by_open r (is_reloc r.kind) e refl
+        by None e = plain_stands (ap has_unresolved_symbol e)
+        by (Some r) e = by_open r (is_relocation_kind r.kind) e refl

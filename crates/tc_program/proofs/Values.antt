@@ -13,9 +13,9 @@ use Rattle.tc_asm.specs.declared.symbols.Place.{Place}
 use Rattle.tc_asm.specs.declared.symbols.Entry.{Entry}
 use Rattle.tc_asm.specs.Symbols.{SymbolData, place_in}
 use Rattle.tc_asm.specs.DraftInvariants.{IsDraft}
-use Rattle.tc_asm.specs.Objects.{symbol_at, symbol_of, object_of}
+use Rattle.tc_asm.specs.Objects.{symbol_at, symbol_of, object_of_draft}
 use Rattle.tc_link.specs.Layouts.{PlaceData}
-use Rattle.tc_link.specs.Refusals.{Refusal, missing, first_refusal_from, is_used_by_relocs, missing_of, missing_in, no_place_in}
+use Rattle.tc_link.specs.Refusals.{Refusal, missing, first_refusal_from, is_used_by_relocs, missing_symbol_refusal, missing_symbol_refusal_in, no_place_refusal_in}
 use Rattle.tc_link.specs.GlobalSymbols.{has_global_name, globals_named, symbols_to_link, GlobalData, is_global, global_data, globals_of, global_address}
 use Rattle.tc_link.specs.Placing.{placed_after, bases_after, address_in_section}
 use Rattle.tc_link.specs.Relocated.{symbol_address}
@@ -60,13 +60,13 @@ unused true true false r e h k = refl
 unused true false c r e h k = cc
 unused false b c r e h k = cc
 
-global_there : (places : List PlaceData) (objects : List ObjectData) (i : ℕ) (o : ObjectData) (k : ℕ) (x : object.SymbolData) → missing_in objects ≡ None → slice_get objects i ≡ Some o → slice_get o.symbols k ≡ Some x → x.kind ≡ 0 →
+global_there : (places : List PlaceData) (objects : List ObjectData) (i : ℕ) (o : ObjectData) (k : ℕ) (x : object.SymbolData) → missing_symbol_refusal_in objects ≡ None → slice_get objects i ≡ Some o → slice_get o.symbols k ≡ Some x → x.kind ≡ 0 →
     is_used_by_relocs o.relocs k ≡ true → (a : ℕ) × (global_address (globals_of (placed_after places [] objects)) x.name ≡ Some a)
-unfolding missing_in
+unfolding missing_symbol_refusal_in
 global_there places objects i o k x e at there kind uses =
-    let here : first_refusal_from (missing_of objects o.relocs) 0 o.symbols ≡ None = none_at (λ n (q : ObjectData). first_refusal_from (missing_of objects q.relocs) 0 q.symbols) 0 objects i o e at in
+    let here : first_refusal_from (missing_symbol_refusal objects o.relocs) 0 o.symbols ≡ None = none_at (λ n (q : ObjectData). first_refusal_from (missing_symbol_refusal objects q.relocs) 0 q.symbols) 0 objects i o e at in
     let same : k ≡ 0 + k = omega arith in
-    let mine : missing_of objects o.relocs k x ≡ None = ap (λ n. missing_of objects o.relocs n x) same ∙ none_at (missing_of objects o.relocs) 0 o.symbols k x here there in
+    let mine : missing_symbol_refusal objects o.relocs k x ≡ None = ap (λ n. missing_symbol_refusal objects o.relocs n x) same ∙ none_at (missing_symbol_refusal objects o.relocs) 0 o.symbols k x here there in
     let some : (globals_named objects x.name == 0) ≡ false = unused (x.kind == 0) (is_used_by_relocs o.relocs k) (globals_named objects x.name == 0) (missing x.name) mine ((Decides-eqb x.kind 0).1 kind) uses in
     by (find (is_named x.name) (globals_of (placed_after places [] objects))) refl some
   where
@@ -79,15 +79,15 @@ global_there places objects i o k x e at there kind uses =
     by (Some y) f some = (y.address, ap (option_map (λ (z : GlobalData). z.address)) f)
 
 -- ---- the address of a symbol of a source
-module _ (layout_places : List PlaceData) (sources : List (List ℕ)) (objects : List ObjectData) (are : AreObjects sources objects) (placeable : no_place_in layout_places objects ≡ None)
-    (good : (i : ℕ) (source : List ℕ) → slice_get sources i ≡ Some source → IsDraft (draft_in source)) (known : missing_in objects ≡ None) where
+module _ (layout_places : List PlaceData) (sources : List (List ℕ)) (objects : List ObjectData) (are : AreObjects sources objects) (placeable : no_place_refusal_in layout_places objects ≡ None)
+    (good : (i : ℕ) (source : List ℕ) → slice_get sources i ≡ Some source → IsDraft (draft_in source)) (known : missing_symbol_refusal_in objects ≡ None) where
   abbrev globals : List GlobalData
   globals = globals_of (placed_after layout_places [] objects)
 
   abbrev own_bases : ℕ → List ℕ → List ℕ
   own_bases i source = bases layout_places sources objects are placeable good i source
 
-  pub means_at : (i : ℕ) (source : List ℕ) (k : ℕ) (s : SymbolData) → slice_get sources i ≡ Some source → slice_get (draft_in source).symbols k ≡ Some s → is_used_by_relocs (object_of (draft_in source)).relocs k ≡ true →
+  pub means_at : (i : ℕ) (source : List ℕ) (k : ℕ) (s : SymbolData) → slice_get sources i ≡ Some source → slice_get (draft_in source).symbols k ≡ Some s → is_used_by_relocs (object_of_draft (draft_in source)).relocs k ≡ true →
       NameHasAddress layout_places sources i s.name (symbol_address globals (own_bases i source) (symbol_of s))
   means_at i source k s at there uses = by s.entry.place refl
     where
@@ -104,7 +104,7 @@ module _ (layout_places : List PlaceData) (sources : List (List ℕ)) (objects :
           let x : object.SymbolData = symbol_of s in
           let kind : x.kind ≡ 0 = ap (λ (o : Option Place). (symbol_at s.name s.entry.is_global o).kind) e in
           let name : x.name ≡ s.name = ap (λ (o : Option Place). (symbol_at s.name s.entry.is_global o).name) e in
-          let g = global_there layout_places objects i (object_of (draft_in source)) k x known (object_at sources objects i source are at) symbol kind uses in
+          let g = global_there layout_places objects i (object_of_draft (draft_in source)) k x known (object_at sources objects i source are at) symbol kind uses in
           let there_is : global_address globals s.name ≡ Some g.0 = ap (global_address globals) (sym name) ∙ g.1 in
           let M : ℕ → Type 0 = λ n. NameHasAddress layout_places sources i s.name n in
           let nowhere : place_in (symbols_in source) s.name ≡ None = ap (λ (y : Entry). y.place) (entry_at (draft_in source).symbols k s (good i source at).symbols_named there) ∙ e in

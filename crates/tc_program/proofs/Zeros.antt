@@ -17,7 +17,7 @@ use Rattle.tc_link.specs.Placing.{placed_of}
 use Rattle.tc_link.specs.GlobalSymbols.{globals_of}
 use Rattle.tc_link.specs.PlaceSizes.{round_up_place_size, taken_place_size}
 use Rattle.tc_link.specs.Segments.{segment_of, segments_of}
-use Rattle.tc_link.specs.Relocated.{contents_of}
+use Rattle.tc_link.specs.Relocated.{relocated_contents}
 use Rattle.tc_link.specs.Shapes.{section_shape}
 use Rattle.tc_link.proofs.RelocLaws.{contents_shapes}
 use Rattle.tc_program.specs.Addresses.{program_sections, SectionHasAddress}
@@ -132,10 +132,10 @@ module _ (sources : List (List ℕ)) (layout : LayoutData) (good : IsLayout layo
 
   module _ (objects : List ObjectData) (image : ImageData) (are : AreProgramObjects sources objects) (parts : Parts objects layout image) where
     abbrev contents : List SectionData
-    contents = contents_of (placed_of layout objects)
+    contents = relocated_contents (placed_of layout objects)
 
     shapes : map section_shape contents ≡ map section_shape (program_sections sources)
-    unfolding contents_of
+    unfolding relocated_contents
     shapes =
         contents_shapes (globals_of (placed_of layout objects)) layout.places [] objects (objects_good sources objects are)
         ∙ ap (map section_shape) (sym (all_sections sources objects (are_objects sources objects are)))

@@ -1,13 +1,13 @@
 -- The addresses of the statements of sources in an image that was linked from them.
 use Rattle.std.specs.Prelude.{◌≡◌, ◌≤◌, ◌<◌, ◌+◌, ◌%◌, ◌^◌, ◌⊎◌, nat_lt, ℕ, true, false, List, length, map, filter, slice_get, Some, None}
 use Rattle.elf_image.specs.Images.{SegmentData, ImageData, image_byte, HoldsFrom}
-use Rattle.tc_isa.specs.Relocations.{is_reloc}
+use Rattle.tc_isa.specs.Relocations.{is_relocation_kind}
 use Rattle.tc_reloc.specs.Refusals.{reloc_value_refusal}
 use Rattle.tc_reloc.specs.Fields.{reloc_field_number, with_reloc_field}
 use Rattle.tc_stmt.specs.Items.{ReferenceData}
 use Rattle.tc_object.specs.Objects.{SectionData}
 use Rattle.tc_asm.specs.Objects.{assembled_addend}
-use Rattle.tc_asm.specs.Statements.{StatementData, offset_of, statements_in, is_open_statement}
+use Rattle.tc_asm.specs.Statements.{StatementData, offset_of, statements_in, has_unresolved_symbol}
 use Rattle.tc_link.specs.Layouts.{PlaceData, LayoutData}
 use Rattle.tc_link.specs.PlaceSizes.{taken_place_size}
 use Rattle.tc_program.specs.Addresses.{program_sections, SectionHasAddress, GlobalHasAddress, NameHasAddress}
@@ -20,12 +20,12 @@ placed_symbol_value address r = (address + assembled_addend r) % 2 ^ 32
 -- The bytes of a statement at this address: its data, or its instruction's spelling. If it has a
 -- symbol, the field can hold the symbol's address plus the number that is added, and is filled to
 -- reach it.
-pub data PlacedStatementBytes (places : List PlaceData) (sources : List (List ℕ)) (number : ℕ) (t : StatementData) (at : ℕ) : List ℕ → Type 0 where
-  plain : is_open_statement t.reference ≡ false → PlacedStatementBytes places sources number t at t.bytes
+pub data ArePlacedStatementBytes (places : List PlaceData) (sources : List (List ℕ)) (number : ℕ) (t : StatementData) (at : ℕ) : List ℕ → Type 0 where
+  plain : has_unresolved_symbol t.reference ≡ false → ArePlacedStatementBytes places sources number t at t.bytes
   filled :
-      (r : ReferenceData) (address : ℕ) → t.reference ≡ Some r → is_reloc r.kind ≡ true → length t.bytes ≡ 4 → NameHasAddress places sources number r.name address
+      (r : ReferenceData) (address : ℕ) → t.reference ≡ Some r → is_relocation_kind r.kind ≡ true → length t.bytes ≡ 4 → NameHasAddress places sources number r.name address
       → reloc_value_refusal r.kind at (placed_symbol_value address r) ≡ None
-      → PlacedStatementBytes places sources number t at (with_reloc_field r.kind t.bytes (reloc_field_number r.kind at (placed_symbol_value address r)))
+      → ArePlacedStatementBytes places sources number t at (with_reloc_field r.kind t.bytes (reloc_field_number r.kind at (placed_symbol_value address r)))
 
 -- the image holds the bytes of the source statement with this index at its address, after the
 -- earlier ones of its section
@@ -33,7 +33,7 @@ pub record StatementIsPlaced (places : List PlaceData) (sources : List (List ℕ
   pub base : ℕ
   pub begins : SectionHasAddress places sources number t.section base
   pub bytes : List ℕ
-  pub are : PlacedStatementBytes places sources number t (base + offset_of ts index t.section) bytes
+  pub are : ArePlacedStatementBytes places sources number t (base + offset_of ts index t.section) bytes
   pub there : HoldsFrom image (base + offset_of ts index t.section) bytes
 
 -- an address within a statement

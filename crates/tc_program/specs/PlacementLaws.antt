@@ -5,14 +5,14 @@ use Rattle.tc_isa.specs.declared.fields.Fields.{Fields}
 use Rattle.tc_isa.specs.Rows.{RowData, listed}
 use Rattle.tc_isa.specs.ValidRowFields.{FieldsFitRow}
 use Rattle.tc_isa.specs.Spelling.{spelling}
-use Rattle.tc_isa.specs.Relocations.{is_reloc}
+use Rattle.tc_isa.specs.Relocations.{is_relocation_kind}
 use Rattle.tc_reloc.specs.Fields.{reloc_field_bound, with_reloc_field}
 use Rattle.tc_stmt.specs.Items.{ReferenceData}
 use Rattle.tc_object.specs.Objects.{ObjectData}
 use Rattle.tc_stmt.specs.Lines.{lines_in}
 use Rattle.tc_asm.specs.DraftedSources.{symbols_of, draft_in, symbols_in}
 use Rattle.tc_asm.specs.Rules.{KeepsRules}
-use Rattle.tc_asm.specs.Objects.{object_of}
+use Rattle.tc_asm.specs.Objects.{object_of_draft}
 use Rattle.tc_asm.specs.Statements.{StatementData, offset_of, statements_in}
 use Rattle.tc_link.specs.Layouts.{LayoutData, IsLayout, PlaceData}
 use Rattle.tc_link.specs.Linked.{image_of_objects}
@@ -27,7 +27,7 @@ abbrev pub AreProgramObjects : List (List ℕ) → List ObjectData → Type 0
 AreProgramObjects [] [] = Unit {0}
 AreProgramObjects [] (o ∷ os) = ⊥
 AreProgramObjects (x ∷ xs) [] = ⊥
-AreProgramObjects (x ∷ xs) (o ∷ os) = (KeepsRules (lines_in x) (length (lines_in x)) × (o ≡ object_of (draft_in x))) × AreProgramObjects xs os
+AreProgramObjects (x ∷ xs) (o ∷ os) = (KeepsRules (lines_in x) (length (lines_in x)) × (o ≡ object_of_draft (draft_in x))) × AreProgramObjects xs os
 
 -- in an image linked from such objects, each place with bytes is one segment
 abbrev pub PlacedSegmentsLaw : Type 0
@@ -64,7 +64,7 @@ pub record SourceFieldFillsRow (kind : ℕ) (bytes : List ℕ) : Type 0 where
 -- law of placing a source: the bytes of a statement that waits for an address are a word of data,
 -- or an instruction whose constant is to be filled
 abbrev pub SourceFieldsLaw : Type 0
-SourceFieldsLaw = (source : List ℕ) (index : ℕ) (t : StatementData) (r : ReferenceData) → slice_get (statements_in source) index ≡ Some t → t.reference ≡ Some r → is_reloc r.kind ≡ true → (r.kind ≡ 7) ⊎ SourceFieldFillsRow r.kind t.bytes
+SourceFieldsLaw = (source : List ℕ) (index : ℕ) (t : StatementData) (r : ReferenceData) → slice_get (statements_in source) index ≡ Some t → t.reference ≡ Some r → is_relocation_kind r.kind ≡ true → (r.kind ≡ 7) ⊎ SourceFieldFillsRow r.kind t.bytes
 
 -- ---- jumps of 16 bits
 

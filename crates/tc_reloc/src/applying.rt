@@ -3,7 +3,7 @@ ghost use Rattle.std.specs.Prelude.{◌≡◌, ◌≤◌, ◌+◌, OnOk, IfOk};
 ghost use Rattle.tcd_base.specs.Bytes.{word_in_bytes};
 ghost use Rattle.tc_reloc.specs.Fields.{reloc_field_number, bits_outside_reloc_field, reloc_field_bits};
 ghost use Rattle.tc_reloc.specs.ReachedAddresses.{held_reloc_number, address_reached_by_reloc};
-ghost use Rattle.tc_reloc.specs.Applied.{applied};
+ghost use Rattle.tc_reloc.specs.Applied.{filled_reloc_field};
 
 use crate::fields::{bits_outside_reloc_field, reloc_field_bits, reloc_field_number};
 use crate::refusals::{RelocErr, reloc_value_refusal};
@@ -17,7 +17,7 @@ use tc_isa::WORD32;
 pub fn apply(kind: u8, field: [u8; 4], place: u32, value: u32) -> Result<[u8; 4], RelocErr>
     requires some { 1 ≤ kind }
     requires most { kind ≤ 7 }
-    ensures applied { result ≡ applied kind field place value }
+    ensures applied { result ≡ filled_reloc_field kind field place value }
 
     // The field holds the number that reaches the value, and all bits outside it keep their values.
     ensures held { IfOk result (λ new. held_reloc_number kind (word_in_bytes new 0)

@@ -11,7 +11,7 @@ use Rattle.tcd_plan.specs.PlanData.{PlanData, IsPlan, are_ranges_apart, are_all_
 use Rattle.tcd_base.specs.Ranges.{IsWithinRange, is_within_range}
 use Rattle.tcd_plan.proofs.ApartLaws.{all_apart-behind}
 use Rattle.tc_script.specs.declared.scripts.AnswerRange.{AnswerRange}
-use Rattle.tc_script.specs.ScriptsFitPlans.{AreInside}
+use Rattle.tc_script.specs.ScriptsFitPlans.{AreAnswerBoundsInside}
 use Rattle.tc_script.specs.Ports.{ArePortsBounded, device_answer_at, device_answer}
 use Rattle.tc_script.specs.DrivenRuns.{DeviceAnswers}
 use Rattle.tcd_base.proofs.RangeLaws.{within_true, true_within}
@@ -37,7 +37,7 @@ no_both x r s apart in_r in_s = elim (or_cases (nat_le (r.at + r.len) s.at) (nat
   | inr above ↦ let le = leb-true (s.at + s.len) r.at above in omega (arith, le, in_r.0, in_r.1, in_s.0, in_s.1)
 ]
 
-lies_at : (x t : ℕ) (ds : List Device) (bs : List AnswerRange) (k : ℕ) (d : Device) → AreInside ds bs → are_all_ranges_apart (ranges_of ds) ≡ true → slice_get ds k ≡ Some d → IsWithinRange x 1 d.range → Lies (device_answer_at ds bs x t) d
+lies_at : (x t : ℕ) (ds : List Device) (bs : List AnswerRange) (k : ℕ) (d : Device) → AreAnswerBoundsInside ds bs → are_all_ranges_apart (ranges_of ds) ≡ true → slice_get ds k ≡ Some d → IsWithinRange x 1 d.range → Lies (device_answer_at ds bs x t) d
 lies_at x t [] bs k d inside apart here has = cc
 lies_at x t (e ∷ ds) [] k d inside apart here has = absurd inside
 lies_at x t (e ∷ ds) (b ∷ bs) zero d inside apart here has =
@@ -65,7 +65,7 @@ devices_apart plan ok =
     all_apart-behind (plan.rom ++ plan.ram) (ranges_of plan.devices) (all_apart-front (plan.rom ++ plan.ram ++ ranges_of plan.devices) (areas_range plan ∷ []) ok.apart)
 
 -- answers of a script that fits the plan
-pub bounded_by : (plan : PlanData) (bounds : List AnswerRange) (answers : DeviceAnswers) → IsPlan plan → AreInside plan.devices bounds → AnswersBy plan.devices bounds answers → ArePortsBounded answers plan.devices
+pub bounded_by : (plan : PlanData) (bounds : List AnswerRange) (answers : DeviceAnswers) → IsPlan plan → AreAnswerBoundsInside plan.devices bounds → AnswersBy plan.devices bounds answers → ArePortsBounded answers plan.devices
 bounded_by plan bounds answers ok inside by = λ k d lt addr t w has early small gives.
     subst (λ v. Lies v (slice_index_or plan.devices k d)) (sym (by addr t w gives))
     (lies_at addr t plan.devices bounds k (slice_index_or plan.devices k d) inside (devices_apart plan ok) (slice_get-get_or plan.devices k d lt) has)

@@ -17,11 +17,11 @@ use Rattle.tc_machine.specs.declared.events.Event.{Event}
 use Rattle.tc_machine.specs.declared.events.End.{End}
 use Rattle.tc_machine.specs.declared.events.End.TheVariants.{Running, Dead}
 use Rattle.tc_machine.specs.declared.state.Machine.{Machine}
-use Rattle.tc_machine.specs.Fetching.{mapped_bytes, fetched_shape, fetched}
+use Rattle.tc_machine.specs.Fetching.{mapped_bytes, fetched_shape, fetched_instruction}
 use Rattle.tcd_base.specs.Ranges.{IsWithinRange, is_within_range}
 use Rattle.tcd_base.proofs.RangeLaws.{within_true, true_within}
 use Rattle.tc_machine.specs.Safe.{Fits}
-use Rattle.tc_machine.specs.Stepping.{where_running, load_in, load_at_pc, next_load_of}
+use Rattle.tc_machine.specs.Stepping.{none_if_dead, load_of_fetched, load_at_pc, next_load_of}
 use Rattle.tc_machine.proofs.ShapeWords.{IsSize, IsShape, shape_of-suits}
 use Rattle.tc_script.specs.declared.scripts.Turn.{Turn}
 use Rattle.tc_script.specs.Ports.{ArePortsAskable, ArePortsBounded}
@@ -71,12 +71,12 @@ input_lies answers ds t (Some load) w all early small (inr is) = λ four. none_w
 abbrev decoded_at : Machine → Result (InstData × ℕ) DecodeErr
 decoded_at m = decoded_of (mapped_bytes 4 m.mem m.pc)
 
-next_load-running : (m : Machine) → m.end ≡ Running → next_load_of m ≡ load_in m (fetched_shape (decoded_at m))
-next_load-running m is = ap (λ end. where_running end (load_in m (fetched_shape (decoded_at m)))) is
+next_load-running : (m : Machine) → m.end ≡ Running → next_load_of m ≡ load_of_fetched m (fetched_shape (decoded_at m))
+next_load-running m is = ap (λ end. none_if_dead end (load_of_fetched m (fetched_shape (decoded_at m)))) is
 
-at_pc : (plan : PlanData) (m : Machine) (w : ℕ) → AnswersLoad plan w (load_in m (fetched_shape (decoded_at m))) → AnswersLoad plan w (load_at_pc m)
-unfolding fetched
-at_pc plan m w h = cond_both (m.pc % 2 == 0) (fetched_shape (decoded_at m)) (Err NoCode) (λ r. AnswersLoad plan w (load_in m r)) (λ even. h) (λ odd. tt)
+at_pc : (plan : PlanData) (m : Machine) (w : ℕ) → AnswersLoad plan w (load_of_fetched m (fetched_shape (decoded_at m))) → AnswersLoad plan w (load_at_pc m)
+unfolding fetched_instruction
+at_pc plan m w h = cond_both (m.pc % 2 == 0) (fetched_shape (decoded_at m)) (Err NoCode) (λ r. AnswersLoad plan w (load_of_fetched m r)) (λ even. h) (λ odd. tt)
 
 pub fits_event : (plan : PlanData) (answers : DeviceAnswers) (t : ℕ) (turn : Turn) (m : Machine) (e : Event) → m.end ≡ Running → IsEventOfTurn plan.devices answers t turn m e → ArePortsBounded answers plan.devices → (turn.irq ≡ 0) ⊎ Contains plan.irqs turn.irq → t < 2 ^ 32 → e.input < 2 ^ 32 → Fits plan m e
 fits_event plan answers t turn m e running is all source early small = record {
@@ -95,15 +95,15 @@ some_size n (inr (inr is)) = omega arith
 abbrev HasBytesOf : Option (ℕ × ℕ) → Type 0
 HasBytesOf load = IfSome load (λ l. 1 ≤ l.1)
 
-sized_shape : (m : Machine) (shape : Shape) (n : ℕ) → IsShape shape → HasBytesOf (load_in m (Ok (shape, n)))
+sized_shape : (m : Machine) (shape : Shape) (n : ℕ) → IsShape shape → HasBytesOf (load_of_fetched m (Ok (shape, n)))
 sized_shape m (Load dst base offset size signed after) n h = some_size size h
 sized_shape m _ n h = tt
 
-sized : (m : Machine) (r : Result (InstData × ℕ) DecodeErr) → ((i : InstData) (n : ℕ) → r ≡ Ok (i, n) → IsInst i) → HasBytesOf (load_in m (fetched_shape r))
+sized : (m : Machine) (r : Result (InstData × ℕ) DecodeErr) → ((i : InstData) (n : ℕ) → r ≡ Ok (i, n) → IsInst i) → HasBytesOf (load_of_fetched m (fetched_shape r))
 sized m (Ok found) h = sized_shape m _ found.1 (shape_of-suits found.0 (h found.0 found.1 refl))
 sized m (Err e) h = tt
 
-where_running-sized : (end : End) (load : Option (ℕ × ℕ)) → HasBytesOf load → HasBytesOf (where_running end load)
+where_running-sized : (end : End) (load : Option (ℕ × ℕ)) → HasBytesOf load → HasBytesOf (none_if_dead end load)
 where_running-sized Running load h = h
 where_running-sized (Dead cause) load h = tt
 

@@ -10,7 +10,7 @@ use Rattle.std.proofs.lemmas.List.Elements.{All-nil, All-append, All-replicate}
 use Rattle.tcd_text.specs.Lines.{line_words}
 use Rattle.tcd_text.proofs.LineLaws.{more_words}
 use Rattle.tcd_plan.specs.declared.plans.Device.{Device}
-use Rattle.tcd_plan.specs.PlanData.{PlanData, IsPlan, is_device, is_range, is_source}
+use Rattle.tcd_plan.specs.PlanData.{PlanData, IsPlan, is_plan_device, is_plan_range, is_plan_irq}
 use Rattle.tc_script.specs.declared.errors.ScriptErr.{ScriptErr}
 use Rattle.tc_script.specs.declared.errors.ScriptErr.TheVariants.{OutOfRange}
 use Rattle.tc_script.specs.declared.reading.Draft.{Draft}
@@ -19,9 +19,9 @@ use Rattle.tc_script.specs.declared.statements.Statement.{Statement}
 use Rattle.tc_script.specs.declared.statements.Statement.TheVariants.{Step, Irq, Aln, In}
 use Rattle.tc_script.specs.Numbers.{script_number}
 use Rattle.tc_script.specs.Statements.{statement_if, statement_of_one_number, statement_of_three_numbers, script_statement_of, statement_of_one_word, HasOrderedBounds}
-use Rattle.tc_script.specs.ScriptsFitPlans.{AreInside, FitsPlan}
-use Rattle.tc_script.specs.ScriptText.{begun_script, with_turns, holds_bounds, with_bounds, script_after_statement, if_said, line_read, then_read, lines_read}
-use Rattle.tc_script.specs.Ports.{own_bounds}
+use Rattle.tc_script.specs.ScriptsFitPlans.{AreAnswerBoundsInside, FitsPlan}
+use Rattle.tc_script.specs.ScriptText.{empty_script_draft, with_turns, may_set_bounds, with_bounds, script_draft_after_statement, script_draft_after_parsed_line, script_draft_after_line, then_read_script, script_draft_after_lines}
+use Rattle.tc_script.specs.Ports.{initial_answer_bounds}
 
 -- ---- bounds in order
 abbrev IsOrderedIf : Option Statement → Type 0
@@ -89,54 +89,54 @@ turns_fit plan line count irq d source h =
     })
     (λ _. tt)
 
-holds_parts : (o : Option Device) (d : Device) (lo hi : ℕ) → o ≡ Some d → holds_bounds o lo hi ≡ true → (d.lo ≤ lo) × (hi ≤ d.hi)
+holds_parts : (o : Option Device) (d : Device) (lo hi : ℕ) → o ≡ Some d → may_set_bounds o lo hi ≡ true → (d.lo ≤ lo) × (hi ≤ d.hi)
 holds_parts None d lo hi is holds = absurd (false≢true holds)
 holds_parts (Some e) d lo hi is holds = let same : e ≡ d = cc in let both = and_parts _ _ holds in subst (λ f. (f.lo ≤ lo) × (hi ≤ f.hi)) same (leb-true _ _ both.0, leb-true _ _ both.1)
 
-bounds_set : (ds : List Device) (bs : List AnswerRange) (i lo hi : ℕ) → lo ≤ hi → holds_bounds (slice_get ds i) lo hi ≡ true → AreInside ds bs → AreInside ds (set bs i (record { lo = lo; hi = hi }))
+bounds_set : (ds : List Device) (bs : List AnswerRange) (i lo hi : ℕ) → lo ≤ hi → may_set_bounds (slice_get ds i) lo hi ≡ true → AreAnswerBoundsInside ds bs → AreAnswerBoundsInside ds (set bs i (record { lo = lo; hi = hi }))
 bounds_set [] [] i lo hi ordered holds h = h
 bounds_set [] (b ∷ bs) i lo hi ordered holds h = absurd h
 bounds_set (d ∷ ds) [] i lo hi ordered holds h = absurd h
 bounds_set (d ∷ ds) (b ∷ bs) zero lo hi ordered holds h = let both = holds_parts (Some d) d lo hi refl holds in ((both.0, ordered, both.1), h.1)
 bounds_set (d ∷ ds) (b ∷ bs) (suc i) lo hi ordered holds h = (h.0, bounds_set ds bs i lo hi ordered holds h.1)
 
-stated_fits : (plan : PlanData) (line : ℕ) (said : Statement) (d : Draft) → HasOrderedBounds said → Fits plan d → FitsIf plan (script_after_statement plan line said d)
-unfolding script_after_statement
+stated_fits : (plan : PlanData) (line : ℕ) (said : Statement) (d : Draft) → HasOrderedBounds said → Fits plan d → FitsIf plan (script_draft_after_statement plan line said d)
+unfolding script_draft_after_statement
 stated_fits plan line (Step n) d ordered h = turns_fit plan line n 0 d (inl refl) h
 stated_fits plan line (Irq irq) d ordered h =
-    cond_both (is_source plan irq) _ _ (FitsIf plan) (λ is. turns_fit plan line 1 irq d (inr (source_contained irq plan.irqs is)) h) (λ _. tt)
+    cond_both (is_plan_irq plan irq) _ _ (FitsIf plan) (λ is. turns_fit plan line 1 irq d (inr (source_contained irq plan.irqs is)) h) (λ _. tt)
 stated_fits plan line (In device lo hi) d ordered h =
-    cond_both (holds_bounds (slice_get plan.devices device) lo hi) (Ok (with_bounds device lo hi d)) (Err (OutOfRange line)) (FitsIf plan)
+    cond_both (may_set_bounds (slice_get plan.devices device) lo hi) (Ok (with_bounds device lo hi d)) (Err (OutOfRange line)) (FitsIf plan)
     (λ is. record { sources = h.sources; devices = length-set d.script.bounds device (record { lo = lo; hi = hi }) ∙ h.devices; bounds = bounds_set plan.devices d.script.bounds device lo hi ordered is h.bounds })
     (λ _. tt)
 stated_fits plan line _ d ordered h = h
 
-said_fits : (plan : PlanData) (line : ℕ) (o : Option Statement) (d : Draft) → IsOrderedIf o → Fits plan d → FitsIf plan (if_said plan line o d)
+said_fits : (plan : PlanData) (line : ℕ) (o : Option Statement) (d : Draft) → IsOrderedIf o → Fits plan d → FitsIf plan (script_draft_after_parsed_line plan line o d)
 said_fits plan line None d ordered h = tt
 said_fits plan line (Some said) d ordered h = stated_fits plan line said d ordered h
 
-then_fits : (plan : PlanData) (r : Result Draft ScriptErr) (next : Draft → Result Draft ScriptErr) → FitsIf plan r → ((d : Draft) → Fits plan d → FitsIf plan (next d)) → FitsIf plan (then_read r next)
+then_fits : (plan : PlanData) (r : Result Draft ScriptErr) (next : Draft → Result Draft ScriptErr) → FitsIf plan r → ((d : Draft) → Fits plan d → FitsIf plan (next d)) → FitsIf plan (then_read_script r next)
 then_fits plan (Ok d) next h more = more d h
 then_fits plan (Err e) next h more = tt
 
-lines_fit : (plan : PlanData) (n : ℕ) (lines : List (List ℕ)) (d : Draft) → Fits plan d → FitsIf plan (lines_read plan n lines d)
-unfolding lines_read
+lines_fit : (plan : PlanData) (n : ℕ) (lines : List (List ℕ)) (d : Draft) → Fits plan d → FitsIf plan (script_draft_after_lines plan n lines d)
+unfolding script_draft_after_lines
 lines_fit plan n [] d h = h
 lines_fit plan n (line ∷ lines) d h =
-    then_fits plan (line_read plan n line d) _ (said_fits plan n (script_statement_of (line_words line)) d (statement_ordered (line_words line)) h) (λ d k. lines_fit plan (n + 1) lines d k)
+    then_fits plan (script_draft_after_line plan n line d) _ (said_fits plan n (script_statement_of (line_words line)) d (statement_ordered (line_words line)) h) (λ d k. lines_fit plan (n + 1) lines d k)
 
-own_inside : (ds : List Device) → list_all is_device ds ≡ true → AreInside ds (map own_bounds ds)
+own_inside : (ds : List Device) → list_all is_plan_device ds ≡ true → AreAnswerBoundsInside ds (map initial_answer_bounds ds)
 own_inside [] all = tt
 own_inside (d ∷ ds) all =
-    let both = and_parts (is_device d) (list_all is_device ds) all in
-    let parts = and_parts (is_range d.range && nat_le d.lo d.hi) _ both.0 in
-    let more = and_parts (is_range d.range) (nat_le d.lo d.hi) parts.0 in
+    let both = and_parts (is_plan_device d) (list_all is_plan_device ds) all in
+    let parts = and_parts (is_plan_range d.range && nat_le d.lo d.hi) _ both.0 in
+    let more = and_parts (is_plan_range d.range) (nat_le d.lo d.hi) parts.0 in
     let lies = leb-true d.lo d.hi more.1 in
     ((omega arith, omega arith, lies), own_inside ds both.1)
 
-begun_fits : (plan : PlanData) → IsPlan plan → Fits plan (begun_script plan)
-begun_fits plan ok = record { sources = All-nil (λ turn. (turn.irq ≡ 0) ⊎ Contains plan.irqs turn.irq); devices = length-map plan.devices own_bounds; bounds = own_inside plan.devices ok.ranges.devices }
+begun_fits : (plan : PlanData) → IsPlan plan → Fits plan (empty_script_draft plan)
+begun_fits plan ok = record { sources = All-nil (λ turn. (turn.irq ≡ 0) ⊎ Contains plan.irqs turn.irq); devices = length-map plan.devices initial_answer_bounds; bounds = own_inside plan.devices ok.ranges.devices }
 
 -- the script that is read fits the plan
-pub script_fits : (plan : PlanData) (lines : List (List ℕ)) (d : Draft) → IsPlan plan → lines_read plan 1 lines (begun_script plan) ≡ Ok d → FitsPlan plan d.script
-script_fits plan lines d ok is = subst (FitsIf plan) is (lines_fit plan 1 lines (begun_script plan) (begun_fits plan ok))
+pub script_fits : (plan : PlanData) (lines : List (List ℕ)) (d : Draft) → IsPlan plan → script_draft_after_lines plan 1 lines (empty_script_draft plan) ≡ Ok d → FitsPlan plan d.script
+script_fits plan lines d ok is = subst (FitsIf plan) is (lines_fit plan 1 lines (empty_script_draft plan) (begun_fits plan ok))

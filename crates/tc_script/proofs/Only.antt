@@ -15,9 +15,9 @@ use Rattle.tc_script.specs.declared.scripts.Turn.{Turn}
 use Rattle.tc_script.specs.declared.scripts.AnswerRange.{AnswerRange}
 use Rattle.tc_script.specs.ScriptData.{ScriptData}
 use Rattle.tcd_base.specs.Ranges.{is_within_range}
-use Rattle.tc_script.specs.DrivenRuns.{DeviceAnswers, IsDrivenInput, IsEventOfTurn, AreDrivenEvents, driven_peak, IsDriven}
+use Rattle.tc_script.specs.DrivenRuns.{DeviceAnswers, IsDrivenInput, IsEventOfTurn, AreDrivenEvents, driven_peak, IsDrivenRun}
 use Rattle.tc_machine.specs.Machine.{IsDead}
-use Rattle.tc_script.specs.ScriptRuns.{script_input_of, script_event_of, events_while_running, events_of, answers_by, IsOfScript, ScriptHasOneRun, IsScriptRun}
+use Rattle.tc_script.specs.ScriptRuns.{script_input_of, script_event_of, events_while_running, events_of_turns, script_answers, AreScriptEvents, ScriptHasOneRun, IsScriptRun}
 use Rattle.tc_script.specs.Ports.{device_answer_at}
 use Rattle.tc_script.proofs.Events.{inside, in_one-true}
 
@@ -52,20 +52,20 @@ dead_end (Dead cause) es is = refl
 running_end : (end : End) (es : List Event) → end ≡ Running → events_while_running end es ≡ es
 running_end end es is = ap (λ x. events_while_running x es) is
 
-nothing : (plan : PlanData) (bounds : List AnswerRange) (t : ℕ) (turns : List Turn) (m : Machine) → (turns ≡ []) ⊎ IsDead m.end → [] ≡ events_of plan.devices bounds t turns m
+nothing : (plan : PlanData) (bounds : List AnswerRange) (t : ℕ) (turns : List Turn) (m : Machine) → (turns ≡ []) ⊎ IsDead m.end → [] ≡ events_of_turns plan.devices bounds t turns m
 nothing plan bounds t [] m end = refl
 nothing plan bounds t (turn ∷ turns) m (inl none) = cc
 nothing plan bounds t (turn ∷ turns) m (inr dead) = sym (dead_end m.end _ dead)
 
 -- the list of events of a scripted run
-pub only : (plan : PlanData) (bounds : List AnswerRange) (answers : DeviceAnswers) → AnswersBy plan.devices bounds answers → (t : ℕ) (turns : List Turn) (m : Machine) (es : List Event) → AreDrivenEvents plan answers t turns m es → es ≡ events_of plan.devices bounds t turns m
+pub only : (plan : PlanData) (bounds : List AnswerRange) (answers : DeviceAnswers) → AnswersBy plan.devices bounds answers → (t : ℕ) (turns : List Turn) (m : Machine) (es : List Event) → AreDrivenEvents plan answers t turns m es → es ≡ events_of_turns plan.devices bounds t turns m
 only plan bounds answers by t turns m [] end = nothing plan bounds t turns m end
 only plan bounds answers by t [] m (e ∷ es) h = absurd h
 only plan bounds answers by t (turn ∷ turns) m (e ∷ es) h =
     let same = event_is plan.devices bounds answers by t turn m e h.1 in
     ap (λ x. x ∷ es) same
     ∙ ap (λ xs. script_event_of plan.devices bounds t turn m ∷ xs) (only plan bounds answers by (t + 1) turns (step m e) es h.2)
-    ∙ ap (λ x. script_event_of plan.devices bounds t turn m ∷ events_of plan.devices bounds (t + 1) turns (step m x)) same
+    ∙ ap (λ x. script_event_of plan.devices bounds t turn m ∷ events_of_turns plan.devices bounds (t + 1) turns (step m x)) same
     ∙ sym (running_end m.end _ h.0)
 
 -- ---- answers that are among others
@@ -86,14 +86,14 @@ scripted_by plan some all among t (turn ∷ turns) m (e ∷ es) h =
 
 -- the events of a script are the only ones
 pub has_one_run : ScriptHasOneRun
-has_one_run plan script m es h = only plan script.bounds (answers_by plan script) (λ x t w is. is) 0 script.turns m es h
+has_one_run plan script m es h = only plan script.bounds (script_answers plan script) (λ x t w is. is) 0 script.turns m es h
 
 -- a machine that is driven by answers of the script
-pub script_run : {plan : PlanData} {answers : DeviceAnswers} {old new : Machine} {done : Peak} (script : ScriptData) → IsDriven plan answers script.turns old new done → AnswersBy plan.devices script.bounds answers → IsScriptRun plan script old new done
+pub script_run : {plan : PlanData} {answers : DeviceAnswers} {old new : Machine} {done : Peak} (script : ScriptData) → IsDrivenRun plan answers script.turns old new done → AnswersBy plan.devices script.bounds answers → IsScriptRun plan script old new done
 script_run {plan} {answers} {old} {new} {done} script d by =
     let same = only plan script.bounds answers by 0 script.turns old d.events d.scripted in
     record {
-      scripted = subst (IsOfScript plan script old) same (scripted_by plan answers (answers_by plan script) by 0 script.turns old d.events d.scripted);
+      scripted = subst (AreScriptEvents plan script old) same (scripted_by plan answers (script_answers plan script) by 0 script.turns old d.events d.scripted);
       fits = subst (AllFit plan old) same d.fits;
       after = d.after ∙ ap (run old) same;
       count = d.count ∙ ap length same;

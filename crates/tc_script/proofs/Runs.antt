@@ -8,7 +8,7 @@ use Rattle.tc_machine.specs.Stepping.{step, run, used_area_count}
 use Rattle.tc_machine.specs.Safe.{Fits, AllFit}
 use Rattle.tc_script.specs.declared.driving.Peak.{Peak}
 use Rattle.tc_script.specs.declared.scripts.Turn.{Turn}
-use Rattle.tc_script.specs.DrivenRuns.{DeviceAnswers, IsEventOfTurn, AreDrivenEvents, driven_peak, IsDriven}
+use Rattle.tc_script.specs.DrivenRuns.{DeviceAnswers, IsEventOfTurn, AreDrivenEvents, driven_peak, IsDrivenRun}
 use Rattle.tc_machine.specs.Machine.{IsDead}
 
 run-push : (m : Machine) (es : List Event) (e : Event) → run m (es ++ e ∷ []) ≡ step (run m es) e
@@ -53,7 +53,7 @@ module _ {plan : PlanData} {answers : DeviceAnswers} {turns : List Turn} {old : 
     peak = peak ∙ ap (λ n. max n (unwrap_or (used_area_count new) 0)) d.peak ∙ ap (λ m. max (driven_peak old d.events) (unwrap_or (used_area_count m) 0)) (is ∙ ap (λ m. step m e) d.after) ∙ sym (peak-push old d.events e);
   }
 
-  pub ended : (t : ℕ) (now : Machine) (done : Peak) → DrivenSoFar plan answers turns old t now done → (drop t turns ≡ []) ⊎ IsDead now.end → IsDriven plan answers turns old now done
+  pub ended : (t : ℕ) (now : Machine) (done : Peak) → DrivenSoFar plan answers turns old t now done → (drop t turns ≡ []) ⊎ IsDead now.end → IsDrivenRun plan answers turns old now done
   ended t now done d end = record {
     events = d.events;
     scripted = subst (λ es. AreDrivenEvents plan answers 0 turns old es) (append-nil d.events) (d.goes_on [] end);

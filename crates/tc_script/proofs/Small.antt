@@ -13,14 +13,14 @@ use Rattle.tcd_plan.specs.declared.plans.Device.{Device}
 use Rattle.tc_script.specs.declared.scripts.Turn.{Turn}
 use Rattle.tc_script.specs.declared.scripts.AnswerRange.{AnswerRange}
 use Rattle.tc_script.specs.ScriptData.{IsScript}
-use Rattle.tc_script.specs.Ports.{own_bounds}
+use Rattle.tc_script.specs.Ports.{initial_answer_bounds}
 
 -- a script before its first line
-pub IsScript-begun : (ts : List Turn) (ds : List Device) (bs : List AnswerRange) → ts ≡ [] → bs ≡ map own_bounds ds → length ds ≤ 16 → IsScript ts bs
+pub IsScript-begun : (ts : List Turn) (ds : List Device) (bs : List AnswerRange) → ts ≡ [] → bs ≡ map initial_answer_bounds ds → length ds ≤ 16 → IsScript ts bs
 IsScript-begun ts ds bs none is few = record {
   few = omega (arith, ap length none);
-  few_devices = omega (arith, ap length is, length-map ds own_bounds);
-  ordered = subst (All (λ b. b.lo ≤ b.hi)) (sym is) (All-map (λ b. b.lo ≤ b.hi) own_bounds ds (λ k d lt. omega arith));
+  few_devices = omega (arith, ap length is, length-map ds initial_answer_bounds);
+  ordered = subst (All (λ b. b.lo ≤ b.hi)) (sym is) (All-map (λ b. b.lo ≤ b.hi) initial_answer_bounds ds (λ k d lt. omega arith));
 }
 
 digit_is : (c : ℕ) → is_ascii_digit c ≡ true → digit_value c ≡ c - 48

@@ -8,7 +8,7 @@ use Rattle.tc_machine.specs.declared.events.Event.{Event}
 use Rattle.tc_machine.specs.declared.events.End.TheVariants.{Running}
 use Rattle.tc_machine.specs.declared.state.Machine.{Machine}
 use Rattle.tc_machine.specs.Instructions.{does}
-use Rattle.tc_machine.specs.SavesAndRestores.{saved, restored}
+use Rattle.tc_machine.specs.SavesAndRestores.{with_context_saved, with_context_restored}
 use Rattle.tc_machine.specs.Stepping.{used_area_count}
 use Rattle.tc_script.specs.declared.area_counts.AreasUsed.{AreasUsed}
 use Rattle.tc_script.specs.declared.area_counts.Effect.{Effect}
@@ -24,47 +24,47 @@ abbrev pub AreAreasInSequence : ℕ → ℕ → Machine → Type 0
 AreAreasInSequence first n m = chain m.mem m.pcxi ≡ Some (links_in_sequence first n)
 
 -- this number of areas is in use, and they are consecutive if the count says so
-pub record IsCounted (u : AreasUsed) (m : Machine) : Type 0 where
+pub record IsAreaCountOf (u : AreasUsed) (m : Machine) : Type 0 where
   pub count : u.count ≡ unwrap_or (used_area_count m) 0
   pub first : u.first < 2 ^ 20
   pub row : OnTrue u.in_row (AreAreasInSequence u.first u.count m)
 
 -- an event adds an area to those in use, which a script's run counts: afterwards the memory and
 -- PCXI are those of a save of a context
-pub record HasSaved (m after : Machine) : Type 0 where
+pub record SavesContext (m after : Machine) : Type 0 where
   pub upper : Bool
   pub some : link_in m.fcx ≢ 0
   pub area : is_area m.mem (link_in m.fcx) ≡ true
-  pub mem : after.mem ≡ (saved m upper).mem
-  pub pcxi : after.pcxi ≡ (saved m upper).pcxi
+  pub mem : after.mem ≡ (with_context_saved m upper).mem
+  pub pcxi : after.pcxi ≡ (with_context_saved m upper).pcxi
 
 -- an event frees the newest of the consecutive areas in use: afterwards the memory and PCXI are
 -- those of a restore of a context
-pub record HasRestored (m after : Machine) : Type 0 where
+pub record RestoresContext (m after : Machine) : Type 0 where
   pub upper : Bool
   pub some : link_in m.pcxi ≢ 0
-  pub mem : after.mem ≡ (restored m upper).mem
-  pub pcxi : after.pcxi ≡ (restored m upper).pcxi
+  pub mem : after.mem ≡ (with_context_restored m upper).mem
+  pub pcxi : after.pcxi ≡ (with_context_restored m upper).pcxi
 
 -- an event acts on the consecutive areas in use as a store does: afterwards the memory is that of a
 -- store of `size` bytes at x, and PCXI is as it was
-pub record HasStored (x size : ℕ) (m after : Machine) : Type 0 where
+pub record StoresBytes (x size : ℕ) (m after : Machine) : Type 0 where
   pub word : ℕ
   pub mem : after.mem ≡ with_bytes m.mem x word size
   pub pcxi : after.pcxi ≡ m.pcxi
 
 -- an event leaves the consecutive areas in use as they are: the machine has the memory and PCXI of
 -- the one before
-pub record HasStayed (m after : Machine) : Type 0 where
+pub record KeepsMemoryAndPcxi (m after : Machine) : Type 0 where
   pub mem : after.mem ≡ m.mem
   pub pcxi : after.pcxi ≡ m.pcxi
 
 -- what an effect says of the areas in use after an event, by the count of those before it, which
 -- can say that they are consecutive
 abbrev pub AreaEffectHolds : Effect → AreasUsed → Machine → Type 0
-AreaEffectHolds Stays u after = IsCounted u after
-AreaEffectHolds Saves u after = (u.count < 4096) × IsCounted (record u { count = u.count + 1 }) after
-AreaEffectHolds Restores u after = (1 ≤ u.count) × IsCounted (record u { count = u.count - 1 }) after
+AreaEffectHolds Stays u after = IsAreaCountOf u after
+AreaEffectHolds Saves u after = (u.count < 4096) × IsAreaCountOf (record u { count = u.count + 1 }) after
+AreaEffectHolds Restores u after = (1 ≤ u.count) × IsAreaCountOf (record u { count = u.count - 1 }) after
 AreaEffectHolds Unknown u after = Unit {0}
 
 -- what this effect says of the areas in use, which can be consecutive, is true after an instruction

@@ -46,7 +46,7 @@ driven_peak m [] = unwrap_or (used_area_count m) 0
 driven_peak m (e ∷ es) = max (unwrap_or (used_area_count m) 0) (driven_peak (step m e) es)
 
 -- the machine is driven by the turns and by answers; each event fits
-pub record IsDriven (plan : PlanData) (answers : DeviceAnswers) (turns : List Turn) (old new : Machine) (done : Peak) : Type 0 where
+pub record IsDrivenRun (plan : PlanData) (answers : DeviceAnswers) (turns : List Turn) (old new : Machine) (done : Peak) : Type 0 where
   pub events : List Event
   pub scripted : AreDrivenEvents plan answers 0 turns old events
   pub fits : AllFit plan old events

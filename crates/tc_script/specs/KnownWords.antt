@@ -10,14 +10,14 @@ use Rattle.tc_script.specs.declared.known_words.KnownWord.{KnownWord}
 
 -- in the cache of known words that a script's run keeps: this is what these bytes do, and the
 -- shape's registers and numbers are within their bounds
-abbrev pub KnownWordDoes : Result (Shape × ℕ) Cause → List ℕ → Type 0
-KnownWordDoes found bytes = (found ≡ fetched_shape (decoded_of bytes)) × IfOk found (λ it. IsShape it.0)
+abbrev pub IsDecodedShapeOf : Result (Shape × ℕ) Cause → List ℕ → Type 0
+IsDecodedShapeOf found bytes = (found ≡ fetched_shape (decoded_of bytes)) × IfOk found (λ it. IsShape it.0)
 
 -- an entry of the cache of decoded words: if it has a word, it says what the word's four bytes do
 abbrev pub IsKnownWord : KnownWord → Type 0
-IsKnownWord k = IfSome k.word (λ w. KnownWordDoes k.found (bytes_of_word w))
+IsKnownWord k = IfSome k.word (λ w. IsDecodedShapeOf k.found (bytes_of_word w))
 
 -- the cache of decoded words has at this place what these bytes do, whatever is read after the
 -- table's end
-abbrev pub KnownWordStandsAt : List KnownWord → ℕ → List ℕ → Type 0
-KnownWordStandsAt words place bytes = (behind : KnownWord) → KnownWordDoes (slice_index_or words place behind).found bytes
+abbrev pub HasDecodedShapeAt : List KnownWord → ℕ → List ℕ → Type 0
+HasDecodedShapeAt words place bytes = (behind : KnownWord) → IsDecodedShapeOf (slice_index_or words place behind).found bytes

@@ -20,8 +20,8 @@ ArePortsBounded gives devices =
 
 -- the bounds of the answers of a peripheral's port until a line of the script states others: its
 -- `lo` alone
-abbrev pub own_bounds : Device → AnswerRange
-own_bounds d = record { lo = d.lo; hi = d.lo }
+abbrev pub initial_answer_bounds : Device → AnswerRange
+initial_answer_bounds d = record { lo = d.lo; hi = d.lo }
 
 -- the answer of a peripheral at an event, numbered from 0: the words within its bounds, from lo to
 -- hi, in turn and over again

@@ -34,32 +34,32 @@ events_while_running (Dead cause) events = []
 
 -- the events of these turns until the machine is dead or the turns end; the first one has this
 -- number
-abbrev pub events_of : List Device → List AnswerRange → ℕ → List Turn → Machine → List Event
-events_of devices bounds t [] m = []
-events_of devices bounds t (turn ∷ turns) m =
+abbrev pub events_of_turns : List Device → List AnswerRange → ℕ → List Turn → Machine → List Event
+events_of_turns devices bounds t [] m = []
+events_of_turns devices bounds t (turn ∷ turns) m =
     let e = script_event_of devices bounds t turn m in
-    events_while_running m.end (e ∷ events_of devices bounds (t + 1) turns (step m e))
+    events_while_running m.end (e ∷ events_of_turns devices bounds (t + 1) turns (step m e))
 
 -- all events of a script
 abbrev pub script_events : PlanData → ScriptData → Machine → List Event
-script_events plan script m = events_of plan.devices script.bounds 0 script.turns m
+script_events plan script m = events_of_turns plan.devices script.bounds 0 script.turns m
 
 -- the answers of the peripherals by a script
-abbrev pub answers_by : PlanData → ScriptData → DeviceAnswers
-answers_by plan script = λ x t w. w ≡ device_answer_at plan.devices script.bounds x t
+abbrev pub script_answers : PlanData → ScriptData → DeviceAnswers
+script_answers plan script = λ x t w. w ≡ device_answer_at plan.devices script.bounds x t
 
 -- the events are one for each turn of the script, until the machine is dead or the turns end, with
 -- the script's answers
-abbrev pub IsOfScript : PlanData → ScriptData → Machine → List Event → Type 0
-IsOfScript plan script m es = AreDrivenEvents plan (answers_by plan script) 0 script.turns m es
+abbrev pub AreScriptEvents : PlanData → ScriptData → Machine → List Event → Type 0
+AreScriptEvents plan script m es = AreDrivenEvents plan (script_answers plan script) 0 script.turns m es
 
 -- from a machine, a script has one list of events
 abbrev pub ScriptHasOneRun : Type 0
-ScriptHasOneRun = (plan : PlanData) (script : ScriptData) (m : Machine) (es : List Event) → IsOfScript plan script m es → es ≡ script_events plan script m
+ScriptHasOneRun = (plan : PlanData) (script : ScriptData) (m : Machine) (es : List Event) → AreScriptEvents plan script m es → es ≡ script_events plan script m
 
 -- the machine is driven by a script
 pub record IsScriptRun (plan : PlanData) (script : ScriptData) (old new : Machine) (done : Peak) : Type 0 where
-  pub scripted : IsOfScript plan script old (script_events plan script old)
+  pub scripted : AreScriptEvents plan script old (script_events plan script old)
   pub fits : AllFit plan old (script_events plan script old)
   pub after : new ≡ run old (script_events plan script old)
   pub count : done.events ≡ length (script_events plan script old)

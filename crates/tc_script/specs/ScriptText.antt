@@ -2,7 +2,7 @@
 use Rattle.std.specs.Prelude.{◌≡◌, ℕ, ◌+◌, ◌&&◌, nat_le, Bool, false, if◌then◌else◌, List, ◌∷◌, ◌++◌, length, map, replicate, slice_set, slice_get, Option, Some, None, Result, Ok, Err, []}
 use Rattle.tcd_text.specs.Lines.{text_lines, line_words}
 use Rattle.tcd_plan.specs.declared.plans.Device.{Device}
-use Rattle.tcd_plan.specs.PlanData.{PlanData, is_source}
+use Rattle.tcd_plan.specs.PlanData.{PlanData, is_plan_irq}
 use Rattle.tc_script.specs.declared.errors.ScriptErr.{ScriptErr}
 use Rattle.tc_script.specs.declared.errors.ScriptErr.TheVariants.{BadLine, NoSource, OutOfRange, TooMany, NoMemory}
 use Rattle.tc_script.specs.declared.reading.Draft.{Draft}
@@ -10,11 +10,11 @@ use Rattle.tc_script.specs.declared.statements.Statement.{Statement}
 use Rattle.tc_script.specs.declared.statements.Statement.TheVariants.{Blank, Step, Irq, Aln, In}
 use Rattle.tc_script.specs.ScriptData.{ScriptData}
 use Rattle.tc_script.specs.Statements.{script_statement_of}
-use Rattle.tc_script.specs.Ports.{own_bounds}
+use Rattle.tc_script.specs.Ports.{initial_answer_bounds}
 
 -- before the first line: no turns, and misaligned accesses don't trap
-abbrev pub begun_script : PlanData → Draft
-begun_script plan = record { script = record { turns = []; bounds = map own_bounds plan.devices }; aln = false }
+abbrev pub empty_script_draft : PlanData → Draft
+empty_script_draft plan = record { script = record { turns = []; bounds = map initial_answer_bounds plan.devices }; aln = false }
 
 -- n more turns with this interrupt, on the line with this number
 abbrev pub with_turns : ℕ → ℕ → ℕ → Draft → Result Draft ScriptErr
@@ -25,49 +25,49 @@ with_turns line count irq d =
 
 -- a line of a script's text may set these bounds for a peripheral's answers: the peripheral exists,
 -- and they are inside its own
-abbrev pub holds_bounds : Option Device → ℕ → ℕ → Bool
-holds_bounds None lo hi = false
-holds_bounds (Some d) lo hi = nat_le d.lo lo && nat_le hi d.hi
+abbrev pub may_set_bounds : Option Device → ℕ → ℕ → Bool
+may_set_bounds None lo hi = false
+may_set_bounds (Some d) lo hi = nat_le d.lo lo && nat_le hi d.hi
 
 -- the draft with these bounds for a peripheral
 abbrev pub with_bounds : ℕ → ℕ → ℕ → Draft → Draft
 with_bounds device lo hi d = record d { script = record d.script { bounds = slice_set d.script.bounds device (record { lo = lo; hi = hi }) } }
 
 -- the draft after a statement, on the line with this number
-unfoldable pub script_after_statement : PlanData → ℕ → Statement → Draft → Result Draft ScriptErr
-script_after_statement plan line Blank d = Ok d
-script_after_statement plan line (Step n) d = with_turns line n 0 d
-script_after_statement plan line (Irq irq) d = if is_source plan irq then with_turns line 1 irq d else Err (NoSource line)
-script_after_statement plan line (Aln aln) d = Ok (record d { aln = aln })
-script_after_statement plan line (In device lo hi) d = if holds_bounds (slice_get plan.devices device) lo hi then Ok (with_bounds device lo hi d) else Err (OutOfRange line)
+unfoldable pub script_draft_after_statement : PlanData → ℕ → Statement → Draft → Result Draft ScriptErr
+script_draft_after_statement plan line Blank d = Ok d
+script_draft_after_statement plan line (Step n) d = with_turns line n 0 d
+script_draft_after_statement plan line (Irq irq) d = if is_plan_irq plan irq then with_turns line 1 irq d else Err (NoSource line)
+script_draft_after_statement plan line (Aln aln) d = Ok (record d { aln = aln })
+script_draft_after_statement plan line (In device lo hi) d = if may_set_bounds (slice_get plan.devices device) lo hi then Ok (with_bounds device lo hi d) else Err (OutOfRange line)
 
 -- the draft after a line, by its statement; a line without a statement is bad
-abbrev pub if_said : PlanData → ℕ → Option Statement → Draft → Result Draft ScriptErr
-if_said plan line None d = Err (BadLine line)
-if_said plan line (Some said) d = script_after_statement plan line said d
+abbrev pub script_draft_after_parsed_line : PlanData → ℕ → Option Statement → Draft → Result Draft ScriptErr
+script_draft_after_parsed_line plan line None d = Err (BadLine line)
+script_draft_after_parsed_line plan line (Some said) d = script_draft_after_statement plan line said d
 
 -- the draft after a line
-abbrev pub line_read : PlanData → ℕ → List ℕ → Draft → Result Draft ScriptErr
-line_read plan number line d = if_said plan number (script_statement_of (line_words line)) d
+abbrev pub script_draft_after_line : PlanData → ℕ → List ℕ → Draft → Result Draft ScriptErr
+script_draft_after_line plan number line d = script_draft_after_parsed_line plan number (script_statement_of (line_words line)) d
 
 -- what is read next of a script, if no line was refused
-abbrev pub then_read : Result Draft ScriptErr → (Draft → Result Draft ScriptErr) → Result Draft ScriptErr
-then_read (Ok d) next = next d
-then_read (Err e) next = Err e
+abbrev pub then_read_script : Result Draft ScriptErr → (Draft → Result Draft ScriptErr) → Result Draft ScriptErr
+then_read_script (Ok d) next = next d
+then_read_script (Err e) next = Err e
 
 -- the draft after lines, the first with this number
-unfoldable pub lines_read : PlanData → ℕ → List (List ℕ) → Draft → Result Draft ScriptErr
-lines_read plan number [] d = Ok d
-lines_read plan number (line ∷ lines) d = then_read (line_read plan number line d) (λ d. lines_read plan (number + 1) lines d)
+unfoldable pub script_draft_after_lines : PlanData → ℕ → List (List ℕ) → Draft → Result Draft ScriptErr
+script_draft_after_lines plan number [] d = Ok d
+script_draft_after_lines plan number (line ∷ lines) d = then_read_script (script_draft_after_line plan number line d) (λ d. script_draft_after_lines plan (number + 1) lines d)
 
 -- the script that the lines give, or their refusal
-abbrev pub script_in : Result Draft ScriptErr → Result ScriptData ScriptErr
-script_in (Ok d) = Ok d.script
-script_in (Err e) = Err e
+abbrev pub script_of_draft : Result Draft ScriptErr → Result ScriptData ScriptErr
+script_of_draft (Ok d) = Ok d.script
+script_of_draft (Err e) = Err e
 
 -- the script that the bytes of a file give, or the refusal of the first bad line
 abbrev pub script_of : PlanData → List ℕ → Result ScriptData ScriptErr
-script_of plan bytes = script_in (lines_read plan 1 (text_lines bytes) (begun_script plan))
+script_of plan bytes = script_of_draft (script_draft_after_lines plan 1 (text_lines bytes) (empty_script_draft plan))
 
 -- a refusal; out of memory is always possible
 abbrev pub RefusesScript : {A : Type 0} → ScriptErr → Result A ScriptErr → Type 0
@@ -78,9 +78,9 @@ RefusesScript (TooMany n) answer = answer ≡ Err (TooMany n)
 RefusesScript NoMemory answer = Unit {0}
 
 -- the draft of a script that is changed in place, or a refusal of the script
-abbrev pub TakesScriptDraft : Result Unit ScriptErr → Draft → Result Draft ScriptErr → Type 0
-TakesScriptDraft (Ok done) new answer = answer ≡ Ok new
-TakesScriptDraft (Err e) new answer = RefusesScript e answer
+abbrev pub GivesScriptDraft : Result Unit ScriptErr → Draft → Result Draft ScriptErr → Type 0
+GivesScriptDraft (Ok done) new answer = answer ≡ Ok new
+GivesScriptDraft (Err e) new answer = RefusesScript e answer
 
 -- a script, or a refusal
 abbrev pub GivesScript : Result ScriptData ScriptErr → Result ScriptData ScriptErr → Type 0

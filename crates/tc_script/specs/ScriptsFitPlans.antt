@@ -7,17 +7,17 @@ use Rattle.tc_script.specs.declared.scripts.AnswerRange.{AnswerRange}
 use Rattle.tc_script.specs.ScriptData.{ScriptData}
 
 -- the interrupt of each turn is none or one of the plan's
-abbrev pub HasSources : PlanData → List Turn → Type 0
-HasSources plan turns = All (λ turn. (turn.irq ≡ 0) ⊎ Contains plan.irqs turn.irq) turns
+abbrev pub AreTurnInterruptsOfPlan : PlanData → List Turn → Type 0
+AreTurnInterruptsOfPlan plan turns = All (λ turn. (turn.irq ≡ 0) ⊎ Contains plan.irqs turn.irq) turns
 
 -- for each peripheral, bounds inside its own
-abbrev pub AreInside : List Device → List AnswerRange → Type 0
-AreInside [] [] = Unit {0}
-AreInside (d ∷ ds) (b ∷ bs) = ((d.lo ≤ b.lo) × (b.lo ≤ b.hi) × (b.hi ≤ d.hi)) × AreInside ds bs
-AreInside _ _ = ⊥
+abbrev pub AreAnswerBoundsInside : List Device → List AnswerRange → Type 0
+AreAnswerBoundsInside [] [] = Unit {0}
+AreAnswerBoundsInside (d ∷ ds) (b ∷ bs) = ((d.lo ≤ b.lo) × (b.lo ≤ b.hi) × (b.hi ≤ d.hi)) × AreAnswerBoundsInside ds bs
+AreAnswerBoundsInside _ _ = ⊥
 
 -- a script of the plan's interrupts, with bounds for each of the plan's peripherals inside its own
 pub record FitsPlan (plan : PlanData) (script : ScriptData) : Type 0 where
-  pub sources : HasSources plan script.turns
+  pub sources : AreTurnInterruptsOfPlan plan script.turns
   pub devices : length script.bounds ≡ length plan.devices
-  pub bounds : AreInside plan.devices script.bounds
+  pub bounds : AreAnswerBoundsInside plan.devices script.bounds

@@ -6,8 +6,8 @@ ghost use Rattle.tc_encode.specs.Decoding.{decoded_of};
 ghost use Rattle.tc_machine.specs.declared.state.Machine.{Machine};
 ghost use Rattle.tc_machine.specs.Fetching.{mapped_bytes, fetched_shape};
 ghost use Rattle.tc_machine.specs.Instructions.{is_trapping_access};
-ghost use Rattle.tc_machine.specs.Stepping.{step, is_taken};
-ghost use Rattle.tc_script.specs.AreasInSequence.{IsCounted, HasSaved, HasRestored, HasStored, HasStayed, AreaEffectHolds, IsAreaEffectOf};
+ghost use Rattle.tc_machine.specs.Stepping.{step, is_interrupt_taken};
+ghost use Rattle.tc_script.specs.AreasInSequence.{IsAreaCountOf, SavesContext, RestoresContext, StoresBytes, KeepsMemoryAndPcxi, AreaEffectHolds, IsAreaEffectOf};
 
 use csa_chain::address_of;
 use tc_isa::Shape;
@@ -34,7 +34,7 @@ pub(crate) enum Effect {
 /// Counts the areas in use anew along their chain. If there are none, consecutive areas begin at
 /// the first free one.
 pub(crate) fn count_areas_in_use(m: &Machine) -> AreasUsed
-    ensures { IsCounted result m.now }
+    ensures { IsAreaCountOf result m.now }
 {
     let count = m.used().unwrap_or(0);
     AreasUsed {
@@ -55,7 +55,7 @@ pub(crate) fn area_effect_of_event(
     requires running { m.now.end ≡ End.Running }
     requires found { found.now ≡ fetched_shape (decoded_of (mapped_bytes 4 m.now.mem m.now.pc)) }
     requires bounded { IfOk found.now (λ it. IsShape it.0) }
-    requires counted { IsCounted used m.now }
+    requires counted { IsAreaCountOf used m.now }
     ensures { (step m.now event.now).end ≡ End.Running
         → AreaEffectHolds result used (step m.now event.now) }
 {
@@ -79,7 +79,7 @@ pub(crate) fn area_effect_of_event(
 /// still runs. If it is dead, or the effect isn't known, they are counted again.
 pub(crate) fn update_areas_in_use(m: &Machine, used: &mut AreasUsed, effect: Effect)
     requires { m.now.end ≡ End.Running → AreaEffectHolds effect used.old m.now }
-    ensures { IsCounted used.new m.now }
+    ensures { IsAreaCountOf used.new m.now }
 {
     let End::Running = m.end else {
         *used = count_areas_in_use(m);
@@ -95,7 +95,7 @@ pub(crate) fn update_areas_in_use(m: &Machine, used: &mut AreasUsed, effect: Eff
 
 /// Returns true if the event's interrupt is taken, which saves a context to one more area.
 fn is_event_interrupt_taken(m: &Machine, event: &Event) -> bool
-    ensures { result ≡ is_taken m.now event.now }
+    ensures { result ≡ is_interrupt_taken m.now event.now }
 {
     m.ie && m.ccpn < event.irq
 }
@@ -103,9 +103,9 @@ fn is_event_interrupt_taken(m: &Machine, event: &Event) -> bool
 /// Returns the effect of a save on the count of the areas in use, kept from event to event: one
 /// more, if the first free area is the next one after those in use.
 fn area_effect_of_save(m: &Machine, used: AreasUsed) -> Effect
-    requires counted { IsCounted used m.now }
+    requires counted { IsAreaCountOf used m.now }
     requires row { used.in_row ≡ true }
-    ensures { (after : Machine) → HasSaved m.now after → AreaEffectHolds result used after }
+    ensures { (after : Machine) → SavesContext m.now after → AreaEffectHolds result used after }
 {
     let _pcxi = m.pcxi;
     let count = used.count;
@@ -123,7 +123,7 @@ fn area_effect_of_save(m: &Machine, used: AreasUsed) -> Effect
 /// Returns how an instruction changes the script's count of areas in use, if they are consecutive.
 /// The machine runs after it.
 fn area_effect_of_shape(m: &Machine, event: &Event, shape: Shape, used: AreasUsed) -> Effect
-    requires counted { IsCounted used m.now }
+    requires counted { IsAreaCountOf used m.now }
     requires row { used.in_row ≡ true }
     requires bounded { IsShape shape }
     ensures { IsAreaEffectOf result used m.now event.now shape }
@@ -164,12 +164,12 @@ fn area_effect_of_shape(m: &Machine, event: &Event, shape: Shape, used: AreasUse
 /// Returns the effect of a load on the count of the areas in use, kept from event to event: none,
 /// if it doesn't trap.
 fn area_effect_of_load(m: &Machine, event: &Event, used: AreasUsed, addr: u32, size: u8) -> Effect
-    requires counted { IsCounted used m.now }
+    requires counted { IsAreaCountOf used m.now }
     requires row { used.in_row ≡ true }
     requires size { IsShapeAccessSize size }
     ensures { (after : Machine)
-        → (is_trapping_access event.now addr size ≡ true → HasSaved m.now after)
-        → (is_trapping_access event.now addr size ≡ false → HasStayed m.now after)
+        → (is_trapping_access event.now addr size ≡ true → SavesContext m.now after)
+        → (is_trapping_access event.now addr size ≡ false → KeepsMemoryAndPcxi m.now after)
         → AreaEffectHolds result used after }
 {
     if is_trapping_access(event, addr, size) {
@@ -187,12 +187,12 @@ fn area_effect_of_store_or_trap(
     addr: u32,
     size: u8,
 ) -> Effect
-    requires counted { IsCounted used m.now }
+    requires counted { IsAreaCountOf used m.now }
     requires row { used.in_row ≡ true }
     requires size { IsShapeAccessSize size }
     ensures { (after : Machine)
-        → (is_trapping_access event.now addr size ≡ true → HasSaved m.now after)
-        → (is_trapping_access event.now addr size ≡ false → HasStored addr size m.now after)
+        → (is_trapping_access event.now addr size ≡ true → SavesContext m.now after)
+        → (is_trapping_access event.now addr size ≡ false → StoresBytes addr size m.now after)
         → AreaEffectHolds result used after }
 {
     if is_trapping_access(event, addr, size) {
@@ -205,7 +205,7 @@ fn area_effect_of_store_or_trap(
 /// Returns how an instruction that accesses no memory except that of an area changes the script's
 /// count of areas. The machine runs after it.
 fn area_effect_of_other(m: &Machine, event: &Event, shape: Shape, used: AreasUsed) -> Effect
-    requires counted { IsCounted used m.now }
+    requires counted { IsAreaCountOf used m.now }
     requires row { used.in_row ≡ true }
     ensures { IsAreaEffectOf result used m.now event.now shape }
 {
@@ -223,9 +223,9 @@ fn area_effect_of_other(m: &Machine, event: &Event, shape: Shape, used: AreasUse
 
 /// Returns the effect of a store: none, if it misses all areas in use.
 fn area_effect_of_store(m: &Machine, used: AreasUsed, addr: u32, size: u8) -> Effect
-    requires counted { IsCounted used m.now }
+    requires counted { IsAreaCountOf used m.now }
     requires row { used.in_row ≡ true }
-    ensures { (after : Machine) → HasStored addr size m.now after
+    ensures { (after : Machine) → StoresBytes addr size m.now after
         → AreaEffectHolds result used after }
 {
     let count = used.count;
@@ -251,9 +251,9 @@ fn area_effect_of_store(m: &Machine, used: AreasUsed, addr: u32, size: u8) -> Ef
 /// Returns the effect of a restore on the script's count of areas in use: one less, or unknown if
 /// there are none.
 fn area_effect_of_restore(m: &Machine, used: AreasUsed) -> Effect
-    requires counted { IsCounted used m.now }
+    requires counted { IsAreaCountOf used m.now }
     requires row { used.in_row ≡ true }
-    ensures { (after : Machine) → HasRestored m.now after → AreaEffectHolds result used after }
+    ensures { (after : Machine) → RestoresContext m.now after → AreaEffectHolds result used after }
 {
     let count = used.count;
     if count == 0 {

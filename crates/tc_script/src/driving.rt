@@ -4,9 +4,9 @@ ghost use Rattle.std.specs.Bool.{MatchBool};
 ghost use Rattle.tc_isa.specs.InBounds.{IsShape};
 ghost use Rattle.tc_encode.specs.Decoding.{decoded_of};
 ghost use Rattle.tc_machine.specs.Fetching.{mapped_bytes, fetched_shape};
-ghost use Rattle.tc_script.specs.ScriptsFitPlans.{HasSources};
+ghost use Rattle.tc_script.specs.ScriptsFitPlans.{AreTurnInterruptsOfPlan};
 ghost use Rattle.tc_script.specs.Ports.{ArePortsAskable, ArePortsBounded};
-ghost use Rattle.tc_script.specs.DrivenRuns.{IsEventOfTurn, IsDriven};
+ghost use Rattle.tc_script.specs.DrivenRuns.{IsEventOfTurn, IsDrivenRun};
 ghost use Rattle.tc_machine.specs.Machine.{IsDead};
 
 use crate::area_counts::{count_areas_in_use, area_effect_of_event, update_areas_in_use};
@@ -34,10 +34,10 @@ pub fn drive<F: Fn(u32, u32) -> u32>(
     ports: &Ports<F>,
 ) -> Peak
     requires devices { ports.now.devices ≡ plan.now.devices }
-    requires sources { HasSources plan.now script.now.turns }
+    requires sources { AreTurnInterruptsOfPlan plan.now script.now.turns }
     requires askable { ArePortsAskable (F.pre ports.now.answer) plan.now.devices }
     requires bounded { ArePortsBounded (F.post ports.now.answer) plan.now.devices }
-    ensures { IsDriven plan.now (F.post ports.now.answer) script.now.turns m.old m.new result }
+    ensures { IsDrivenRun plan.now (F.post ports.now.answer) script.now.turns m.old m.new result }
 {
     let mut areas = count_areas_in_use(m);
     let mut words = KnownWords::new();

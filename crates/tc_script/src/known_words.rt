@@ -2,7 +2,7 @@
 ghost use Rattle.std.specs.Prelude.{◌≡◌, ◌<◌, All, IfSome};
 ghost use Rattle.tcd_base.specs.Bytes.{bytes_of_word};
 ghost use Rattle.tc_machine.specs.Fetching.{mapped_bytes};
-ghost use Rattle.tc_script.specs.KnownWords.{IsKnownWord, KnownWordStandsAt};
+ghost use Rattle.tc_script.specs.KnownWords.{IsKnownWord, HasDecodedShapeAt};
 
 use tc_isa::{Arg, Op, Shape};
 use tc_machine::{Cause, Machine};
@@ -56,7 +56,7 @@ impl KnownWords {
         requires { All IsKnownWord self.old.words }
         ensures place { result < 1024 }
         ensures known { All IsKnownWord self.new.words }
-        ensures stands { KnownWordStandsAt self.new.words result
+        ensures stands { HasDecodedShapeAt self.new.words result
             (mapped_bytes 4 m.now.mem m.now.pc) }
     {
         let Some(word) = m.mem.word(m.pc) else {
@@ -78,7 +78,7 @@ impl KnownWords {
         requires known { All IsKnownWord self.old.words }
         requires word { IfSome word (λ w. bytes_of_word w ≡ mapped_bytes 4 m.now.mem m.now.pc) }
         ensures known { All IsKnownWord self.new.words }
-        ensures stands { KnownWordStandsAt self.new.words place
+        ensures stands { HasDecodedShapeAt self.new.words place
             (mapped_bytes 4 m.now.mem m.now.pc) }
     {
         let found = m.shape_at_pc();

@@ -1,10 +1,10 @@
 // Reads a script from the bytes of a file.
 ghost use Rattle.std.specs.Prelude.{◌≡◌, ◌<◌, ◌≤◌, ◌^◌, IsTrue, IfOk, length, map, slice_get};
-ghost use Rattle.tcd_plan.specs.PlanData.{IsPlan, is_source};
+ghost use Rattle.tcd_plan.specs.PlanData.{IsPlan, is_plan_irq};
 ghost use Rattle.tc_script.specs.ScriptsFitPlans.{FitsPlan};
 ghost use Rattle.tc_script.specs.Statements.{HasOrderedBounds};
-ghost use Rattle.tc_script.specs.ScriptText.{begun_script, with_turns, holds_bounds, with_bounds, script_after_statement, line_read, TakesScriptDraft, script_of, GivesScript};
-ghost use Rattle.tc_script.specs.Ports.{own_bounds};
+ghost use Rattle.tc_script.specs.ScriptText.{empty_script_draft, with_turns, may_set_bounds, with_bounds, script_draft_after_statement, script_draft_after_line, GivesScriptDraft, script_of, GivesScript};
+ghost use Rattle.tc_script.specs.Ports.{initial_answer_bounds};
 
 use crate::statements::{Statement, script_statement_in};
 use crate::{AnswerRange, Script, ScriptErr, Turn};
@@ -23,7 +23,7 @@ pub(crate) struct Draft {
 /// Returns each peripheral's bounds before a line of the script states others: its `lo` alone.
 fn initial_script_bounds(devices: &[Device]) -> ArrayVec<AnswerRange, 16>
     requires { length devices.now ≤ 16 }
-    ensures { result.items ≡ map own_bounds devices.now }
+    ensures { result.items ≡ map initial_answer_bounds devices.now }
 {
     let mut bounds = ArrayVec::new();
     for device in devices {
@@ -37,7 +37,7 @@ fn initial_script_bounds(devices: &[Device]) -> ArrayVec<AnswerRange, 16>
 
 /// Returns true if a line `irq` of a script can be read: its interrupt is one of the plan's.
 fn is_source(plan: &Plan, irq: u8) -> bool
-    ensures { result ≡ is_source plan.now irq }
+    ensures { result ≡ is_plan_irq plan.now irq }
 {
     plan.irqs.iter().any(|q| *q == irq)
 }
@@ -45,7 +45,7 @@ fn is_source(plan: &Plan, irq: u8) -> bool
 /// Returns true if a line `in` of a script can be read: the plan has its peripheral, and its bounds
 /// are inside the peripheral's own.
 fn may_set_bounds(devices: &[Device], device: usize, lo: u32, hi: u32) -> bool
-    ensures value { result ≡ holds_bounds (slice_get devices.now device) lo hi }
+    ensures value { result ≡ may_set_bounds (slice_get devices.now device) lo hi }
     ensures there { IsTrue result → device < length devices.now }
 {
     match devices.get(device) {
@@ -57,7 +57,7 @@ fn may_set_bounds(devices: &[Device], device: usize, lo: u32, hi: u32) -> bool
 impl Draft {
     /// Returns the draft of a script before its first line is read.
     fn new(alloc: Global, plan: &Plan) -> Draft
-        ensures begun { result ≡ begun_script plan.now }
+        ensures begun { result ≡ empty_script_draft plan.now }
         ensures plan { IsPlan plan.now }
     {
         Draft {
@@ -72,8 +72,8 @@ impl Draft {
     /// Reads a line and applies its statement.
     fn read_line(&mut self, plan: &Plan, number: u32, line: &[u8]) -> Result<(), ScriptErr>
         requires { length self.old.script.bounds ≡ length plan.now.devices }
-        ensures read { TakesScriptDraft result self.new
-            (line_read plan.now number line.now self.old) }
+        ensures read { GivesScriptDraft result self.new
+            (script_draft_after_line plan.now number line.now self.old) }
         ensures devices { length self.new.script.bounds ≡ length self.old.script.bounds }
     {
         match script_statement_in(line) {
@@ -83,12 +83,12 @@ impl Draft {
     }
 
     /// Applies a statement.
-    #[tactic(auto, unfolding(crate::specs::ScriptText::script_after_statement))]
+    #[tactic(auto, unfolding(crate::specs::ScriptText::script_draft_after_statement))]
     fn apply_statement(&mut self, plan: &Plan, line: u32, said: Statement) -> Result<(), ScriptErr>
         requires ordered { HasOrderedBounds said }
         requires devices { length self.old.script.bounds ≡ length plan.now.devices }
-        ensures stated { TakesScriptDraft result self.new
-            (script_after_statement plan.now line said self.old) }
+        ensures stated { GivesScriptDraft result self.new
+            (script_draft_after_statement plan.now line said self.old) }
         ensures devices { length self.new.script.bounds ≡ length self.old.script.bounds }
     {
         match said {
@@ -117,7 +117,7 @@ impl Draft {
 
     /// Adds `count` turns with this interrupt.
     fn add_turns(&mut self, line: u32, count: u32, irq: u8) -> Result<(), ScriptErr>
-        ensures turns { TakesScriptDraft result self.new (with_turns line count irq self.old) }
+        ensures turns { GivesScriptDraft result self.new (with_turns line count irq self.old) }
         ensures devices { length self.new.script.bounds ≡ length self.old.script.bounds }
     {
         let before = self.script.turns.len();

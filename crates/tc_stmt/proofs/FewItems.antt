@@ -11,14 +11,14 @@ use Rattle.tc_lex.specs.declared.kinds.Token.{Token}
 use Rattle.tc_lex.specs.declared.kinds.TokenKind.TheVariants as kind
 use Rattle.tc_lex.specs.Cut.{tokens_of, IsCutFault, AreTokens}
 use Rattle.tc_lex.proofs.LineLaws.{cut_reads, fault_reads}
-use Rattle.tc_lex.specs.Pieces.{PieceData, is_kind, text_at}
+use Rattle.tc_lex.specs.Pieces.{PieceData, is_token_kind, token_text}
 use Rattle.tc_lex.specs.Operands.{OperandData, operand, operands, is_comma}
 use Rattle.tc_stmt.specs.RowFields.{RowFieldsData}
 use Rattle.tc_stmt.specs.StatementRow.{statement}
 use Rattle.tc_stmt.proofs.Cases.{by_test}
 use Rattle.tc_stmt.specs.Items.{ItemData, section, global}
 use Rattle.tc_stmt.specs.DataValues.{value_item}
-use Rattle.tc_stmt.specs.Lines.{LineData, line_data, only_operand_name, named_line, space_line, values_line, code_line, stated_line, line_from, has_label, pieces_line, line_token_with_text, label_of, label_before, cut_line, line_in}
+use Rattle.tc_stmt.specs.Lines.{LineData, line_data, only_operand_name, named_line, space_line, values_line, code_line, statement_line, line_from, has_label, tokens_line, line_token_with_text, label_of, label_before, meaning_of_cut_line, line_in}
 
 -- a line that adds at most this many items
 record Few (most : ℕ) (l : LineData) : Type 0 where
@@ -46,8 +46,8 @@ values_few : (width : ℕ) (os : List OperandData) → length os ≤ 65 → Few 
 unfolding values_line
 values_few width os h = record { items = omega (arith, h, length-map os (value_item width)) }
 
-stated_few : (name : List ℕ) (os : List OperandData) → length os ≤ 65 → Few 65 (stated_line name os)
-unfolding stated_line
+stated_few : (name : List ℕ) (os : List OperandData) → length os ≤ 65 → Few 65 (statement_line name os)
+unfolding statement_line
 stated_few name os h =
     by_test (Few 65) (bytes_eq name (codes ".section")) _ _ (λ e. named_few section os)
     (λ e. by_test (Few 65) (bytes_eq name (codes ".global")) _ _ (λ e. named_few global os)
@@ -68,12 +68,12 @@ from_few : (ps : List PieceData) (at : ℕ) → length ps ≤ 64 → Few 65 (lin
 unfolding line_from
 from_few ps at h =
     by_test (Few 65) (length ps == at) _ _ (λ e. record { items = omega arith })
-    (λ e. by_test (Few 65) (is_kind ps at kind.Word) _ _
-    (λ e. stated_few (text_at ps at) (operands (drop (at + 1) ps)) (omega (arith, h, operands_few (drop (at + 1) ps), length-drop (at + 1) ps)))
+    (λ e. by_test (Few 65) (is_token_kind ps at kind.Word) _ _
+    (λ e. stated_few (token_text ps at) (operands (drop (at + 1) ps)) (omega (arith, h, operands_few (drop (at + 1) ps), length-drop (at + 1) ps)))
     (λ e. record { items = omega arith }))
 
-pieces_few : (ps : List PieceData) → length ps ≤ 64 → Few 66 (pieces_line ps)
-unfolding pieces_line
+pieces_few : (ps : List PieceData) → length ps ≤ 64 → Few 66 (tokens_line ps)
+unfolding tokens_line
 pieces_few ps h =
     by_test (Few 66) (has_label ps) _ _
     (λ e. let k = from_few ps 2 h in record { items = omega (arith, k.items) })
@@ -87,7 +87,7 @@ before_few : (text : List ℕ) (q : Result (List Token) ℕ) → Few 66 (line_da
 before_few text (Ok ts) = label_few (map (line_token_with_text text) ts)
 before_few text (Err at) = record { items = omega arith }
 
-cut_few : (line : List ℕ) (q : Result (List Token) ℕ) → tokens_of line ≡ q → Few 66 (cut_line line q)
+cut_few : (line : List ℕ) (q : Result (List Token) ℕ) → tokens_of line ≡ q → Few 66 (meaning_of_cut_line line q)
 cut_few line (Ok ts) e = let c = cut_reads line ts e in pieces_few (map (line_token_with_text line) ts) (omega (arith, c.few, length-map ts (line_token_with_text line)))
 cut_few line (Err at) e = before_few (take at line) (tokens_of (take at line))
 

@@ -7,48 +7,48 @@ use Rattle.tc_stmt.specs.declared.want.Want.{Want}
 use Rattle.tc_lex.specs.declared.operand.Operand.{Operand}
 use Rattle.tc_lex.specs.Operands.{OperandData, operand_of}
 use Rattle.tc_stmt.specs.RowFields.{RowFieldsData}
-use Rattle.tc_stmt.specs.Filling.{fill, fill_all}
+use Rattle.tc_stmt.specs.Filling.{fill, fill_operands}
 
 none_of : (next : RowFieldsData → Option RowFieldsData) → ((f : RowFieldsData) → next f ≡ None) → (found : Option RowFieldsData) → option_and_then next found ≡ None
 none_of next none None = refl
 none_of next none (Some f) = none f
 
 -- another number of operands never fits
-pub fill_all-uneven : (r : RowData) (ws : List Want) (os : List OperandData) (acc : RowFieldsData) → length ws ≢ length os → fill_all r ws os acc ≡ None
-unfolding fill_all
+pub fill_all-uneven : (r : RowData) (ws : List Want) (os : List OperandData) (acc : RowFieldsData) → length ws ≢ length os → fill_operands r ws os acc ≡ None
+unfolding fill_operands
 fill_all-uneven r [] [] acc h = absurd (h refl)
 fill_all-uneven r [] (o ∷ os) acc h = refl
 fill_all-uneven r (w ∷ ws) [] acc h = refl
-fill_all-uneven r (w ∷ ws) (o ∷ os) acc h = none_of (fill_all r ws os) (λ f. fill_all-uneven r ws os f (λ e. h (ap suc e))) (fill r w o acc)
+fill_all-uneven r (w ∷ ws) (o ∷ os) acc h = none_of (fill_operands r ws os) (λ f. fill_all-uneven r ws os f (λ e. h (ap suc e))) (fill r w o acc)
 
 pub fill_all-drop : (r : RowData) (ws : List Want) (os : List OperandData) (i : ℕ) (w : Want) (o : OperandData) (acc : RowFieldsData) → i < length ws → i < length os
-    → fill_all r (drop i ws) (drop i os) acc ≡ option_and_then (fill_all r (drop (i + 1) ws) (drop (i + 1) os)) (fill r (get_or ws i w) (get_or os i o) acc)
-unfolding fill_all
+    → fill_operands r (drop i ws) (drop i os) acc ≡ option_and_then (fill_operands r (drop (i + 1) ws) (drop (i + 1) os)) (fill r (get_or ws i w) (get_or os i o) acc)
+unfolding fill_operands
 fill_all-drop r ws os i w o acc h k =
-    ap (λ (vs : List Want). fill_all r vs (drop i os) acc) (drop_more ws i w h)
-    ∙ ap (λ (ps : List OperandData). fill_all r (get_or ws i w ∷ drop (i + 1) ws) ps acc) (drop_more os i o k)
+    ap (λ (vs : List Want). fill_operands r vs (drop i os) acc) (drop_more ws i w h)
+    ∙ ap (λ (ps : List OperandData). fill_operands r (get_or ws i w ∷ drop (i + 1) ws) ps acc) (drop_more os i o k)
 
-pub fill_all-end : (r : RowData) (ws : List Want) (os : List OperandData) (i : ℕ) (acc : RowFieldsData) → length ws ≤ i → length os ≤ i → fill_all r (drop i ws) (drop i os) acc ≡ Some acc
-unfolding fill_all
+pub fill_all-end : (r : RowData) (ws : List Want) (os : List OperandData) (i : ℕ) (acc : RowFieldsData) → length ws ≤ i → length os ≤ i → fill_operands r (drop i ws) (drop i os) acc ≡ Some acc
+unfolding fill_operands
 fill_all-end r ws os i acc h k =
-    ap (λ (vs : List Want). fill_all r vs (drop i os) acc) (drop_all i ws h)
-    ∙ ap (λ (ps : List OperandData). fill_all r [] ps acc) (drop_all i os k)
+    ap (λ (vs : List Want). fill_operands r vs (drop i os) acc) (drop_all i ws h)
+    ∙ ap (λ (ps : List OperandData). fill_operands r [] ps acc) (drop_all i os k)
 
 pub fill_step : (r : RowData) (ws : List Want) (os : List Operand) (i : ℕ) (w : Want) (o : Operand) (acc : RowFieldsData) (found : Option RowFieldsData)
     → found ≡ fill r (get_or ws i w) (operand_of (get_or os i o)) acc → i < length ws → length ws ≡ length os
-    → fill_all r (drop i ws) (drop i (map operand_of os)) acc ≡ option_and_then (fill_all r (drop (i + 1) ws) (drop (i + 1) (map operand_of os))) found
+    → fill_operands r (drop i ws) (drop i (map operand_of os)) acc ≡ option_and_then (fill_operands r (drop (i + 1) ws) (drop (i + 1) (map operand_of os))) found
 fill_step r ws os i w o acc found e h even =
     let within : i < length os = omega arith in
     fill_all-drop r ws (map operand_of os) i w (operand_of o) acc h (rw (length-map os operand_of) within)
-    ∙ ap (λ q. option_and_then (fill_all r (drop (i + 1) ws) (drop (i + 1) (map operand_of os))) (fill r (get_or ws i w) q acc)) (get_or-map operand_of os i o (operand_of o) within)
-    ∙ ap (λ f. option_and_then (fill_all r (drop (i + 1) ws) (drop (i + 1) (map operand_of os))) f) (sym e)
+    ∙ ap (λ q. option_and_then (fill_operands r (drop (i + 1) ws) (drop (i + 1) (map operand_of os))) (fill r (get_or ws i w) q acc)) (get_or-map operand_of os i o (operand_of o) within)
+    ∙ ap (λ f. option_and_then (fill_operands r (drop (i + 1) ws) (drop (i + 1) (map operand_of os))) f) (sym e)
 
 -- ---- a loop over operands
 module _ (r : RowData) (ws : List Want) (os : List Operand) (i : ℕ) (acc : RowFieldsData) (all : Option RowFieldsData)
-    (so_far : fill_all r (drop i ws) (drop i (map operand_of os)) acc ≡ all) where
+    (so_far : fill_operands r (drop i ws) (drop i (map operand_of os)) acc ≡ all) where
   -- a further operand of the form that is wanted
   pub fill_more : (w : Want) (o : Operand) (next : RowFieldsData) (fits : Bool) → cond fits (Some next) None ≡ fill r (get_or ws i w) (operand_of (get_or os i o)) acc → fits ≡ true
-      → i < length ws → length ws ≡ length os → fill_all r (drop (i + 1) ws) (drop (i + 1) (map operand_of os)) next ≡ all
+      → i < length ws → length ws ≡ length os → fill_operands r (drop (i + 1) ws) (drop (i + 1) (map operand_of os)) next ≡ all
   fill_more w o next true e is h even = sym (fill_step r ws os i w o acc (Some next) e h even) ∙ so_far
   fill_more w o next false e is h even = cc
 

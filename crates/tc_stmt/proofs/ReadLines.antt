@@ -10,15 +10,15 @@ use Rattle.tc_stmt.specs.declared.source.Line.{Line}
 use Rattle.tc_stmt.specs.declared.item.Item.{Item}
 use Rattle.tc_stmt.specs.Items.{ItemData, item_of}
 use Rattle.tc_stmt.specs.Lines.{LineData, line_data, line_in, lines_in, items_in}
-use Rattle.tc_stmt.specs.SourceViews.{lines_read, AreRead}
+use Rattle.tc_stmt.specs.SourceViews.{lines_read, AreReadLines}
 use Rattle.tc_stmt.proofs.ListItems.{take_behind, drop_behind}
 use Rattle.tc_stmt.proofs.LoopLaws.{is_feed, lines_more, lines_end}
 
-pub read_none : AreRead [] [] []
+pub read_none : AreReadLines [] [] []
 read_none = record { rules = refl; counts = refl; items_are = refl }
 
 pub read_more : (lines next : List Line) (l : Line) (old new : List Item) (x : LineData) → next ≡ lines ++ l ∷ [] → l.rule ≡ x.rule → l.count ≡ length x.items
-    → map item_of new ≡ map item_of old ++ x.items → (ls : List LineData) → AreRead lines old ls → AreRead next new (ls ++ x ∷ [])
+    → map item_of new ≡ map item_of old ++ x.items → (ls : List LineData) → AreReadLines lines old ls → AreReadLines next new (ls ++ x ∷ [])
 read_more lines next l old new x e rule count more ls h = record {
   rules =
       ap (map (λ (k : Line). k.rule)) e ∙ map_push (λ (k : Line). k.rule) lines l
@@ -66,7 +66,7 @@ read_back (l ∷ lines) is (x ∷ ls) r c e = joined (read_back lines (drop l.co
         ∙ ap (λ (js : List ItemData). line_data x.rule js ∷ lines_read lines (drop l.count is)) first
         ∙ ap (λ (ks : List LineData). x ∷ ks) h
 
-pub read_lines : (lines : List Line) (items : List Item) (ls : List LineData) → AreRead lines items ls → lines_read lines (map item_of items) ≡ ls
+pub read_lines : (lines : List Line) (items : List Item) (ls : List LineData) → AreReadLines lines items ls → lines_read lines (map item_of items) ≡ ls
 read_lines lines items ls h = read_back lines (map item_of items) ls h.rules h.counts h.items_are
 
 -- the number of lines so far
@@ -78,18 +78,18 @@ length-lines_read (l ∷ lines) is = ap suc (length-lines_read lines (drop l.cou
 pub record Reading (source : List ℕ) (lines : List Line) (items : List Item) (rest : List ℕ) : Type 0 where
   pub parts : List (List ℕ)
   pub parted : parts ++ slice_split is_feed rest ≡ slice_split is_feed source
-  pub are_read : AreRead lines items (map line_in parts)
+  pub are_read : AreReadLines lines items (map line_in parts)
 
 pub reading_none : (source : List ℕ) (lines : List Line) (items : List Item) → lines ≡ [] → items ≡ [] → Reading source lines items source
 reading_none source lines items e f = record { parts = []; parted = refl; are_read = rw (e, f) read_none }
 
-one_more : (parts : List (List ℕ)) (lines : List Line) (items : List Item) (line : List ℕ) → AreRead lines items (map line_in parts ++ line_in line ∷ []) → AreRead lines items (map line_in (parts ++ line ∷ []))
+one_more : (parts : List (List ℕ)) (lines : List Line) (items : List Item) (line : List ℕ) → AreReadLines lines items (map line_in parts ++ line_in line ∷ []) → AreReadLines lines items (map line_in (parts ++ line ∷ []))
 one_more parts lines items line h = rw (map_push line_in parts line) h
 
-module _ (source : List ℕ) (lines next : List Line) (old new : List Item) (rest line : List ℕ) (r : Reading source lines old rest) (more : (ls : List LineData) → AreRead lines old ls → AreRead next new (ls ++ line_in line ∷ [])) where
-  with_line : (l : List ℕ) → line ≡ l → AreRead next new (map line_in (r.parts ++ l ∷ []))
+module _ (source : List ℕ) (lines next : List Line) (old new : List Item) (rest line : List ℕ) (r : Reading source lines old rest) (more : (ls : List LineData) → AreReadLines lines old ls → AreReadLines next new (ls ++ line_in line ∷ [])) where
+  with_line : (l : List ℕ) → line ≡ l → AreReadLines next new (map line_in (r.parts ++ l ∷ []))
   with_line l e =
-      let P : List ℕ → Type 0 = λ k. AreRead next new (map line_in r.parts ++ line_in k ∷ []) in
+      let P : List ℕ → Type 0 = λ k. AreReadLines next new (map line_in r.parts ++ line_in k ∷ []) in
       one_more r.parts next new l (subst P e (more (map line_in r.parts) r.are_read))
 
   -- a further line
@@ -101,9 +101,9 @@ module _ (source : List ℕ) (lines next : List Line) (old new : List Item) (res
   }
 
   -- the last line
-  pub reading_end : position is_feed rest ≡ None → line ≡ rest → AreRead next new (lines_in source)
+  pub reading_end : position is_feed rest ≡ None → line ≡ rest → AreReadLines next new (lines_in source)
   reading_end none e =
-      let P : List (List ℕ) → Type 0 = λ parts. AreRead next new (map line_in parts) in
+      let P : List (List ℕ) → Type 0 = λ parts. AreReadLines next new (map line_in parts) in
       subst P (lines_end r.parts rest none ∙ r.parted) (with_line rest e)
 
 -- one line more than line feeds

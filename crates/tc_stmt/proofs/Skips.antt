@@ -10,7 +10,7 @@ use Rattle.tc_isa.specs.declared.table.Row.{Row}
 use Rattle.tc_isa.specs.Rows.{RowData, row_of}
 use Rattle.tc_stmt.specs.declared.tally.Tally.{Tally}
 use Rattle.tc_lex.specs.Operands.{OperandData}
-use Rattle.tc_stmt.specs.StatementRow.{after_row, statement_outcome, or_next}
+use Rattle.tc_stmt.specs.StatementRow.{after_row, statement_outcome, found_row_or_next}
 use Rattle.tc_stmt.specs.RowIndex.{name_key, are_rows_without_key, are_next_rows, are_first_rows}
 
 -- names of other keys differ
@@ -36,7 +36,7 @@ skip name os zero rs k t h = ap (λ i. statement_outcome name os rs i t) (omega 
 skip name os (suc n) [] k t h = refl
 skip name os (suc n) (r ∷ rs) k t h =
     let parts = and_parts (not (name_key r.name == name_key name)) (are_rows_without_key n (name_key name) rs) h in
-    ap (λ q. or_next q k (statement_outcome name os rs (k + 1))) (other_row name os r t parts.0)
+    ap (λ q. found_row_or_next q k (statement_outcome name os rs (k + 1))) (other_row name os r t parts.0)
     ∙ skip name os n rs (k + 1) t parts.1
     ∙ ap (λ i. statement_outcome name os (drop n rs) i t) (omega arith)
 

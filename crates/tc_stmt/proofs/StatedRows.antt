@@ -26,13 +26,13 @@ use Rattle.tc_lex.specs.Operands.{ValueData, OperandData}
 use Rattle.tc_stmt.specs.Wants.{want_of, wants_of}
 use Rattle.tc_stmt.specs.RowFields.{RowFieldsData, no_fields, with_rule, set_field, field_of, with_value}
 use Rattle.tc_stmt.specs.Items.{ReferenceData}
-use Rattle.tc_stmt.specs.Filling.{put_register, put_number, reference, with_symbol, half_operand_relocation, fill_value, fill_memory, fill_target, put_absolute, fill_absolute, fill_register, fill_a10, fill_plain, fill, fill_all, check_registers_apart, fields_of_row, is_within_field_bound}
+use Rattle.tc_stmt.specs.Filling.{put_register, put_number, reference, with_symbol, half_operand_relocation, fill_constant, fill_memory, fill_target, put_absolute, fill_absolute, fill_register, fill_a10, fill_plain, fill, fill_operands, check_registers_apart, fields_of_row, is_within_field_bound}
 use Rattle.tc_stmt.specs.Displacements.{is_far_displacement, is_odd_displacement, displacement_rule, with_displacement, target_operand_relocation}
 use Rattle.tc_stmt.specs.OperandForms.{shape_index, register_by_name, operand_number_modulo, is_symbol_operand, is_half_operand}
-use Rattle.tc_stmt.specs.StatementRow.{after_row, statement_outcome, or_next, statement}
+use Rattle.tc_stmt.specs.StatementRow.{after_row, statement_outcome, found_row_or_next, statement}
 use Rattle.tc_stmt.specs.StatementRow as judging
-use Rattle.tc_isa.specs.Relocations.{is_reloc, can_relocation_fill}
-use Rattle.tc_stmt.specs.StatedRows.{can_take_symbol_directly, TakesSymbol, TakesAnySymbol, FitsStatedRow, IsStatedRow, StatedLaw}
+use Rattle.tc_isa.specs.Relocations.{is_relocation_kind, can_relocation_fill}
+use Rattle.tc_stmt.specs.StatedRows.{can_take_symbol_directly, TakesSymbol, TakesAnySymbol, FitsStatedRow, IsRowOfStatement, StatementFitsRowLaw}
 use Rattle.tc_stmt.proofs.Cases.{by_test, one_passes}
 use Rattle.tc_stmt.proofs.ZeroConstants.{zero_judged}
 
@@ -186,7 +186,7 @@ symbol_named v e = by (v.wide || nat_le (2 ^ 32) v.size) (is_source_name v.name)
     by false true e = refl
     by false false e = cc
 
-sound_symbol : (r : RowData) (kind : ℕ) (v : ValueData) (f : RowFieldsData) → (is_reloc kind ≡ true → (is_long r ≡ true) × (can_relocation_fill r.form kind ≡ true)) → (kind ≡ 0 → ((uses_of r).k ≡ true) × (can_take_symbol_directly r.form ≡ true)) → Sound r f → Sound r (with_symbol kind v f)
+sound_symbol : (r : RowData) (kind : ℕ) (v : ValueData) (f : RowFieldsData) → (is_relocation_kind kind ≡ true → (is_long r ≡ true) × (can_relocation_fill r.form kind ≡ true)) → (kind ≡ 0 → ((uses_of r).k ≡ true) × (can_take_symbol_directly r.form ≡ true)) → Sound r f → Sound r (with_symbol kind v f)
 unfolding with_symbol
 sound_symbol r kind v f long target s =
     by_test (Sound r) (symbol_rule v == 15) _ _
@@ -215,8 +215,8 @@ half_long r shape.Bad all half some = cc
 half_long r shape.Huge all half some = cc
 
 -- ---- values at their places
-sound_value : (r : RowData) (signed : Bool) (field : Field) (v : ValueData) (f : RowFieldsData) → halves_long r ≡ true → is_used field (uses_of r) ≡ true → Sound r f → IfSound r (fill_value r signed field v f)
-unfolding fill_value
+sound_value : (r : RowData) (signed : Bool) (field : Field) (v : ValueData) (f : RowFieldsData) → halves_long r ≡ true → is_used field (uses_of r) ≡ true → Sound r f → IfSound r (fill_constant r signed field v f)
+unfolding fill_constant
 sound_value r signed field v f halves used s =
     by_test (IfSound r) (shape_index v.shape == 1) _ _ (λ e. sound_some r _ (sound_number r signed field v.minus v.size f used s))
     (λ e. by_test (IfSound r) (shape_index v.shape == 7) _ _ (λ e. sound_some r _ (sound_broken r 5 f s))
@@ -265,15 +265,15 @@ sound_displaced r minus size f used s =
     (λ b. sound_put r K (operand_number_modulo (bounds r.form).k minus (size / 2)) f used (wrapped_below (bounds r.form).k minus (size / 2) some (λ e. near r size (ap (λ m. displacement_rule r m size == 15) (sym e) ∙ b) some)) s)
     (λ b. sound_broken r (displacement_rule r minus size) f s)
 
-is_target : (r : RowData) → is_reloc (target_operand_relocation r) ≡ true → is_long r ≡ true
+is_target : (r : RowData) → is_relocation_kind (target_operand_relocation r) ≡ true → is_long r ≡ true
 unfolding target_operand_relocation
 is_target r e = by_long (is_long r) (cond (form_index r.form == 7) 1 3) e
   where
-    by_long : (b : Bool) (n : ℕ) → is_reloc (cond b n 0) ≡ true → b ≡ true
+    by_long : (b : Bool) (n : ℕ) → is_relocation_kind (cond b n 0) ≡ true → b ≡ true
     by_long true n e = refl
     by_long false n e = cc
 
-target_long : (r : RowData) → cond (is_long r) (can_relocation_fill r.form (target_operand_relocation r)) (can_take_symbol_directly r.form) ≡ true → is_reloc (target_operand_relocation r) ≡ true → (is_long r ≡ true) × (can_relocation_fill r.form (target_operand_relocation r) ≡ true)
+target_long : (r : RowData) → cond (is_long r) (can_relocation_fill r.form (target_operand_relocation r)) (can_take_symbol_directly r.form) ≡ true → is_relocation_kind (target_operand_relocation r) ≡ true → (is_long r ≡ true) × (can_relocation_fill r.form (target_operand_relocation r) ≡ true)
 target_long r fit e = let long = is_target r e in (long, by (is_long r) (can_relocation_fill r.form (target_operand_relocation r)) (can_take_symbol_directly r.form) long fit)
   where
     by : (a b c : Bool) → a ≡ true → cond a b c ≡ true → b ≡ true
@@ -354,14 +354,14 @@ sound_then : (r : RowData) (next : RowFieldsData → Option RowFieldsData) (o : 
 sound_then r next None h more = sound_none r
 sound_then r next (Some f) h more = more f (h.some f refl)
 
-sound_all : (r : RowData) (ws : List Want) (os : List OperandData) (f : RowFieldsData) → halves_long r ≡ true → list_all (suits r) ws ≡ true → Sound r f → IfSound r (fill_all r ws os f)
-unfolding fill_all
+sound_all : (r : RowData) (ws : List Want) (os : List OperandData) (f : RowFieldsData) → halves_long r ≡ true → list_all (suits r) ws ≡ true → Sound r f → IfSound r (fill_operands r ws os f)
+unfolding fill_operands
 sound_all r [] [] f halves all s = sound_some r f s
 sound_all r [] (o ∷ os) f halves all s = sound_none r
 sound_all r (w ∷ ws) [] f halves all s = sound_none r
 sound_all r (w ∷ ws) (o ∷ os) f halves all s =
     let p = and_parts (suits r w) (list_all (suits r) ws) all in
-    sound_then r (fill_all r ws os) (fill r w o f) (sound_fill r w o f halves p.0 s) (λ g t. sound_all r ws os g halves p.1 t)
+    sound_then r (fill_operands r ws os) (fill r w o f) (sound_fill r w o f halves p.0 s) (λ g t. sound_all r ws os g halves p.1 t)
 
 sound_nothing : (r : RowData) → IsRow r → Sound r no_fields
 sound_nothing r row = record {
@@ -395,7 +395,7 @@ sound_judged : (k : ℕ) (r : RowData) (os : List OperandData) (f : RowFieldsDat
 unfolding fields_of_row
 sound_judged k r os f at e rule =
     let suit = row_suit k r at in
-    by (fill_all r (wants_of r) os no_fields) (sound_all r (wants_of r) os no_fields suit.1 suit.0 (sound_nothing r (row_at k r at))) e
+    by (fill_operands r (wants_of r) os no_fields) (sound_all r (wants_of r) os no_fields suit.1 suit.0 (sound_nothing r (row_at k r at))) e
   where
     by : (o : Option RowFieldsData) → IfSound r o → option_and_then (λ g. Some (check_registers_apart r g)) o ≡ Some f → FitsStatedRow r f
     by None h e = cc
@@ -435,7 +435,7 @@ chosen name os (r ∷ rs) place t k f e = by (after_row name os r t) refl e (λ 
     further : Chosen os rs (place + 1) k f → Chosen os (r ∷ rs) place k f
     further c = record { at = suc c.at; row = c.row; is_row = c.is_row; number = let n = c.number in omega arith; is = c.is; rule = c.rule }
 
-    by : (q : Result RowFieldsData Tally) → after_row name os r t ≡ q → or_next q place (statement_outcome name os rs (place + 1)) ≡ Ok (k, f)
+    by : (q : Result RowFieldsData Tally) → after_row name os r t ≡ q → found_row_or_next q place (statement_outcome name os rs (place + 1)) ≡ Ok (k, f)
         → ((u : Tally) → statement_outcome name os rs (place + 1) u ≡ Ok (k, f) → Chosen os rs (place + 1) k f) → Chosen os (r ∷ rs) place k f
     by (Ok g) is e rec =
         let both : (place, g) ≡ (k, f) = cc in
@@ -445,12 +445,12 @@ chosen name os (r ∷ rs) place t k f e = by (after_row name os r t) refl e (λ 
         record { at = 0; row = r; is_row = refl; number = omega arith; is = ok.0; rule = ok.1 }
     by (Err u) is e rec = further (rec u e)
 
-pub stated : (name : List ℕ) (os : List OperandData) (k : ℕ) (f : RowFieldsData) → statement name os ≡ Ok (k, f) → IsStatedRow k f
+pub stated : (name : List ℕ) (os : List OperandData) (k : ℕ) (f : RowFieldsData) → statement name os ≡ Ok (k, f) → IsRowOfStatement k f
 stated name os k f e =
     let c = chosen name os listed 0 judging.start_tally k f e in
     let same : c.at ≡ k = let n = c.number in omega arith in
     let at : slice_get listed k ≡ Some c.row = ap (slice_get listed) (sym same) ∙ c.is_row in
     record { row = c.row; at = at; stated = sound_judged k c.row os f at c.is c.rule; zero = (zero_judged k c.row os f at c.is).some }
 
-pub stated_law : StatedLaw
+pub stated_law : StatementFitsRowLaw
 stated_law name os k f e = stated name os k f e

@@ -18,7 +18,7 @@ use Rattle.tc_lex.specs.Operands.{ValueData, OperandData}
 use Rattle.tc_stmt.specs.Wants.{want_of, wants_of}
 use Rattle.tc_stmt.specs.RowFields.{RowFieldsData, no_fields, with_rule, set_field, with_value, field_of}
 use Rattle.tc_stmt.specs.Items.{ReferenceData}
-use Rattle.tc_stmt.specs.Filling.{put_register, put_number, with_symbol, half_operand_relocation, fill_value, fill_memory, fill_target, put_absolute, fill_absolute, fill_register, fill_a10, fill_plain, fill, fill_all, check_registers_apart, fields_of_row, is_within_field_bound}
+use Rattle.tc_stmt.specs.Filling.{put_register, put_number, with_symbol, half_operand_relocation, fill_constant, fill_memory, fill_target, put_absolute, fill_absolute, fill_register, fill_a10, fill_plain, fill, fill_operands, check_registers_apart, fields_of_row, is_within_field_bound}
 use Rattle.tc_stmt.specs.Names.{symbol_rule}
 use Rattle.tc_stmt.specs.Displacements.{displacement_rule, with_displacement}
 use Rattle.tc_stmt.specs.OperandForms.{shape_index, register_by_name, operand_number_modulo, is_symbol_operand, is_half_operand}
@@ -127,8 +127,8 @@ neither true b e = cc
 neither false true e = (refl, refl)
 neither false false e = cc
 
-kept_value : (r : RowData) (signed : Bool) (field : Field) (v : ValueData) (f : RowFieldsData) → takes r (Number signed field) ≡ false → IfSo (IsKept f) (fill_value r signed field v f)
-unfolding fill_value
+kept_value : (r : RowData) (signed : Bool) (field : Field) (v : ValueData) (f : RowFieldsData) → takes r (Number signed field) ≡ false → IfSo (IsKept f) (fill_constant r signed field v f)
+unfolding fill_constant
 kept_value r signed field v f h =
     let p = neither (is_constant field) (half_operand_relocation r shape.High == 0 && half_operand_relocation r shape.Low == 0) h in
     by_test (IfSo (IsKept f)) (shape_index v.shape == 1) _ _ (λ e. if_some (IsKept f) _ (kept_number r.form signed field v.minus v.size f p.0))
@@ -181,8 +181,8 @@ zero_number : (form : Form) (signed : Bool) (field : Field) (minus : Bool) (size
 unfolding put_number
 zero_number form signed field minus size f h = by_test IsZero (is_within_field_bound signed (field_of field (bounds form)) minus size) _ _ (λ e. none_put field (operand_number_modulo (field_of field (bounds form)) minus size) f h) (λ e. none_broken 5 f h)
 
-zero_value : (r : RowData) (signed : Bool) (field : Field) (v : ValueData) (f : RowFieldsData) → IsFree f → IfSo IsZero (fill_value r signed field v f)
-unfolding fill_value
+zero_value : (r : RowData) (signed : Bool) (field : Field) (v : ValueData) (f : RowFieldsData) → IsFree f → IfSo IsZero (fill_constant r signed field v f)
+unfolding fill_constant
 zero_value r signed field v f h =
     by_test (IfSo IsZero) (shape_index v.shape == 1) _ _ (λ e. if_some IsZero _ (zero_number r.form signed field v.minus v.size f h))
     (λ e. by_test (IfSo IsZero) (shape_index v.shape == 7) _ _ (λ e. if_some IsZero _ (none_broken 5 f h))
@@ -245,25 +245,25 @@ not_true : (b : Bool) → not b ≡ true → b ≡ false
 not_true true e = cc
 not_true false e = refl
 
-none_all : (r : RowData) (ws : List Want) (os : List OperandData) (f : RowFieldsData) → none_takes r ws ≡ true → IsZero f → IfSo IsZero (fill_all r ws os f)
-unfolding fill_all
+none_all : (r : RowData) (ws : List Want) (os : List OperandData) (f : RowFieldsData) → none_takes r ws ≡ true → IsZero f → IfSo IsZero (fill_operands r ws os f)
+unfolding fill_operands
 none_all r [] [] f h z = if_some IsZero f z
 none_all r [] (o ∷ os) f h z = if_none IsZero
 none_all r (w ∷ ws) [] f h z = if_none IsZero
 none_all r (w ∷ ws) (o ∷ os) f h z =
     let p = and_parts (not (takes r w)) (none_takes r ws) h in
-    then_so (IsKept f) IsZero (fill_all r ws os) (fill r w o f) (kept_fill r w o f (not_true (takes r w) p.0)) (λ g k. none_all r ws os g p.1 (zero_kept f g z k))
+    then_so (IsKept f) IsZero (fill_operands r ws os) (fill r w o f) (kept_fill r w o f (not_true (takes r w) p.0)) (λ g k. none_all r ws os g p.1 (zero_kept f g z k))
 
-one_all : (r : RowData) (ws : List Want) (os : List OperandData) (f : RowFieldsData) → one_takes r ws ≡ true → IsFree f → IfSo IsZero (fill_all r ws os f)
-unfolding fill_all
+one_all : (r : RowData) (ws : List Want) (os : List OperandData) (f : RowFieldsData) → one_takes r ws ≡ true → IsFree f → IfSo IsZero (fill_operands r ws os f)
+unfolding fill_operands
 one_all r [] [] f h z = if_some IsZero f (zero_free f z)
 one_all r [] (o ∷ os) f h z = if_none IsZero
 one_all r (w ∷ ws) [] f h z = if_none IsZero
 one_all r (w ∷ ws) (o ∷ os) f h z = by (takes r w) refl h (λ g k. one_all r ws os g k)
   where
-    by : (b : Bool) → takes r w ≡ b → cond b (none_takes r ws) (one_takes r ws) ≡ true → ((g : RowFieldsData) → one_takes r ws ≡ true → IsFree g → IfSo IsZero (fill_all r ws os g)) → IfSo IsZero (option_and_then (fill_all r ws os) (fill r w o f))
-    by true e none rec = then_so IsZero IsZero (fill_all r ws os) (fill r w o f) (zero_fill r w o f z) (λ g k. none_all r ws os g none k)
-    by false e one rec = then_so (IsKept f) IsZero (fill_all r ws os) (fill r w o f) (kept_fill r w o f e) (λ g k. rec g one (free_kept f g z k))
+    by : (b : Bool) → takes r w ≡ b → cond b (none_takes r ws) (one_takes r ws) ≡ true → ((g : RowFieldsData) → one_takes r ws ≡ true → IsFree g → IfSo IsZero (fill_operands r ws os g)) → IfSo IsZero (option_and_then (fill_operands r ws os) (fill r w o f))
+    by true e none rec = then_so IsZero IsZero (fill_operands r ws os) (fill r w o f) (zero_fill r w o f z) (λ g k. none_all r ws os g none k)
+    by false e one rec = then_so (IsKept f) IsZero (fill_operands r ws os) (fill r w o f) (kept_fill r w o f e) (λ g k. rec g one (free_kept f g z k))
 
 zero_apart : (r : RowData) (f : RowFieldsData) → IsZero f → IsZero (check_registers_apart r f)
 zero_apart r f h = by_test IsZero (are_registers_apart r f.fields) f (with_rule 12 f) (λ e. h) (λ e. zero_kept f (with_rule 12 f) h (kept_broken 12 f))
@@ -272,5 +272,5 @@ zero_apart r f h = by_test IsZero (are_registers_apart r f.fields) f (with_rule 
 pub zero_judged : (k : ℕ) (r : RowData) (os : List OperandData) (f : RowFieldsData) → slice_get listed k ≡ Some r → fields_of_row r (wants_of r) os ≡ Some f → IsZero f
 unfolding fields_of_row
 zero_judged k r os f at e =
-    (then_so IsZero IsZero (λ g. Some (check_registers_apart r g)) (fill_all r (wants_of r) os no_fields)
+    (then_so IsZero IsZero (λ g. Some (check_registers_apart r g)) (fill_operands r (wants_of r) os no_fields)
     (one_all r (wants_of r) os no_fields (one_passes row_takes listed k r all_take at) (record { none = refl; zero = refl })) (λ g z. if_some IsZero (check_registers_apart r g) (zero_apart r g z))).so f e

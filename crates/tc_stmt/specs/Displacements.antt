@@ -4,7 +4,7 @@ use Rattle.tc_isa.specs.Relocations.{rel24, rel15}
 use Rattle.tc_stmt.specs.SourceRules.{wide_number, no_rule, far_target, odd_displacement}
 use Rattle.tc_isa.specs.Rows.{RowData, is_long}
 use Rattle.tc_isa.specs.declared.table.Form.{Form}
-use Rattle.tc_isa.specs.Forms.{bounds, is_sbr, is_b}
+use Rattle.tc_isa.specs.Forms.{bounds, is_sbr_form, is_b_form}
 use Rattle.tc_stmt.specs.declared.want.Field.TheVariants.{K}
 use Rattle.tc_stmt.specs.OperandForms.{operand_number_modulo}
 use Rattle.tc_stmt.specs.RowFields.{RowFieldsData, with_rule, with_value}
@@ -12,7 +12,7 @@ use Rattle.tc_stmt.specs.RowFields.{RowFieldsData, with_rule, with_value}
 -- a displacement of this many bytes doesn't fit; SBR (form 13) only reaches forwards
 abbrev pub is_far_displacement : Form → ℕ → Bool → ℕ → Bool
 is_far_displacement form bound minus size =
-    if is_sbr form
+    if is_sbr_form form
     then (if minus then not (size == 0) else nat_lt (2 * (bound - 1)) size)
     else (if minus then nat_lt bound size else nat_lt (bound - 2) size)
 
@@ -33,8 +33,8 @@ with_displacement r minus size acc =
 -- the relocation of an operand that names the target of a jump or call instead of giving a
 -- displacement: rel24 in a B row, rel15 in other rows of 32 bits, and none in rows of 16 bits
 unfoldable pub target_operand_relocation : RowData → ℕ
-target_operand_relocation r = if is_long r then (if is_b r.form then rel24 else rel15) else 0
+target_operand_relocation r = if is_long r then (if is_b_form r.form then rel24 else rel15) else 0
 
 -- a displacement can be negative, except in SBR rows
 unfoldable pub is_two_way : Form → Bool
-is_two_way form = not (is_sbr form)
+is_two_way form = not (is_sbr_form form)

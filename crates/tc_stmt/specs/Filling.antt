@@ -6,7 +6,7 @@ use Rattle.tc_isa.specs.Relocations.{hi16, lo16, offset16, abs24}
 use Rattle.tc_stmt.specs.SourceRules.{wrong_register, wide_number, equal_registers, no_rule, misplaced_symbol}
 use Rattle.tc_isa.specs.Rows.{RowData}
 use Rattle.tc_isa.specs.declared.table.Form.{Form}
-use Rattle.tc_isa.specs.Forms.{bounds, is_bol, is_abs}
+use Rattle.tc_isa.specs.Forms.{bounds, is_bol_form, is_abs_form}
 use Rattle.tc_isa.specs.ValidRowFields.{are_registers_apart}
 use Rattle.tc_lex.specs.declared.operand.Shape.{Shape}
 use Rattle.tc_stmt.specs.declared.want.Field.{Field}
@@ -60,11 +60,11 @@ unfoldable pub half_operand_relocation : RowData → Shape → ℕ
 half_operand_relocation r s =
     if is_high_operand s
     then (if is_named_row r (codes "movh") || is_named_row r (codes "movh.a") || is_named_row r (codes "addih") || is_named_row r (codes "addih.a") then hi16 else 0)
-    else (if is_named_row r (codes "addi") then lo16 else (if is_bol r.form then offset16 else 0))
+    else (if is_named_row r (codes "addi") then lo16 else (if is_bol_form r.form then offset16 else 0))
 
 -- a value as a constant
-unfoldable pub fill_value : RowData → Bool → Field → ValueData → RowFieldsData → Option RowFieldsData
-fill_value r signed field v acc =
+unfoldable pub fill_constant : RowData → Bool → Field → ValueData → RowFieldsData → Option RowFieldsData
+fill_constant r signed field v acc =
     if is_number_operand v.shape then Some (put_number r.form signed field v.minus v.size acc)
     else (if is_huge_operand v.shape then Some (with_rule wide_number acc)
     else (if is_symbol_operand (shape_index v.shape) then Some (with_misplaced v acc)
@@ -77,7 +77,7 @@ unfoldable pub fill_memory : RowData → Bool → Bool → OperandData → RowFi
 fill_memory r plus offset o acc =
     if o.is_memory && (if o.plus then plus else not plus)
     then (if is_absent_operand o.value.shape then Some (put_register true S2 o.base acc)
-    else (if offset then fill_value r true K o.value (put_register true S2 o.base acc) else None))
+    else (if offset then fill_constant r true K o.value (put_register true S2 o.base acc) else None))
     else None
 
 -- A value as the target of a jump or call: a displacement from the instruction, or a symbol. A
@@ -94,7 +94,7 @@ fill_target r v acc =
 unfoldable pub put_absolute : Form → Bool → ℕ → RowFieldsData → RowFieldsData
 put_absolute form minus size acc =
     if (minus && not (size == 0)) || nat_le (2 ^ 32) size then with_rule wide_number acc
-    else (if is_abs form
+    else (if is_abs_form form
     then (if size / 2 ^ 14 % 2 ^ 14 == 0 then with_value K (size / 2 ^ 28 * 2 ^ 14 + size % 2 ^ 14) acc else with_rule wide_number acc)
     else (if size / 2 ^ 21 % 2 ^ 7 == 0 && size % 2 == 0 then with_value K (size / 2 ^ 28 * 2 ^ 20 + size % 2 ^ 21 / 2) acc else with_rule wide_number acc))
 
@@ -103,7 +103,7 @@ unfoldable pub fill_absolute : RowData → ValueData → RowFieldsData → Optio
 fill_absolute r v acc =
     if is_number_operand v.shape then Some (put_absolute r.form v.minus v.size acc)
     else (if is_huge_operand v.shape then Some (with_rule wide_number acc)
-    else (if is_symbol_operand (shape_index v.shape) then (if is_abs r.form then Some (with_misplaced v acc) else Some (with_symbol abs24 v acc))
+    else (if is_symbol_operand (shape_index v.shape) then (if is_abs_form r.form then Some (with_misplaced v acc) else Some (with_symbol abs24 v acc))
     else (if is_half_operand (shape_index v.shape) then Some (with_misplaced v acc)
     else None)))
 
@@ -120,7 +120,7 @@ fill_a10 v acc = if is_name_operand v.shape then (if bytes_eq v.name (codes "a10
 unfoldable pub fill_plain : RowData → Want → ValueData → RowFieldsData → Option RowFieldsData
 fill_plain r (Reg bank field) v acc = fill_register bank field v acc
 fill_plain r A10 v acc = fill_a10 v acc
-fill_plain r (Number signed field) v acc = fill_value r signed field v acc
+fill_plain r (Number signed field) v acc = fill_constant r signed field v acc
 fill_plain r Target v acc = fill_target r v acc
 fill_plain r Absolute v acc = fill_absolute r v acc
 fill_plain r (Memory plus offset) v acc = None
@@ -131,11 +131,11 @@ fill r (Memory plus offset) o acc = fill_memory r plus offset o acc
 fill r w o acc = if o.is_memory then None else fill_plain r w o.value acc
 
 -- all operands, each at its own place
-unfoldable pub fill_all : RowData → List Want → List OperandData → RowFieldsData → Option RowFieldsData
-fill_all r [] [] acc = Some acc
-fill_all r [] (o ∷ os) acc = None
-fill_all r (w ∷ ws) [] acc = None
-fill_all r (w ∷ ws) (o ∷ os) acc = option_and_then (fill_all r ws os) (fill r w o acc)
+unfoldable pub fill_operands : RowData → List Want → List OperandData → RowFieldsData → Option RowFieldsData
+fill_operands r [] [] acc = Some acc
+fill_operands r [] (o ∷ os) acc = None
+fill_operands r (w ∷ ws) [] acc = None
+fill_operands r (w ∷ ws) (o ∷ os) acc = option_and_then (fill_operands r ws os) (fill r w o acc)
 
 -- registers that must differ break rule 12 if they are equal
 abbrev pub check_registers_apart : RowData → RowFieldsData → RowFieldsData
@@ -144,9 +144,9 @@ check_registers_apart r f = if are_registers_apart r f.fields then f else with_r
 -- the row's fields after operands filled them; None if the forms of the operands aren't those of
 -- the row
 unfoldable pub fields_of_row : RowData → List Want → List OperandData → Option RowFieldsData
-fields_of_row r ws os = option_and_then (λ f. Some (check_registers_apart r f)) (fill_all r ws os no_fields)
+fields_of_row r ws os = option_and_then (λ f. Some (check_registers_apart r f)) (fill_operands r ws os no_fields)
 
 -- the code's answer for operands that fill a row is this: false for None, else the fields in the
 -- record
-abbrev pub Fills : Bool → RowFields → Option RowFieldsData → Type 0
-Fills fits f given = (if fits then Some (row_fields_of f) else None) ≡ given
+abbrev pub GivesFilledFields : Bool → RowFields → Option RowFieldsData → Type 0
+GivesFilledFields fits f given = (if fits then Some (row_fields_of f) else None) ≡ given

@@ -8,7 +8,7 @@ use Rattle.tc_lex.specs.declared.kinds.Token.{Token}
 use Rattle.tc_lex.specs.declared.kinds.TokenKind.TheVariants as kind
 use Rattle.tc_lex.specs.Cut.{tokens_of}
 use Rattle.tc_isa.specs.Rows.{listed, is_long}
-use Rattle.tc_lex.specs.Pieces.{PieceData, is_kind, text_at, piece_in as with_text}
+use Rattle.tc_lex.specs.Pieces.{PieceData, is_token_kind, token_text, piece_in as with_text}
 use Rattle.tc_lex.specs.Operands.{OperandData, operands}
 use Rattle.tc_stmt.specs.RowFields.{RowFieldsData}
 use Rattle.tc_stmt.specs.OperandForms.{is_name_operand}
@@ -27,8 +27,8 @@ abbrev pub line_data : ℕ → List ItemData → LineData
 line_data rule items = record { rule = rule; items = items }
 
 -- a line whose items come after these
-abbrev pub behind : List ItemData → LineData → LineData
-behind is l = line_data l.rule (is ++ l.items)
+abbrev pub line_after_items : List ItemData → LineData → LineData
+line_after_items is l = line_data l.rule (is ++ l.items)
 
 -- ---- statements
 -- the operand of a line `.section NAME` or `.global NAME` is a word
@@ -69,8 +69,8 @@ code_line name (Ok found) = line_data no_rule (code found.0 found.1.fields found
 code_line name (Err rule) = line_data rule (zeros (size_of_name name) ∷ [])
 
 -- a statement: a directive, or an instruction
-unfoldable pub stated_line : List ℕ → List OperandData → LineData
-stated_line name os =
+unfoldable pub statement_line : List ℕ → List OperandData → LineData
+statement_line name os =
     if bytes_eq name (codes ".section") then named_line section os
     else (if bytes_eq name (codes ".global") then named_line global os
     else (if bytes_eq name (codes ".byte") then values_line 1 os
@@ -84,11 +84,11 @@ stated_line name os =
 unfoldable pub line_from : List PieceData → ℕ → LineData
 line_from ps at =
     if length ps == at then line_data no_rule []
-    else (if is_kind ps at kind.Word then stated_line (text_at ps at) (operands (drop (at + 1) ps)) else line_data 1 [])
+    else (if is_token_kind ps at kind.Word then statement_line (token_text ps at) (operands (drop (at + 1) ps)) else line_data 1 [])
 
 -- the line begins with a label: a word and a `:`
 abbrev pub has_label : List PieceData → Bool
-has_label ps = is_kind ps 0 kind.Word && is_kind ps 1 kind.Colon
+has_label ps = is_token_kind ps 0 kind.Word && is_token_kind ps 1 kind.Colon
 
 -- the meaning of a line that begins with this label: its item comes before those of the rest of the
 -- line
@@ -96,8 +96,8 @@ abbrev pub line_with_label : List ℕ → LineData → LineData
 line_with_label name l = line_data l.rule (label name ∷ l.items)
 
 -- a label, if the line begins with one, and what follows it
-unfoldable pub pieces_line : List PieceData → LineData
-pieces_line ps = if has_label ps then line_with_label (text_at ps 0) (line_from ps 2) else line_from ps 0
+unfoldable pub tokens_line : List PieceData → LineData
+tokens_line ps = if has_label ps then line_with_label (token_text ps 0) (line_from ps 2) else line_from ps 0
 
 -- a token of a source's line, with its text; the meaning of a line is read from such tokens
 abbrev pub line_token_with_text : List ℕ → Token → PieceData
@@ -105,7 +105,7 @@ line_token_with_text line t = with_text line t
 
 -- the label at the start of these tokens, if there is one
 unfoldable pub label_of : List PieceData → List ItemData
-label_of ps = if has_label ps then label (text_at ps 0) ∷ [] else []
+label_of ps = if has_label ps then label (token_text ps 0) ∷ [] else []
 
 -- the label at the start of a text with these tokens, if there is one
 abbrev pub label_before : List ℕ → Result (List Token) ℕ → List ItemData
@@ -114,13 +114,13 @@ label_before text (Err at) = []
 
 -- the line with these tokens; a line that can't be cut breaks rule 1, but the label before the
 -- fault still defines its name
-abbrev pub cut_line : List ℕ → Result (List Token) ℕ → LineData
-cut_line line (Ok ts) = pieces_line (map (line_token_with_text line) ts)
-cut_line line (Err at) = line_data 1 (label_before (take at line) (tokens_of (take at line)))
+abbrev pub meaning_of_cut_line : List ℕ → Result (List Token) ℕ → LineData
+meaning_of_cut_line line (Ok ts) = tokens_line (map (line_token_with_text line) ts)
+meaning_of_cut_line line (Err at) = line_data 1 (label_before (take at line) (tokens_of (take at line)))
 
 -- the meaning of a line's text by itself: a byte outside the grammar or a 65th token breaks rule 1
 abbrev pub line_in : List ℕ → LineData
-line_in line = cut_line line (tokens_of line)
+line_in line = meaning_of_cut_line line (tokens_of line)
 
 -- the lines of a source, separated by line feeds
 abbrev pub lines_in : List ℕ → List LineData

@@ -4,7 +4,7 @@ use Rattle.tc_stmt.specs.declared.source.Line.{Line}
 use Rattle.tc_stmt.specs.declared.source.Source.{Source}
 use Rattle.tc_stmt.specs.declared.item.Item.{Item}
 use Rattle.tc_stmt.specs.Items.{ItemData, item_of}
-use Rattle.tc_stmt.specs.Lines.{LineData, line_data, items_in, behind}
+use Rattle.tc_stmt.specs.Lines.{LineData, line_data, items_in, line_after_items}
 
 -- the plain data of lines, each with its own items
 abbrev pub lines_read : List Line → List ItemData → List LineData
@@ -16,12 +16,12 @@ abbrev pub lines_of : Source → List LineData
 lines_of s = lines_read s.lines.items (map item_of s.items.items)
 
 -- the lines and items so far are those of these lines
-pub record AreRead (lines : List Line) (items : List Item) (ls : List LineData) : Type 0 where
+pub record AreReadLines (lines : List Line) (items : List Item) (ls : List LineData) : Type 0 where
   pub rules : map (λ (l : Line). l.rule) lines ≡ map (λ (l : LineData). l.rule) ls
   pub counts : map (λ (l : Line). l.count) lines ≡ map (λ (l : LineData). length l.items) ls
   pub items_are : map item_of items ≡ items_in ls
 
 -- the code read one more line of a source: it returned the line's rule, and in the plain data the
 -- line's items come after those before
-abbrev pub Adds : {E : Type 0} → LineData → Result ℕ E → List Item → List Item → Type 0
-Adds l result old new = IfOk result (λ rule. line_data rule (map item_of new) ≡ behind (map item_of old) l)
+abbrev pub AddsLine : {E : Type 0} → LineData → Result ℕ E → List Item → List Item → Type 0
+AddsLine l result old new = IfOk result (λ rule. line_data rule (map item_of new) ≡ line_after_items (map item_of old) l)

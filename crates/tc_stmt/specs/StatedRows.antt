@@ -2,9 +2,9 @@
 use Rattle.std.specs.Prelude.{◌≡◌, ◌||◌, ℕ, Bool, true, List, slice_get, Option, Some, Ok}
 use Rattle.tc_isa.specs.Rows.{RowData, listed, is_long}
 use Rattle.tc_isa.specs.declared.table.Form.{Form}
-use Rattle.tc_isa.specs.Forms.{is_sb, is_sbr}
+use Rattle.tc_isa.specs.Forms.{is_sb_form, is_sbr_form}
 use Rattle.tc_isa.specs.ValidRowFields.{FieldsFitRow, uses_of}
-use Rattle.tc_isa.specs.Relocations.{is_reloc, can_relocation_fill}
+use Rattle.tc_isa.specs.Relocations.{is_relocation_kind, can_relocation_fill}
 use Rattle.tc_stmt.specs.Names.{is_source_name}
 use Rattle.tc_lex.specs.Operands.{OperandData}
 use Rattle.tc_stmt.specs.RowFields.{RowFieldsData}
@@ -14,13 +14,13 @@ use Rattle.tc_stmt.specs.StatementRow.{statement}
 -- a statement that breaks no rule may have a symbol without a relocation in a row of this form:
 -- jumps and calls of 16 bits, SB and SBR
 abbrev pub can_take_symbol_directly : Form → Bool
-can_take_symbol_directly form = is_sb form || is_sbr form
+can_take_symbol_directly form = is_sb_form form || is_sbr_form form
 
 -- the symbol has a name, and the row has a field for it: in 32 bits the symbol's relocation fills
 -- the constant; a jump of 16 bits has no relocation, and its form has a constant
 pub record TakesSymbol (r : RowData) (s : ReferenceData) : Type 0 where
   pub named : is_source_name s.name ≡ true
-  pub long : is_reloc s.kind ≡ true → (is_long r ≡ true) × (can_relocation_fill r.form s.kind ≡ true)
+  pub long : is_relocation_kind s.kind ≡ true → (is_long r ≡ true) × (can_relocation_fill r.form s.kind ≡ true)
   pub target : s.kind ≡ 0 → ((uses_of r).k ≡ true) × (can_take_symbol_directly r.form ≡ true)
 
 -- if a statement that breaks no rule has a symbol, its row has a field for it
@@ -34,12 +34,12 @@ pub record FitsStatedRow (r : RowData) (f : RowFieldsData) : Type 0 where
 
 -- the row of this number is listed, the fields fit it, and it takes the symbol; with a symbol, the
 -- constant is 0
-pub record IsStatedRow (k : ℕ) (f : RowFieldsData) : Type 0 where
+pub record IsRowOfStatement (k : ℕ) (f : RowFieldsData) : Type 0 where
   pub row : RowData
   pub at : slice_get listed k ≡ Some row
   pub stated : FitsStatedRow row f
   pub zero : (s : ReferenceData) → f.reference ≡ Some s → f.fields.k ≡ 0
 
 -- a statement that breaks no rule fits its row
-abbrev pub StatedLaw : Type 0
-StatedLaw = (name : List ℕ) (os : List OperandData) (k : ℕ) (f : RowFieldsData) → statement name os ≡ Ok (k, f) → IsStatedRow k f
+abbrev pub StatementFitsRowLaw : Type 0
+StatementFitsRowLaw = (name : List ℕ) (os : List OperandData) (k : ℕ) (f : RowFieldsData) → statement name os ≡ Ok (k, f) → IsRowOfStatement k f

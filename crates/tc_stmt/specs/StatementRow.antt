@@ -27,26 +27,26 @@ abbrev pub tally_rule : Tally → ℕ
 tally_rule t = if t.named then (if t.fits then t.least else wrong_operands) else unknown_statement
 
 -- the row of this number if the statement fits it, else the outcome of the next rows
-abbrev pub or_next : Result RowFieldsData Tally → ℕ → (Tally → Result (ℕ × RowFieldsData) ℕ) → Result (ℕ × RowFieldsData) ℕ
-or_next (Ok f) place next = Ok (place, f)
-or_next (Err t) place next = next t
+abbrev pub found_row_or_next : Result RowFieldsData Tally → ℕ → (Tally → Result (ℕ × RowFieldsData) ℕ) → Result (ℕ × RowFieldsData) ℕ
+found_row_or_next (Ok f) place next = Ok (place, f)
+found_row_or_next (Err t) place next = next t
 
 -- the first of these rows, numbered from this place on, that the statement fits, or the least rule
 -- that it breaks
 unfoldable pub statement_outcome : List ℕ → List OperandData → List RowData → ℕ → Tally → Result (ℕ × RowFieldsData) ℕ
 statement_outcome name os [] place t = Err (tally_rule t)
-statement_outcome name os (r ∷ rs) place t = or_next (after_row name os r t) place (statement_outcome name os rs (place + 1))
+statement_outcome name os (r ∷ rs) place t = found_row_or_next (after_row name os r t) place (statement_outcome name os rs (place + 1))
 
 -- the first row of this name that fits the operands and breaks no rule, or the least rule broken
 abbrev pub statement : List ℕ → List OperandData → Result (ℕ × RowFieldsData) ℕ
 statement name os = statement_outcome name os listed 0 start_tally
 
 -- the code's answer for a row is this: the fields in the record, or the tally after the row
-abbrev pub JudgesRow : {U : Type 0} → Result U Tally → RowFields → Result RowFieldsData Tally → Type 0
-JudgesRow (Ok u) f r = r ≡ Ok (row_fields_of f)
-JudgesRow (Err t) f r = r ≡ Err t
+abbrev pub GivesRowOutcome : {U : Type 0} → Result U Tally → RowFields → Result RowFieldsData Tally → Type 0
+GivesRowOutcome (Ok u) f r = r ≡ Ok (row_fields_of f)
+GivesRowOutcome (Err t) f r = r ≡ Err t
 
 -- the code's answer for a statement is this
-abbrev pub JudgesStatement : Result (ℕ × RowFields) ℕ → Result (ℕ × RowFieldsData) ℕ → Type 0
-JudgesStatement (Ok p) r = r ≡ Ok (p.0, row_fields_of p.1)
-JudgesStatement (Err e) r = r ≡ Err e
+abbrev pub GivesStatementOutcome : Result (ℕ × RowFields) ℕ → Result (ℕ × RowFieldsData) ℕ → Type 0
+GivesStatementOutcome (Ok p) r = r ≡ Ok (p.0, row_fields_of p.1)
+GivesStatementOutcome (Err e) r = r ≡ Err e

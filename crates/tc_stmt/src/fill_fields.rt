@@ -5,7 +5,7 @@ ghost use Rattle.tc_isa.specs.Forms.{bounds};
 ghost use Rattle.tc_lex.specs.Operands.{value_of, operand_of};
 ghost use Rattle.tc_stmt.specs.SourceRules.{no_rule};
 ghost use Rattle.tc_stmt.specs.RowFields.{row_fields_of, field_of};
-ghost use Rattle.tc_stmt.specs.Filling.{Fills, put_register, put_number, half_operand_relocation, fill_value, fill_memory, fill_target, put_absolute, fill_absolute, fill_register, fill_a10, fill_plain, fill, fill_all, is_within_field_bound, is_named_row as named};
+ghost use Rattle.tc_stmt.specs.Filling.{GivesFilledFields, put_register, put_number, half_operand_relocation, fill_constant, fill_memory, fill_target, put_absolute, fill_absolute, fill_register, fill_a10, fill_plain, fill, fill_operands, is_within_field_bound, is_named_row as named};
 ghost use Rattle.tc_stmt.specs.Displacements.{displacement_rule, with_displacement, target_operand_relocation, is_far_displacement};
 ghost use Rattle.tc_stmt.specs.OperandForms.{register_by_name, operand_number_modulo};
 
@@ -43,7 +43,7 @@ pub fn with_displacement<'a>(
 /// form.
 #[tactic(auto, unfolding(crate::specs::Filling::fill, crate::specs::Filling::fill_plain))]
 pub(crate) fn fill<'a>(row: &Row, want: Want, o: &Operand<'a>, acc: &mut RowFields<'a>) -> bool
-    ensures { Fills result acc.new
+    ensures { GivesFilledFields result acc.new
         (fill (row_of row.now) want (operand_of o.now) (row_fields_of acc.old)) }
 {
     if let Want::Memory(plus, offset) = want {
@@ -69,8 +69,8 @@ pub(crate) fn fill_operands<'a>(
     os: &[Operand<'a>],
     acc: &mut RowFields<'a>,
 ) -> bool
-    ensures { Fills result acc.new
-        (fill_all (row_of row.now) wants.now (map operand_of os.now) (row_fields_of acc.old)) }
+    ensures { GivesFilledFields result acc.new
+        (fill_operands (row_of row.now) wants.now (map operand_of os.now) (row_fields_of acc.old)) }
 {
     if wants.len() != os.len() {
         return false;
@@ -178,7 +178,7 @@ fn fill_memory<'a>(
     o: &Operand<'a>,
     acc: &mut RowFields<'a>,
 ) -> bool
-    ensures { Fills result acc.new
+    ensures { GivesFilledFields result acc.new
         (fill_memory (row_of row.now) plus offset (operand_of o.now) (row_fields_of acc.old)) }
 {
     if o.is_memory && (if o.plus { plus } else { !plus }) {
@@ -200,7 +200,7 @@ fn fill_memory<'a>(
 /// form.
 #[tactic(auto, unfolding(crate::specs::Filling::fill_register))]
 fn fill_register(bank: bool, field: Field, v: &Value<'_>, acc: &mut RowFields<'_>) -> bool
-    ensures { Fills result acc.new
+    ensures { GivesFilledFields result acc.new
         (fill_register bank field (value_of v.now) (row_fields_of acc.old)) }
 {
     if shape_index(v.shape) == WORD {
@@ -215,7 +215,7 @@ fn fill_register(bank: bool, field: Field, v: &Value<'_>, acc: &mut RowFields<'_
 /// operand has another form.
 #[tactic(auto, unfolding(crate::specs::Filling::fill_a10))]
 fn fill_a10(v: &Value<'_>, acc: &mut RowFields<'_>) -> bool
-    ensures { Fills result acc.new (fill_a10 (value_of v.now) (row_fields_of acc.old)) }
+    ensures { GivesFilledFields result acc.new (fill_a10 (value_of v.now) (row_fields_of acc.old)) }
 {
     if shape_index(v.shape) == WORD {
         if !is_same_text(v.name, "a10") {
@@ -229,7 +229,7 @@ fn fill_a10(v: &Value<'_>, acc: &mut RowFields<'_>) -> bool
 
 /// Fills a field with an operand's value as a constant, or breaks a rule. Returns false if the
 /// operand has another form.
-#[tactic(auto, unfolding(crate::specs::Filling::fill_value))]
+#[tactic(auto, unfolding(crate::specs::Filling::fill_constant))]
 fn fill_constant<'a>(
     row: &Row,
     signed: bool,
@@ -237,8 +237,8 @@ fn fill_constant<'a>(
     v: &Value<'a>,
     acc: &mut RowFields<'a>,
 ) -> bool
-    ensures { Fills result acc.new
-        (fill_value (row_of row.now) signed field (value_of v.now) (row_fields_of acc.old)) }
+    ensures { GivesFilledFields result acc.new
+        (fill_constant (row_of row.now) signed field (value_of v.now) (row_fields_of acc.old)) }
 {
     let shape = shape_index(v.shape);
     if shape == NUMBER {
@@ -267,7 +267,7 @@ fn fill_constant<'a>(
 /// operand has another form.
 #[tactic(auto, unfolding(crate::specs::Filling::fill_target))]
 fn fill_target<'a>(row: &Row, v: &Value<'a>, acc: &mut RowFields<'a>) -> bool
-    ensures { Fills result acc.new
+    ensures { GivesFilledFields result acc.new
         (fill_target (row_of row.now) (value_of v.now) (row_fields_of acc.old)) }
 {
     let shape = shape_index(v.shape);
@@ -293,7 +293,7 @@ fn fill_target<'a>(row: &Row, v: &Value<'a>, acc: &mut RowFields<'a>) -> bool
 /// operand has another form.
 #[tactic(auto, unfolding(crate::specs::Filling::fill_absolute))]
 fn fill_absolute<'a>(row: &Row, v: &Value<'a>, acc: &mut RowFields<'a>) -> bool
-    ensures { Fills result acc.new
+    ensures { GivesFilledFields result acc.new
         (fill_absolute (row_of row.now) (value_of v.now) (row_fields_of acc.old)) }
 {
     let shape = shape_index(v.shape);

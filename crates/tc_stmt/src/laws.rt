@@ -1,6 +1,6 @@
 // Public laws of numbers and statements.
 ghost use Rattle.tc_lex.specs.Numbers.{NumberLaw};
-ghost use Rattle.tc_stmt.specs.StatedRows.{StatedLaw};
+ghost use Rattle.tc_stmt.specs.StatedRows.{StatementFitsRowLaw};
 
 /// A token's number is what its digits spell, if that is below 2^128.
 ///
@@ -9,5 +9,5 @@ ghost use Rattle.tc_stmt.specs.StatedRows.{StatedLaw};
 /// field; a jump of 16 bits has no relocation, and its constant is that field.
 pub fn statement_laws()
     ensures numbers { NumberLaw }
-    ensures stated { StatedLaw }
+    ensures stated { StatementFitsRowLaw }
 {}

@@ -3,12 +3,12 @@ ghost use Rattle.std.specs.Prelude.{◌≡◌, ◌++◌, OnOk, IfOk, ◌≤◌, 
 ghost use Rattle.std.specs.Option.{option_copied};
 ghost use Rattle.tc_lex.specs.Cut.{tokens_of};
 ghost use Rattle.tc_stmt.specs.StatementRow.{statement as statement_of};
-ghost use Rattle.tc_lex.specs.Pieces.{piece_of, text_at as text_in_pieces};
+ghost use Rattle.tc_lex.specs.Pieces.{piece_of, token_text as text_in_pieces};
 ghost use Rattle.tc_lex.specs.Operands.{operand_of, operands as operands_in};
 ghost use Rattle.tc_stmt.specs.Items.{item_of, label, section, global, code, reference_of};
 ghost use Rattle.tc_stmt.specs.DataValues.{space_rule as space_rule_of, space_item as space_item_of};
-ghost use Rattle.tc_stmt.specs.Lines.{line_data, named_line, is_named_line_operand, only_operand_name, space_line, values_line, size_of_name, stated_line, line_from, line_with_label, pieces_line, has_label, label_of, label_before, line_in, code_line};
-ghost use Rattle.tc_stmt.specs.SourceViews.{Adds};
+ghost use Rattle.tc_stmt.specs.Lines.{line_data, named_line, is_named_line_operand, only_operand_name, space_line, values_line, size_of_name, statement_line, line_from, line_with_label, tokens_line, has_label, label_of, label_before, line_in, code_line};
+ghost use Rattle.tc_stmt.specs.SourceViews.{AddsLine};
 
 use crate::data_values::{add_values, space_item, space_rule};
 use crate::item::Item;
@@ -57,7 +57,7 @@ fn read_line_items<'a>(
     operands: &mut Scratch<Operand<'a>, 65>,
     items: &mut Vec<Item<'a>>,
 ) -> Result<u8, AllocError>
-    ensures { Adds (line_in line.now) result items.old.items items.new.items }
+    ensures { AddsLine (line_in line.now) result items.old.items items.new.items }
 {
     match cut_pieces(line, pieces) {
         Ok(()) => tokens_line(pieces.as_slice(), operands, items),
@@ -66,14 +66,14 @@ fn read_line_items<'a>(
 }
 
 /// Reads a line from its tokens: a label, if there is one, and what follows.
-#[tactic(auto, unfolding(crate::specs::Lines::pieces_line))]
+#[tactic(auto, unfolding(crate::specs::Lines::tokens_line))]
 fn tokens_line<'a>(
     ps: &[Piece<'a>],
     operands: &mut Scratch<Operand<'a>, 65>,
     items: &mut Vec<Item<'a>>,
 ) -> Result<u8, AllocError>
     requires { length ps.now ≤ 64 }
-    ensures { Adds (pieces_line (map piece_of ps.now)) result items.old.items items.new.items }
+    ensures { AddsLine (tokens_line (map piece_of ps.now)) result items.old.items items.new.items }
 {
     if has_label(ps) {
         labelled_line(ps, operands, items)
@@ -89,7 +89,7 @@ fn uncut_line<'a>(
     pieces: &mut Scratch<Piece<'a>, 64>,
     items: &mut Vec<Item<'a>>,
 ) -> Result<u8, AllocError>
-    ensures { Adds (line_data 1
+    ensures { AddsLine (line_data 1
         (label_before front.now (tokens_of front.now))) result items.old.items items.new.items }
 {
     match cut_pieces(front, pieces) {
@@ -114,7 +114,7 @@ fn labelled_line<'a>(
 ) -> Result<u8, AllocError>
     requires few { length ps.now ≤ 64 }
     requires label { 2 ≤ length ps.now }
-    ensures { Adds (line_with_label (text_in_pieces (map piece_of ps.now) 0)
+    ensures { AddsLine (line_with_label (text_in_pieces (map piece_of ps.now) 0)
         (line_from (map piece_of ps.now) 2))
         result items.old.items items.new.items }
 {
@@ -132,7 +132,7 @@ fn line_from<'a>(
 ) -> Result<u8, AllocError>
     requires few { length ps.now ≤ 64 }
     requires place { at ≤ length ps.now }
-    ensures { Adds (line_from (map piece_of ps.now) at) result items.old.items items.new.items }
+    ensures { AddsLine (line_from (map piece_of ps.now) at) result items.old.items items.new.items }
 {
     if ps.len() == at {
         add_no_item(NO_RULE, items)
@@ -154,7 +154,7 @@ fn add_label<'a>(name: &'a [u8], items: &mut Vec<Item<'a>>) -> Result<(), AllocE
 
 // Adds no item, and returns the rule.
 fn add_no_item(rule: u8, items: &mut Vec<Item<'_>>) -> Result<u8, AllocError>
-    ensures { Adds (line_data rule []) result items.old.items items.new.items }
+    ensures { AddsLine (line_data rule []) result items.old.items items.new.items }
 {
     Ok(rule)
 }
@@ -168,7 +168,7 @@ fn statement_at<'a>(
 ) -> Result<u8, AllocError>
     requires few { length ps.now ≤ 64 }
     requires place { at < length ps.now }
-    ensures { Adds (stated_line (text_in_pieces (map piece_of ps.now) at)
+    ensures { AddsLine (statement_line (text_in_pieces (map piece_of ps.now) at)
         (operands_in (drop (at + 1) (map piece_of ps.now))))
         result items.old.items items.new.items }
 {
@@ -186,13 +186,13 @@ fn operands_after_name<'a>(ps: &[Piece<'a>], at: usize, out: &mut Scratch<Operan
 }
 
 /// Reads the line of a statement: a directive or an instruction.
-#[tactic(auto, unfolding(crate::specs::Lines::stated_line))]
+#[tactic(auto, unfolding(crate::specs::Lines::statement_line))]
 fn statement_line<'a>(
     name: &[u8],
     os: &[Operand<'a>],
     items: &mut Vec<Item<'a>>,
 ) -> Result<u8, AllocError>
-    ensures { Adds (stated_line name.now
+    ensures { AddsLine (statement_line name.now
         (map operand_of os.now)) result items.old.items items.new.items }
 {
     if is_same_text(name, ".section") {
@@ -223,7 +223,7 @@ fn tokens_after_name<'p, 'a>(ps: &'p [Piece<'a>], at: usize) -> &'p [Piece<'a>]
 /// Reads the line `.section NAME`: adds its item, and returns its rule.
 #[tactic(auto, unfolding(crate::specs::Lines::named_line))]
 fn section_line<'a>(os: &[Operand<'a>], items: &mut Vec<Item<'a>>) -> Result<u8, AllocError>
-    ensures { Adds (named_line section
+    ensures { AddsLine (named_line section
         (map operand_of os.now)) result items.old.items items.new.items }
 {
     match only_operand_name(os) {
@@ -235,7 +235,7 @@ fn section_line<'a>(os: &[Operand<'a>], items: &mut Vec<Item<'a>>) -> Result<u8,
 /// Reads the line `.global NAME`: adds its item, and returns its rule.
 #[tactic(auto, unfolding(crate::specs::Lines::named_line))]
 fn global_line<'a>(os: &[Operand<'a>], items: &mut Vec<Item<'a>>) -> Result<u8, AllocError>
-    ensures { Adds (named_line global
+    ensures { AddsLine (named_line global
         (map operand_of os.now)) result items.old.items items.new.items }
 {
     match only_operand_name(os) {
@@ -253,7 +253,7 @@ fn values_line<'a>(
     items: &mut Vec<Item<'a>>,
 ) -> Result<u8, AllocError>
     requires { (width ≡ 1) ⊎ ((width ≡ 2) ⊎ (width ≡ 4)) }
-    ensures { Adds (values_line width
+    ensures { AddsLine (values_line width
         (map operand_of os.now)) result items.old.items items.new.items }
 {
     let rule = add_values(width, os, items)?;
@@ -263,7 +263,7 @@ fn values_line<'a>(
 /// Reads a line that is `.space`, with any operands: adds the item of its zeros, and returns the
 /// rule that the line breaks.
 fn space_line<'a>(os: &[Operand<'a>], items: &mut Vec<Item<'a>>) -> Result<u8, AllocError>
-    ensures { Adds (space_line (map operand_of os.now)) result items.old.items items.new.items }
+    ensures { AddsLine (space_line (map operand_of os.now)) result items.old.items items.new.items }
 {
     if os.len() != 1 {
         return add_item(WRONG_OPERANDS, Item::Zeros(0), items);
@@ -277,7 +277,7 @@ fn code_line<'a>(
     os: &[Operand<'a>],
     items: &mut Vec<Item<'a>>,
 ) -> Result<u8, AllocError>
-    ensures { Adds (code_line name.now
+    ensures { AddsLine (code_line name.now
         (statement_of name.now (map operand_of os.now))) result items.old.items items.new.items }
 {
     match statement(name, os) {
@@ -303,7 +303,7 @@ fn only_operand_name<'a>(os: &[Operand<'a>]) -> Option<&'a [u8]>
 
 // Adds one item, and returns the rule.
 fn add_item<'a>(rule: u8, item: Item<'a>, items: &mut Vec<Item<'a>>) -> Result<u8, AllocError>
-    ensures { Adds (line_data rule
+    ensures { AddsLine (line_data rule
         (item_of item.entry ∷ [])) result items.old.items items.new.items }
 {
     items.push(item)?;
@@ -321,7 +321,7 @@ fn is_named_line_operand(o: &Operand<'_>) -> bool
 /// Reads a line that is `.space N`, by its one operand: adds the item of its zeros, and returns the
 /// rule that the line breaks.
 fn space_operand_line<'a>(o: &Operand<'a>, items: &mut Vec<Item<'a>>) -> Result<u8, AllocError>
-    ensures { Adds (line_data (space_rule_of (operand_of o.now))
+    ensures { AddsLine (line_data (space_rule_of (operand_of o.now))
         (space_item_of (operand_of o.now) ∷ []))
         result items.old.items items.new.items }
 {
@@ -355,7 +355,7 @@ fn size_of_name(name: &[u8]) -> u32
 // Adds the label that these tokens begin with, if there is one. Their line breaks rule 1.
 #[tactic(auto, unfolding(crate::specs::Lines::label_of))]
 fn label_line<'a>(ps: &[Piece<'a>], items: &mut Vec<Item<'a>>) -> Result<u8, AllocError>
-    ensures { Adds (line_data 1
+    ensures { AddsLine (line_data 1
         (label_of (map piece_of ps.now))) result items.old.items items.new.items }
 {
     let name = token_text(ps, 0);
@@ -368,7 +368,7 @@ fn label_line<'a>(ps: &[Piece<'a>], items: &mut Vec<Item<'a>>) -> Result<u8, All
 
 // Adds the label of a line that breaks rule 1.
 fn add_label_of_bad_line<'a>(name: &'a [u8], items: &mut Vec<Item<'a>>) -> Result<u8, AllocError>
-    ensures { Adds (line_data 1
+    ensures { AddsLine (line_data 1
         (label name.entry.now ∷ [])) result items.old.items items.new.items }
 {
     add_item(BAD_TOKEN, Item::Label(name), items)

@@ -2,7 +2,7 @@
 ghost use Rattle.std.specs.Prelude.{◌≡◌, ◌≤◌, ◌<◌, ◌+◌, ◌++◌, List, [], ◌∷◌, map, length, position, take, drop, IfOk, OnOk, IfSome, ◌==◌};
 ghost use Rattle.tc_stmt.specs.Items.{item_of};
 ghost use Rattle.tc_stmt.specs.Lines.{LineData, line_in, lines_in, items_in};
-ghost use Rattle.tc_stmt.specs.SourceViews.{lines_of, AreRead};
+ghost use Rattle.tc_stmt.specs.SourceViews.{lines_of, AreReadLines};
 
 use crate::item::Item;
 use crate::line_reader::read_line;
@@ -78,8 +78,8 @@ fn add_source_line<'a>(
     lines: &mut Vec<Line>,
     items: &mut Vec<Item<'a>>,
 ) -> Result<(), AllocError>
-    ensures { OnOk result ((ls : List LineData) → AreRead lines.old.items items.old.items ls
-        → AreRead lines.new.items items.new.items (ls ++ line_in line.now ∷ [])) }
+    ensures { OnOk result ((ls : List LineData) → AreReadLines lines.old.items items.old.items ls
+        → AreReadLines lines.new.items items.new.items (ls ++ line_in line.now ∷ [])) }
 {
     lines.push(read_line(line, pieces, operands, items)?)?;
     Ok(())

@@ -5,8 +5,8 @@ ghost use Rattle.tc_isa.specs.Rows.{row_of};
 ghost use Rattle.tc_stmt.specs.Wants.{wants_of, row_wants_now};
 ghost use Rattle.tc_lex.specs.Operands.{operand_of};
 ghost use Rattle.tc_stmt.specs.RowFields.{no_fields};
-ghost use Rattle.tc_stmt.specs.Filling.{Fills, fill_all, check_registers_apart, fields_of_row};
-ghost use Rattle.tc_stmt.specs.StatementRow.{start_tally, after_row, statement_outcome, JudgesRow, JudgesStatement, statement, tally_rule};
+ghost use Rattle.tc_stmt.specs.Filling.{GivesFilledFields, fill_operands, check_registers_apart, fields_of_row};
+ghost use Rattle.tc_stmt.specs.StatementRow.{start_tally, after_row, statement_outcome, GivesRowOutcome, GivesStatementOutcome, statement, tally_rule};
 ghost use Rattle.tc_stmt.specs.RowIndex.{are_first_rows, are_next_rows};
 
 use crate::fill_fields::fill_operands;
@@ -22,7 +22,7 @@ use tc_lex::{Operand, are_same_bytes};
 /// The row of a statement in the instruction table with its fields, or the least rule that the
 /// statement breaks.
 pub fn statement<'a>(name: &[u8], os: &[Operand<'a>]) -> Result<(u8, RowFields<'a>), u8>
-    ensures { JudgesStatement result (statement name.now (map operand_of os.now)) }
+    ensures { GivesStatementOutcome result (statement name.now (map operand_of os.now)) }
 {
     search_statement_row(rows(), wants(), first_rows(), next_rows(), name, os)
 }
@@ -41,7 +41,7 @@ fn search_statement_row<'a>(
     requires few { length rows.now < 256 }
     requires first { are_first_rows 0 (map row_of rows.now) first.now ≡ true }
     requires next { are_next_rows 0 (map row_of rows.now) next.now ≡ true }
-    ensures { JudgesStatement result
+    ensures { GivesStatementOutcome result
         (statement_outcome name.now (map operand_of os.now) (map row_of rows.now) 0 start_tally) }
 {
     let mut so_far = Tally {
@@ -72,7 +72,7 @@ fn try_statement_row<'a>(
     found: &mut RowFields<'a>,
 ) -> Result<(), Tally>
     requires { wants.now ≡ wants_of (row_of row.now) }
-    ensures { JudgesRow result found.new
+    ensures { GivesRowOutcome result found.new
         (after_row name.now (map operand_of os.now) (row_of row.now) so_far) }
 {
     if are_same_bytes(row.name.as_bytes(), name) {
@@ -96,7 +96,7 @@ fn try_row_of_name<'a>(
 ) -> Result<(), Tally>
     requires wants { wants.now ≡ wants_of (row_of row.now) }
     requires named { bytes_eq (row_of row.now).name name.now ≡ true }
-    ensures { JudgesRow result found.new
+    ensures { GivesRowOutcome result found.new
         (after_row name.now (map operand_of os.now) (row_of row.now) so_far) }
 {
     if !fill_statement_row(row, wants, os, found) {
@@ -124,7 +124,7 @@ fn fill_statement_row<'a>(
     os: &[Operand<'a>],
     found: &mut RowFields<'a>,
 ) -> bool
-    ensures { Fills result found.new
+    ensures { GivesFilledFields result found.new
         (fields_of_row (row_of row.now) wants.now (map operand_of os.now)) }
 {
     *found = no_fields();

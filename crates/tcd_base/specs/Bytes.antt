@@ -26,9 +26,9 @@ abbrev pub four_bytes : ℕ → List ℕ
 four_bytes w = w % 256 ∷ w / 2 ^ 8 % 256 ∷ w / 2 ^ 16 % 256 ∷ w / 2 ^ 24 ∷ []
 
 -- bytes as a number, the first byte lowest
-abbrev pub number_of_bytes : List ℕ → ℕ
-number_of_bytes [] = 0
-number_of_bytes (b ∷ bs) = b + 256 * number_of_bytes bs
+abbrev pub number_from_bytes : List ℕ → ℕ
+number_from_bytes [] = 0
+number_from_bytes (b ∷ bs) = b + 256 * number_from_bytes bs
 
 -- a word of 32 bits
 abbrev pub IsWord : ℕ → Type 0

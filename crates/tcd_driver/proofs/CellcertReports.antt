@@ -11,14 +11,14 @@ use Rattle.depth_check.proofs.Held as held
 use Rattle.depth_maker.specs.LeastCertMade.{IsMade}
 use Rattle.value_cells.specs.declared.cells.Cell.{Cell}
 use Rattle.value_cells.specs.Cells.{with_cells, AreCells}
-use Rattle.value_cells.specs.Keeping.{KeepsCells, BreaksCells, IsFirstBreak}
+use Rattle.value_cells.specs.Keeping.{KeepsCells, BreaksCells, IsRule16Fault}
 use Rattle.value_cells.proofs.CellPlan.{IsPlan-with_cells}
 use Rattle.value_cells.proofs.CellSafe.{cells_keep}
 use Rattle.value_cells.proofs.GrowthLaws.{cell_faults_grow, cell_faults_refute}
-use Rattle.tcd_reading.specs.Reports.{Report, says, writes_file}
+use Rattle.tcd_reading.specs.Reports.{Report, says, report_with_file}
 use Rattle.tcd_forms.specs.Lines.{refused_line, certified_cells_line}
 use Rattle.tcd_driver.specs.BestCert.{IsLeastWithNeed}
-use Rattle.tcd_driver.specs.Cellcert.{NoneKeepsCells, IsCertifyingCells, refused, broken, certified}
+use Rattle.tcd_driver.specs.Cellcert.{NoneKeepsCells, IsCellcertReport, refused, broken, certified}
 use Rattle.tcd_reading.specs.declared.status.Status.TheVariants.{Refused}
 use Rattle.tcd_driver.proofs.Alike.{IsSide, well, against}
 
@@ -33,13 +33,13 @@ none_keeps i p cells c k x ok is made breaks other is_other version accepted kee
 -- ---- reports
 module _ (name : List ℕ) (i : ImageData) (fields p : PlanData) (cells : List Cell) (c : CertData) (need : ℕ) (same : fields ≡ p) (is_plan : IsPlan fields) (are : AreCells p cells) (least : IsLeastWithNeed i (with_cells p cells) 2 c need) where
   -- the report if the least certificate breaks the rule
-  pub broken_report : (key : Key) (addr : ℕ) (r : Report) → IsFirstBreak i (with_cells p cells) cells c key addr → r ≡ says Refused (refused_line 16 key addr) → IsCertifyingCells name i p cells r
+  pub broken_report : (key : Key) (addr : ℕ) (r : Report) → IsRule16Fault i (with_cells p cells) cells c key addr → r ≡ says Refused (refused_line 16 key addr) → IsCellcertReport name i p cells r
   broken_report key addr r first is =
       broken c key addr (none_keeps i p cells c key addr (IsPlan-with_cells (subst IsPlan same is_plan) cells are) least.is_cert least.made first.breaks) least.is_cert least.made first is
 
   -- the report if the certificate keeps the cells, and is written
   pub kept_report : (bytes : List ℕ) (count : ℕ) (r : Report) → bytes ≡ bytes_of_cert c → KeepsCells i (with_cells p cells) cells c → count ≡ length cells
-      → r ≡ writes_file name bytes (certified_cells_line need (fields.areas - fields.reserve) count) → IsCertifyingCells name i p cells r
+      → r ≡ report_with_file name bytes (certified_cells_line need (fields.areas - fields.reserve) count) → IsCellcertReport name i p cells r
   kept_report bytes count r spell keeps many told =
       let ok = subst IsPlan same is_plan in
       let accepted = (least.made).accepted in
@@ -49,7 +49,7 @@ module _ (name : List ℕ) (i : ImageData) (fields p : PlanData) (cells : List C
       (let n = least.need_is in cc)
 
 -- ---- reports are alike
-pub cellcert_side : (name : List ℕ) (i : ImageData) (p : PlanData) (cells : List Cell) (r : Report) → IsCertifyingCells name i p cells r
+pub cellcert_side : (name : List ℕ) (i : ImageData) (p : PlanData) (cells : List Cell) (r : Report) → IsCellcertReport name i p cells r
     → IsSide ((c : CertData) × IsCert c × IsMade i (with_cells p cells) 2 c × KeepsCells i (with_cells p cells) cells c) Refused r
 cellcert_side name i p cells r (refused rule key addr none why e) = against _ e (λ w. none w.0 w.1 (w.2).of_version (w.2).accepted)
 cellcert_side name i p cells r (broken c key addr none is made first e) = against _ e (λ w. none w.0 w.1 (w.2).of_version (w.2).accepted w.3)

@@ -6,8 +6,8 @@ use Rattle.tcd_plan.specs.PlanData.{PlanData}
 use Rattle.tcd_plan.specs.PlanReader.{GivesPlan}
 use Rattle.tcd_base.specs.Files.{FilesSeen}
 use Rattle.tcd_report.specs.Generated.{generated_image}
-use Rattle.tcd_report.specs.Generated.Planned.{generated_text, generated_plan}
-use Rattle.tcd_reading.specs.Outcomes.{Outcome, IsToldOutcome, IsCommandOutcome}
+use Rattle.tcd_report.specs.Generated.Planned.{generated_plan_text, generated_plan}
+use Rattle.tcd_reading.specs.Outcomes.{Outcome, IsReportOutcome, IsCommandOutcome}
 use Rattle.tcd_reading.proofs.Told.{comes_told}
 use Rattle.tcd_driver.specs.Commands.{command_of_value, reading_of}
 use Rattle.tcd_driver.specs.declared.command.Command.{Command as Words}
@@ -36,12 +36,12 @@ counted_report n i fields p c need r same least e =
     (let k = least.need_is in cc)
 
 -- ---- reading what was generated
-pub text_gives : (lent text : List ℕ) → lent ≡ text → text ≡ generated_text → IsUtf8 text → GivesPlan lent (Ok generated_plan)
+pub text_gives : (lent text : List ℕ) → lent ≡ text → text ≡ generated_plan_text → IsUtf8 text → GivesPlan lent (Ok generated_plan)
 text_gives lent text same is utf8 = subst (λ (b : List ℕ). GivesPlan b (Ok generated_plan)) (sym (same ∙ is)) (text_tells (subst IsUtf8 is utf8))
 
-pub text_most : (lent text : List ℕ) → lent ≡ text → text ≡ generated_text → length lent ≤ 2 ^ 30
+pub text_most : (lent text : List ℕ) → lent ≡ text → text ≡ generated_plan_text → length lent ≤ 2 ^ 30
 text_most lent text same is = subst (λ (b : List ℕ). length b ≤ 2 ^ 30) (sym (same ∙ is)) (omega arith)
 
 -- ---- the command as a value of the program
-pub comes_generated : (command words : Words) (n : ℕ) (files : FilesSeen) (o : Outcome) → words ≡ held.Gen n → command ≡ words → IsToldOutcome (IsGenReport n (generated_image n) generated_plan) ⊥ o → IsCommandOutcome (reading_of (command_of_value command)) files files o
+pub comes_generated : (command words : Words) (n : ℕ) (files : FilesSeen) (o : Outcome) → words ≡ held.Gen n → command ≡ words → IsReportOutcome (IsGenReport n (generated_image n) generated_plan) ⊥ o → IsCommandOutcome (reading_of (command_of_value command)) files files o
 comes_generated command words n files o is same h = subst (λ (w : Words). IsCommandOutcome (reading_of (command_of_value w)) files files o) (sym (same ∙ is)) (comes_told (IsGenReport n (generated_image n) generated_plan) files o h)

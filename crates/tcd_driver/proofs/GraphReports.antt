@@ -13,7 +13,7 @@ use Rattle.tcd_driver.specs.BestCert.{IsAcceptedBestCert}
 use Rattle.tcd_driver.specs.Cfg as cfg
 use Rattle.tcd_driver.specs.Cfg.{IsCfgText, IsCfgReport}
 use Rattle.tcd_driver.specs.Reporting as reporting
-use Rattle.tcd_driver.specs.Reporting.{IsReporting}
+use Rattle.tcd_driver.specs.Reporting.{IsReportOrRefusal}
 use Rattle.tcd_driver.proofs.MakingLaws.{none_best}
 use Rattle.tcd_reading.specs.declared.status.Status.TheVariants.{Refused}
 use Rattle.tcd_driver.proofs.Alike.{IsSide, well, against}
@@ -33,6 +33,6 @@ drawing_side i p r (cfg.refused rule key addr none e) = against _ e (none_best i
 drawing_side i p r (cfg.drawn text is e) = well _ e refl (is.cert, is.certified)
 
 -- ---- report
-pub reporting_side : (i : ImageData) (p : PlanData) (c : CertData) (r : Report) → IsReporting i p c r → IsSide (Accepts i p c) Refused r
+pub reporting_side : (i : ImageData) (p : PlanData) (c : CertData) (r : Report) → IsReportOrRefusal i p c r → IsSide (Accepts i p c) Refused r
 reporting_side i p c r (reporting.refused rule key addr first e) = against _ e (fails_refutes i p c rule key addr first.fails)
 reporting_side i p c r (reporting.reported text accepted safe is e) = well _ e refl accepted

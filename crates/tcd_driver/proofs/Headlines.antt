@@ -13,7 +13,7 @@ use Rattle.tcd_report.specs.Texts.{key_kind_words}
 use Rattle.std.specs.Fmt.{decimal}
 use Rattle.std.specs.FinMap.{get, insert}
 use Rattle.elf_image.specs.Images.{ImageData}
-use Rattle.elf_image.specs.WrittenElf.{file_of}
+use Rattle.elf_image.specs.WrittenElf.{elf_file}
 use Rattle.tcd_plan.specs.PlanData.{PlanData}
 use Rattle.tc_machine.specs.Stepping.{run}
 use Rattle.tc_script.specs.ScriptData.{ScriptData}
@@ -31,36 +31,36 @@ use Rattle.depth_maker.specs.Answers.{NoneAccepted}
 use Rattle.tc_link.specs.Layouts.{LayoutData}
 use Rattle.tcd_base.specs.Files.{FileMap}
 use Rattle.tcd_reading.specs.Reports.{Report, with_report_files}
-use Rattle.tcd_reading.specs.Inputs.{FormSeen, HoldsInput, IsInputRefusal, each}
+use Rattle.tcd_reading.specs.Inputs.{FormSeen, HoldsInput, IsInputRejection, each}
 use Rattle.tcd_reading.specs.Inputs as inputs
 use Rattle.tcd_reading.specs.declared.status.Status.TheVariants.{Done, Refused, BadInput}
 use Rattle.tcd_reading.proofs.EndingWords.{get_here, get_apart}
 use Rattle.tcd_forms.specs.Forms.{SourceData, placed_source_form}
-use Rattle.tcd_forms.specs.Lines.{certified_line, run_line, refused_line, key_line, key_kind_text}
-use Rattle.tcd_driver.specs.Headlines.{certified_words, HoldsFile, IsBadFile, too_long, faulty, HoldsPlan, HoldEachFile, AreFirmwareFiles, AreCheckFiles, IsOnlyFileWritten, IsAcceptedWithNeed, IsBestWithNeed, refused_text, refused_words, HeadlineOfCheck, RefusalByCheck, HeadlineOfCert, RefusalByCert, HeadlineOfRun}
+use Rattle.tcd_forms.specs.Lines.{certified_line, run_line, refused_line, line_end_at_frame, key_kind_text}
+use Rattle.tcd_driver.specs.Headlines.{certified_line_text, HoldsFile, IsBadFile, too_long, faulty, HoldsPlan, HoldEachFile, AreFirmwareFiles, AreCheckFiles, IsOnlyFileWritten, IsAcceptedWithNeed, IsBestWithNeed, refused_text, refused_line_text, HeadlineOfCheck, RefusalByCheck, HeadlineOfCert, RefusalByCert, HeadlineOfRun}
 use Rattle.tcd_driver.specs.Check as verdict
 use Rattle.tcd_driver.specs.Check.{CheckNames, IsCheckVerdict}
 use Rattle.tcd_driver.specs.Cert as certifying
-use Rattle.tcd_driver.specs.Cert.{CertNames, IsCertifying}
+use Rattle.tcd_driver.specs.Cert.{CertNames, IsCertReport}
 use Rattle.tcd_driver.specs.BestCert as made
-use Rattle.tcd_driver.specs.BestCert.{IsBestCert, IsAcceptedBestCert, HaveNoBestCert, IsLeastOfItsVersion, NoneIsAccepted}
+use Rattle.tcd_driver.specs.BestCert.{IsBestCert, IsAcceptedBestCert, HasNoBestCert, IsLeastOfItsFormat, NoCertIsAccepted}
 use Rattle.tcd_driver.specs.Ship as shipping
-use Rattle.tcd_driver.specs.Ship.{ShipNames, IsShipping, IsShipped, IsImageOfSources}
+use Rattle.tcd_driver.specs.Ship.{ShipNames, IsImageShipReport, IsShipReport, IsImageOfSources}
 use Rattle.tcd_driver.specs.Run as runs
 use Rattle.tcd_driver.specs.Run.{RunNames, IsRunReport}
 use Rattle.tcd_driver.specs.Headlines.Builds.{HoldsLayout, IsSourceText, IsImageOfFiles, HeadlineOfShip, RefusalByShip}
-use Rattle.tcd_driver.specs.Headlines.Asks.{Ask, HoldsScript, IsFirstBad, are_linked_sources}
-use Rattle.tcd_driver.specs.Tool.{Never}
+use Rattle.tcd_driver.specs.Headlines.Asks.{InputRequirement, HoldsScript, IsFirstBadInput, are_linked_sources}
+use Rattle.tcd_driver.specs.Tool.{NeverRefuses}
 
 -- ---- what a report means
 -- What a report means, of what a command asks: it is done or refused, and this holds for the files
 -- before and after it and for its text; or it is on the first input that is bad.
-pub data Means (m : FileMap) (asks : List Ask) (IfDone IfRefused : FileMap → FileMap → List ℕ → Type 0) (r : Report) : Type 0 where
+pub data Means (m : FileMap) (asks : List InputRequirement) (IfDone IfRefused : FileMap → FileMap → List ℕ → Type 0) (r : Report) : Type 0 where
   is_done : (after : FileMap) → r.status ≡ Done → with_report_files (Some m) r.writes ≡ Some after → IfDone m after r.text → Means m asks IfDone IfRefused r
   is_refused : r.status ≡ Refused → r.writes ≡ [] → IfRefused m m r.text → Means m asks IfDone IfRefused r
-  is_bad : r.status ≡ BadInput → r.writes ≡ [] → IsFirstBad m asks r.text → Means m asks IfDone IfRefused r
+  is_bad : r.status ≡ BadInput → r.writes ≡ [] → IsFirstBadInput m asks r.text → Means m asks IfDone IfRefused r
 
-pub means_as : {m : FileMap} {asks : List Ask} {D R : FileMap → FileMap → List ℕ → Type 0} {r q : Report} → r ≡ q → Means m asks D R q → Means m asks D R r
+pub means_as : {m : FileMap} {asks : List InputRequirement} {D R : FileMap → FileMap → List ℕ → Type 0} {r q : Report} → r ≡ q → Means m asks D R q → Means m asks D R r
 means_as {m} {asks} {D} {R} e h = subst (λ (x : Report). Means m asks D R x) (sym e) h
 
 -- ---- one file that is written
@@ -81,7 +81,7 @@ too_long_of : {A : Type 0} (form : FormSeen A) (m : FileMap) (name line plain : 
 too_long_of form m name line plain is None held long e = absurd long
 too_long_of form m name line plain is (Some bytes) held long e = too_long bytes held long (e ∙ is)
 
-pub bad_file : {A : Type 0} (form : FormSeen A) (m : FileMap) (name line plain : List ℕ) → form.too_long_line ≡ plain → IsInputRefusal form (Some m) name line → IsBadFile m name form.limit plain form.IsBad line
+pub bad_file : {A : Type 0} (form : FormSeen A) (m : FileMap) (name line plain : List ℕ) → form.too_long_line ≡ plain → IsInputRejection form (Some m) name line → IsBadFile m name form.limit plain form.IsBad line
 bad_file form m name line plain is (inputs.long long e) = too_long_of form m name line plain is (get m name) refl long e
 bad_file form m name line plain is (inputs.bad bytes held short why) = faulty (record { bytes = bytes; held = held; short = short; form = why })
 
@@ -96,7 +96,7 @@ accepted_of i p c accepted =
     record { accepted = accepted; start = n.0; start_is = n.1; need_is = ap need_of n.1 }
 
 -- the certificate that is made for a format is the least of this format
-pub least_of : (i : ImageData) (p : PlanData) (version : ℕ) (c : CertData) → IsCert c → IsMade i p version c → IsLeastOfItsVersion i p c
+pub least_of : (i : ImageData) (p : PlanData) (version : ℕ) (c : CertData) → IsCert c → IsMade i p version c → IsLeastOfItsFormat i p c
 least_of i p version c is_cert h = record {
   is_cert = is_cert;
   needs = λ other frame k v a. (h.best other k (v ∙ h.of_version) a).needs frame;
@@ -116,11 +116,11 @@ best_of i p c is = by is.best
 each_refused : (i : ImageData) (p : PlanData) → NoneAccepted i p 1 → NoneAccepted i p 2 → (c : CertData) → IsCert c → Accepts i p c → ⊥
 each_refused i p one two c is accepted = elim is.version [ inl v ↦ one c is v accepted | inr v ↦ two c is v accepted ]
 
-pub none_of : (i : ImageData) (p : PlanData) (rule : ℕ) (key : Key) (addr : ℕ) → HaveNoBestCert i p rule key addr → NoneIsAccepted i p rule key addr
+pub none_of : (i : ImageData) (p : PlanData) (rule : ℕ) (key : Key) (addr : ℕ) → HasNoBestCert i p rule key addr → NoCertIsAccepted i p rule key addr
 none_of i p rule key addr none = record { each = each_refused i p none.first none.second; why = none.why }
 
 -- ---- lines
-pub certified_is : (need areas : ℕ) → certified_line need areas ≡ certified_words need areas
+pub certified_is : (need areas : ℕ) → certified_line need areas ≡ certified_line_text need areas
 unfolding certified_line
 certified_is need areas = refl
 
@@ -130,8 +130,8 @@ text_before : (rule : ℕ) (key : Key) (addr : ℕ) (tail : List ℕ) →
     ≡ refused_text rule key addr ++ tail
 text_before rule key addr tail = simp append_assoc
 
-pub refused_is : (rule : ℕ) (key : Key) (addr : ℕ) → refused_line rule key addr ≡ refused_words rule key addr
-unfolding refused_line key_line key_kind_text
+pub refused_is : (rule : ℕ) (key : Key) (addr : ℕ) → refused_line rule key addr ≡ refused_line_text rule key addr
+unfolding refused_line line_end_at_frame key_kind_text
 refused_is rule key addr = text_before rule key addr (10 ∷ [])
 
 -- ---- check
@@ -167,7 +167,7 @@ check_means names m i p c r files (verdict.certified accepted safe e) = means_as
 }))
 
 -- ---- cert
-pub refusal_by_cert : {elf plan : List ℕ} {m : FileMap} {i : ImageData} {p : PlanData} → AreFirmwareFiles m elf plan i p → (rule : ℕ) (key : Key) (addr : ℕ) → HaveNoBestCert i p rule key addr → RefusalByCert elf plan m m (refused_line rule key addr)
+pub refusal_by_cert : {elf plan : List ℕ} {m : FileMap} {i : ImageData} {p : PlanData} → AreFirmwareFiles m elf plan i p → (rule : ℕ) (key : Key) (addr : ℕ) → HasNoBestCert i p rule key addr → RefusalByCert elf plan m m (refused_line rule key addr)
 refusal_by_cert {elf} {plan} {m} {i} {p} files rule key addr none = record {
   image = i;
   plan = p;
@@ -180,7 +180,7 @@ refusal_by_cert {elf} {plan} {m} {i} {p} files rule key addr none = record {
   stays = refl;
 }
 
-pub cert_means : (names : CertNames) (m : FileMap) (i : ImageData) (p : PlanData) (r : Report) → AreFirmwareFiles m names.elf names.plan i p → IsCertifying names.cert i p r →
+pub cert_means : (names : CertNames) (m : FileMap) (i : ImageData) (p : PlanData) (r : Report) → AreFirmwareFiles m names.elf names.plan i p → IsCertReport names.cert i p r →
     Means m [] (HeadlineOfCert names.elf names.plan names.cert) (RefusalByCert names.elf names.plan) r
 cert_means names m i p r files (certifying.refused rule key addr none e) = means_as e (is_refused refl refl (refusal_by_cert files rule key addr none))
 cert_means names m i p r files (certifying.certified c is e) = means_as e (is_done (insert m names.cert (bytes_of_cert c)) refl refl (record {
@@ -207,7 +207,7 @@ module _ (names : ShipNames) (apart : names.elf ≢ names.cert) (m : FileMap) (p
   abbrev ShipMeans : Type 0
   ShipMeans = Means m (are_linked_sources names.layout names.sources ∷ []) (HeadlineOfShip names.plan names.layout names.elf names.cert names.sources) (RefusalByShip names.plan names.layout names.sources) r
 
-  ship_image : (i : ImageData) → IsImageOfSources l ss i → IsShipping names.elf names.cert p i r → ShipMeans
+  ship_image : (i : ImageData) → IsImageOfSources l ss i → IsImageShipReport names.elf names.cert p i r → ShipMeans
   ship_image i of (shipping.refused rule key addr none e) = means_as e (is_refused refl refl (record {
     plan = p;
     image = i;
@@ -220,7 +220,7 @@ module _ (names : ShipNames) (apart : names.elf ≢ names.cert) (m : FileMap) (p
     stays = refl;
   }))
   ship_image i of (shipping.shipped c is reads e) =
-      let one = insert m names.elf (file_of i) in
+      let one = insert m names.elf (elf_file i) in
       means_as e (is_done (insert one names.cert (bytes_of_cert c)) refl refl (record {
         plan = p;
         image = i;
@@ -230,19 +230,19 @@ module _ (names : ShipNames) (apart : names.elf ≢ names.cert) (m : FileMap) (p
         image_is = image_of_files i of;
         image_reads = reads;
         best = best_of i p c is;
-        elf_written = get_apart one names.cert (bytes_of_cert c) names.elf (λ e. apart (sym e)) ∙ get_here m names.elf (file_of i) names.elf refl;
+        elf_written = get_apart one names.cert (bytes_of_cert c) names.elf (λ e. apart (sym e)) ∙ get_here m names.elf (elf_file i) names.elf refl;
         cert_written = get_here one names.cert (bytes_of_cert c) names.cert refl;
-        others = λ other not_elf not_cert. get_apart one names.cert (bytes_of_cert c) other (λ e. not_cert (sym e)) ∙ get_apart m names.elf (file_of i) other (λ e. not_elf (sym e));
+        others = λ other not_elf not_cert. get_apart one names.cert (bytes_of_cert c) other (λ e. not_cert (sym e)) ∙ get_apart m names.elf (elf_file i) other (λ e. not_elf (sym e));
         prints = certified_is _ _;
       }))
 
-  pub ship_means : IsShipped names.elf names.cert p l ss r → ShipMeans
+  pub ship_means : IsShipReport names.elf names.cert p l ss r → ShipMeans
   ship_means (shipping.unlinked why is e) = means_as e (is_bad refl refl (inl (l, ss, why, (layout, sources), is, refl)))
   ship_means (shipping.of_image i of h) = ship_image i of h
 
 -- ---- run
 pub run_means : (names : RunNames) (m : FileMap) (i : ImageData) (p : PlanData) (s : ScriptData) (r : Report) → AreFirmwareFiles m names.elf names.plan i p → HoldsScript m names.script p s → IsRunReport i p s r →
-    Means m [] (HeadlineOfRun names.elf names.plan names.script) Never r
+    Means m [] (HeadlineOfRun names.elf names.plan names.script) NeverRefuses r
 unfolding run_line
 run_means names m i p s r files script (runs.ran start starts fits e) =
     let es = script_events p s start in

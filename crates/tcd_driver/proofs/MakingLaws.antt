@@ -10,12 +10,12 @@ use Rattle.cfg_recover.specs.RulesHoldOrFail.{certified_need}
 use Rattle.depth_maker.specs.Answers.{NoneAccepted}
 use Rattle.depth_maker.specs.declared.answering.MakeErr.{MakeErr}
 use Rattle.depth_maker.specs.declared.answering.MakeErr.TheVariants as make_err
-use Rattle.tcd_reading.specs.Reports.{Report, says, writes_file}
-use Rattle.tcd_reading.specs.Outcomes.{Outcome, IsToldOutcome}
+use Rattle.tcd_reading.specs.Reports.{Report, says, report_with_file}
+use Rattle.tcd_reading.specs.Outcomes.{Outcome, IsReportOutcome}
 use Rattle.tcd_forms.specs.Lines.{certified_line, refused_line}
-use Rattle.tcd_driver.specs.BestCert.{IsBestCert, first, second, IsAcceptedBestCert, IsLeastWithNeed, MakesLeastCert, MakesBestCert, IsUnmadeReport}
+use Rattle.tcd_driver.specs.BestCert.{IsBestCert, first, second, IsAcceptedBestCert, IsLeastWithNeed, MakesLeastCert, MakesBestCert, IsNoCertReport}
 use Rattle.tcd_driver.specs.Cert as made
-use Rattle.tcd_driver.specs.Cert.{IsCertifying}
+use Rattle.tcd_driver.specs.Cert.{IsCertReport}
 use Rattle.tcd_reading.specs.declared.status.Status.TheVariants.{Refused}
 use Rattle.tcd_reading.proofs.Told.{told_more}
 use Rattle.tcd_driver.proofs.Alike.{IsSide, well, against}
@@ -47,16 +47,16 @@ best_second i p (Err (make_err.Refused rule key addr)) none h = record { first =
 best_second i p (Err make_err.NoMemory) none h = tt
 
 -- a report that no certificate is made, by the reason for that
-pub unmade : (P : Report → Type 0) (Why : MakeErr → Type 0) (e : MakeErr) (o : Outcome) → Why e → IsToldOutcome (IsUnmadeReport e) ⊥ o
-    → ((rule : ℕ) (key : Key) (addr : ℕ) (r : Report) → Why (make_err.Refused rule key addr) → r ≡ says Refused (refused_line rule key addr) → P r) → IsToldOutcome P ⊥ o
+pub unmade : (P : Report → Type 0) (Why : MakeErr → Type 0) (e : MakeErr) (o : Outcome) → Why e → IsReportOutcome (IsNoCertReport e) ⊥ o
+    → ((rule : ℕ) (key : Key) (addr : ℕ) (r : Report) → Why (make_err.Refused rule key addr) → r ≡ says Refused (refused_line rule key addr) → P r) → IsReportOutcome P ⊥ o
 unmade P Why (make_err.Refused rule key addr) o why told next = told_more _ P o told (λ r e. next rule key addr r why e)
 unmade P Why make_err.NoMemory o why told next = told_more _ P o told (λ r e. absurd e)
 
 -- the report on it
 pub certifying_report : (name : List ℕ) (i : ImageData) (fields p : PlanData) (c : CertData) (need : ℕ) (bytes : List ℕ) (r : Report) → fields ≡ p → IsAcceptedBestCert i p c × (need ≡ certified_need i p c) → bytes ≡ bytes_of_cert c
-    → r ≡ writes_file name bytes (certified_line need (fields.areas - fields.reserve)) → IsCertifying name i p r
+    → r ≡ report_with_file name bytes (certified_line need (fields.areas - fields.reserve)) → IsCertReport name i p r
 certifying_report name i fields p c need bytes r same best spell e = made.certified c best.0 (let n = best.1 in cc)
 
-pub certifying_side : (name : List ℕ) (i : ImageData) (p : PlanData) (r : Report) → IsCertifying name i p r → IsSide ((c : CertData) × IsAcceptedBestCert i p c) Refused r
+pub certifying_side : (name : List ℕ) (i : ImageData) (p : PlanData) (r : Report) → IsCertReport name i p r → IsSide ((c : CertData) × IsAcceptedBestCert i p c) Refused r
 certifying_side name i p r (made.refused rule key addr none e) = against _ e (none_best i p none.first none.second)
 certifying_side name i p r (made.certified c is e) = well _ e refl (c, is)

@@ -5,27 +5,27 @@ use Rattle.std.specs.FinMap.{get}
 use Rattle.std.specs.List.{All}
 use Rattle.std.proofs.lemmas.List.Elements.{All-head, All-tail}
 use Rattle.tcd_base.specs.Files.{FileMap}
-use Rattle.tcd_driver.specs.Headlines.Asks.{Ask, are_linked, are_linked_sources, is_cert_per_task, IsThere, AreThere}
+use Rattle.tcd_driver.specs.Headlines.Asks.{InputRequirement, are_linked, are_linked_sources, is_cert_per_task, IsInputPresent, AreInputsPresent}
 use Rattle.tcd_driver.specs.Tool.{ToolCall, CannotFail, MayPrintText, of_bad_words, when_done, when_refused, when_bad}
 use Rattle.tcd_driver.specs.SureCalls.{asked_name, HasRoomForEnds, SureCallsAreDecided}
 
 -- all that is asked is there, if its files are held
 module _ (m : FileMap) where
-  abbrev IsHeld : Ask → Type 0
+  abbrev IsHeld : InputRequirement → Type 0
   IsHeld ask = IfSome (asked_name ask) (λ name. IsSome (get m name))
 
-  is_there : (ask : Ask) → IsHeld ask → IsThere m ask
+  is_there : (ask : InputRequirement) → IsHeld ask → IsInputPresent m ask
   is_there (are_linked layout names) held = tt
   is_there (are_linked_sources layout names) held = tt
   is_there (is_cert_per_task plan tasks names) held = tt
   is_there _ held = held
 
-  are_there : (asks : List Ask) → All IsHeld asks → AreThere m asks
+  are_there : (asks : List InputRequirement) → All IsHeld asks → AreInputsPresent m asks
   are_there [] all = tt
   are_there (ask ∷ asks) all = (is_there ask (All-head IsHeld ask asks all), are_there asks (All-tail IsHeld ask asks all))
 
 -- nothing can fail with room, if all that is asked is there
-cannot_fail : (call : ToolCall) (before : FileMap) (asks : List Ask) (D R B : FileMap → List ℕ → Type 0) → AreThere before asks → HasRoomForEnds call before D R B → CannotFail call before asks (MayPrintText D R B)
+cannot_fail : (call : ToolCall) (before : FileMap) (asks : List InputRequirement) (D R B : FileMap → List ℕ → Type 0) → AreInputsPresent before asks → HasRoomForEnds call before D R B → CannotFail call before asks (MayPrintText D R B)
 cannot_fail call before asks D R B there h = record {
   held = h.held;
   steady = h.steady;

@@ -19,27 +19,27 @@ use Rattle.depth_cert.proofs.KeyLaws.{found_in}
 use Rattle.cfg_recover.specs.RulesHoldOrFail.{certified_need}
 use Rattle.cfg_recover.specs.Entries.{start_key}
 use Rattle.depth_maker.specs.LeastCertMade.{IsMade, needs_in}
-use Rattle.depth_maker.specs.Answers.{IsRefused}
+use Rattle.depth_maker.specs.Answers.{IsRightMakeErr}
 use Rattle.depth_maker.specs.declared.answering.MakeErr.{MakeErr}
 use Rattle.depth_maker.specs.declared.answering.MakeErr.TheVariants as make_err
 use Rattle.depth_maker.proofs.Accepted.{find_agrees}
 use Rattle.task_chains.specs.Tasks.{TasksData, AreTasks, count}
 use Rattle.task_chains.specs.SwitchRoutine.{HasRoutine}
 use Rattle.task_chains.specs.Views.{FitPlan, view_image_of, view_plan_of}
-use Rattle.task_chains.specs.Rule17.{KeepsApart, FailsApart, IsTaskFault}
+use Rattle.task_chains.specs.Rule17.{KeepsRule17, BreaksRule17, IsRule17Fault}
 use Rattle.task_chains.proofs.GrowthLaws.{task_faults_grow, task_faults_refute}
 use Rattle.task_chains.proofs.Together.{tasks_are_safe}
-use Rattle.tcd_reading.specs.Reports.{Report, ReportFile, says, writes_files}
+use Rattle.tcd_reading.specs.Reports.{Report, ReportFile, says, report_with_files}
 use Rattle.tcd_base.specs.Files.{FilesSeen}
 use Rattle.task_chains.specs.declared.task_lists.TasksErr.TheVariants.{Count}
 use Rattle.tcd_reading.specs.Inputs.{answer}
-use Rattle.tcd_reading.specs.Outcomes.{Outcome, IsCommandOutcome, IsToldOutcome}
+use Rattle.tcd_reading.specs.Outcomes.{Outcome, IsCommandOutcome, IsReportOutcome}
 use Rattle.tcd_reading.proofs.Told.{comes_told}
 use Rattle.tcd_forms.specs.Lines.{certified_tasks_line, refused_sum_line}
 use Rattle.tcd_driver.specs.BadInputLines.{bad_tasks_line}
 use Rattle.tcd_driver.specs.BestCert.{IsLeastWithNeed}
-use Rattle.tcd_driver.specs.Tasks.{cert_of_task, needs_of, sum_of_needs, AreTasksJudged, with_name_per_task}
-use Rattle.tcd_driver.specs.Taskcert.{NoneKeepsTaskApart, IsTaskUncertified, unaccepted, not_apart, AreTasksMade, cert_files, IsTaskcerting, no_switch, refused, above, certified, MakesTaskViewCert, IsTaskCertWithNeed, MakesTaskCert, AreTaskCertFiles, MakesAllTaskCerts, IsTaskCertMade}
+use Rattle.tcd_driver.specs.Tasks.{cert_of_task, counted_needs_of_tasks, sum_of_needs, AreFirstTasksJudged, with_name_per_task}
+use Rattle.tcd_driver.specs.Taskcert.{NoneKeepsTaskApart, HasNoTaskCert, unaccepted, not_apart, AreLeastTaskCerts, cert_files, IsTaskcertReport, no_switch, refused, above, certified, MakesTaskViewCert, IsTaskCertWithNeed, MakesTaskCert, AreTaskCertFiles, MakesAllTaskCerts, IsLeastTaskCert}
 use Rattle.tcd_reading.specs.declared.status.Status.TheVariants.{Refused, BadInput}
 use Rattle.tcd_reading.proofs.Decided.{IsDecided, decided_answer}
 use Rattle.tcd_driver.proofs.TasksReports.{judged_well, decided_each_named, sum_next, as_many, not_as_many}
@@ -47,24 +47,24 @@ use Rattle.tcd_driver.proofs.Alike.{IsSide, well, against, refusable}
 
 -- ---- the certificate of a view
 -- if the least certificate fails K17, each one does
-none_apart : (v : ImageData) (b : PlanData) (t : TasksData) (c : CertData) (k : Key) (x : ℕ) → IsPlan b → IsCert c → IsMade v b 2 c → FailsApart v b t c k x → NoneKeepsTaskApart v b t
+none_apart : (v : ImageData) (b : PlanData) (t : TasksData) (c : CertData) (k : Key) (x : ℕ) → IsPlan b → IsCert c → IsMade v b 2 c → BreaksRule17 v b t c k x → NoneKeepsTaskApart v b t
 none_apart v b t c k x ok is_c made fails d is_d version accepted apart =
     task_faults_refute v b t d k x (task_faults_grow v b t c d k x ok is_c is_d (made.of_version ∙ sym version) made.accepted accepted (made.best d is_d version accepted).below fails) apart
 
 -- the report of its fault, if the certificate that is made fails K17
-pub apart_fails : (v : ImageData) (fields b : PlanData) (t : TasksData) (c : CertData) (need : ℕ) (k : Key) (x : ℕ) → fields ≡ b → IsPlan fields → IsLeastWithNeed v b 2 c need → IsTaskFault v b t c k x → IsTaskUncertified v b t 17 k x
+pub apart_fails : (v : ImageData) (fields b : PlanData) (t : TasksData) (c : CertData) (need : ℕ) (k : Key) (x : ℕ) → fields ≡ b → IsPlan fields → IsLeastWithNeed v b 2 c need → IsRule17Fault v b t c k x → HasNoTaskCert v b t 17 k x
 apart_fails v fields b t c need k x plan_is is_plan least fault =
     not_apart c k x least.is_cert least.made fault (none_apart v b t c k x (subst IsPlan plan_is is_plan) least.is_cert least.made fault.fails)
 
 -- no certificate is made
-pub unmade_view : (v : ImageData) (b : PlanData) (t : TasksData) (e : MakeErr) → IsRefused v b 2 e → MakesTaskViewCert v b t (Err e)
+pub unmade_view : (v : ImageData) (b : PlanData) (t : TasksData) (e : MakeErr) → IsRightMakeErr v b 2 e → MakesTaskViewCert v b t (Err e)
 unmade_view v b t (make_err.Refused rule key addr) why = unaccepted rule key addr why.1 why.0
 unmade_view v b t make_err.NoMemory why = tt
 
 -- ---- the certificate of a task
 -- the same by the task's number
 pub task_made : (i : ImageData) (fields p : PlanData) (parts t : TasksData) (u : ℕ) (c : CertData) (need : ℕ) (v : ImageData) (b : PlanData) → fields ≡ p → IsPlan fields → parts ≡ t → AreTasks parts → FitPlan p t → u < count t
-    → v ≡ view_image_of i t u → b ≡ view_plan_of p t u → IsLeastWithNeed v b 2 c need → KeepsApart v b t c → IsTaskCertWithNeed i p t u c need
+    → v ≡ view_image_of i t u → b ≡ view_plan_of p t u → IsLeastWithNeed v b 2 c need → KeepsRule17 v b t c → IsTaskCertWithNeed i p t u c need
 task_made i fields p parts t u c need v b same is_plan same_t are fit lt seen planned s apart =
     let judged = judged_well i fields p parts t c c u need v b same is_plan same_t are refl s.is_cert fit lt seen planned (s.made).accepted s.need_is s.safe apart in
     record {
@@ -76,9 +76,9 @@ task_made i fields p parts t u c need v b same is_plan same_t are fit lt seen pl
     }
 
 pub task_uncertified : (i : ImageData) (p : PlanData) (t : TasksData) (u rule : ℕ) (k : Key) (x : ℕ) (v : ImageData) (b : PlanData) → v ≡ view_image_of i t u → b ≡ view_plan_of p t u
-    → IsTaskUncertified v b t rule k x → IsTaskUncertified (view_image_of i t u) (view_plan_of p t u) t rule k x
+    → HasNoTaskCert v b t rule k x → HasNoTaskCert (view_image_of i t u) (view_plan_of p t u) t rule k x
 task_uncertified i p t u rule k x v b seen planned h =
-    subst (λ (q : PlanData). IsTaskUncertified (view_image_of i t u) q t rule k x) planned (subst (λ (w : ImageData). IsTaskUncertified w b t rule k x) seen h)
+    subst (λ (q : PlanData). HasNoTaskCert (view_image_of i t u) q t rule k x) planned (subst (λ (w : ImageData). HasNoTaskCert w b t rule k x) seen h)
 
 -- the result of making a certificate for the task's view
 pub makes_task : (i : ImageData) (fields p : PlanData) (parts t : TasksData) (u : ℕ) (v : ImageData) (b : PlanData) (m : Result (CertData × ℕ) MakeErr) → fields ≡ p → IsPlan fields → parts ≡ t → AreTasks parts → FitPlan p t → u < count t
@@ -118,7 +118,7 @@ same_below (suc n) f g h =
     omega arith
 
 module _ (names : List (List ℕ)) (i : ImageData) (p : PlanData) (t : TasksData) where
-  same_needs : (cs ds : List CertData) (u : ℕ) → u < length cs → u < length ds → AreTasksMade i p t cs → AreTasksMade i p t ds → needs_of i p t cs u ≡ needs_of i p t ds u
+  same_needs : (cs ds : List CertData) (u : ℕ) → u < length cs → u < length ds → AreLeastTaskCerts i p t cs → AreLeastTaskCerts i p t ds → counted_needs_of_tasks i p t cs u ≡ counted_needs_of_tasks i p t ds u
   same_needs cs ds u lt lt_d made made_d =
       let c = made u lt in
       let d = made_d u lt_d in
@@ -126,29 +126,29 @@ module _ (names : List (List ℕ)) (i : ImageData) (p : PlanData) (t : TasksData
       (same_need (view_image_of i t u) (view_plan_of p t u) _ _ c.judged.is_cert d.judged.is_cert
       (c.made.best _ d.judged.is_cert d.made.of_version d.made.accepted).needs (d.made.best _ c.judged.is_cert c.made.of_version c.made.accepted).needs)
 
-  same_sum : (cs ds : List CertData) → length cs ≡ count t → length ds ≡ count t → AreTasksMade i p t cs → AreTasksMade i p t ds → sum_of_needs i p t cs ≡ sum_of_needs i p t ds
-  same_sum cs ds many many_d made made_d = same_below (count t) (needs_of i p t cs) (needs_of i p t ds) (λ u lt. same_needs cs ds u (omega arith) (omega arith) made made_d)
+  same_sum : (cs ds : List CertData) → length cs ≡ count t → length ds ≡ count t → AreLeastTaskCerts i p t cs → AreLeastTaskCerts i p t ds → sum_of_needs i p t cs ≡ sum_of_needs i p t ds
+  same_sum cs ds many many_d made made_d = same_below (count t) (counted_needs_of_tasks i p t cs) (counted_needs_of_tasks i p t ds) (λ u lt. same_needs cs ds u (omega arith) (omega arith) made made_d)
 
   -- each task has a certificate, and there are areas for all needs
   record IsWell : Type 0 where
     pub routine : HasRoutine i p t
     pub certs : List CertData
     pub many : length certs ≡ count t
-    pub made : AreTasksMade i p t certs
+    pub made : AreLeastTaskCerts i p t certs
     pub within : sum_of_needs i p t certs ≤ p.areas - p.reserve
 
-  uncertified_refutes : (u rule : ℕ) (k : Key) (x : ℕ) (c : CertData) → IsTaskCertMade i p t u c → IsTaskUncertified (view_image_of i t u) (view_plan_of p t u) t rule k x → ⊥
+  uncertified_refutes : (u rule : ℕ) (k : Key) (x : ℕ) (c : CertData) → IsLeastTaskCert i p t u c → HasNoTaskCert (view_image_of i t u) (view_plan_of p t u) t rule k x → ⊥
   uncertified_refutes u _ _ _ c made (unaccepted rule k x none why) = none c made.judged.is_cert made.made.of_version made.made.accepted
   uncertified_refutes u _ _ _ c made (not_apart d k x is_d made_d fault none) = none c made.judged.is_cert made.made.of_version made.made.accepted made.judged.apart
 
-  side : (r : Report) → IsTaskcerting names i p t r → IsSide IsWell Refused r
+  side : (r : Report) → IsTaskcertReport names i p t r → IsSide IsWell Refused r
   side r (no_switch x fault e) = against _ e (λ w. fault.fails (w.routine fault.place fault.within))
   side r (refused u rule key addr has first e) =
       against _ e (λ w. uncertified_refutes u rule key addr (cert_of_task w.certs u) (w.made u (let lt = first.task in let m = w.many in omega arith)) first.uncertified)
   side r (above certs has many made more e) = against _ e (λ w. let s = same_sum certs w.certs many w.many made w.made in let le = w.within in omega arith)
   side r (certified certs has many made within safe e) = well _ e refl (record { routine = has; certs = certs; many = many; made = made; within = within })
 
-  pub taskcert_decided : IsDecided (with_name_per_task names t (answer (IsTaskcerting names i p t)))
+  pub taskcert_decided : IsDecided (with_name_per_task names t (answer (IsTaskcertReport names i p t)))
   taskcert_decided = decided_each_named names t _ (decided_answer _ (refusable side))
 
 -- ---- one task after another
@@ -156,9 +156,9 @@ module _ (names : List (List ℕ)) (i : ImageData) (p : PlanData) (t : TasksData
 pub record AreFilesSoFar (names : List (List ℕ)) (i : ImageData) (p : PlanData) (t : TasksData) (n : ℕ) (writes : List ReportFile) (sum : ℕ) : Type 0 where
   pub certs : List CertData
   pub many : length certs ≡ n
-  pub made : AreTasksMade i p t certs
+  pub made : AreLeastTaskCerts i p t certs
   pub files : writes ≡ cert_files names certs
-  pub sum_is : sum ≡ sum_over_chains n (needs_of i p t certs)
+  pub sum_is : sum ≡ sum_over_chains n (counted_needs_of_tasks i p t certs)
   pub few : sum ≤ n * 2 ^ 32
 
 no_files : (names : List (List ℕ)) → cert_files names [] ≡ []
@@ -193,12 +193,12 @@ cert_before certs c u lt = get_or_append_left certs (c ∷ []) (record { version
 cert_last : (certs : List CertData) (c : CertData) (u : ℕ) → length certs ≡ u → cert_of_task (certs ++ c ∷ []) u ≡ c
 cert_last certs c u e = get_or_push certs c (record { version = 1; nodes = [] }) u e
 
-made_more : (i : ImageData) (p : PlanData) (t : TasksData) (certs : List CertData) (c : CertData) (n : ℕ) → length certs ≡ n → AreTasksMade i p t certs → IsTaskCertMade i p t n c → AreTasksMade i p t (certs ++ c ∷ [])
+made_more : (i : ImageData) (p : PlanData) (t : TasksData) (certs : List CertData) (c : CertData) (n : ℕ) → length certs ≡ n → AreLeastTaskCerts i p t certs → IsLeastTaskCert i p t n c → AreLeastTaskCerts i p t (certs ++ c ∷ [])
 made_more i p t certs c n many made here u lt =
     let len : length (certs ++ c ∷ []) ≡ length certs + 1 = length-append certs (c ∷ []) in
     elim (cases_lt u (length certs)) [
-      | inl less ↦ subst (IsTaskCertMade i p t u) (sym (cert_before certs c u less)) (made u less)
-      | inr ge ↦ let at : n ≡ u = omega arith in subst (IsTaskCertMade i p t u) (sym (cert_last certs c u (many ∙ at))) (subst (λ (w : ℕ). IsTaskCertMade i p t w c) at here)
+      | inl less ↦ subst (IsLeastTaskCert i p t u) (sym (cert_before certs c u less)) (made u less)
+      | inr ge ↦ let at : n ≡ u = omega arith in subst (IsLeastTaskCert i p t u) (sym (cert_last certs c u (many ∙ at))) (subst (λ (w : ℕ). IsLeastTaskCert i p t w c) at here)
     ]
 
 -- one task more
@@ -210,10 +210,10 @@ next_made names i p t n name writes writes' sum need more c bytes at small so_fa
     let many : length certs ≡ n = so_far.many in
     let below = so_far.few in
     let last : cert_of_task (certs ++ c ∷ []) n ≡ c = cert_last certs c n many in
-    let need_is : more ≡ needs_of i p t (certs ++ c ∷ []) n =
+    let need_is : more ≡ counted_needs_of_tasks i p t (certs ++ c ∷ []) n =
     counts_as ∙ ap (λ (m : ℕ). if n == 0 then m else max m 2) (s.need_is ∙ ap (certified_need (view_image_of i t n) (view_plan_of p t n)) (sym last)) in
-    let low : sum_over_chains n (needs_of i p t certs) ≡ sum_over_chains n (needs_of i p t (certs ++ c ∷ [])) =
-    same_below n (needs_of i p t certs) (needs_of i p t (certs ++ c ∷ []))
+    let low : sum_over_chains n (counted_needs_of_tasks i p t certs) ≡ sum_over_chains n (counted_needs_of_tasks i p t (certs ++ c ∷ [])) =
+    same_below n (counted_needs_of_tasks i p t certs) (counted_needs_of_tasks i p t (certs ++ c ∷ []))
     (λ u lt. ap (λ (c : CertData). if u == 0 then certified_need (view_image_of i t u) (view_plan_of p t u) c else max (certified_need (view_image_of i t u) (view_plan_of p t u) c) 2) (sym (cert_before certs c u (omega arith)))) in
     record {
       certs = certs ++ c ∷ [];
@@ -222,7 +222,7 @@ next_made names i p t n name writes writes' sum need more c bytes at small so_fa
       files = pushed ∙ ap (λ (ws : List ReportFile). ws ++ record { name = name; bytes = bytes } ∷ []) so_far.files
           ∙ ap (λ (b : List ℕ). cert_files names certs ++ record { name = name; bytes = b } ∷ []) spell
           ∙ sym (file_next names name certs c (ap (λ (m : ℕ). slice_get names m) many ∙ at));
-      sum_is = let so = so_far.sum_is in let next : sum_over_chains (n + 1) (needs_of i p t (certs ++ c ∷ [])) ≡ sum_over_chains n (needs_of i p t (certs ++ c ∷ [])) + needs_of i p t (certs ++ c ∷ []) n = sum_next n (needs_of i p t (certs ++ c ∷ [])) in omega arith;
+      sum_is = let so = so_far.sum_is in let next : sum_over_chains (n + 1) (counted_needs_of_tasks i p t (certs ++ c ∷ [])) ≡ sum_over_chains n (counted_needs_of_tasks i p t (certs ++ c ∷ [])) + counted_needs_of_tasks i p t (certs ++ c ∷ []) n = sum_next n (counted_needs_of_tasks i p t (certs ++ c ∷ [])) in omega arith;
       few = omega arith;
     }
 
@@ -243,16 +243,16 @@ all_made names i p t n writes sum e so_far = record {
   many = so_far.many ∙ e;
   made = so_far.made;
   files = so_far.files;
-  sum_is = so_far.sum_is ∙ ap (λ (m : ℕ). sum_over_chains m (needs_of i p t so_far.certs)) e;
+  sum_is = so_far.sum_is ∙ ap (λ (m : ℕ). sum_over_chains m (counted_needs_of_tasks i p t so_far.certs)) e;
 }
 
 -- ---- the reports of a sum
-judged_all : (i : ImageData) (p : PlanData) (t : TasksData) (certs : List CertData) → length certs ≡ count t → AreTasksMade i p t certs → AreTasksJudged i p t certs (count t)
+judged_all : (i : ImageData) (p : PlanData) (t : TasksData) (certs : List CertData) → length certs ≡ count t → AreLeastTaskCerts i p t certs → AreFirstTasksJudged i p t certs (count t)
 judged_all i p t certs many made u lt = (made u (omega arith)).judged
 
 pub written_tasks : (names : List (List ℕ)) (i : ImageData) (fields p : PlanData) (parts t : TasksData) (writes : List ReportFile) (sum n : ℕ) (r : Report) → fields ≡ p → IsPlan fields → parts ≡ t → AreTasks parts → FitPlan p t → HasRoutine i p t
     → AreTaskCertFiles names i p t writes sum → sum ≤ fields.areas - fields.reserve → n ≡ count t
-    → r ≡ writes_files writes (certified_tasks_line sum (fields.areas - fields.reserve) n) → IsTaskcerting names i p t r
+    → r ≡ report_with_files writes (certified_tasks_line sum (fields.areas - fields.reserve) n) → IsTaskcertReport names i p t r
 written_tasks names i fields p parts t writes sum n r same is_plan same_t are fit has f within many e =
     let certs = f.certs in
     let room : sum_of_needs i p t certs ≤ p.areas - p.reserve = subst (λ (s : ℕ). s ≤ p.areas - p.reserve) f.sum_is (subst (λ (q : PlanData). sum ≤ q.areas - q.reserve) same within) in
@@ -260,14 +260,14 @@ written_tasks names i fields p parts t writes sum n r same is_plan same_t are fi
     (let s = f.sum_is in let ws = f.files in cc)
 
 pub above_made : (names : List (List ℕ)) (i : ImageData) (fields p : PlanData) (t : TasksData) (writes : List ReportFile) (sum : ℕ) (r : Report) → fields ≡ p → HasRoutine i p t → AreTaskCertFiles names i p t writes sum
-    → fields.areas - fields.reserve < sum → r ≡ says Refused (refused_sum_line sum (fields.areas - fields.reserve)) → IsTaskcerting names i p t r
+    → fields.areas - fields.reserve < sum → r ≡ says Refused (refused_sum_line sum (fields.areas - fields.reserve)) → IsTaskcertReport names i p t r
 above_made names i fields p t writes sum r same has f more e =
     above f.certs has f.many f.made (subst (λ (s : ℕ). p.areas - p.reserve < s) f.sum_is (subst (λ (q : PlanData). q.areas - q.reserve < sum) same more))
     (let s = f.sum_is in cc)
 
 -- ---- as many names as tasks
-pub comes_counted : (names : List (List ℕ)) (t : TasksData) (P : Report → Type 0) (files : FilesSeen) (o : Outcome) → length names ≡ count t → IsToldOutcome P ⊥ o → IsCommandOutcome (with_name_per_task names t (answer P)) files files o
+pub comes_counted : (names : List (List ℕ)) (t : TasksData) (P : Report → Type 0) (files : FilesSeen) (o : Outcome) → length names ≡ count t → IsReportOutcome P ⊥ o → IsCommandOutcome (with_name_per_task names t (answer P)) files files o
 comes_counted names t P files o many h = as_many (λ r. IsCommandOutcome r files files o) names t (answer P) many (comes_told P files o h)
 
-pub comes_miscounted : (names : List (List ℕ)) (t : TasksData) (P : Report → Type 0) (files : FilesSeen) (o : Outcome) → (length names ≡ count t → ⊥) → IsToldOutcome (λ r. r ≡ says BadInput (bad_tasks_line Count)) ⊥ o → IsCommandOutcome (with_name_per_task names t (answer P)) files files o
+pub comes_miscounted : (names : List (List ℕ)) (t : TasksData) (P : Report → Type 0) (files : FilesSeen) (o : Outcome) → (length names ≡ count t → ⊥) → IsReportOutcome (λ r. r ≡ says BadInput (bad_tasks_line Count)) ⊥ o → IsCommandOutcome (with_name_per_task names t (answer P)) files files o
 comes_miscounted names t P files o few h = not_as_many (λ r. IsCommandOutcome r files files o) names t (answer P) few (comes_told _ files o h)

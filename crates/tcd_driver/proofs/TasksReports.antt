@@ -17,8 +17,8 @@ use Rattle.depth_check.proofs.Held as held
 use Rattle.task_chains.specs.Tasks.{TasksData, AreTasks, count}
 use Rattle.task_chains.specs.SwitchRoutine.{HasRoutine}
 use Rattle.task_chains.specs.Views.{FitPlan, view_image_of, view_plan_of}
-use Rattle.task_chains.specs.Rule17.{KeepsApart, IsTaskFault}
-use Rattle.task_chains.specs.SafeTasks.{IsJudged}
+use Rattle.task_chains.specs.Rule17.{KeepsRule17, IsRule17Fault}
+use Rattle.task_chains.specs.SafeTasks.{IsSoundTaskCert}
 use Rattle.task_chains.proofs.GrowthLaws.{task_faults_refute}
 use Rattle.task_chains.proofs.ReadOne.{reads_one}
 use Rattle.task_chains.proofs.Together.{tasks_are_safe}
@@ -28,7 +28,7 @@ use Rattle.tcd_reading.specs.Inputs.{Reading}
 use Rattle.tcd_forms.specs.Forms.{cert_form}
 use Rattle.tcd_driver.specs.CellAndTaskForms.{tasks_form}
 use Rattle.tcd_forms.specs.Lines.{certified_tasks_line}
-use Rattle.tcd_driver.specs.Tasks.{cert_of_task, IsTaskRefused, unaccepted, not_apart, needs_of, sum_of_needs, AreTasksJudged, IsTasksVerdict, no_switch, refused, above, certified, tasks_reading_if, with_name_per_task, task_certs_reading}
+use Rattle.tcd_driver.specs.Tasks.{cert_of_task, IsTaskRefused, unaccepted, not_apart, counted_needs_of_tasks, sum_of_needs, AreFirstTasksJudged, IsTasksVerdict, no_switch, refused, above, certified, tasks_reading_if, with_name_per_task, task_certs_reading}
 use Rattle.tcd_reading.specs.declared.status.Status.TheVariants.{Done, Refused, BadInput}
 use Rattle.tcd_reading.proofs.Decided.{AreAlike, IsLawful, IsDecided, decided_each, decided_answer}
 use Rattle.tcd_forms.proofs.FormLaws.{cert_lawful}
@@ -43,7 +43,7 @@ tasks_lawful p = record {
 
 -- ---- one task
 -- a certificate that is judged well is accepted, and keeps K17
-refused_refutes : (i : ImageData) (p : PlanData) (t : TasksData) (c : CertData) (u rule : ℕ) (k : Key) (x : ℕ) → IsTaskRefused i p t c u rule k x → IsJudged i p t c u → ⊥
+refused_refutes : (i : ImageData) (p : PlanData) (t : TasksData) (c : CertData) (u rule : ℕ) (k : Key) (x : ℕ) → IsTaskRefused i p t c u rule k x → IsSoundTaskCert i p t c u → ⊥
 refused_refutes i p t c u _ _ _ (unaccepted rule k x first) good = fails_refutes (view_image_of i t u) (view_plan_of p t u) c rule k x first.fails good.accepted
 refused_refutes i p t c u _ _ _ (not_apart k x accepted fault) good = task_faults_refute (view_image_of i t u) (view_plan_of p t u) t c k x fault.fails good.apart
 
@@ -54,16 +54,16 @@ first_there i p t c u rule k x view board seen planned first =
     unaccepted rule k x (subst (λ (q : PlanData). IsFirstFault (view_image_of i t u) q c rule k x) planned (subst (λ (v : ImageData). IsFirstFault v board c rule k x) seen first))
 
 pub fault_there : (i : ImageData) (p : PlanData) (t : TasksData) (c : CertData) (u : ℕ) (k : Key) (x : ℕ) (view : ImageData) (board : PlanData) → view ≡ view_image_of i t u → board ≡ view_plan_of p t u
-    → Accepts view board c → IsTaskFault view board t c k x → IsTaskRefused i p t c u 17 k x
+    → Accepts view board c → IsRule17Fault view board t c k x → IsTaskRefused i p t c u 17 k x
 fault_there i p t c u k x view board seen planned accepted fault =
     not_apart k x
     (subst (λ (q : PlanData). Accepts (view_image_of i t u) q c) planned (subst (λ (v : ImageData). Accepts v board c) seen accepted))
-    (subst (λ (q : PlanData). IsTaskFault (view_image_of i t u) q t c k x) planned (subst (λ (v : ImageData). IsTaskFault v board t c k x) seen fault))
+    (subst (λ (q : PlanData). IsRule17Fault (view_image_of i t u) q t c k x) planned (subst (λ (v : ImageData). IsRule17Fault v board t c k x) seen fault))
 
 -- a certificate that is judged well, with equal images and plans
 pub judged_well : (i : ImageData) (fields p : PlanData) (parts t : TasksData) (all c : CertData) (u need : ℕ) (view : ImageData) (board : PlanData) → fields ≡ p → IsPlan fields → parts ≡ t → AreTasks parts → all ≡ c → IsCert all → FitPlan p t → u < count t
-    → view ≡ view_image_of i t u → board ≡ view_plan_of p t u → Accepts view board c → need ≡ certified_need view board c → Safe view board need → KeepsApart view board t c
-    → IsJudged i p t c u × (need ≡ certified_need (view_image_of i t u) (view_plan_of p t u) c)
+    → view ≡ view_image_of i t u → board ≡ view_plan_of p t u → Accepts view board c → need ≡ certified_need view board c → Safe view board need → KeepsRule17 view board t c
+    → IsSoundTaskCert i p t c u × (need ≡ certified_need (view_image_of i t u) (view_plan_of p t u) c)
 judged_well i fields p parts t all c u need view board same is_plan same_t are same_c is_cert fit lt seen planned accepted is safe apart =
     let ok = subst IsPlan same is_plan in
     let tasks = subst AreTasks same_t are in
@@ -76,7 +76,7 @@ judged_well i fields p parts t all c u need view board same is_plan same_t are s
         accepted = accepts;
         safe = subst (λ (n : ℕ). Safe (view_image_of i t u) (view_plan_of p t u) n) need_is safe_there;
         frames = held.frames_are_held (view_image_of i t u) (view_plan_of p t u) c (view_is_plan ok t tasks fit u lt) good accepts;
-        apart = subst (λ (q : PlanData). KeepsApart (view_image_of i t u) q t c) planned (subst (λ (v : ImageData). KeepsApart v board t c) seen apart);
+        apart = subst (λ (q : PlanData). KeepsRule17 (view_image_of i t u) q t c) planned (subst (λ (v : ImageData). KeepsRule17 v board t c) seen apart);
       },
       need_is,
     )
@@ -86,7 +86,7 @@ module _ (i : ImageData) (p : PlanData) (t : TasksData) (certs : List CertData) 
   -- nothing is against the tasks
   record IsWell : Type 0 where
     pub routine : HasRoutine i p t
-    pub judged : AreTasksJudged i p t certs (count t)
+    pub judged : AreFirstTasksJudged i p t certs (count t)
     pub within : sum_of_needs i p t certs ≤ p.areas - p.reserve
 
   side : (r : Report) → IsTasksVerdict i p t certs r → IsSide IsWell Refused r
@@ -125,12 +125,12 @@ not_as_many P names t reading e h = elim (eqb_tells (length names) (count t)) [ 
 -- ---- the reports of a sum
 -- the certificates of the tasks below n are judged well, and this is the sum of their needs
 pub record AreTallied (image : ImageData) (plan : PlanData) (tasks : TasksData) (certs : List CertData) (n total : ℕ) : Type 0 where
-  pub judged : AreTasksJudged image plan tasks certs n
-  pub sum : total ≡ sum_over_chains n (needs_of image plan tasks certs)
+  pub judged : AreFirstTasksJudged image plan tasks certs n
+  pub sum : total ≡ sum_over_chains n (counted_needs_of_tasks image plan tasks certs)
   pub few : total ≤ n * 2 ^ 32
 
 pub certified_tasks : (i : ImageData) (fields p : PlanData) (parts t : TasksData) (certs : List CertData) (sum n : ℕ) (r : Report) → fields ≡ p → IsPlan fields → parts ≡ t → AreTasks parts → FitPlan p t → HasRoutine i p t
-    → AreTasksJudged i p t certs (count t) → sum ≡ sum_of_needs i p t certs → sum ≤ fields.areas - fields.reserve → n ≡ count t → r ≡ says Done (certified_tasks_line sum (fields.areas - fields.reserve) n) → IsTasksVerdict i p t certs r
+    → AreFirstTasksJudged i p t certs (count t) → sum ≡ sum_of_needs i p t certs → sum ≤ fields.areas - fields.reserve → n ≡ count t → r ≡ says Done (certified_tasks_line sum (fields.areas - fields.reserve) n) → IsTasksVerdict i p t certs r
 certified_tasks i fields p parts t certs sum n r same is_plan same_t are fit has judged is within many e =
     let room : sum_of_needs i p t certs ≤ p.areas - p.reserve = subst (λ (s : ℕ). s ≤ p.areas - p.reserve) is (subst (λ (q : PlanData). sum ≤ q.areas - q.reserve) same within) in
     certified has judged room (tasks_are_safe i p t (cert_of_task certs) (subst IsPlan same is_plan) (subst AreTasks same_t are) fit has judged room)
@@ -140,19 +140,19 @@ certified_tasks i fields p parts t certs sum n r same is_plan same_t are fit has
 pub sum_next : (n : ℕ) (f : ℕ → ℕ) → sum_over_chains (n + 1) f ≡ sum_over_chains n f + f n
 sum_next n f = let one : n + 1 ≡ suc n = omega arith in ap (λ (m : ℕ). sum_over_chains m f) one
 
-judged_next : (i : ImageData) (p : PlanData) (t : TasksData) (certs : List CertData) (n : ℕ) → AreTasksJudged i p t certs n → IsJudged i p t (cert_of_task certs n) n → AreTasksJudged i p t certs (n + 1)
+judged_next : (i : ImageData) (p : PlanData) (t : TasksData) (certs : List CertData) (n : ℕ) → AreFirstTasksJudged i p t certs n → IsSoundTaskCert i p t (cert_of_task certs n) n → AreFirstTasksJudged i p t certs (n + 1)
 judged_next i p t certs n before here u lt =
-    elim (cases_lt u n) [ inl less ↦ before u less | inr not ↦ let e : n ≡ u = omega arith in subst (λ (w : ℕ). IsJudged i p t (cert_of_task certs w) w) e here ]
+    elim (cases_lt u n) [ inl less ↦ before u less | inr not ↦ let e : n ≡ u = omega arith in subst (λ (w : ℕ). IsSoundTaskCert i p t (cert_of_task certs w) w) e here ]
 
 -- the next task is judged well, with its need
 pub next_tallied : (i : ImageData) (p : PlanData) (t : TasksData) (certs : List CertData) (c : CertData) (n total need more : ℕ) → cert_of_task certs n ≡ c → more ≤ 2 ^ 32 → AreTallied i p t certs n total
-    → IsJudged i p t c n × (need ≡ certified_need (view_image_of i t n) (view_plan_of p t n) c) → more ≡ (if n == 0 then need else max need 2) → AreTallied i p t certs (n + 1) (total + more)
+    → IsSoundTaskCert i p t c n × (need ≡ certified_need (view_image_of i t n) (view_plan_of p t n) c) → more ≡ (if n == 0 then need else max need 2) → AreTallied i p t certs (n + 1) (total + more)
 next_tallied i p t certs c n total need more at small tallied judged counts =
-    let here : IsJudged i p t (cert_of_task certs n) n = subst (λ (x : CertData). IsJudged i p t x n) (sym at) judged.0 in
+    let here : IsSoundTaskCert i p t (cert_of_task certs n) n = subst (λ (x : CertData). IsSoundTaskCert i p t x n) (sym at) judged.0 in
     let below = tallied.few in
-    let need_is : more ≡ needs_of i p t certs n =
+    let need_is : more ≡ counted_needs_of_tasks i p t certs n =
     counts ∙ ap (λ (m : ℕ). if n == 0 then m else max m 2) (judged.1 ∙ ap (λ (x : CertData). certified_need (view_image_of i t n) (view_plan_of p t n) x) (sym at)) in
-    let step : sum_over_chains (n + 1) (needs_of i p t certs) ≡ sum_over_chains n (needs_of i p t certs) + needs_of i p t certs n = sum_next n (needs_of i p t certs) in
+    let step : sum_over_chains (n + 1) (counted_needs_of_tasks i p t certs) ≡ sum_over_chains n (counted_needs_of_tasks i p t certs) + counted_needs_of_tasks i p t certs n = sum_next n (counted_needs_of_tasks i p t certs) in
     record {
       judged = judged_next i p t certs n tallied.judged here;
       sum = let s = tallied.sum in omega arith;

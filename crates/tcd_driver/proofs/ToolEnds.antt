@@ -41,7 +41,7 @@ use Rattle.tcd_driver.specs.Reporting.{ReportNames}
 use Rattle.tcd_driver.specs.Run.{RunNames}
 use Rattle.tcd_driver.specs.Asm.{AsmNames}
 use Rattle.tcd_driver.specs.Link.{LinkNames, IsLinkReport}
-use Rattle.tcd_driver.specs.Ship.{ShipNames, IsShipped}
+use Rattle.tcd_driver.specs.Ship.{ShipNames, IsShipReport}
 use Rattle.tcd_driver.specs.Boot.{BootNames, BootgenNames}
 use Rattle.tcd_driver.specs.Cells.{CellsNames}
 use Rattle.tcd_driver.specs.Cellcert.{CellcertNames}
@@ -50,13 +50,13 @@ use Rattle.tcd_driver.specs.Taskcert.{TaskcertNames}
 use Rattle.tcd_driver.specs.Gen.{IsGenFunctionCount}
 use Rattle.tcd_driver.specs.BadInputLines.{bad_tasks_line}
 use Rattle.tcd_driver.specs.Headlines.{HoldEachFile, AreFirmwareFiles, AreCheckFiles, HeadlineOfCheck, RefusalByCheck, HeadlineOfCert, RefusalByCert, HeadlineOfRun, HoldsPlan}
-use Rattle.tcd_driver.specs.Headlines.Asks.{Ask, is_elf, is_plan, is_cert, is_layout, is_object, is_source, is_script, are_cells, are_tasks, are_linked, are_linked_sources, is_cert_per_task, ask_each, HoldsTasks, HoldsCells}
+use Rattle.tcd_driver.specs.Headlines.Asks.{InputRequirement, is_elf, is_plan, is_cert, is_layout, is_object, is_source, is_script, are_cells, are_tasks, are_linked, are_linked_sources, is_cert_per_task, require_each, HoldsTasks, HoldsCells}
 use Rattle.tcd_driver.specs.Headlines.Boots.{HeadlineOfBoot, RefusalByBoot, HeadlineOfBootgen}
 use Rattle.tcd_driver.specs.Headlines.Builds.{HeadlineOfAsm, HeadlineOfLink, IsObjectText, IsSourceText, IsImageOfFiles, HeadlineOfShip, RefusalByShip}
 use Rattle.tcd_driver.specs.Headlines.Cells.{AreCellFiles, HeadlineOfCells, RefusalByCells, HeadlineOfCellcert, RefusalByCellcert}
 use Rattle.tcd_driver.specs.Headlines.Reports.{HeadlineOfCfg, HeadlineOfReport, HeadlineOfDis, HeadlineOfGen, RefusalByGen}
-use Rattle.tcd_driver.specs.Headlines.Tasks.{AreTaskFiles, IsAcceptedForTask, AreSafeTogether, sum_of_task_needs, HeadlineOfTasks, IsTasksFault, no_switch, refused_task, above, RefusalByTasks, HoldTaskCerts, IsLeastForTask, HeadlineOfTaskcert, NoCertForTask, unaccepted, not_apart, IsTaskcertFault, switch_missing, without, sum_above, RefusalByTaskcert}
-use Rattle.tcd_driver.specs.Tool.{Never}
+use Rattle.tcd_driver.specs.Headlines.Tasks.{AreTaskFiles, IsAcceptedForTask, AreTasksSafeTogether, sum_of_task_needs, HeadlineOfTasks, IsTasksFault, no_switch, refused_task, above, RefusalByTasks, HoldTaskCerts, IsLeastForTask, HeadlineOfTaskcert, NoCertForTask, unaccepted, not_apart, IsTaskcertFault, switch_missing, without, sum_above, RefusalByTaskcert}
+use Rattle.tcd_driver.specs.Tool.{NeverRefuses}
 use Rattle.tcd_driver.proofs.Headlines.{source_told, cert_means, check_means, held_as, is_bad, means_as, run_means, ship_means}
 use Rattle.tcd_driver.proofs.Headlines.Asks.{elf_asked, plan_asked, cert_asked, layout_asked, object_asked, source_asked, placed_source_asked, script_asked, cells_asked, tasks_asked, image_one, plan_one, cert_one, layout_one, cells_one, tasks_one, certs_one, sources_one, AreGood, good_each, behind, then_answer, then_checked, then_input, Follows, then_firmware, then_each}
 use Rattle.tcd_driver.proofs.Headlines.Builds.{object_told, asm_means, link_means}
@@ -67,7 +67,7 @@ use Rattle.tcd_driver.proofs.Headlines.Cells.{cellcert_means, cells_means}
 use Rattle.tcd_driver.proofs.Headlines.Texts.{cfg_means, dis_means, gen_means, report_means}
 
 -- how a command ends
-pub record Answers (c : Command) (asks : List Ask) (IfDone IfRefused : FileMap → FileMap → List ℕ → Type 0) : Type 0 where
+pub record Answers (c : Command) (asks : List InputRequirement) (IfDone IfRefused : FileMap → FileMap → List ℕ → Type 0) : Type 0 where
   pub follows : (m : FileMap) → Follows (reading_of c) m asks IfDone IfRefused
   pub good : (m after : FileMap) (text : List ℕ) → IfDone m after text ⊎ IfRefused m after text → AreGood m asks
   pub apart : (m after other : FileMap) (text line : List ℕ) → IfDone m after text → IfRefused m other line → ⊥
@@ -87,7 +87,7 @@ checked_alike {m} {elf} {plan} {cert} {i} {j} {p} {q} {c} {d} h k =
 check_good : {m : FileMap} {elf plan cert : List ℕ} {i : ImageData} {p : PlanData} {c : CertData} → AreCheckFiles m elf plan cert i p c → AreGood m (is_elf elf ∷ is_plan plan ∷ is_cert cert ∷ [])
 check_good {m} {elf} {plan} {cert} {i} {p} {c} h = ((i, h.elf_file), ((p, h.plan_file), ((c, h.cert_file), tt)))
 
-firmware_good : {m : FileMap} {elf plan : List ℕ} {i : ImageData} {p : PlanData} (asks : List Ask) → AreFirmwareFiles m elf plan i p → AreGood m asks → AreGood m (is_elf elf ∷ is_plan plan ∷ asks)
+firmware_good : {m : FileMap} {elf plan : List ℕ} {i : ImageData} {p : PlanData} (asks : List InputRequirement) → AreFirmwareFiles m elf plan i p → AreGood m asks → AreGood m (is_elf elf ∷ is_plan plan ∷ asks)
 firmware_good {m} {elf} {plan} {i} {p} asks h rest = ((i, h.elf_file), ((p, h.plan_file), rest))
 
 -- ---- check
@@ -127,7 +127,7 @@ report_ends names = record {
 }
 
 -- ---- run
-pub run_ends : (names : RunNames) → Answers (asked.run names) (is_elf names.elf ∷ is_plan names.plan ∷ is_script names.plan names.script ∷ []) (HeadlineOfRun names.elf names.plan names.script) Never
+pub run_ends : (names : RunNames) → Answers (asked.run names) (is_elf names.elf ∷ is_plan names.plan ∷ is_script names.plan names.script ∷ []) (HeadlineOfRun names.elf names.plan names.script) NeverRefuses
 run_ends names = record {
   follows = λ m. then_firmware (λ i p files. then_input (script_asked m names.script names.plan p files.plan_file) (λ s s_is. then_answer (λ r. run_means names m i p s r files (held_as (script_form p) m names.script s s_is))));
   good = λ m after text h. elim h [ inl d ↦ firmware_good (is_script names.plan names.script ∷ []) d.files ((d.plan, d.script, (d.files).plan_file, d.script_file), tt) | inr k ↦ absurd k ];
@@ -135,21 +135,21 @@ run_ends names = record {
 }
 
 -- ---- dis, asm, link
-pub dis_ends : (elf : List ℕ) → Answers (asked.dis elf) (is_elf elf ∷ []) (HeadlineOfDis elf) Never
+pub dis_ends : (elf : List ℕ) → Answers (asked.dis elf) (is_elf elf ∷ []) (HeadlineOfDis elf) NeverRefuses
 dis_ends elf = record {
   follows = λ m. then_input (elf_asked m elf) (λ i i_is. then_answer (λ r. dis_means elf m i r (held_as elf_form m elf i i_is)));
   good = λ m after text h. elim h [ inl d ↦ ((d.image, d.elf_file), tt) | inr k ↦ absurd k ];
   apart = λ m after other text line h k. k;
 }
 
-pub asm_ends : (names : AsmNames) → Answers (asked.asm names) (is_source 0 names.source ∷ []) (HeadlineOfAsm names.source names.object) Never
+pub asm_ends : (names : AsmNames) → Answers (asked.asm names) (is_source 0 names.source ∷ []) (HeadlineOfAsm names.source names.object) NeverRefuses
 asm_ends names = record {
   follows = λ m. then_input (source_asked m names.source) (λ o o_is. then_answer (λ r. asm_means names m o r (held_as source_form m names.source o o_is)));
   good = λ m after text h. elim h [ inl d ↦ ((d.object, d.source_file), tt) | inr k ↦ absurd k ];
   apart = λ m after other text line h k. k;
 }
 
-pub link_ends : (names : LinkNames) → Answers (asked.link names) (is_layout names.layout ∷ ask_each is_object 0 names.objects (are_linked names.layout names.objects ∷ [])) (HeadlineOfLink names.layout names.image names.objects) Never
+pub link_ends : (names : LinkNames) → Answers (asked.link names) (is_layout names.layout ∷ require_each is_object 0 names.objects (are_linked names.layout names.objects ∷ [])) (HeadlineOfLink names.layout names.image names.objects) NeverRefuses
 link_ends names = record {
   follows = λ m. then_input (layout_asked m names.layout) (λ l l_is.
       then_each object_form (2 ^ 24) IsObjectText is_object (are_linked names.layout names.objects ∷ []) object_told (λ place name. object_asked m name place) 0 names.objects (λ os. answer (IsLinkReport names.image l os))
@@ -174,7 +174,7 @@ shipped_one m plan layout sources p q i j h k =
     ((let e = h.linked in let f = linked ∙ k.linked in cc), plan_one m plan p q h.plan_file k.plan_file)
 
 image_good : (m : FileMap) (plan layout : List ℕ) (sources : List (List ℕ)) (p : PlanData) (i : ImageData) → IsImageOfFiles m plan layout sources p i →
-    AreGood m (is_plan plan ∷ is_layout layout ∷ ask_each is_source 0 sources (are_linked_sources layout sources ∷ []))
+    AreGood m (is_plan plan ∷ is_layout layout ∷ require_each is_source 0 sources (are_linked_sources layout sources ∷ []))
 image_good m plan layout sources p i h = (
   (p, h.plan_file),
   (
@@ -185,11 +185,11 @@ image_good m plan layout sources p i h = (
   ),
 )
 
-pub ship_ends : (names : ShipNames) → names.elf ≢ names.cert → Answers (asked.ship names) (is_plan names.plan ∷ is_layout names.layout ∷ ask_each is_source 0 names.sources (are_linked_sources names.layout names.sources ∷ []))
+pub ship_ends : (names : ShipNames) → names.elf ≢ names.cert → Answers (asked.ship names) (is_plan names.plan ∷ is_layout names.layout ∷ require_each is_source 0 names.sources (are_linked_sources names.layout names.sources ∷ []))
     (HeadlineOfShip names.plan names.layout names.elf names.cert names.sources) (RefusalByShip names.plan names.layout names.sources)
 ship_ends names differ = record {
   follows = λ m. then_input (plan_asked m names.plan) (λ p p_is. then_input (layout_asked m names.layout) (λ l l_is.
-      then_each placed_source_form (2 ^ 24) IsSourceText is_source (are_linked_sources names.layout names.sources ∷ []) source_told (λ place name. placed_source_asked m name place) 0 names.sources (λ ss. answer (IsShipped names.elf names.cert p l ss))
+      then_each placed_source_form (2 ^ 24) IsSourceText is_source (are_linked_sources names.layout names.sources ∷ []) source_told (λ place name. placed_source_asked m name place) 0 names.sources (λ ss. answer (IsShipReport names.elf names.cert p l ss))
       (λ ss held. then_answer (ship_means names differ m p l ss (held_as plan_form m names.plan p p_is) (held_as layout_form m names.layout l l_is) held))));
   good = λ m after text h. elim h [ inl d ↦ image_good m names.plan names.layout names.sources d.plan d.image d.image_is | inr k ↦ image_good m names.plan names.layout names.sources k.plan k.image k.image_is ];
   apart = λ m after other text line h k.
@@ -218,7 +218,7 @@ boot_ends names word at_is = record {
 }
 
 pub bootgen_ends : (names : BootgenNames) (entry_word at_word : List ℕ) → hex_number_of entry_word ≡ Some names.entry → hex_number_of at_word ≡ Some names.at → names.at + 224 ≤ 2 ^ 32 →
-    Answers (asked.bootgen names) (is_plan names.plan ∷ []) (HeadlineOfBootgen names.plan entry_word at_word names.source) Never
+    Answers (asked.bootgen names) (is_plan names.plan ∷ []) (HeadlineOfBootgen names.plan entry_word at_word names.source) NeverRefuses
 bootgen_ends names entry_word at_word entry_is at_is room = record {
   follows = λ m. then_input (plan_asked m names.plan) (λ p p_is. then_answer (λ r. bootgen_means names entry_word at_word entry_is at_is room m p r (held_as plan_form m names.plan p p_is)));
   good = λ m after text h. elim h [ inl d ↦ ((d.plan, d.plan_file), tt) | inr k ↦ absurd k ];
@@ -226,13 +226,13 @@ bootgen_ends names entry_word at_word entry_is at_is room = record {
 }
 
 -- ---- cells
-then_cells : {m : FileMap} {D R : FileMap → FileMap → List ℕ → Type 0} {elf plan list : List ℕ} {asks : List Ask} {next : ImageData → PlanData → List Cell → Reading} →
+then_cells : {m : FileMap} {D R : FileMap → FileMap → List ℕ → Type 0} {elf plan list : List ℕ} {asks : List InputRequirement} {next : ImageData → PlanData → List Cell → Reading} →
     ((i : ImageData) (p : PlanData) (cs : List Cell) → AreCellFiles m elf plan list i p cs → Follows (next i p cs) m asks D R) →
     Follows (input ImageData elf_form elf (λ i. input PlanData plan_form plan (λ p. input (List Cell) (cells_form p) list (λ cs. next i p cs)))) m (is_elf elf ∷ is_plan plan ∷ are_cells plan list ∷ asks) D R
 then_cells {m} {D} {R} {elf} {plan} {list} rest =
     then_firmware (λ i p files. then_input (cells_asked m list plan p files.plan_file) (λ cs cs_is. rest i p cs (record { firmware = files; cells_file = held_as (cells_form p) m list cs cs_is })))
 
-cell_files_good : {m : FileMap} {elf plan list : List ℕ} {i : ImageData} {p : PlanData} {cs : List Cell} (asks : List Ask) → AreCellFiles m elf plan list i p cs → AreGood m asks → AreGood m (is_elf elf ∷ is_plan plan ∷ are_cells plan list ∷ asks)
+cell_files_good : {m : FileMap} {elf plan list : List ℕ} {i : ImageData} {p : PlanData} {cs : List Cell} (asks : List InputRequirement) → AreCellFiles m elf plan list i p cs → AreGood m asks → AreGood m (is_elf elf ∷ is_plan plan ∷ are_cells plan list ∷ asks)
 cell_files_good {m} {elf} {plan} {list} {i} {p} {cs} asks h rest = firmware_good (are_cells plan list ∷ asks) h.firmware ((p, cs, (h.firmware).plan_file, h.cells_file), rest)
 
 -- what holds of a list for a plan, of the same files
@@ -285,7 +285,7 @@ gen_ends word n counted = record {
 
 -- ---- tasks
 -- there are as many names as tasks, or not
-then_count : {m : FileMap} {D R : FileMap → FileMap → List ℕ → Type 0} (plan list : List ℕ) (certs : List (List ℕ)) (p : PlanData) (t : TasksData) {asks : List Ask} {reading : Reading} → HoldsPlan m plan p → HoldsTasks m list p t →
+then_count : {m : FileMap} {D R : FileMap → FileMap → List ℕ → Type 0} (plan list : List ℕ) (certs : List (List ℕ)) (p : PlanData) (t : TasksData) {asks : List InputRequirement} {reading : Reading} → HoldsPlan m plan p → HoldsTasks m list p t →
     (length certs ≡ count t → Follows reading m asks D R) → (b : Bool) → (length certs == count t) ≡ b → Follows (tasks_reading_if b reading) m (is_cert_per_task plan list certs ∷ asks) D R
 unfolding bad_tasks_line
 then_count plan list certs p t plan_is list_is rest true e =
@@ -294,7 +294,7 @@ then_count plan list certs p t plan_is list_is rest true e =
 then_count plan list certs p t plan_is list_is rest false e =
     record { means = λ r said. means_as said (is_bad refl refl (inl (p, t, plan_is, list_is, eqb-false (length certs) (count t) e, refl))); asked = λ there. tt }
 
-then_tasks : {m : FileMap} {D R : FileMap → FileMap → List ℕ → Type 0} {elf plan list : List ℕ} {certs : List (List ℕ)} {asks : List Ask} {next : ImageData → PlanData → TasksData → Reading} →
+then_tasks : {m : FileMap} {D R : FileMap → FileMap → List ℕ → Type 0} {elf plan list : List ℕ} {certs : List (List ℕ)} {asks : List InputRequirement} {next : ImageData → PlanData → TasksData → Reading} →
     ((i : ImageData) (p : PlanData) (t : TasksData) → AreTaskFiles m elf plan list i p t → length certs ≡ count t → Follows (next i p t) m asks D R) →
     Follows (input ImageData elf_form elf (λ i. input PlanData plan_form plan (λ p. input TasksData (tasks_form p) list (λ t. with_name_per_task certs t (next i p t))))) m
     (is_elf elf ∷ is_plan plan ∷ are_tasks plan list ∷ is_cert_per_task plan list certs ∷ asks) D R
@@ -303,12 +303,12 @@ then_tasks {m} {D} {R} {elf} {plan} {list} {certs} rest =
     let held : HoldsTasks m list p t = held_as (tasks_form p) m list t t_is in
     then_count plan list certs p t files.plan_file held (λ many. rest i p t (record { firmware = files; tasks_file = held }) many) (length certs == count t) refl))
 
-task_files_good : {m : FileMap} {elf plan list : List ℕ} {i : ImageData} {p : PlanData} {t : TasksData} (certs : List (List ℕ)) (asks : List Ask) → AreTaskFiles m elf plan list i p t → length certs ≡ count t → AreGood m asks →
+task_files_good : {m : FileMap} {elf plan list : List ℕ} {i : ImageData} {p : PlanData} {t : TasksData} (certs : List (List ℕ)) (asks : List InputRequirement) → AreTaskFiles m elf plan list i p t → length certs ≡ count t → AreGood m asks →
     AreGood m (is_elf elf ∷ is_plan plan ∷ are_tasks plan list ∷ is_cert_per_task plan list certs ∷ asks)
 task_files_good {m} {elf} {plan} {list} {i} {p} {t} certs asks h many rest =
     firmware_good (are_tasks plan list ∷ is_cert_per_task plan list certs ∷ asks) h.firmware ((p, t, (h.firmware).plan_file, h.tasks_file), ((p, t, (h.firmware).plan_file, h.tasks_file, many), rest))
 
-module _ (i : ImageData) (p : PlanData) (t : TasksData) (cs : List CertData) (needs : ℕ → ℕ) (h : AreSafeTogether i p t cs needs) where
+module _ (i : ImageData) (p : PlanData) (t : TasksData) (cs : List CertData) (needs : ℕ → ℕ) (h : AreTasksSafeTogether i p t cs needs) where
   sum_as : sum_over_chains (count t) needs ≡ sum_of_task_needs i p t cs
   sum_as = same_below (count t) needs (need_of_task i p t (cert_of_task cs)) (λ u lt. h.needs_are u)
 
@@ -321,14 +321,14 @@ module _ (i : ImageData) (p : PlanData) (t : TasksData) (cs : List CertData) (ne
 
 -- files of tasks with their certificates
 task_certs_good : {m : FileMap} {elf plan list : List ℕ} {i : ImageData} {p : PlanData} {t : TasksData} (certs : List (List ℕ)) (cs : List CertData) → HoldEachFile m (2 ^ 30) (λ bytes cert. certificate_of bytes ≡ Ok cert) certs cs →
-    AreTaskFiles m elf plan list i p t → length cs ≡ count t → AreGood m (is_elf elf ∷ is_plan plan ∷ are_tasks plan list ∷ is_cert_per_task plan list certs ∷ ask_each (λ place name. is_cert name) 0 certs [])
+    AreTaskFiles m elf plan list i p t → length cs ≡ count t → AreGood m (is_elf elf ∷ is_plan plan ∷ are_tasks plan list ∷ is_cert_per_task plan list certs ∷ require_each (λ place name. is_cert name) 0 certs [])
 task_certs_good {m} {elf} {plan} {list} {i} {p} {t} certs cs held files many =
-    task_files_good certs (ask_each (λ place name. is_cert name) 0 certs []) files (held_many m (2 ^ 30) (λ bytes cert. certificate_of bytes ≡ Ok cert) certs cs held ∙ many)
+    task_files_good certs (require_each (λ place name. is_cert name) 0 certs []) files (held_many m (2 ^ 30) (λ bytes cert. certificate_of bytes ≡ Ok cert) certs cs held ∙ many)
     (good_each m (2 ^ 30) (λ bytes cert. certificate_of bytes ≡ Ok cert) (λ place name. is_cert name) [] (λ place name x held. (x, held)) 0 certs cs held tt)
 
 pub tasks_end : (names : TasksNames) →
     Answers (asked.tasks names)
-    (is_elf names.elf ∷ is_plan names.plan ∷ are_tasks names.plan names.tasks ∷ is_cert_per_task names.plan names.tasks names.certs ∷ ask_each (λ place name. is_cert name) 0 names.certs [])
+    (is_elf names.elf ∷ is_plan names.plan ∷ are_tasks names.plan names.tasks ∷ is_cert_per_task names.plan names.tasks names.certs ∷ require_each (λ place name. is_cert name) 0 names.certs [])
     (HeadlineOfTasks names.elf names.plan names.tasks names.certs) (RefusalByTasks names.elf names.plan names.tasks names.certs)
 tasks_end names = record {
   follows = λ m. then_tasks (λ i p t files many.
@@ -337,8 +337,8 @@ tasks_end names = record {
   good = λ m after text h. elim h [ inl d ↦ task_certs_good names.certs d.certs d.cert_files d.files (d.together).as_many | inr k ↦ task_certs_good names.certs k.certs k.cert_files k.files k.as_many ];
   apart = λ m after other text line h k.
       tasks_refuted k.image k.plan k.list k.certs h.needs
-      (list_as (λ r x. HoldsTasks m names.tasks r x) (tasks_one m names.tasks) (λ i p t. AreSafeTogether i p t k.certs h.needs) (h.files).firmware (k.files).firmware (h.files).tasks_file (k.files).tasks_file
-      (subst (λ (x : List CertData). AreSafeTogether h.image h.plan h.list x h.needs) (certs_one m names.certs h.certs k.certs h.cert_files k.cert_files) h.together))
+      (list_as (λ r x. HoldsTasks m names.tasks r x) (tasks_one m names.tasks) (λ i p t. AreTasksSafeTogether i p t k.certs h.needs) (h.files).firmware (k.files).firmware (h.files).tasks_file (k.files).tasks_file
+      (subst (λ (x : List CertData). AreTasksSafeTogether h.image h.plan h.list x h.needs) (certs_one m names.certs h.certs k.certs h.cert_files k.cert_files) h.together))
       line k.fault;
 }
 
@@ -351,7 +351,7 @@ certs_many m (name ∷ names) (c ∷ cs) h = ap suc (certs_many m names cs h.1)
 
 -- the certificates are the least ones, and the tasks are safe together
 record AreLeast (cs : List CertData) (needs : ℕ → ℕ) (i : ImageData) (p : PlanData) (t : TasksData) : Type 0 where
-  together : AreSafeTogether i p t cs needs
+  together : AreTasksSafeTogether i p t cs needs
   least : (u : ℕ) → u < count t → IsLeastForTask i p t u (cert_of_task cs u)
 
 module _ (i : ImageData) (p : PlanData) (t : TasksData) (cs : List CertData) (needs : ℕ → ℕ) (h : AreLeast cs needs i p t) where

@@ -11,7 +11,7 @@ use Rattle.tc_script.specs.Numbers.{script_number}
 use Rattle.tcd_base.specs.Files.{FileMap, FilesSeen}
 use Rattle.tcd_base.specs.Sink.{SinkSeen, HasRoomFor, sink_with_appended}
 use Rattle.tcd_reading.specs.Reports.{Report, ReportFile, IsReportStatus, with_report_files}
-use Rattle.tcd_reading.specs.Inputs.{Reading, ReadingSays, HoldsAsked, HasAllInputs}
+use Rattle.tcd_reading.specs.Inputs.{Reading, ReadingSays, HoldsNeededInputs, HasAllInputs}
 use Rattle.tcd_reading.specs.Endings.{PrintsWithStatus, whole, cut, HasEnded, Ends}
 use Rattle.tcd_reading.specs.Endings as ending
 use Rattle.tcd_reading.specs.declared.status.Status.{Status}
@@ -20,8 +20,8 @@ use Rattle.tcd_driver.specs.BadInputLines.{bad_words_line}
 use Rattle.tcd_driver.specs.Commands as asked
 use Rattle.tcd_driver.specs.Commands.{Command, command, reading_of, is_link, is_ship, is_tasks, is_taskcert}
 use Rattle.tcd_driver.specs.DistinctNames.{are_distinct_names}
-use Rattle.tcd_driver.specs.Tool.{ToolCall, ToolCallMeans, EndsWithBadWords, CannotFail, CanEnd, IsOneEnd, MayPrintText, of_bad_words, when_done, when_refused, when_bad, CommandSays, ToolSays, Never}
-use Rattle.tcd_driver.specs.Headlines.Asks.{Ask, BadInputOf}
+use Rattle.tcd_driver.specs.Tool.{ToolCall, ToolCallMeans, EndsWithBadWords, CannotFail, CanEnd, IsDecidedStatus, MayPrintText, of_bad_words, when_done, when_refused, when_bad, CommandSays, ToolSays, NeverRefuses}
+use Rattle.tcd_driver.specs.Headlines.Asks.{InputRequirement, BadInputOf}
 use Rattle.tcd_driver.proofs.Headlines.{Means, is_bad, is_done, is_refused}
 use Rattle.tcd_driver.proofs.Headlines.Asks.{never_bad}
 use Rattle.tcd_driver.proofs.ToolEnds.{Answers, check_ends, cert_ends, cfg_ends, report_ends, run_ends, dis_ends, asm_ends, link_ends, ship_ends, boot_ends, bootgen_ends, cells_ends, cellcert_ends, gen_ends, tasks_end, taskcert_ends}
@@ -61,13 +61,13 @@ module _ (reading : Reading) (files files' : FilesSeen) (sink sink' : SinkSeen) 
   left (ending.no_memory e stays quiet) = absurd (is_told.some_memory e)
 
 -- ---- what a status means
-abbrev Meant : List Ask → (FileMap → FileMap → List ℕ → Type 0) → (FileMap → FileMap → List ℕ → Type 0) → Status → FileMap → FileMap → List ℕ → Type 0
+abbrev Meant : List InputRequirement → (FileMap → FileMap → List ℕ → Type 0) → (FileMap → FileMap → List ℕ → Type 0) → Status → FileMap → FileMap → List ℕ → Type 0
 Meant asks D R Done = D
 Meant asks D R Refused = R
 Meant asks D R BadInput = BadInputOf asks
-Meant asks D R _ = Never
+Meant asks D R _ = NeverRefuses
 
-leaves_as : (m : FileMap) (asks : List Ask) (D R : FileMap → FileMap → List ℕ → Type 0) (r : Report) → Means m asks D R r → Leaves m r (Meant asks D R r.status)
+leaves_as : (m : FileMap) (asks : List InputRequirement) (D R : FileMap → FileMap → List ℕ → Type 0) (r : Report) → Means m asks D R r → Leaves m r (Meant asks D R r.status)
 leaves_as m asks D R r (is_done after e w h) = (after, w, subst (λ (s : Status). Meant asks D R s m after r.text) (sym e) h)
 leaves_as m asks D R r (is_refused e w h) = (m, ap (λ (ws : List ReportFile). with_report_files (Some m) ws) w, subst (λ (s : Status). Meant asks D R s m m r.text) (sym e) h)
 leaves_as m asks D R r (is_bad e w h) = (m, ap (λ (ws : List ReportFile). with_report_files (Some m) ws) w, subst (λ (s : Status). Meant asks D R s m m r.text) (sym e) (record { first = h; stays = refl }))
@@ -194,12 +194,12 @@ module _ (call : ToolCall) where
     none_by words is = subst (λ (ws : List (List ℕ)). IfNone (command ws) BadEnd) is none
 
     -- the command that arguments ask for, and how the call ended as it
-    record Found (asks : List Ask) (IfDone IfRefused : FileMap → FileMap → List ℕ → Type 0) : Type 0 where
+    record Found (asks : List InputRequirement) (IfDone IfRefused : FileMap → FileMap → List ℕ → Type 0) : Type 0 where
       c : Command
       answers : Answers c asks IfDone IfRefused
       ended : Ended c
 
-    module _ (words : List (List ℕ)) (asks : List Ask) (IfDone IfRefused : FileMap → FileMap → List ℕ → Type 0) (found : call.words ≡ words → (BadEnd → ⊥) → Found asks IfDone IfRefused) where
+    module _ (words : List (List ℕ)) (asks : List InputRequirement) (IfDone IfRefused : FileMap → FileMap → List ℕ → Type 0) (found : call.words ≡ words → (BadEnd → ⊥) → Found asks IfDone IfRefused) where
       means : (status : Status) → IsTold status → ToolCallMeans call words status (Meant asks IfDone IfRefused status)
       means status is_told m are is held =
           let f = found are (no_bad_end status is_told is) in
@@ -227,7 +227,7 @@ module _ (call : ToolCall) where
         may_print r (is_bad e w h) = when_bad m (record { first = h; stays = refl })
 
         asks_are : HasAllInputs (reading_of here.c) call.files
-        asks_are = record { steady = sure.steady; hold = subst (λ (o : Option FileMap). HoldsAsked (reading_of here.c) o) (sym sure.held) (((here.answers).follows m).asked sure.there) }
+        asks_are = record { steady = sure.steady; hold = subst (λ (o : Option FileMap). HoldsNeededInputs (reading_of here.c) o) (sym sure.held) (((here.answers).follows m).asked sure.there) }
 
         by_ended : HasEnded (reading_of here.c) call.files call.files_after call.sink call.sink_after call.status → IsReportStatus call.status
         by_ended (ending.reported r said h) =
@@ -257,7 +257,7 @@ module _ (call : ToolCall) where
         end_is_bad b (inr (inl e)) = let k = can Refused refused_told e in absurd (never_bad m asks b.1 ((here.answers).good m k.0 k.1 (inr k.2)) (b.2).first)
         end_is_bad b (inr (inr e)) = e
 
-        one_end : IsOneEnd call.status (IfDone m) (IfRefused m) (BadInputOf asks m)
+        one_end : IsDecidedStatus call.status (IfDone m) (IfRefused m) (BadInputOf asks m)
         one_end =
             let one = by_ended (here.ended).ended in
             record {
@@ -276,11 +276,11 @@ module _ (call : ToolCall) where
       }
 
     -- arguments that are this command for all names
-    fixed : (words : List (List ℕ)) (c : Command) (asks : List Ask) (IfDone IfRefused : FileMap → FileMap → List ℕ → Type 0) → Answers c asks IfDone IfRefused → (IfSome (command words) Ended → Ended c) → CommandSays call words asks IfDone IfRefused
+    fixed : (words : List (List ℕ)) (c : Command) (asks : List InputRequirement) (IfDone IfRefused : FileMap → FileMap → List ℕ → Type 0) → Answers c asks IfDone IfRefused → (IfSome (command words) Ended → Ended c) → CommandSays call words asks IfDone IfRefused
     fixed words c asks IfDone IfRefused answers is = says words asks IfDone IfRefused (λ are no_bad. record { c = c; answers = answers; ended = is (some_by words are) })
 
     -- arguments that are a command if a test holds
-    tested : (words : List (List ℕ)) (c : Command) (b : Bool) (asks : List Ask) (IfDone IfRefused : FileMap → FileMap → List ℕ → Type 0) → command words ≡ (if b then Some c else None) → (b ≡ true → Answers c asks IfDone IfRefused) →
+    tested : (words : List (List ℕ)) (c : Command) (b : Bool) (asks : List InputRequirement) (IfDone IfRefused : FileMap → FileMap → List ℕ → Type 0) → command words ≡ (if b then Some c else None) → (b ≡ true → Answers c asks IfDone IfRefused) →
         CommandSays call words asks IfDone IfRefused
     tested words c b asks IfDone IfRefused is answers = says words asks IfDone IfRefused
         (λ are no_bad.

@@ -1,11 +1,11 @@
 -- What `asm` reads, reports and writes.
 use Rattle.std.specs.Prelude.{◌≡◌, ℕ, List, length}
 use Rattle.tc_object.specs.Objects.{ObjectData}
-use Rattle.tc_object.specs.Spelling.{bytes_of}
-use Rattle.tcd_reading.specs.Reports.{Report, writes_file}
+use Rattle.tc_object.specs.Spelling.{bytes_of_object}
+use Rattle.tcd_reading.specs.Reports.{Report, report_with_file}
 use Rattle.tcd_reading.specs.Inputs.{Reading, input, answer}
 use Rattle.tcd_forms.specs.Forms.{source_form}
-use Rattle.tcd_forms.specs.Lines.{assembled_line}
+use Rattle.tcd_forms.specs.Lines.{assembled_object_line}
 
 -- the names of the source that `asm` reads, and of the object that it writes
 pub record AsmNames : Type 0 where
@@ -14,7 +14,7 @@ pub record AsmNames : Type 0 where
 
 -- the report with an object that is written under this name
 abbrev pub WritesObject : List ℕ → ObjectData → Report → Type 0
-WritesObject name object report = report ≡ writes_file name (bytes_of object) (assembled_line (length (bytes_of object)))
+WritesObject name object report = report ≡ report_with_file name (bytes_of_object object) (assembled_object_line (length (bytes_of_object object)))
 
 -- a source is read; then its object is written
 abbrev pub asm_reading : AsmNames → Reading

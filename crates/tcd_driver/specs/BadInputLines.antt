@@ -24,7 +24,7 @@ use Rattle.tcd_text.specs.Lines.{text_lines}
 use Rattle.value_cells.specs.CellListText as cells
 use Rattle.task_chains.specs.TaskListText as tasks
 use Rattle.tc_stmt.specs.Lines.{lines_in}
-use Rattle.tc_asm.specs.Rules.{IsLeastBrokenLine}
+use Rattle.tc_asm.specs.Rules.{IsFirstBrokenLine}
 
 -- the driver's line for arguments that are no command
 unfoldable pub bad_words_line : List ℕ
@@ -77,18 +77,18 @@ bad_tasks_line task.Count = codes "bad tasks 7" ++ 10 ∷ []
 
 -- the bytes are no cells of the plan, and this is the line of their first fault
 abbrev pub AreNoCells : PlanData → List ℕ → List ℕ → Type 0
-AreNoCells plan bytes line = (e : CellsErr) × cells.Reads plan bytes (Err e) × (line ≡ bad_cells_line e)
+AreNoCells plan bytes line = (e : CellsErr) × cells.IsResultOfCellText plan bytes (Err e) × (line ≡ bad_cells_line e)
 
 -- the bytes are no tasks of the plan, and this is the line of their first fault
 abbrev pub AreNoTasks : PlanData → List ℕ → List ℕ → Type 0
-AreNoTasks plan bytes line = (e : TasksErr) × tasks.Reads plan (text_lines bytes) (Err e) × (line ≡ bad_tasks_line e)
+AreNoTasks plan bytes line = (e : TasksErr) × tasks.IsResultOfTaskText plan (text_lines bytes) (Err e) × (line ≡ bad_tasks_line e)
 
 -- the driver's bad-input line `bad source`: the rule that a source breaks, its place among the
 -- sources that are named, and the number of the line in it
-abbrev pub bad_source_words : ℕ → ℕ → ℕ → List ℕ
-bad_source_words rule place line = codes "bad source " ++ (decimal rule ++ (codes " at " ++ (decimal place ++ (codes " " ++ (decimal line ++ 10 ∷ [])))))
+abbrev pub bad_source_line_text : ℕ → ℕ → ℕ → List ℕ
+bad_source_line_text rule place line = codes "bad source " ++ (decimal rule ++ (codes " at " ++ (decimal place ++ (codes " " ++ (decimal line ++ 10 ∷ [])))))
 
 -- the bad-input line on a source of which a line breaks a rule: it has the source's place, the
 -- first such line, and the least rule that it breaks
 abbrev pub SourceBreaksRule : ℕ → List ℕ → List ℕ → Type 0
-SourceBreaksRule place bytes printed = (line : ℕ) × (rule : ℕ) × IsLeastBrokenLine (lines_in bytes) line rule × (printed ≡ bad_source_words rule place line)
+SourceBreaksRule place bytes printed = (line : ℕ) × (rule : ℕ) × IsFirstBrokenLine (lines_in bytes) line rule × (printed ≡ bad_source_line_text rule place line)

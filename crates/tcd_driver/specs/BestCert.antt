@@ -8,7 +8,7 @@ use Rattle.depth_cert.specs.Certs.{CertData, IsCert}
 use Rattle.cfg_recover.specs.RulesHoldOrFail.{Accepts, certified_need}
 use Rattle.cfg_recover.specs.CertRefusals.{IsRefusal}
 use Rattle.depth_maker.specs.LeastCertMade.{IsMade, needs_in}
-use Rattle.depth_maker.specs.Answers.{NoneAccepted, IsRefused}
+use Rattle.depth_maker.specs.Answers.{NoneAccepted, IsRightMakeErr}
 use Rattle.depth_maker.specs.declared.answering.MakeErr.{MakeErr}
 use Rattle.depth_maker.specs.declared.answering.MakeErr.TheVariants as make_err
 use Rattle.tcd_reading.specs.Reports.{Report, says}
@@ -31,21 +31,21 @@ pub record IsAcceptedBestCert (image : ImageData) (plan : PlanData) (cert : Cert
   pub safe : Safe image plan (certified_need image plan cert)
 
 -- no certificate of either format is accepted, and this is why none of format 2 is
-pub record HaveNoBestCert (image : ImageData) (plan : PlanData) (rule : ℕ) (key : Key) (addr : ℕ) : Type 0 where
+pub record HasNoBestCert (image : ImageData) (plan : PlanData) (rule : ℕ) (key : Key) (addr : ℕ) : Type 0 where
   pub first : NoneAccepted image plan 1
   pub second : NoneAccepted image plan 2
   pub why : IsRefusal image plan 2 rule key addr
 
 -- the best certificate is the least of its format: no accepted one of that format states a lesser
 -- need of a frame, or less of what is known at a point
-pub record IsLeastOfItsVersion (image : ImageData) (plan : PlanData) (cert : CertData) : Type 0 where
+pub record IsLeastOfItsFormat (image : ImageData) (plan : PlanData) (cert : CertData) : Type 0 where
   pub is_cert : IsCert cert
   pub needs : (other : CertData) (frame : Key) → IsCert other → other.version ≡ cert.version → Accepts image plan other → needs_in cert frame ≤ needs_in other frame
   pub states : (other : CertData) → IsCert other → other.version ≡ cert.version → Accepts image plan other → IsBelowAt (known_in cert) (known_in other)
 
 -- why an image and a plan have no best certificate: none of either format is accepted, and this is
 -- why none of format 2 is
-pub record NoneIsAccepted (image : ImageData) (plan : PlanData) (rule : ℕ) (frame : Key) (address : ℕ) : Type 0 where
+pub record NoCertIsAccepted (image : ImageData) (plan : PlanData) (rule : ℕ) (frame : Key) (address : ℕ) : Type 0 where
   pub each : (cert : CertData) → IsCert cert → Accepts image plan cert → ⊥
   pub why : IsRefusal image plan 2 rule frame address
 
@@ -60,15 +60,15 @@ pub record IsLeastWithNeed (image : ImageData) (plan : PlanData) (version : ℕ)
 -- the result of making the least certificate of a format
 abbrev pub MakesLeastCert : ImageData → PlanData → ℕ → Result (CertData × ℕ) MakeErr → Type 0
 MakesLeastCert image plan version (Ok made) = IsLeastWithNeed image plan version made.0 made.1
-MakesLeastCert image plan version (Err e) = IsRefused image plan version e
+MakesLeastCert image plan version (Err e) = IsRightMakeErr image plan version e
 
 -- the result of making the best certificate for an image and a plan, with its need
 abbrev pub MakesBestCert : ImageData → PlanData → Result (CertData × ℕ) MakeErr → Type 0
 MakesBestCert image plan (Ok made) = IsAcceptedBestCert image plan made.0 × (made.1 ≡ certified_need image plan made.0)
-MakesBestCert image plan (Err (make_err.Refused rule key addr)) = HaveNoBestCert image plan rule key addr
+MakesBestCert image plan (Err (make_err.Refused rule key addr)) = HasNoBestCert image plan rule key addr
 MakesBestCert image plan (Err make_err.NoMemory) = Unit {0}
 
 -- the report that no certificate is made: the rule, with its place
-abbrev pub IsUnmadeReport : MakeErr → Report → Type 0
-IsUnmadeReport (make_err.Refused rule key addr) report = report ≡ says Refused (refused_line rule key addr)
-IsUnmadeReport make_err.NoMemory report = ⊥
+abbrev pub IsNoCertReport : MakeErr → Report → Type 0
+IsNoCertReport (make_err.Refused rule key addr) report = report ≡ says Refused (refused_line rule key addr)
+IsNoCertReport make_err.NoMemory report = ⊥

@@ -9,8 +9,8 @@ use Rattle.tc_disasm.specs.Listing.{listing_of}
 use Rattle.tc_boot.specs.declared.judging.BootErr.{BootErr}
 use Rattle.tc_boot.specs.Sequence.{boot_events, boot_image_of}
 use Rattle.tc_boot.specs.Reset.{BootsSafely}
-use Rattle.tc_boot.specs.Judging.{HasBoot, JudgesBoot}
-use Rattle.tcd_reading.specs.Reports.{Report, says, writes_file}
+use Rattle.tc_boot.specs.Judging.{HasBoot, IsResultOfBootTest}
+use Rattle.tcd_reading.specs.Reports.{Report, says, report_with_file}
 use Rattle.tcd_reading.specs.Inputs.{Reading, input, answer}
 use Rattle.tcd_forms.specs.Forms.{elf_form, plan_form, cert_form}
 use Rattle.tcd_forms.specs.Lines.{boots_line, generated_boot_line, refused_line}
@@ -42,7 +42,7 @@ pub data IsBootVerdict (image : ImageData) (plan : PlanData) (cert : CertData) (
       (rule : ℕ) (key : Key) (addr : ℕ) → IsFirstFault image plan cert rule key addr → report ≡ says Refused (refused_line rule key addr)
       → IsBootVerdict image plan cert at report
   unbooted :
-      (e : BootErr) → Accepts image plan cert → JudgesBoot image plan at (Err e) → report ≡ says Refused (refused_boot_line e)
+      (e : BootErr) → Accepts image plan cert → IsResultOfBootTest image plan at (Err e) → report ≡ says Refused (refused_boot_line e)
       → IsBootVerdict image plan cert at report
   boots :
       Accepts image plan cert → HasBoot image plan at → BootsSafely image plan at (certified_need image plan cert)
@@ -65,9 +65,9 @@ pub record BootgenNames : Type 0 where
   pub source : List ℕ
 
 -- the boot sequence is written as a source: the listing of the image whose only segment it is
-abbrev pub WritesBoot : ℕ → ℕ → List ℕ → PlanData → Report → Type 0
-WritesBoot entry at source plan report = report ≡ writes_file source (listing_of (boot_image_of plan entry at)) generated_boot_line
+abbrev pub WritesBootSource : ℕ → ℕ → List ℕ → PlanData → Report → Type 0
+WritesBootSource entry at source plan report = report ≡ report_with_file source (listing_of (boot_image_of plan entry at)) generated_boot_line
 
 -- a plan is read; then the source is written
 abbrev pub bootgen_reading : BootgenNames → Reading
-bootgen_reading names = input PlanData plan_form names.plan (λ plan. answer (WritesBoot names.entry names.at names.source plan))
+bootgen_reading names = input PlanData plan_form names.plan (λ plan. answer (WritesBootSource names.entry names.at names.source plan))

@@ -11,9 +11,9 @@ use Rattle.depth_maker.specs.LeastCertMade.{IsMade}
 use Rattle.depth_maker.specs.Answers.{NoneAccepted}
 use Rattle.value_cells.specs.declared.cells.Cell.{Cell}
 use Rattle.value_cells.specs.Cells.{with_cells}
-use Rattle.value_cells.specs.Keeping.{KeepsCells, IsFirstBreak}
+use Rattle.value_cells.specs.Keeping.{KeepsCells, IsRule16Fault}
 use Rattle.value_cells.specs.Safe.{SafeWithCells}
-use Rattle.tcd_reading.specs.Reports.{Report, says, writes_file}
+use Rattle.tcd_reading.specs.Reports.{Report, says, report_with_file}
 use Rattle.tcd_reading.specs.Inputs.{Reading, input, answer}
 use Rattle.tcd_driver.specs.CellAndTaskForms.{cells_form}
 use Rattle.tcd_forms.specs.Forms.{elf_form, plan_form}
@@ -38,24 +38,24 @@ NoneKeepsCells image plan cells =
 -- place at which the least one does is printed. Else the least one keeps the rule, and is written
 -- under this name; then every run in which each cell's word starts in its bounds is safe, and keeps
 -- the words there.
-pub data IsCertifyingCells (name : List ℕ) (image : ImageData) (plan : PlanData) (cells : List Cell) (report : Report) : Type 0 where
+pub data IsCellcertReport (name : List ℕ) (image : ImageData) (plan : PlanData) (cells : List Cell) (report : Report) : Type 0 where
   refused :
       (rule : ℕ) (key : Key) (addr : ℕ) → NoneAccepted image (with_cells plan cells) 2 → IsRefusal image (with_cells plan cells) 2 rule key addr
-      → report ≡ says Refused (refused_line rule key addr) → IsCertifyingCells name image plan cells report
+      → report ≡ says Refused (refused_line rule key addr) → IsCellcertReport name image plan cells report
   broken :
       (cert : CertData) (key : Key) (addr : ℕ) → NoneKeepsCells image plan cells → IsCert cert → IsMade image (with_cells plan cells) 2 cert
-      → IsFirstBreak image (with_cells plan cells) cells cert key addr → report ≡ says Refused (refused_line 16 key addr)
-      → IsCertifyingCells name image plan cells report
+      → IsRule16Fault image (with_cells plan cells) cells cert key addr → report ≡ says Refused (refused_line 16 key addr)
+      → IsCellcertReport name image plan cells report
   certified :
       (cert : CertData) → IsCert cert → IsMade image (with_cells plan cells) 2 cert → KeepsCells image (with_cells plan cells) cells cert
       → SafeWithCells image plan cells (certified_need image (with_cells plan cells) cert)
       → report
-      ≡ writes_file name (bytes_of_cert cert) (certified_cells_line (certified_need image (with_cells plan cells) cert) (plan.areas - plan.reserve) (length cells))
-      → IsCertifyingCells name image plan cells report
+      ≡ report_with_file name (bytes_of_cert cert) (certified_cells_line (certified_need image (with_cells plan cells) cert) (plan.areas - plan.reserve) (length cells))
+      → IsCellcertReport name image plan cells report
 
 -- reads an executable, a plan and its cells; then a certificate is made
 abbrev pub cellcert_reading : CellcertNames → Reading
 cellcert_reading names =
     input ImageData elf_form names.elf
     (λ image. input PlanData plan_form names.plan
-    (λ plan. input (List Cell) (cells_form plan) names.cells (λ cells. answer (IsCertifyingCells names.cert image plan cells))))
+    (λ plan. input (List Cell) (cells_form plan) names.cells (λ cells. answer (IsCellcertReport names.cert image plan cells))))

@@ -7,7 +7,7 @@ use Rattle.depth_cert.specs.declared.keys.Key.{Key}
 use Rattle.cfg_recover.specs.RulesHoldOrFail.{Accepts, IsFirstFault, certified_need}
 use Rattle.value_cells.specs.declared.cells.Cell.{Cell}
 use Rattle.value_cells.specs.Cells.{with_cells}
-use Rattle.value_cells.specs.Keeping.{KeepsCells, IsFirstBreak}
+use Rattle.value_cells.specs.Keeping.{KeepsCells, IsRule16Fault}
 use Rattle.value_cells.specs.Safe.{SafeWithCells}
 use Rattle.tcd_reading.specs.Reports.{Report, says}
 use Rattle.tcd_reading.specs.Inputs.{Reading, input, answer}
@@ -32,7 +32,7 @@ pub data IsCellsVerdict (image : ImageData) (plan : PlanData) (cells : List Cell
       (rule : ℕ) (key : Key) (addr : ℕ) → IsFirstFault image (with_cells plan cells) cert rule key addr → report ≡ says Refused (refused_line rule key addr)
       → IsCellsVerdict image plan cells cert report
   broken :
-      (key : Key) (addr : ℕ) → Accepts image (with_cells plan cells) cert → IsFirstBreak image (with_cells plan cells) cells cert key addr
+      (key : Key) (addr : ℕ) → Accepts image (with_cells plan cells) cert → IsRule16Fault image (with_cells plan cells) cells cert key addr
       → report ≡ says Refused (refused_line 16 key addr) → IsCellsVerdict image plan cells cert report
   certified :
       Accepts image (with_cells plan cells) cert → KeepsCells image (with_cells plan cells) cells cert

@@ -6,11 +6,11 @@ use Rattle.depth_cert.specs.declared.keys.Key.{Key}
 use Rattle.depth_cert.specs.Certs.{CertData}
 use Rattle.depth_cert.specs.Spelling.{bytes_of_cert}
 use Rattle.cfg_recover.specs.RulesHoldOrFail.{certified_need}
-use Rattle.tcd_reading.specs.Reports.{Report, says, writes_file}
+use Rattle.tcd_reading.specs.Reports.{Report, says, report_with_file}
 use Rattle.tcd_reading.specs.Inputs.{Reading, input, answer}
 use Rattle.tcd_forms.specs.Forms.{elf_form, plan_form}
 use Rattle.tcd_forms.specs.Lines.{refused_line, certified_line}
-use Rattle.tcd_driver.specs.BestCert.{IsAcceptedBestCert, HaveNoBestCert}
+use Rattle.tcd_driver.specs.BestCert.{IsAcceptedBestCert, HasNoBestCert}
 use Rattle.tcd_reading.specs.declared.status.Status.TheVariants.{Refused}
 
 -- the names of the files that `cert` reads, and of the certificate that it writes
@@ -21,17 +21,17 @@ pub record CertNames : Type 0 where
 
 -- The report on an image and a plan. Either no certificate is accepted, and the line says why. Or
 -- the best one is written under this name, and every run is safe with its need.
-pub data IsCertifying (name : List ℕ) (image : ImageData) (plan : PlanData) (report : Report) : Type 0 where
+pub data IsCertReport (name : List ℕ) (image : ImageData) (plan : PlanData) (report : Report) : Type 0 where
   refused :
-      (rule : ℕ) (key : Key) (addr : ℕ) → HaveNoBestCert image plan rule key addr → report ≡ says Refused (refused_line rule key addr)
-      → IsCertifying name image plan report
+      (rule : ℕ) (key : Key) (addr : ℕ) → HasNoBestCert image plan rule key addr → report ≡ says Refused (refused_line rule key addr)
+      → IsCertReport name image plan report
   certified :
       (cert : CertData) → IsAcceptedBestCert image plan cert
-      → report ≡ writes_file name (bytes_of_cert cert) (certified_line (certified_need image plan cert) (plan.areas - plan.reserve))
-      → IsCertifying name image plan report
+      → report ≡ report_with_file name (bytes_of_cert cert) (certified_line (certified_need image plan cert) (plan.areas - plan.reserve))
+      → IsCertReport name image plan report
 
 -- an executable and a plan are read; then a certificate is made
 abbrev pub cert_reading : CertNames → Reading
 cert_reading names =
     input ImageData elf_form names.elf
-    (λ image. input PlanData plan_form names.plan (λ plan. answer (IsCertifying names.cert image plan)))
+    (λ image. input PlanData plan_form names.plan (λ plan. answer (IsCertReport names.cert image plan)))

@@ -5,12 +5,12 @@ use Rattle.tcd_plan.specs.PlanData.{PlanData}
 use Rattle.depth_cert.specs.declared.keys.Key.{Key}
 use Rattle.depth_cert.specs.Certs.{CertData}
 use Rattle.tcd_report.specs.Graphs.{IsGraph}
-use Rattle.tcd_report.specs.Graphs.EdgeLaws.{EdgesStand}
+use Rattle.tcd_report.specs.Graphs.EdgeLaws.{LinesHaveAllEdges}
 use Rattle.tcd_reading.specs.Reports.{Report, says}
 use Rattle.tcd_reading.specs.Inputs.{Reading, input, answer}
 use Rattle.tcd_forms.specs.Forms.{elf_form, plan_form}
 use Rattle.tcd_forms.specs.Lines.{refused_line}
-use Rattle.tcd_driver.specs.BestCert.{IsAcceptedBestCert, HaveNoBestCert}
+use Rattle.tcd_driver.specs.BestCert.{IsAcceptedBestCert, HasNoBestCert}
 use Rattle.tcd_reading.specs.declared.status.Status.TheVariants.{Done, Refused}
 
 -- the names of the files that `cfg` reads
@@ -24,12 +24,12 @@ pub record IsCfgText (image : ImageData) (plan : PlanData) (text : List ℕ) : T
   pub cert : CertData
   pub certified : IsAcceptedBestCert image plan cert
   pub graph : IsGraph image plan cert text
-  pub edges : EdgesStand image plan cert graph.lines
+  pub edges : LinesHaveAllEdges image plan cert graph.lines
 
 -- the report on an image and a plan: no certificate is accepted, and the line says why; or the text
 -- is the graph of the best one
 pub data IsCfgReport (image : ImageData) (plan : PlanData) (told : Report) : Type 0 where
-  refused : (rule : ℕ) (key : Key) (addr : ℕ) → HaveNoBestCert image plan rule key addr → told ≡ says Refused (refused_line rule key addr) → IsCfgReport image plan told
+  refused : (rule : ℕ) (key : Key) (addr : ℕ) → HasNoBestCert image plan rule key addr → told ≡ says Refused (refused_line rule key addr) → IsCfgReport image plan told
   drawn : (text : List ℕ) → IsCfgText image plan text → told ≡ says Done text → IsCfgReport image plan told
 
 -- an executable and a plan are read; then the graph is reported

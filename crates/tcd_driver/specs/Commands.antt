@@ -91,22 +91,22 @@ abbrev pub boot_command_of : List ℕ → List ℕ → List ℕ → List ℕ →
 boot_command_of elf plan cert at = option_map (λ x. boot (record { elf = elf; plan = plan; cert = cert; at = x })) (hex_number_of at)
 
 -- the commands with one argument after their verb
-abbrev pub one_word_command : List ℕ → List ℕ → Option Command
-one_word_command verb word =
+abbrev pub command_of_one : List ℕ → List ℕ → Option Command
+command_of_one verb word =
     if bytes_eq verb (codes "dis") then Some (dis word)
     else if bytes_eq verb (codes "gen") then option_map generate (gen_function_count word)
     else None
 
 -- the commands with two arguments after their verb
-abbrev pub two_word_command : List ℕ → List ℕ → List ℕ → Option Command
-two_word_command verb first second =
+abbrev pub command_of_two : List ℕ → List ℕ → List ℕ → Option Command
+command_of_two verb first second =
     if bytes_eq verb (codes "asm") then Some (asm (record { source = first; object = second }))
     else if bytes_eq verb (codes "cfg") then Some (cfg (record { elf = first; plan = second }))
     else None
 
 -- the commands with three arguments after their verb
-abbrev pub three_word_command : List ℕ → List ℕ → List ℕ → List ℕ → Option Command
-three_word_command verb elf plan third =
+abbrev pub command_of_three : List ℕ → List ℕ → List ℕ → List ℕ → Option Command
+command_of_three verb elf plan third =
     if bytes_eq verb (codes "check") then Some (check (record { elf = elf; plan = plan; cert = third }))
     else if bytes_eq verb (codes "cert") then Some (certify (record { elf = elf; plan = plan; cert = third }))
     else if bytes_eq verb (codes "report") then Some (report (record { elf = elf; plan = plan; cert = third }))
@@ -114,8 +114,8 @@ three_word_command verb elf plan third =
     else None
 
 -- the commands with four arguments after their verb; an address has eight upper-case hex digits
-abbrev pub four_word_command : List ℕ → List ℕ → List ℕ → List ℕ → List ℕ → Option Command
-four_word_command verb first second third fourth =
+abbrev pub command_of_four : List ℕ → List ℕ → List ℕ → List ℕ → List ℕ → Option Command
+command_of_four verb first second third fourth =
     if bytes_eq verb (codes "cells") then Some (cells (record { elf = first; plan = second; cells = third; cert = fourth }))
     else if bytes_eq verb (codes "cellcert") then Some (cellcert (record { elf = first; plan = second; cells = third; cert = fourth }))
     else if bytes_eq verb (codes "boot") then boot_command_of first second third fourth
@@ -123,16 +123,16 @@ four_word_command verb first second third fourth =
     else None
 
 -- the commands with a fixed number of arguments
-abbrev pub fixed_command_of : List (List ℕ) → Option Command
-fixed_command_of (verb ∷ first ∷ []) = one_word_command verb first
-fixed_command_of (verb ∷ first ∷ second ∷ []) = two_word_command verb first second
-fixed_command_of (verb ∷ first ∷ second ∷ third ∷ []) = three_word_command verb first second third
-fixed_command_of (verb ∷ first ∷ second ∷ third ∷ fourth ∷ []) = four_word_command verb first second third fourth
-fixed_command_of words = None
+abbrev pub fixed_arity_command_of : List (List ℕ) → Option Command
+fixed_arity_command_of (verb ∷ first ∷ []) = command_of_one verb first
+fixed_arity_command_of (verb ∷ first ∷ second ∷ []) = command_of_two verb first second
+fixed_arity_command_of (verb ∷ first ∷ second ∷ third ∷ []) = command_of_three verb first second third
+fixed_arity_command_of (verb ∷ first ∷ second ∷ third ∷ fourth ∷ []) = command_of_four verb first second third fourth
+fixed_arity_command_of words = None
 
 -- the command that arguments ask for
 abbrev pub command : List (List ℕ) → Option Command
-command words = option_or (link_command_of words) (option_or (ship_command_of words) (option_or (tasks_command_of words) (fixed_command_of words)))
+command words = option_or (link_command_of words) (option_or (ship_command_of words) (option_or (tasks_command_of words) (fixed_arity_command_of words)))
 
 -- for each of the commands, what it reads and reports: its files, in the order of its arguments,
 -- and its report

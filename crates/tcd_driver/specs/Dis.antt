@@ -8,9 +8,9 @@ use Rattle.tcd_forms.specs.Forms.{elf_form}
 use Rattle.tcd_reading.specs.declared.status.Status.TheVariants.{Done}
 
 -- the report of `dis`: the listing of an image is printed
-abbrev pub IsListing : ImageData → Report → Type 0
-IsListing image report = report ≡ says Done (listing_of image)
+abbrev pub IsDisReport : ImageData → Report → Type 0
+IsDisReport image report = report ≡ says Done (listing_of image)
 
 -- an executable is read; then its listing is reported
 abbrev pub dis_reading : List ℕ → Reading
-dis_reading elf = input ImageData elf_form elf (λ image. answer (IsListing image))
+dis_reading elf = input ImageData elf_form elf (λ image. answer (IsDisReport image))

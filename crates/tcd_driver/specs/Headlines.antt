@@ -35,7 +35,7 @@ use Rattle.tcd_base.specs.Files.{FileMap}
 use Rattle.tcd_forms.specs.Lines.{run_end_text}
 use Rattle.tcd_report.specs.Texts.{key_kind_words}
 use Rattle.depth_maker.specs.Answers.{NoneAccepted}
-use Rattle.tcd_driver.specs.BestCert.{IsLeastOfItsVersion, NoneIsAccepted}
+use Rattle.tcd_driver.specs.BestCert.{IsLeastOfItsFormat, NoCertIsAccepted}
 
 -- ---- files
 -- the name was held, and its bytes are at most `most` and of this form
@@ -103,29 +103,29 @@ pub record IsBestWithNeed (image : ImageData) (plan : PlanData) (cert : CertData
   pub accepted : IsAcceptedWithNeed image plan cert need
   pub safe : Safe image plan need
   pub version : (cert.version ≡ 1) ⊎ ((cert.version ≡ 2) × NoneAccepted image plan 1)
-  pub least : IsLeastOfItsVersion image plan cert
+  pub least : IsLeastOfItsFormat image plan cert
   pub reads : certificate_of (bytes_of_cert cert) ≡ Ok cert
 
 -- ---- lines
 
 -- a frame in the text of a headline: its kind, its entry, its interrupt priority, and whether it
 -- runs on the interrupt stack
-abbrev pub frame_words : Key → List ℕ
-frame_words frame =
+abbrev pub frame_text : Key → List ℕ
+frame_text frame =
     key_kind_words frame.kind ++ (hex_word frame.entry ++ (codes " prio " ++ (decimal frame.prio ++ (codes " is " ++ ((if frame.is then 49 else 48) ∷ [])))))
 
 -- the text of a refusal in the headlines: the rule that fails, the address, and the frame
 abbrev pub refused_text : ℕ → Key → ℕ → List ℕ
-refused_text rule frame address = codes "refused K" ++ (decimal rule ++ (codes " at " ++ (hex_word address ++ (codes " in " ++ frame_words frame))))
+refused_text rule frame address = codes "refused K" ++ (decimal rule ++ (codes " at " ++ (hex_word address ++ (codes " in " ++ frame_text frame))))
 
 -- the line of a refusal in the headlines
-abbrev pub refused_words : ℕ → Key → ℕ → List ℕ
-refused_words rule frame address = refused_text rule frame address ++ 10 ∷ []
+abbrev pub refused_line_text : ℕ → Key → ℕ → List ℕ
+refused_line_text rule frame address = refused_text rule frame address ++ 10 ∷ []
 
 -- the line in the headlines of `check`, `cert` and `ship`: the need, and the areas without the
 -- reserve
-abbrev pub certified_words : ℕ → ℕ → List ℕ
-certified_words need areas = codes "certified " ++ (decimal need ++ (codes " of " ++ (decimal areas ++ (codes " areas" ++ 10 ∷ []))))
+abbrev pub certified_line_text : ℕ → ℕ → List ℕ
+certified_line_text need areas = codes "certified " ++ (decimal need ++ (codes " of " ++ (decimal areas ++ (codes " areas" ++ 10 ∷ []))))
 
 -- ---- check
 -- The main headline: `check` is done. The certificate is accepted for the executable and the plan,
@@ -138,7 +138,7 @@ pub record HeadlineOfCheck (elf_name plan_name cert_name : List ℕ) (before aft
   pub files : AreCheckFiles before elf_name plan_name cert_name image plan cert
   pub accepted : IsAcceptedWithNeed image plan cert need
   pub safe : Safe image plan need
-  pub prints : printed ≡ certified_words need (plan.areas - plan.reserve)
+  pub prints : printed ≡ certified_line_text need (plan.areas - plan.reserve)
   pub stays : after ≡ before
 
 -- The counterpart of the main headline: `check` refuses. The certificate isn't accepted. This rule
@@ -153,7 +153,7 @@ pub record RefusalByCheck (elf_name plan_name cert_name : List ℕ) (before afte
   pub files : AreCheckFiles before elf_name plan_name cert_name image plan cert
   pub unaccepted : Accepts image plan cert → ⊥
   pub first : IsFirstFault image plan cert rule frame address
-  pub prints : printed ≡ refused_words rule frame address
+  pub prints : printed ≡ refused_line_text rule frame address
   pub stays : after ≡ before
 
 -- ---- cert
@@ -167,7 +167,7 @@ pub record HeadlineOfCert (elf_name plan_name cert_name : List ℕ) (before afte
   pub files : AreFirmwareFiles before elf_name plan_name image plan
   pub best : IsBestWithNeed image plan cert need
   pub writes : IsOnlyFileWritten before after cert_name (bytes_of_cert cert)
-  pub prints : printed ≡ certified_words need (plan.areas - plan.reserve)
+  pub prints : printed ≡ certified_line_text need (plan.areas - plan.reserve)
 
 -- `cert` refuses: no certificate is accepted. `cfg` refuses so, too.
 pub record RefusalByCert (elf_name plan_name : List ℕ) (before after : FileMap) (printed : List ℕ) : Type 0 where
@@ -177,8 +177,8 @@ pub record RefusalByCert (elf_name plan_name : List ℕ) (before after : FileMap
   pub frame : Key
   pub address : ℕ
   pub files : AreFirmwareFiles before elf_name plan_name image plan
-  pub none : NoneIsAccepted image plan rule frame address
-  pub prints : printed ≡ refused_words rule frame address
+  pub none : NoCertIsAccepted image plan rule frame address
+  pub prints : printed ≡ refused_line_text rule frame address
   pub stays : after ≡ before
 
 -- ---- run

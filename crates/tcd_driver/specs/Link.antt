@@ -1,15 +1,15 @@
 -- What `link` reads, reports and writes.
 use Rattle.std.specs.Prelude.{◌≡◌, ℕ, List, length, Ok, Err}
 use Rattle.elf_image.specs.Images.{ImageData}
-use Rattle.elf_image.specs.WrittenElf.{file_of}
+use Rattle.elf_image.specs.WrittenElf.{elf_file}
 use Rattle.tc_object.specs.Objects.{ObjectData}
 use Rattle.tc_link.specs.Layouts.{LayoutData}
 use Rattle.tc_link.specs.Linked.{image_of_objects}
 use Rattle.tc_link.specs.Refusals.{Refusal}
-use Rattle.tcd_reading.specs.Reports.{Report, says, writes_file}
+use Rattle.tcd_reading.specs.Reports.{Report, says, report_with_file}
 use Rattle.tcd_reading.specs.Inputs.{Reading, input, each, answer}
 use Rattle.tcd_forms.specs.Forms.{layout_form, object_form}
-use Rattle.tcd_forms.specs.Lines.{bad_link_line, linked_line}
+use Rattle.tcd_forms.specs.Lines.{bad_link_line, linked_image_line}
 use Rattle.tcd_reading.specs.declared.status.Status.TheVariants.{BadInput}
 
 -- the names of the layout and of the objects that `link` reads, and of the image that it writes
@@ -20,7 +20,7 @@ pub record LinkNames : Type 0 where
 
 -- `link` reports an image, and writes its file under this name
 abbrev pub WritesImage : List ℕ → ImageData → Report → Type 0
-WritesImage name image report = report ≡ writes_file name (file_of image) (linked_line (length (file_of image)))
+WritesImage name image report = report ≡ report_with_file name (elf_file image) (linked_image_line (length (elf_file image)))
 
 -- the report on objects that are linked by a layout: the image, or the first rejection
 pub data IsLinkReport (name : List ℕ) (layout : LayoutData) (objects : List ObjectData) (report : Report) : Type 0 where

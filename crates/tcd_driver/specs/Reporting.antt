@@ -22,16 +22,16 @@ pub record ReportNames : Type 0 where
 -- The report on an image, a plan and a certificate. Either the certificate isn't accepted, and the
 -- line has its first fault. Or it is accepted, every run is safe with its need, and the text is its
 -- report.
-pub data IsReporting (image : ImageData) (plan : PlanData) (cert : CertData) (told : Report) : Type 0 where
+pub data IsReportOrRefusal (image : ImageData) (plan : PlanData) (cert : CertData) (told : Report) : Type 0 where
   refused :
       (rule : ℕ) (key : Key) (addr : ℕ) → IsFirstFault image plan cert rule key addr → told ≡ says Refused (refused_line rule key addr)
-      → IsReporting image plan cert told
+      → IsReportOrRefusal image plan cert told
   reported :
       (text : List ℕ) → Accepts image plan cert → Safe image plan (certified_need image plan cert) → IsReport image plan cert text → told ≡ says Done text
-      → IsReporting image plan cert told
+      → IsReportOrRefusal image plan cert told
 
 -- an executable, a plan and a certificate are read; then the certificate's report is printed
 abbrev pub report_reading : ReportNames → Reading
 report_reading names =
     input ImageData elf_form names.elf
-    (λ image. input PlanData plan_form names.plan (λ plan. input CertData cert_form names.cert (λ cert. answer (IsReporting image plan cert))))
+    (λ image. input PlanData plan_form names.plan (λ plan. input CertData cert_form names.cert (λ cert. answer (IsReportOrRefusal image plan cert))))

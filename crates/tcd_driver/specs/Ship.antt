@@ -2,7 +2,7 @@
 use Rattle.std.specs.Prelude.{◌≡◌, ◌-◌, ℕ, List, map, string_bytes, Ok, Err}
 use Rattle.elf_image.specs.Images.{ImageData}
 use Rattle.elf_image.specs.ReadElf.{image_of_file}
-use Rattle.elf_image.specs.WrittenElf.{file_of}
+use Rattle.elf_image.specs.WrittenElf.{elf_file}
 use Rattle.tcd_plan.specs.PlanData.{PlanData}
 use Rattle.tc_object.specs.Objects.{ObjectData}
 use Rattle.tc_link.specs.Layouts.{LayoutData}
@@ -14,11 +14,11 @@ use Rattle.depth_cert.specs.declared.keys.Key.{Key}
 use Rattle.depth_cert.specs.Certs.{CertData}
 use Rattle.depth_cert.specs.Spelling.{bytes_of_cert}
 use Rattle.cfg_recover.specs.RulesHoldOrFail.{certified_need}
-use Rattle.tcd_reading.specs.Reports.{Report, says, writes_two}
+use Rattle.tcd_reading.specs.Reports.{Report, says, report_with_two_files}
 use Rattle.tcd_reading.specs.Inputs.{Reading, input, each, answer}
 use Rattle.tcd_forms.specs.Forms.{SourceData, plan_form, layout_form, placed_source_form}
 use Rattle.tcd_forms.specs.Lines.{bad_link_line, refused_line, certified_line}
-use Rattle.tcd_driver.specs.BestCert.{IsAcceptedBestCert, HaveNoBestCert}
+use Rattle.tcd_driver.specs.BestCert.{IsAcceptedBestCert, HasNoBestCert}
 use Rattle.tcd_driver.specs.declared.commands.ship.Shipment.{Shipment}
 use Rattle.tcd_reading.specs.declared.status.Status.TheVariants.{Refused, BadInput}
 
@@ -47,32 +47,32 @@ pub record IsImageOfSources (layout : LayoutData) (sources : List SourceData) (i
 -- The report on an image and a plan. Either no certificate is accepted, and the line says why. Or
 -- two files are written: the image, whose bytes read back as it, and the best certificate; and
 -- every run is safe with its need.
-pub data IsShipping (elf cert : List ℕ) (plan : PlanData) (image : ImageData) (report : Report) : Type 0 where
+pub data IsImageShipReport (elf cert : List ℕ) (plan : PlanData) (image : ImageData) (report : Report) : Type 0 where
   refused :
-      (rule : ℕ) (key : Key) (addr : ℕ) → HaveNoBestCert image plan rule key addr → report ≡ says Refused (refused_line rule key addr)
-      → IsShipping elf cert plan image report
+      (rule : ℕ) (key : Key) (addr : ℕ) → HasNoBestCert image plan rule key addr → report ≡ says Refused (refused_line rule key addr)
+      → IsImageShipReport elf cert plan image report
   shipped :
-      (c : CertData) → IsAcceptedBestCert image plan c → image_of_file (file_of image) ≡ Ok image
+      (c : CertData) → IsAcceptedBestCert image plan c → image_of_file (elf_file image) ≡ Ok image
       → report
-      ≡ writes_two (record { name = elf; bytes = file_of image }) (record { name = cert; bytes = bytes_of_cert c })
+      ≡ report_with_two_files (record { name = elf; bytes = elf_file image }) (record { name = cert; bytes = bytes_of_cert c })
       (certified_line (certified_need image plan c) (plan.areas - plan.reserve))
-      → IsShipping elf cert plan image report
+      → IsImageShipReport elf cert plan image report
 
 -- the report on a plan, a layout and sources: the objects can't be linked, or it is the report on
 -- their image
-pub data IsShipped (elf cert : List ℕ) (plan : PlanData) (layout : LayoutData) (sources : List SourceData) (report : Report) : Type 0 where
+pub data IsShipReport (elf cert : List ℕ) (plan : PlanData) (layout : LayoutData) (sources : List SourceData) (report : Report) : Type 0 where
   unlinked :
       (r : Refusal) → image_of_objects (objects_of_sources sources) layout ≡ Err r → report ≡ says BadInput (bad_link_line r)
-      → IsShipped elf cert plan layout sources report
+      → IsShipReport elf cert plan layout sources report
   of_image :
-      (i : ImageData) → IsImageOfSources layout sources i → IsShipping elf cert plan i report → IsShipped elf cert plan layout sources report
+      (i : ImageData) → IsImageOfSources layout sources i → IsImageShipReport elf cert plan i report → IsShipReport elf cert plan layout sources report
 
 -- a plan, a layout and the sources are read; then their image is made and certified
 abbrev pub ship_reading : ShipNames → Reading
 ship_reading names =
     input PlanData plan_form names.plan
     (λ plan. input LayoutData layout_form names.layout
-    (λ layout. each SourceData placed_source_form 0 names.sources (λ sources. answer (IsShipped names.elf names.cert plan layout sources))))
+    (λ layout. each SourceData placed_source_form 0 names.sources (λ sources. answer (IsShipReport names.elf names.cert plan layout sources))))
 
 -- ---- the same, by the values in the code
 -- the names of the files of `ship`, as plain data
@@ -85,5 +85,5 @@ pub record AreSourcesOfObjects (sources : List SourceData) (objects : List Objec
   pub assembled : AreProgramObjects (texts_of_sources sources) (objects_of_sources sources)
 
 -- the report on sources, with the names of the two files to write
-abbrev pub shipped_by : Shipment → PlanData → LayoutData → List SourceData → Report → Type 0
-shipped_by s plan layout sources = IsShipped s.elf.now s.cert.now plan layout sources
+abbrev pub IsShipmentReport : Shipment → PlanData → LayoutData → List SourceData → Report → Type 0
+IsShipmentReport s plan layout sources = IsShipReport s.elf.now s.cert.now plan layout sources

@@ -5,11 +5,11 @@ use Rattle.std.specs.FinMap.{get}
 use Rattle.std.specs.List.{All}
 use Rattle.tcd_base.specs.Files.{FileMap}
 use Rattle.tcd_reading.specs.declared.status.Status.TheVariants.{Done, Refused, BadInput, NoMemory, BadWords}
-use Rattle.tcd_driver.specs.Headlines.Asks.{Ask, is_elf, is_plan, is_cert, is_layout, is_object, is_source, is_script, are_cells, are_tasks, BadInputOf}
+use Rattle.tcd_driver.specs.Headlines.Asks.{InputRequirement, is_elf, is_plan, is_cert, is_layout, is_object, is_source, is_script, are_cells, are_tasks, BadInputOf}
 use Rattle.tcd_driver.specs.Tool.{ToolCall, CommandSays}
 
 -- the name of the file of which this is asked, if it is asked of one
-abbrev pub asked_name : Ask → Option (List ℕ)
+abbrev pub asked_name : InputRequirement → Option (List ℕ)
 asked_name (is_elf name) = Some name
 asked_name (is_plan name) = Some name
 asked_name (is_cert name) = Some name
@@ -37,7 +37,7 @@ pub record HasRoomForEnds (call : ToolCall) (before : FileMap) (IfDone IfRefused
 -- over files that hold all that is asked of, with room: one of three, each exactly if it can be.
 abbrev pub SureCallsAreDecided : (FileMap → FileMap → List ℕ → Type 0) → (FileMap → FileMap → List ℕ → Type 0) → Type 0
 SureCallsAreDecided IfDone IfRefused =
-    (call : ToolCall) (words : List (List ℕ)) (asks : List Ask) (before : FileMap)
+    (call : ToolCall) (words : List (List ℕ)) (asks : List InputRequirement) (before : FileMap)
     → CommandSays call words asks IfDone IfRefused → call.words ≡ words
     → All (λ ask. IfSome (asked_name ask) (λ name. IsSome (get before name))) asks
     → HasRoomForEnds call before (IfDone before) (IfRefused before) (BadInputOf asks before)

@@ -16,15 +16,15 @@ use Rattle.depth_maker.specs.declared.answering.MakeErr.TheVariants as make_err
 use Rattle.task_chains.specs.Tasks.{TasksData, count}
 use Rattle.task_chains.specs.SwitchRoutine.{HasRoutine, IsRoutineFault}
 use Rattle.task_chains.specs.Views.{view_image_of, view_plan_of}
-use Rattle.task_chains.specs.Rule17.{KeepsApart, IsTaskFault}
-use Rattle.task_chains.specs.SafeTasks.{SafeTasks, IsJudged}
-use Rattle.tcd_reading.specs.Reports.{Report, ReportFile, says, writes_files}
+use Rattle.task_chains.specs.Rule17.{KeepsRule17, IsRule17Fault}
+use Rattle.task_chains.specs.SafeTasks.{SafeTasks, IsSoundTaskCert}
+use Rattle.tcd_reading.specs.Reports.{Report, ReportFile, says, report_with_files}
 use Rattle.tcd_reading.specs.Inputs.{Reading, input, answer}
 use Rattle.tcd_driver.specs.BestCert.{IsLeastWithNeed}
 use Rattle.tcd_driver.specs.CellAndTaskForms.{tasks_form}
 use Rattle.tcd_forms.specs.Forms.{elf_form, plan_form}
 use Rattle.tcd_forms.specs.Lines.{refused_switch_line, refused_task_line, refused_sum_line, certified_tasks_line}
-use Rattle.tcd_driver.specs.Tasks.{cert_of_task, needs_of, sum_of_needs, with_name_per_task}
+use Rattle.tcd_driver.specs.Tasks.{cert_of_task, counted_needs_of_tasks, sum_of_needs, with_name_per_task}
 use Rattle.tcd_reading.specs.declared.status.Status.TheVariants.{Refused}
 
 -- the names of the files that `taskcert` reads, and of the certificates that it writes
@@ -39,33 +39,33 @@ pub record TaskcertNames : Type 0 where
 -- each certificate of format 2 that is accepted for a view fails K17
 abbrev pub NoneKeepsTaskApart : ImageData → PlanData → TasksData → Type 0
 NoneKeepsTaskApart view plan tasks =
-    (cert : CertData) → IsCert cert → cert.version ≡ 2 → Accepts view plan cert → KeepsApart view plan tasks cert → ⊥
+    (cert : CertData) → IsCert cert → cert.version ≡ 2 → Accepts view plan cert → KeepsRule17 view plan tasks cert → ⊥
 
 -- `taskcert` has no certificate for a view: none of format 2 is accepted, for this reason; or each
 -- accepted one fails K17, and this is the first place at which the least one does
-pub data IsTaskUncertified (view : ImageData) (plan : PlanData) (tasks : TasksData) : ℕ → Key → ℕ → Type 0 where
-  unaccepted : (rule : ℕ) (key : Key) (addr : ℕ) → NoneAccepted view plan 2 → IsRefusal view plan 2 rule key addr → IsTaskUncertified view plan tasks rule key addr
+pub data HasNoTaskCert (view : ImageData) (plan : PlanData) (tasks : TasksData) : ℕ → Key → ℕ → Type 0 where
+  unaccepted : (rule : ℕ) (key : Key) (addr : ℕ) → NoneAccepted view plan 2 → IsRefusal view plan 2 rule key addr → HasNoTaskCert view plan tasks rule key addr
   not_apart :
-      (cert : CertData) (key : Key) (addr : ℕ) → IsCert cert → IsMade view plan 2 cert → IsTaskFault view plan tasks cert key addr → NoneKeepsTaskApart view plan tasks
-      → IsTaskUncertified view plan tasks 17 key addr
+      (cert : CertData) (key : Key) (addr : ℕ) → IsCert cert → IsMade view plan 2 cert → IsRule17Fault view plan tasks cert key addr → NoneKeepsTaskApart view plan tasks
+      → HasNoTaskCert view plan tasks 17 key addr
 
 -- this is the least certificate of format 2 that is accepted for the task's view, and it is judged
 -- well
-pub record IsTaskCertMade (image : ImageData) (plan : PlanData) (tasks : TasksData) (u : ℕ) (cert : CertData) : Type 0 where
+pub record IsLeastTaskCert (image : ImageData) (plan : PlanData) (tasks : TasksData) (u : ℕ) (cert : CertData) : Type 0 where
   pub made : IsMade (view_image_of image tasks u) (view_plan_of plan tasks u) 2 cert
-  pub judged : IsJudged image plan tasks cert u
+  pub judged : IsSoundTaskCert image plan tasks cert u
 
 -- ---- all tasks
 -- the certificates that `taskcert` has made, those of the first tasks: each is the least of format
 -- 2 for its task's view, and judged well
-abbrev pub AreTasksMade : ImageData → PlanData → TasksData → List CertData → Type 0
-AreTasksMade image plan tasks certs = (u : ℕ) → u < length certs → IsTaskCertMade image plan tasks u (cert_of_task certs u)
+abbrev pub AreLeastTaskCerts : ImageData → PlanData → TasksData → List CertData → Type 0
+AreLeastTaskCerts image plan tasks certs = (u : ℕ) → u < length certs → IsLeastTaskCert image plan tasks u (cert_of_task certs u)
 
 -- task u is the first for which no certificate is judged well
-pub record IsFirstUncertified (image : ImageData) (plan : PlanData) (tasks : TasksData) (u rule : ℕ) (key : Key) (addr : ℕ) : Type 0 where
+pub record IsFirstUncertifiedTask (image : ImageData) (plan : PlanData) (tasks : TasksData) (u rule : ℕ) (key : Key) (addr : ℕ) : Type 0 where
   pub task : u < count tasks
-  pub before : (w : ℕ) → w < u → (cert : CertData) × IsTaskCertMade image plan tasks w cert
-  pub uncertified : IsTaskUncertified (view_image_of image tasks u) (view_plan_of plan tasks u) tasks rule key addr
+  pub before : (w : ℕ) → w < u → (cert : CertData) × IsLeastTaskCert image plan tasks w cert
+  pub uncertified : HasNoTaskCert (view_image_of image tasks u) (view_plan_of plan tasks u) tasks rule key addr
 
 -- a file for each certificate, under its name
 unfoldable pub cert_files : List (List ℕ) → List CertData → List ReportFile
@@ -76,20 +76,20 @@ cert_files _ _ = []
 -- has, and the first task for which no certificate is judged well is printed; or each task has one,
 -- but the sum of the least ones' needs is above the areas without the reserve. Else the least ones
 -- are written under their names, and every run of all tasks is safe.
-pub data IsTaskcerting (names : List (List ℕ)) (image : ImageData) (plan : PlanData) (tasks : TasksData) (report : Report) : Type 0 where
-  no_switch : (addr : ℕ) → IsRoutineFault image plan tasks addr → report ≡ says Refused (refused_switch_line addr) → IsTaskcerting names image plan tasks report
+pub data IsTaskcertReport (names : List (List ℕ)) (image : ImageData) (plan : PlanData) (tasks : TasksData) (report : Report) : Type 0 where
+  no_switch : (addr : ℕ) → IsRoutineFault image plan tasks addr → report ≡ says Refused (refused_switch_line addr) → IsTaskcertReport names image plan tasks report
   refused :
-      (u rule : ℕ) (key : Key) (addr : ℕ) → HasRoutine image plan tasks → IsFirstUncertified image plan tasks u rule key addr
-      → report ≡ says Refused (refused_task_line rule key addr u) → IsTaskcerting names image plan tasks report
+      (u rule : ℕ) (key : Key) (addr : ℕ) → HasRoutine image plan tasks → IsFirstUncertifiedTask image plan tasks u rule key addr
+      → report ≡ says Refused (refused_task_line rule key addr u) → IsTaskcertReport names image plan tasks report
   above :
-      (certs : List CertData) → HasRoutine image plan tasks → length certs ≡ count tasks → AreTasksMade image plan tasks certs
+      (certs : List CertData) → HasRoutine image plan tasks → length certs ≡ count tasks → AreLeastTaskCerts image plan tasks certs
       → plan.areas - plan.reserve < sum_of_needs image plan tasks certs
-      → report ≡ says Refused (refused_sum_line (sum_of_needs image plan tasks certs) (plan.areas - plan.reserve)) → IsTaskcerting names image plan tasks report
+      → report ≡ says Refused (refused_sum_line (sum_of_needs image plan tasks certs) (plan.areas - plan.reserve)) → IsTaskcertReport names image plan tasks report
   certified :
-      (certs : List CertData) → HasRoutine image plan tasks → length certs ≡ count tasks → AreTasksMade image plan tasks certs
-      → sum_of_needs image plan tasks certs ≤ plan.areas - plan.reserve → SafeTasks image plan tasks (needs_of image plan tasks certs)
-      → report ≡ writes_files (cert_files names certs) (certified_tasks_line (sum_of_needs image plan tasks certs) (plan.areas - plan.reserve) (count tasks))
-      → IsTaskcerting names image plan tasks report
+      (certs : List CertData) → HasRoutine image plan tasks → length certs ≡ count tasks → AreLeastTaskCerts image plan tasks certs
+      → sum_of_needs image plan tasks certs ≤ plan.areas - plan.reserve → SafeTasks image plan tasks (counted_needs_of_tasks image plan tasks certs)
+      → report ≡ report_with_files (cert_files names certs) (certified_tasks_line (sum_of_needs image plan tasks certs) (plan.areas - plan.reserve) (count tasks))
+      → IsTaskcertReport names image plan tasks report
 
 -- reads an executable, a plan and its tasks; then a certificate for each task is made
 abbrev pub taskcert_reading : TaskcertNames → Reading
@@ -97,31 +97,31 @@ taskcert_reading names =
     input ImageData elf_form names.elf
     (λ image. input PlanData plan_form names.plan
     (λ plan. input TasksData (tasks_form plan) names.tasks
-    (λ tasks. with_name_per_task names.certs tasks (answer (IsTaskcerting names.certs image plan tasks)))))
+    (λ tasks. with_name_per_task names.certs tasks (answer (IsTaskcertReport names.certs image plan tasks)))))
 
 -- ---- by what the code has
 -- the result of making the least certificate of a view that keeps K17, with its need
 abbrev pub MakesTaskViewCert : ImageData → PlanData → TasksData → Result (CertData × ℕ) MakeErr → Type 0
-MakesTaskViewCert view plan tasks (Ok made) = IsLeastWithNeed view plan 2 made.0 made.1 × KeepsApart view plan tasks made.0
-MakesTaskViewCert view plan tasks (Err (make_err.Refused rule key addr)) = IsTaskUncertified view plan tasks rule key addr
+MakesTaskViewCert view plan tasks (Ok made) = IsLeastWithNeed view plan 2 made.0 made.1 × KeepsRule17 view plan tasks made.0
+MakesTaskViewCert view plan tasks (Err (make_err.Refused rule key addr)) = HasNoTaskCert view plan tasks rule key addr
 MakesTaskViewCert view plan tasks (Err make_err.NoMemory) = Unit {0}
 
 -- the certificate of task u is made, and has this need
 pub record IsTaskCertWithNeed (image : ImageData) (plan : PlanData) (tasks : TasksData) (u : ℕ) (cert : CertData) (need : ℕ) : Type 0 where
-  pub made : IsTaskCertMade image plan tasks u cert
+  pub made : IsLeastTaskCert image plan tasks u cert
   pub need_is : need ≡ certified_need (view_image_of image tasks u) (view_plan_of plan tasks u) cert
 
 -- the result of making a certificate for task u
 abbrev pub MakesTaskCert : ImageData → PlanData → TasksData → ℕ → Result (CertData × ℕ) MakeErr → Type 0
 MakesTaskCert image plan tasks u (Ok made) = IsTaskCertWithNeed image plan tasks u made.0 made.1
-MakesTaskCert image plan tasks u (Err (make_err.Refused rule key addr)) = IsTaskUncertified (view_image_of image tasks u) (view_plan_of plan tasks u) tasks rule key addr
+MakesTaskCert image plan tasks u (Err (make_err.Refused rule key addr)) = HasNoTaskCert (view_image_of image tasks u) (view_plan_of plan tasks u) tasks rule key addr
 MakesTaskCert image plan tasks u (Err make_err.NoMemory) = Unit {0}
 
 -- the files that `taskcert` writes, a certificate for each task, with the sum of the needs
 pub record AreTaskCertFiles (names : List (List ℕ)) (image : ImageData) (plan : PlanData) (tasks : TasksData) (writes : List ReportFile) (sum : ℕ) : Type 0 where
   pub certs : List CertData
   pub many : length certs ≡ count tasks
-  pub made : AreTasksMade image plan tasks certs
+  pub made : AreLeastTaskCerts image plan tasks certs
   pub files : writes ≡ cert_files names certs
   pub sum_is : sum ≡ sum_of_needs image plan tasks certs
 
@@ -129,5 +129,5 @@ pub record AreTaskCertFiles (names : List (List ℕ)) (image : ImageData) (plan 
 -- first task without one
 abbrev pub MakesAllTaskCerts : List (List ℕ) → ImageData → PlanData → TasksData → Result (Vec ReportFile Global × ℕ) (ℕ × MakeErr) → Type 0
 MakesAllTaskCerts names image plan tasks (Ok (writes, sum)) = AreTaskCertFiles names image plan tasks writes.items sum
-MakesAllTaskCerts names image plan tasks (Err (u, make_err.Refused rule key addr)) = IsFirstUncertified image plan tasks u rule key addr
+MakesAllTaskCerts names image plan tasks (Err (u, make_err.Refused rule key addr)) = IsFirstUncertifiedTask image plan tasks u rule key addr
 MakesAllTaskCerts names image plan tasks (Err (u, make_err.NoMemory)) = Unit {0}

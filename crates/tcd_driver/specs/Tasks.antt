@@ -12,8 +12,8 @@ use Rattle.task_chains.specs.declared.task_lists.TasksErr.TheVariants.{Count}
 use Rattle.task_chains.specs.Tasks.{TasksData, count}
 use Rattle.task_chains.specs.SwitchRoutine.{HasRoutine, IsRoutineFault}
 use Rattle.task_chains.specs.Views.{view_image_of, view_plan_of}
-use Rattle.task_chains.specs.Rule17.{IsTaskFault}
-use Rattle.task_chains.specs.SafeTasks.{SafeTasks, IsJudged, need_of_task}
+use Rattle.task_chains.specs.Rule17.{IsRule17Fault}
+use Rattle.task_chains.specs.SafeTasks.{SafeTasks, IsSoundTaskCert, need_of_task}
 use Rattle.tcd_reading.specs.Reports.{Report, says}
 use Rattle.tcd_reading.specs.Inputs.{Reading, input, each, answer}
 use Rattle.tcd_driver.specs.CellAndTaskForms.{tasks_form}
@@ -44,40 +44,40 @@ pub data IsTaskRefused (image : ImageData) (plan : PlanData) (tasks : TasksData)
       → IsTaskRefused image plan tasks cert u rule key addr
   not_apart :
       (key : Key) (addr : ℕ) → Accepts (view_image_of image tasks u) (view_plan_of plan tasks u) cert
-      → IsTaskFault (view_image_of image tasks u) (view_plan_of plan tasks u) tasks cert key addr → IsTaskRefused image plan tasks cert u 17 key addr
+      → IsRule17Fault (view_image_of image tasks u) (view_plan_of plan tasks u) tasks cert key addr → IsTaskRefused image plan tasks cert u 17 key addr
 
 -- what the command `tasks` answers for one task: its certificate is judged well, with this need; or
 -- it is refused
-abbrev pub JudgesTask : ImageData → PlanData → TasksData → CertData → ℕ → Verdict → Type 0
-JudgesTask image plan tasks cert u (Yes n) =
-    IsJudged image plan tasks cert u × (n ≡ certified_need (view_image_of image tasks u) (view_plan_of plan tasks u) cert)
-JudgesTask image plan tasks cert u (No rule key addr) = IsTaskRefused image plan tasks cert u rule key addr
+abbrev pub IsVerdictOnTask : ImageData → PlanData → TasksData → CertData → ℕ → Verdict → Type 0
+IsVerdictOnTask image plan tasks cert u (Yes n) =
+    IsSoundTaskCert image plan tasks cert u × (n ≡ certified_need (view_image_of image tasks u) (view_plan_of plan tasks u) cert)
+IsVerdictOnTask image plan tasks cert u (No rule key addr) = IsTaskRefused image plan tasks cert u rule key addr
 
 -- ---- all tasks
 -- the needs that the commands `tasks` and `taskcert` add up for certificates: at least two areas
 -- for each task except the first
-abbrev pub needs_of : ImageData → PlanData → TasksData → List CertData → ℕ → ℕ
-needs_of image plan tasks certs = need_of_task image plan tasks (cert_of_task certs)
+abbrev pub counted_needs_of_tasks : ImageData → PlanData → TasksData → List CertData → ℕ → ℕ
+counted_needs_of_tasks image plan tasks certs = need_of_task image plan tasks (cert_of_task certs)
 
 -- the sum of the needs of all tasks, which `tasks` compares with the areas
 abbrev pub sum_of_needs : ImageData → PlanData → TasksData → List CertData → ℕ
-sum_of_needs image plan tasks certs = sum_over_chains (count tasks) (needs_of image plan tasks certs)
+sum_of_needs image plan tasks certs = sum_over_chains (count tasks) (counted_needs_of_tasks image plan tasks certs)
 
 -- the certificates of the tasks below n are judged well
-abbrev pub AreTasksJudged : ImageData → PlanData → TasksData → List CertData → ℕ → Type 0
-AreTasksJudged image plan tasks certs n = (u : ℕ) → u < n → IsJudged image plan tasks (cert_of_task certs u) u
+abbrev pub AreFirstTasksJudged : ImageData → PlanData → TasksData → List CertData → ℕ → Type 0
+AreFirstTasksJudged image plan tasks certs n = (u : ℕ) → u < n → IsSoundTaskCert image plan tasks (cert_of_task certs u) u
 
 -- task u is the first whose certificate is refused
-pub record IsFirstRefused (image : ImageData) (plan : PlanData) (tasks : TasksData) (certs : List CertData) (u rule : ℕ) (key : Key) (addr : ℕ) : Type 0 where
+pub record IsFirstRefusedTaskCert (image : ImageData) (plan : PlanData) (tasks : TasksData) (certs : List CertData) (u rule : ℕ) (key : Key) (addr : ℕ) : Type 0 where
   pub task : u < count tasks
-  pub before : AreTasksJudged image plan tasks certs u
+  pub before : AreFirstTasksJudged image plan tasks certs u
   pub refused : IsTaskRefused image plan tasks (cert_of_task certs u) u rule key addr
 
 -- what the command `tasks` finds for all certificates: the sum of the tasks' needs, or the first
 -- task that is refused
-abbrev pub Tallies : ImageData → PlanData → TasksData → List CertData → Tally → Type 0
-Tallies image plan tasks certs (Sum n) = AreTasksJudged image plan tasks certs (count tasks) × (n ≡ sum_of_needs image plan tasks certs)
-Tallies image plan tasks certs (Against u rule key addr) = IsFirstRefused image plan tasks certs u rule key addr
+abbrev pub IsTallyOfTasks : ImageData → PlanData → TasksData → List CertData → Tally → Type 0
+IsTallyOfTasks image plan tasks certs (Sum n) = AreFirstTasksJudged image plan tasks certs (count tasks) × (n ≡ sum_of_needs image plan tasks certs)
+IsTallyOfTasks image plan tasks certs (Against u rule key addr) = IsFirstRefusedTaskCert image plan tasks certs u rule key addr
 
 -- The verdict on an image, a plan, its tasks and a certificate for each. The image doesn't have the
 -- switch routine; or it has, and the first task whose certificate is refused is printed; or no
@@ -86,14 +86,14 @@ Tallies image plan tasks certs (Against u rule key addr) = IsFirstRefused image 
 pub data IsTasksVerdict (image : ImageData) (plan : PlanData) (tasks : TasksData) (certs : List CertData) (report : Report) : Type 0 where
   no_switch : (addr : ℕ) → IsRoutineFault image plan tasks addr → report ≡ says Refused (refused_switch_line addr) → IsTasksVerdict image plan tasks certs report
   refused :
-      (u rule : ℕ) (key : Key) (addr : ℕ) → HasRoutine image plan tasks → IsFirstRefused image plan tasks certs u rule key addr
+      (u rule : ℕ) (key : Key) (addr : ℕ) → HasRoutine image plan tasks → IsFirstRefusedTaskCert image plan tasks certs u rule key addr
       → report ≡ says Refused (refused_task_line rule key addr u) → IsTasksVerdict image plan tasks certs report
   above :
-      HasRoutine image plan tasks → AreTasksJudged image plan tasks certs (count tasks) → plan.areas - plan.reserve < sum_of_needs image plan tasks certs
+      HasRoutine image plan tasks → AreFirstTasksJudged image plan tasks certs (count tasks) → plan.areas - plan.reserve < sum_of_needs image plan tasks certs
       → report ≡ says Refused (refused_sum_line (sum_of_needs image plan tasks certs) (plan.areas - plan.reserve)) → IsTasksVerdict image plan tasks certs report
   certified :
-      HasRoutine image plan tasks → AreTasksJudged image plan tasks certs (count tasks) → sum_of_needs image plan tasks certs ≤ plan.areas - plan.reserve
-      → SafeTasks image plan tasks (needs_of image plan tasks certs)
+      HasRoutine image plan tasks → AreFirstTasksJudged image plan tasks certs (count tasks) → sum_of_needs image plan tasks certs ≤ plan.areas - plan.reserve
+      → SafeTasks image plan tasks (counted_needs_of_tasks image plan tasks certs)
       → report ≡ says Done (certified_tasks_line (sum_of_needs image plan tasks certs) (plan.areas - plan.reserve) (count tasks))
       → IsTasksVerdict image plan tasks certs report
 

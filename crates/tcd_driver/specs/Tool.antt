@@ -7,7 +7,7 @@ use Rattle.tcd_reading.specs.declared.status.Status.{Status}
 use Rattle.tcd_reading.specs.declared.status.Status.TheVariants.{Done, Refused, BadInput, NoMemory, BadWords}
 use Rattle.tcd_driver.specs.BadInputLines.{bad_words_line}
 use Rattle.tcd_driver.specs.Headlines.{HeadlineOfCheck, RefusalByCheck, HeadlineOfCert, RefusalByCert, HeadlineOfRun}
-use Rattle.tcd_driver.specs.Headlines.Asks.{Ask, is_elf, is_plan, is_cert, is_layout, is_object, is_source, is_script, are_cells, are_tasks, are_linked, are_linked_sources, is_cert_per_task, ask_each, AreThere, BadInputOf}
+use Rattle.tcd_driver.specs.Headlines.Asks.{InputRequirement, is_elf, is_plan, is_cert, is_layout, is_object, is_source, is_script, are_cells, are_tasks, are_linked, are_linked_sources, is_cert_per_task, require_each, AreInputsPresent, BadInputOf}
 use Rattle.tcd_driver.specs.Headlines.Builds.{HeadlineOfShip, RefusalByShip, HeadlineOfAsm, HeadlineOfLink}
 use Rattle.tcd_driver.specs.Headlines.Reports.{RefusalByGen, HeadlineOfCfg, HeadlineOfReport, HeadlineOfDis, HeadlineOfGen}
 use Rattle.tcd_driver.specs.Headlines.Boots.{HeadlineOfBoot, RefusalByBoot, HeadlineOfBootgen}
@@ -43,10 +43,10 @@ ToolCallMeans call words status Holds =
 -- A call of whose files it is known what they hold, so that nothing can fail: they are steady and
 -- hold each file of which something is asked, and the sink has room for each text that may be
 -- printed.
-pub record CannotFail (call : ToolCall) (before : FileMap) (asks : List Ask) (MayPrint : List ℕ → Type 0) : Type 0 where
+pub record CannotFail (call : ToolCall) (before : FileMap) (asks : List InputRequirement) (MayPrint : List ℕ → Type 0) : Type 0 where
   pub held : (call.files).held ≡ Some before
   pub steady : (call.files).steady ≡ true
-  pub there : AreThere before asks
+  pub there : AreInputsPresent before asks
   pub room : ℕ
   pub room_is : (call.sink).room ≡ Some room
   pub fits : (text : List ℕ) → MayPrint text → length text ≤ room
@@ -56,7 +56,7 @@ abbrev pub CanEnd : (FileMap → List ℕ → Type 0) → Type 0
 CanEnd Holds = (after : FileMap) × (printed : List ℕ) × Holds after printed
 
 -- the status is one of three, and each exactly if this can hold
-pub record IsOneEnd (status : Status) (IfDone IfRefused IfBad : FileMap → List ℕ → Type 0) : Type 0 where
+pub record IsDecidedStatus (status : Status) (IfDone IfRefused IfBad : FileMap → List ℕ → Type 0) : Type 0 where
   pub one : (status ≡ Done) ⊎ ((status ≡ Refused) ⊎ (status ≡ BadInput))
   pub done : (status ≡ Done) ↔ CanEnd IfDone
   pub refused : (status ≡ Refused) ↔ CanEnd IfRefused
@@ -72,17 +72,17 @@ pub data MayPrintText (IfDone IfRefused IfBad : FileMap → List ℕ → Type 0)
 -- What the tool promises of a command's arguments: what it means if its status is Done, Refused or
 -- BadInput. If nothing can fail, the status is one of these, each exactly if that can hold, or
 -- memory ran out, or the arguments are none of the command's.
-pub record CommandSays (call : ToolCall) (words : List (List ℕ)) (asks : List Ask) (IfDone IfRefused : FileMap → FileMap → List ℕ → Type 0) : Type 0 where
+pub record CommandSays (call : ToolCall) (words : List (List ℕ)) (asks : List InputRequirement) (IfDone IfRefused : FileMap → FileMap → List ℕ → Type 0) : Type 0 where
   pub done : ToolCallMeans call words Done IfDone
   pub refused : ToolCallMeans call words Refused IfRefused
   pub bad_input : ToolCallMeans call words BadInput (BadInputOf asks)
   pub decided :
       (before : FileMap) → call.words ≡ words → CannotFail call before asks (MayPrintText (IfDone before) (IfRefused before) (BadInputOf asks before))
-      → call.status ≢ NoMemory → call.status ≢ BadWords → IsOneEnd call.status (IfDone before) (IfRefused before) (BadInputOf asks before)
+      → call.status ≢ NoMemory → call.status ≢ BadWords → IsDecidedStatus call.status (IfDone before) (IfRefused before) (BadInputOf asks before)
 
 -- a command that refuses nothing
-abbrev pub Never : FileMap → FileMap → List ℕ → Type 0
-Never before after printed = ⊥
+abbrev pub NeverRefuses : FileMap → FileMap → List ℕ → Type 0
+NeverRefuses before after printed = ⊥
 
 -- What the tool promises of each command, by its arguments. `Ends`, in the clause `command` of
 -- `tool`, has what is left: a fault, and running out of memory.
@@ -96,30 +96,30 @@ pub record ToolSays (call : ToolCall) : Type 0 where
   pub ship :
       (plan layout elf cert : List ℕ) (sources : List (List ℕ))
       → CommandSays call (codes "ship" ∷ plan ∷ layout ∷ elf ∷ cert ∷ sources)
-      (is_plan plan ∷ is_layout layout ∷ ask_each is_source 0 sources (are_linked_sources layout sources ∷ []))
+      (is_plan plan ∷ is_layout layout ∷ require_each is_source 0 sources (are_linked_sources layout sources ∷ []))
       (HeadlineOfShip plan layout elf cert sources) (RefusalByShip plan layout sources)
   pub run :
       (elf plan script : List ℕ)
-      → CommandSays call (codes "run" ∷ elf ∷ plan ∷ script ∷ []) (is_elf elf ∷ is_plan plan ∷ is_script plan script ∷ []) (HeadlineOfRun elf plan script) Never
+      → CommandSays call (codes "run" ∷ elf ∷ plan ∷ script ∷ []) (is_elf elf ∷ is_plan plan ∷ is_script plan script ∷ []) (HeadlineOfRun elf plan script) NeverRefuses
   pub report :
       (elf plan cert : List ℕ)
       → CommandSays call (codes "report" ∷ elf ∷ plan ∷ cert ∷ []) (is_elf elf ∷ is_plan plan ∷ is_cert cert ∷ []) (HeadlineOfReport elf plan cert) (RefusalByCheck elf plan cert)
   pub cfg :
       (elf plan : List ℕ) → CommandSays call (codes "cfg" ∷ elf ∷ plan ∷ []) (is_elf elf ∷ is_plan plan ∷ []) (HeadlineOfCfg elf plan) (RefusalByCert elf plan)
-  pub dis : (elf : List ℕ) → CommandSays call (codes "dis" ∷ elf ∷ []) (is_elf elf ∷ []) (HeadlineOfDis elf) Never
+  pub dis : (elf : List ℕ) → CommandSays call (codes "dis" ∷ elf ∷ []) (is_elf elf ∷ []) (HeadlineOfDis elf) NeverRefuses
   pub gen : (word : List ℕ) → CommandSays call (codes "gen" ∷ word ∷ []) [] (HeadlineOfGen word) (RefusalByGen word)
   pub asm :
-      (source object : List ℕ) → CommandSays call (codes "asm" ∷ source ∷ object ∷ []) (is_source 0 source ∷ []) (HeadlineOfAsm source object) Never
+      (source object : List ℕ) → CommandSays call (codes "asm" ∷ source ∷ object ∷ []) (is_source 0 source ∷ []) (HeadlineOfAsm source object) NeverRefuses
   pub link :
       (layout elf : List ℕ) (objects : List (List ℕ))
-      → CommandSays call (codes "link" ∷ layout ∷ elf ∷ objects) (is_layout layout ∷ ask_each is_object 0 objects (are_linked layout objects ∷ []))
-      (HeadlineOfLink layout elf objects) Never
+      → CommandSays call (codes "link" ∷ layout ∷ elf ∷ objects) (is_layout layout ∷ require_each is_object 0 objects (are_linked layout objects ∷ []))
+      (HeadlineOfLink layout elf objects) NeverRefuses
   pub boot :
       (elf plan cert at : List ℕ)
       → CommandSays call (codes "boot" ∷ elf ∷ plan ∷ cert ∷ at ∷ []) (is_elf elf ∷ is_plan plan ∷ is_cert cert ∷ []) (HeadlineOfBoot elf plan cert at) (RefusalByBoot elf plan cert at)
   pub bootgen :
       (plan entry at source : List ℕ)
-      → CommandSays call (codes "bootgen" ∷ plan ∷ entry ∷ at ∷ source ∷ []) (is_plan plan ∷ []) (HeadlineOfBootgen plan entry at source) Never
+      → CommandSays call (codes "bootgen" ∷ plan ∷ entry ∷ at ∷ source ∷ []) (is_plan plan ∷ []) (HeadlineOfBootgen plan entry at source) NeverRefuses
   pub cells :
       (elf plan list cert : List ℕ)
       → CommandSays call (codes "cells" ∷ elf ∷ plan ∷ list ∷ cert ∷ []) (is_elf elf ∷ is_plan plan ∷ are_cells plan list ∷ is_cert cert ∷ [])
@@ -131,7 +131,7 @@ pub record ToolSays (call : ToolCall) : Type 0 where
   pub tasks :
       (elf plan list : List ℕ) (certs : List (List ℕ))
       → CommandSays call (codes "tasks" ∷ elf ∷ plan ∷ list ∷ certs)
-      (is_elf elf ∷ is_plan plan ∷ are_tasks plan list ∷ is_cert_per_task plan list certs ∷ ask_each (λ place name. is_cert name) 0 certs [])
+      (is_elf elf ∷ is_plan plan ∷ are_tasks plan list ∷ is_cert_per_task plan list certs ∷ require_each (λ place name. is_cert name) 0 certs [])
       (HeadlineOfTasks elf plan list certs) (RefusalByTasks elf plan list certs)
   pub taskcert :
       (elf plan list : List ℕ) (certs : List (List ℕ))

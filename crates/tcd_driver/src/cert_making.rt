@@ -1,7 +1,7 @@
 // Makes certificates, and checks them.
 ghost use Rattle.std.specs.Prelude.{◌≡◌, ◌⊎◌};
-ghost use Rattle.tcd_driver.specs.BestCert.{IsUnmadeReport, MakesBestCert, MakesLeastCert};
-ghost use Rattle.tcd_reading.specs.Outcomes.{IsToldOutcome};
+ghost use Rattle.tcd_driver.specs.BestCert.{IsNoCertReport, MakesBestCert, MakesLeastCert};
+ghost use Rattle.tcd_reading.specs.Outcomes.{IsReportOutcome};
 
 use depth_check::{Verdict, check};
 use depth_maker::{MakeErr, make};
@@ -50,7 +50,7 @@ pub(crate) fn make_best_cert(
 
 /// The report that no certificate is made: the rule, with its place.
 pub(crate) fn report_no_cert(alloc: Global, e: MakeErr) -> Outcome
-    ensures { IsToldOutcome (IsUnmadeReport e) ⊥ result }
+    ensures { IsReportOutcome (IsNoCertReport e) ⊥ result }
 {
     match e {
         MakeErr::Refused { rule, key, addr } => {

@@ -2,7 +2,7 @@
 ghost use Rattle.std.specs.Prelude.{◌≡◌, ◌≤◌, ◌&&◌, nat_le, map, string_bytes, IfSome};
 ghost use Rattle.std.specs.Bool.{then_some};
 ghost use Rattle.std.specs.Option.{option_map};
-ghost use Rattle.tcd_driver.specs.Commands.{command, link_command_of, is_link, ship_command_of, is_ship, tasks_command_of, is_tasks, is_taskcert, fixed_command_of, one_word_command, two_word_command, three_word_command, four_word_command, boot_command_of, bootgen_command_of, command_of_value, generate, reading_of, CommandKeepsLimits};
+ghost use Rattle.tcd_driver.specs.Commands.{command, link_command_of, is_link, ship_command_of, is_ship, tasks_command_of, is_tasks, is_taskcert, fixed_arity_command_of, command_of_one, command_of_two, command_of_three, command_of_four, boot_command_of, bootgen_command_of, command_of_value, generate, reading_of, CommandKeepsLimits};
 ghost use Rattle.tcd_driver.specs.Gen.{gen_function_count};
 ghost use Rattle.tcd_reading.specs.Outcomes.{IsCommandOutcome};
 
@@ -208,7 +208,7 @@ fn tasks_command(words: &[String]) -> Option<Command<'_>>
 // A command with a fixed number of arguments.
 fn fixed_arity_command(words: &[String]) -> Option<Command<'_>>
     ensures is { option_map command_of_value result
-        ≡ fixed_command_of (map string_bytes words.now) }
+        ≡ fixed_arity_command_of (map string_bytes words.now) }
     ensures limits { IfSome result CommandKeepsLimits }
 {
     match words {
@@ -268,7 +268,7 @@ fn is_taskcert(verb: &str, certs: &[String]) -> bool
 
 // A command with one argument after its verb.
 fn command_of_one<'a>(verb: &str, word: &'a str) -> Option<Command<'a>>
-    ensures is { option_map command_of_value result ≡ one_word_command verb.now word.now }
+    ensures is { option_map command_of_value result ≡ command_of_one verb.now word.now }
     ensures limits { IfSome result CommandKeepsLimits }
 {
     if verb == "dis" {
@@ -283,7 +283,7 @@ fn command_of_one<'a>(verb: &str, word: &'a str) -> Option<Command<'a>>
 // A command with two arguments after its verb.
 fn command_of_two<'a>(verb: &str, first: &'a str, second: &'a str) -> Option<Command<'a>>
     ensures is { option_map command_of_value result
-        ≡ two_word_command verb.now first.now second.now }
+        ≡ command_of_two verb.now first.now second.now }
     ensures limits { IfSome result CommandKeepsLimits }
 {
     if verb == "asm" {
@@ -309,7 +309,7 @@ fn command_of_three<'a>(
     third: &'a str,
 ) -> Option<Command<'a>>
     ensures is { option_map command_of_value result
-        ≡ three_word_command verb.now elf.now plan.now third.now }
+        ≡ command_of_three verb.now elf.now plan.now third.now }
     ensures limits { IfSome result CommandKeepsLimits }
 {
     if verb == "check" {
@@ -350,7 +350,7 @@ fn command_of_four<'a>(
     fourth: &'a str,
 ) -> Option<Command<'a>>
     ensures is { option_map command_of_value result ≡
-        four_word_command verb.now first.now second.now third.now fourth.now }
+        command_of_four verb.now first.now second.now third.now fourth.now }
     ensures limits { IfSome result CommandKeepsLimits }
 {
     if verb == "cells" {

@@ -13,11 +13,11 @@ pub trait AnyEnds {
 }
 
 impl AnyEnds for Brand {
-    ghost use Rattle.tcd_driver.specs.Tool.{Never};
+    ghost use Rattle.tcd_driver.specs.Tool.{NeverRefuses};
 
-    ghost IfDone = { Never };
+    ghost IfDone = { NeverRefuses };
 
-    ghost IfRefused = { Never };
+    ghost IfRefused = { NeverRefuses };
 }
 
 /// The status of any command is decided over steady files that hold each file of which it asks

@@ -16,20 +16,20 @@ use Rattle.tc_script.specs.declared.errors.ScriptErr.{ScriptErr}
 use Rattle.tc_object.specs.Objects.{ObjectData}
 use Rattle.tc_object.specs.Grammar as grammar
 use Rattle.tc_stmt.specs.Lines.{lines_in}
-use Rattle.tc_asm.specs.Objects.{object_of}
+use Rattle.tc_asm.specs.Objects.{object_of_draft}
 use Rattle.tc_asm.specs.DraftedSources.{symbols_of, draft_from_lines}
-use Rattle.tc_asm.specs.Rules.{KeepsRules, IsLeastBrokenLine}
+use Rattle.tc_asm.specs.Rules.{KeepsRules, IsFirstBrokenLine}
 use Rattle.tc_link.specs.Layouts.{LayoutData}
 use Rattle.tc_link.specs.LayoutFaults.{layout_of}
 use Rattle.tc_link.specs.declared.layout_errors.LayoutErr.{LayoutErr}
 use Rattle.tcd_reading.specs.Inputs.{FormSeen}
-use Rattle.tcd_forms.specs.Lines.{long_elf_line, bad_elf_line, long_plan_line, bad_plan_line, long_cert_line, bad_cert_line, long_script_line, bad_script_line, long_source_line, bad_source_line, long_layout_line, bad_layout_line, long_object_line, bad_object_line}
+use Rattle.tcd_forms.specs.Lines.{too_long_elf_line, bad_elf_line, too_long_plan_line, bad_plan_line, too_long_cert_line, bad_cert_line, too_long_script_line, bad_script_line, too_long_source_line, bad_source_line, too_long_layout_line, bad_layout_line, too_long_object_line, bad_object_line}
 
 -- an executable
 abbrev pub elf_form : FormSeen ImageData
 elf_form = record {
   limit = 2 ^ 24;
-  too_long_line = long_elf_line;
+  too_long_line = too_long_elf_line;
   Is = λ bytes image. image_of_file bytes ≡ Ok image;
   IsBad = λ bytes text. (e : ImageErr) × (image_of_file bytes ≡ Err e) × (text ≡ bad_elf_line e);
 }
@@ -38,7 +38,7 @@ elf_form = record {
 abbrev pub plan_form : FormSeen PlanData
 plan_form = record {
   limit = 2 ^ 24;
-  too_long_line = long_plan_line;
+  too_long_line = too_long_plan_line;
   Is = λ bytes p. GivesPlan bytes (Ok p);
   IsBad = λ bytes text. (e : PlanErr) × AnswersPlan bytes (Err e) × (e ≢ plan.NoMemory) × (text ≡ bad_plan_line e);
 }
@@ -47,7 +47,7 @@ plan_form = record {
 abbrev pub cert_form : FormSeen CertData
 cert_form = record {
   limit = 2 ^ 30;
-  too_long_line = long_cert_line;
+  too_long_line = too_long_cert_line;
   Is = λ bytes cert. certificate_of bytes ≡ Ok cert;
   IsBad = λ bytes text. (e : FormErr) × (certificate_of bytes ≡ Err e) × (text ≡ bad_cert_line e);
 }
@@ -56,7 +56,7 @@ cert_form = record {
 abbrev pub script_form : PlanData → FormSeen ScriptData
 script_form p = record {
   limit = 2 ^ 24;
-  too_long_line = long_script_line;
+  too_long_line = too_long_script_line;
   Is = λ bytes script. script_of p bytes ≡ Ok script;
   IsBad = λ bytes text. (e : ScriptErr) × (script_of p bytes ≡ Err e) × (text ≡ bad_script_line e);
 }
@@ -64,16 +64,16 @@ script_form p = record {
 -- the form of a source file: the bytes are a source that breaks no rule, and this is its object
 pub record IsSource (bytes : List ℕ) (object : ObjectData) : Type 0 where
   pub keeps : KeepsRules (lines_in bytes) (length (lines_in bytes))
-  pub is : object ≡ object_of (draft_from_lines (symbols_of (lines_in bytes)) (lines_in bytes))
+  pub is : object ≡ object_of_draft (draft_from_lines (symbols_of (lines_in bytes)) (lines_in bytes))
 
 -- A single source, whose value is its object. For a source that breaks a rule, the line has the
 -- least bad line and the least rule there.
 abbrev pub source_form : FormSeen ObjectData
 source_form = record {
   limit = 2 ^ 24;
-  too_long_line = long_source_line 0;
+  too_long_line = too_long_source_line 0;
   Is = λ bytes object. IsSource bytes object;
-  IsBad = λ bytes text. (line : ℕ) × (rule : ℕ) × IsLeastBrokenLine (lines_in bytes) line rule × (text ≡ bad_source_line 0 rule line);
+  IsBad = λ bytes text. (line : ℕ) × (rule : ℕ) × IsFirstBrokenLine (lines_in bytes) line rule × (text ≡ bad_source_line 0 rule line);
 }
 
 -- a source and its object
@@ -85,16 +85,16 @@ pub record SourceData : Type 0 where
 abbrev pub placed_source_form : ℕ → FormSeen SourceData
 placed_source_form place = record {
   limit = 2 ^ 24;
-  too_long_line = long_source_line place;
+  too_long_line = too_long_source_line place;
   Is = λ bytes source. (source.text ≡ bytes) × IsSource bytes source.object;
-  IsBad = λ bytes text. (line : ℕ) × (rule : ℕ) × IsLeastBrokenLine (lines_in bytes) line rule × (text ≡ bad_source_line place rule line);
+  IsBad = λ bytes text. (line : ℕ) × (rule : ℕ) × IsFirstBrokenLine (lines_in bytes) line rule × (text ≡ bad_source_line place rule line);
 }
 
 -- a layout
 abbrev pub layout_form : FormSeen LayoutData
 layout_form = record {
   limit = 2 ^ 24;
-  too_long_line = long_layout_line;
+  too_long_line = too_long_layout_line;
   Is = λ bytes l. layout_of bytes ≡ Ok l;
   IsBad = λ bytes text. (e : LayoutErr) × (layout_of bytes ≡ Err e) × (text ≡ bad_layout_line e);
 }
@@ -103,7 +103,7 @@ layout_form = record {
 abbrev pub object_form : ℕ → FormSeen ObjectData
 object_form place = record {
   limit = 2 ^ 24;
-  too_long_line = long_object_line place;
+  too_long_line = too_long_object_line place;
   Is = λ bytes object. grammar.object_of bytes ≡ Ok object;
   IsBad = λ bytes text. (e : FormErr) × (grammar.object_of bytes ≡ Err e) × (text ≡ bad_object_line place e);
 }

@@ -26,8 +26,8 @@ use Rattle.tcd_plan.specs.declared.plans.PlanErr.TheVariants as plan
 
 -- the end of a printed line that names a frame: its kind, its entry, its priority, and whether the
 -- interrupt stack is in use
-unfoldable pub key_line : Key → List ℕ
-key_line key = key_kind_text key.kind ++ (hex_word key.entry ++ (codes " prio " ++ (decimal key.prio ++ (codes " is " ++ ((if key.is then 49 else 48) ∷ 10 ∷ [])))))
+unfoldable pub line_end_at_frame : Key → List ℕ
+line_end_at_frame key = key_kind_text key.kind ++ (hex_word key.entry ++ (codes " prio " ++ (decimal key.prio ++ (codes " is " ++ ((if key.is then 49 else 48) ∷ 10 ∷ [])))))
 
 -- the end of a rejection's line that names one number
 unfoldable pub line_end_at_one : ℕ → List ℕ
@@ -42,8 +42,8 @@ unfoldable pub line_end_at_key : PlanKey → List ℕ
 line_end_at_key key = codes " key " ++ (unwrap_or (slice_get key_texts key.0) [] ++ 10 ∷ [])
 
 -- the line for an executable above its limit
-unfoldable pub long_elf_line : List ℕ
-long_elf_line = codes "bad elf 0" ++ 10 ∷ []
+unfoldable pub too_long_elf_line : List ℕ
+too_long_elf_line = codes "bad elf 0" ++ 10 ∷ []
 
 -- why a file is no executable: the number of the fault, 1 to 7
 unfoldable pub bad_elf_line : ImageErr → List ℕ
@@ -57,8 +57,8 @@ bad_elf_line (elf.Overlap i j) = codes "bad elf 7" ++ line_end_at_two i j
 bad_elf_line elf.NoMemory = []
 
 -- the line for a plan above its limit
-unfoldable pub long_plan_line : List ℕ
-long_plan_line = codes "bad plan 0" ++ 10 ∷ []
+unfoldable pub too_long_plan_line : List ℕ
+too_long_plan_line = codes "bad plan 0" ++ 10 ∷ []
 
 -- why a file is no plan: the number of the fault, 1 to 8
 unfoldable pub bad_plan_line : PlanErr → List ℕ
@@ -73,8 +73,8 @@ bad_plan_line (plan.Overlap i j) = codes "bad plan 8" ++ line_end_at_two i j
 bad_plan_line plan.NoMemory = []
 
 -- the line for a certificate above its limit
-unfoldable pub long_cert_line : List ℕ
-long_cert_line = codes "bad cert 0" ++ 10 ∷ []
+unfoldable pub too_long_cert_line : List ℕ
+too_long_cert_line = codes "bad cert 0" ++ 10 ∷ []
 
 -- why a file is no certificate: the number of the fault, and its offset in the file
 unfoldable pub bad_cert_line : FormErr → List ℕ
@@ -82,15 +82,15 @@ bad_cert_line e = codes "bad cert " ++ (decimal e.kind ++ line_end_at_one e.at)
 
 -- a rule that fails, with the address and the frame
 unfoldable pub refused_line : ℕ → Key → ℕ → List ℕ
-refused_line rule key addr = codes "refused K" ++ (decimal rule ++ (codes " at " ++ (hex_word addr ++ (codes " in " ++ key_line key))))
+refused_line rule key addr = codes "refused K" ++ (decimal rule ++ (codes " at " ++ (hex_word addr ++ (codes " in " ++ line_end_at_frame key))))
 
 -- the needed CSAs, and those of the plan
 unfoldable pub certified_line : ℕ → ℕ → List ℕ
 certified_line need areas = codes "certified " ++ (decimal need ++ (codes " of " ++ (decimal areas ++ (codes " areas" ++ 10 ∷ []))))
 
 -- the line for a turn script above its limit
-unfoldable pub long_script_line : List ℕ
-long_script_line = codes "bad script 0" ++ 10 ∷ []
+unfoldable pub too_long_script_line : List ℕ
+too_long_script_line = codes "bad script 0" ++ 10 ∷ []
 
 -- why a file is no turn script: the number of the fault, and its line
 unfoldable pub bad_script_line : ScriptErr → List ℕ
@@ -101,28 +101,28 @@ bad_script_line (script.TooMany n) = codes "bad script 4" ++ line_end_at_one n
 bad_script_line script.NoMemory = []
 
 -- the word that the line of a run prints for a cause of death
-unfoldable pub printed_death_cause : Cause → List ℕ
-printed_death_cause Fcd = codes "fcd"
-printed_death_cause Fcu = codes "fcu"
-printed_death_cause Csu = codes "csu"
-printed_death_cause Ctyp = codes "ctyp"
-printed_death_cause NotListed = codes "notlisted"
-printed_death_cause NoCode = codes "nocode"
-printed_death_cause NoArea = codes "noarea"
+unfoldable pub death_cause_text : Cause → List ℕ
+death_cause_text Fcd = codes "fcd"
+death_cause_text Fcu = codes "fcu"
+death_cause_text Csu = codes "csu"
+death_cause_text Ctyp = codes "ctyp"
+death_cause_text NotListed = codes "notlisted"
+death_cause_text NoCode = codes "nocode"
+death_cause_text NoArea = codes "noarea"
 
 -- the end of the printed line on a run: whether the machine runs, or the cause and the address of
 -- its death
 unfoldable pub run_end_text : End → ℕ → List ℕ
 run_end_text Running pc = codes "running" ++ 10 ∷ []
-run_end_text (Dead cause) pc = codes "dead " ++ (printed_death_cause cause ++ (codes " at " ++ (hex_word pc ++ 10 ∷ [])))
+run_end_text (Dead cause) pc = codes "dead " ++ (death_cause_text cause ++ (codes " at " ++ (hex_word pc ++ 10 ∷ [])))
 
 -- a run: its events, the peak of CSAs in use, and the state of the machine at its end
 unfoldable pub run_line : ℕ → ℕ → Machine → List ℕ
 run_line events peak m = codes "events " ++ (decimal events ++ (codes " peak " ++ (decimal peak ++ (codes " " ++ run_end_text m.end m.pc))))
 
 -- the line for the source at this place, if it is above its limit; `asm` has one source, at place 0
-unfoldable pub long_source_line : ℕ → List ℕ
-long_source_line place = codes "bad source 0" ++ line_end_at_one place
+unfoldable pub too_long_source_line : ℕ → List ℕ
+too_long_source_line place = codes "bad source 0" ++ line_end_at_one place
 
 -- the printed line on a source file that breaks a rule: the rule, the place of the file among the
 -- sources, and the line in it
@@ -130,12 +130,12 @@ unfoldable pub bad_source_line : ℕ → ℕ → ℕ → List ℕ
 bad_source_line place rule line = codes "bad source " ++ (decimal rule ++ line_end_at_two place line)
 
 -- an object that was written, with its size in bytes
-unfoldable pub assembled_line : ℕ → List ℕ
-assembled_line bytes = codes "object " ++ (decimal bytes ++ (codes " bytes" ++ 10 ∷ []))
+unfoldable pub assembled_object_line : ℕ → List ℕ
+assembled_object_line bytes = codes "object " ++ (decimal bytes ++ (codes " bytes" ++ 10 ∷ []))
 
 -- the line for a layout above its limit
-unfoldable pub long_layout_line : List ℕ
-long_layout_line = codes "bad layout 0" ++ 10 ∷ []
+unfoldable pub too_long_layout_line : List ℕ
+too_long_layout_line = codes "bad layout 0" ++ 10 ∷ []
 
 -- why a file is no layout: the number of the fault, and its line
 unfoldable pub bad_layout_line : LayoutErr → List ℕ
@@ -146,44 +146,44 @@ bad_layout_line (layout.Overlap n) = codes "bad layout 4" ++ line_end_at_one n
 bad_layout_line layout.NoMemory = []
 
 -- the line for the object at this place, if it is above its limit
-unfoldable pub long_object_line : ℕ → List ℕ
-long_object_line place = codes "bad object 0" ++ line_end_at_one place
+unfoldable pub too_long_object_line : ℕ → List ℕ
+too_long_object_line place = codes "bad object 0" ++ line_end_at_one place
 
 -- why the file at this place is no object: the number of the fault, and its offset in the file
 unfoldable pub bad_object_line : ℕ → FormErr → List ℕ
 bad_object_line place e = codes "bad object " ++ (decimal e.kind ++ line_end_at_two place e.at)
 
 -- the number that the line of a link prints for why a field can't be filled
-unfoldable pub printed_reloc_fault : RelocErr → ℕ
-printed_reloc_fault Odd = 1
-printed_reloc_fault FarOff = 2
-printed_reloc_fault Segment = 3
+unfoldable pub reloc_fault_number : RelocErr → ℕ
+reloc_fault_number Odd = 1
+reloc_fault_number FarOff = 2
+reloc_fault_number Segment = 3
 
 -- the end of a printed line that tells a name
-unfoldable pub name_at_line_end : List ℕ → List ℕ
-name_at_line_end name = codes " name " ++ (name ++ 10 ∷ [])
+unfoldable pub line_end_at_name : List ℕ → List ℕ
+line_end_at_name name = codes " name " ++ (name ++ 10 ∷ [])
 
 -- why objects can't be linked; a relocation is named by its object, section and offset
 unfoldable pub bad_link_line : Refusal → List ℕ
-bad_link_line (twice name) = codes "bad link 1" ++ name_at_line_end name
-bad_link_line (missing name) = codes "bad link 2" ++ name_at_line_end name
-bad_link_line (no_place name) = codes "bad link 3" ++ name_at_line_end name
-bad_link_line (no_room name) = codes "bad link 4" ++ name_at_line_end name
+bad_link_line (twice name) = codes "bad link 1" ++ line_end_at_name name
+bad_link_line (missing name) = codes "bad link 2" ++ line_end_at_name name
+bad_link_line (no_place name) = codes "bad link 3" ++ line_end_at_name name
+bad_link_line (no_room name) = codes "bad link 4" ++ line_end_at_name name
 bad_link_line (reloc object section offset err) =
-    codes "bad link 5 at " ++ (decimal object ++ (codes " " ++ (decimal section ++ (codes " " ++ (decimal offset ++ (codes " " ++ (decimal (printed_reloc_fault err) ++ 10 ∷ [])))))))
+    codes "bad link 5 at " ++ (decimal object ++ (codes " " ++ (decimal section ++ (codes " " ++ (decimal offset ++ (codes " " ++ (decimal (reloc_fault_number err) ++ 10 ∷ [])))))))
 bad_link_line no_entry = codes "bad link 6" ++ 10 ∷ []
 
 -- an image that was written, with its size in bytes
-unfoldable pub linked_line : ℕ → List ℕ
-linked_line bytes = codes "image " ++ (decimal bytes ++ (codes " bytes" ++ 10 ∷ []))
+unfoldable pub linked_image_line : ℕ → List ℕ
+linked_image_line bytes = codes "image " ++ (decimal bytes ++ (codes " bytes" ++ 10 ∷ []))
 
 -- the printed line for a file of cells above its limit
-unfoldable pub long_cells_line : List ℕ
-long_cells_line = codes "bad cells 0" ++ 10 ∷ []
+unfoldable pub too_long_cells_line : List ℕ
+too_long_cells_line = codes "bad cells 0" ++ 10 ∷ []
 
 -- the printed line for a file of tasks above its limit
-unfoldable pub long_tasks_line : List ℕ
-long_tasks_line = codes "bad tasks 0" ++ 10 ∷ []
+unfoldable pub too_long_tasks_line : List ℕ
+too_long_tasks_line = codes "bad tasks 0" ++ 10 ∷ []
 
 -- ---- boot sequences, cells, tasks and generated images
 -- a boot sequence: its events, the needed CSAs, and those of the plan

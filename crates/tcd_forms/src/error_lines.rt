@@ -1,7 +1,7 @@
 // The printed lines on malformed files, and on objects that can't be linked.
 ghost use Rattle.std.specs.Prelude.{◌≡◌, ◌<◌, ◌++◌, length, IsErr, IfOk, IfSome, OnOk};
-ghost use Rattle.tcd_forms.specs.Lines.{long_elf_line, long_plan_line, long_cert_line, long_script_line, long_source_line, line_end_at_key, bad_elf_line, bad_plan_line, bad_cert_line, bad_script_line, bad_source_line, long_layout_line, long_cells_line, long_tasks_line, bad_layout_line, long_object_line, bad_object_line, printed_reloc_fault, bad_link_line, name_at_line_end};
-ghost use Rattle.tcd_plan.specs.PlanReader.{HasText};
+ghost use Rattle.tcd_forms.specs.Lines.{too_long_elf_line, too_long_plan_line, too_long_cert_line, too_long_script_line, too_long_source_line, line_end_at_key, bad_elf_line, bad_plan_line, bad_cert_line, bad_script_line, bad_source_line, too_long_layout_line, too_long_cells_line, too_long_tasks_line, bad_layout_line, too_long_object_line, bad_object_line, reloc_fault_number, bad_link_line, line_end_at_name};
+ghost use Rattle.tcd_plan.specs.PlanReader.{HasPrintedKey};
 ghost use Rattle.tc_link.specs.Errors.{refusal_of};
 ghost use Rattle.tcd_plan.specs.Keys.{key_texts};
 
@@ -30,57 +30,57 @@ pub fn copy_printed_line(alloc: Global, text: &[u8]) -> Result<Vec<u8>, NoMemory
 }
 
 /// The line for an executable above its limit.
-#[tactic(auto, unfolding(crate::specs::Lines::long_elf_line))]
+#[tactic(auto, unfolding(crate::specs::Lines::too_long_elf_line))]
 pub fn too_long_elf_line() -> &'static [u8]
-    ensures { result.now ≡ long_elf_line }
+    ensures { result.now ≡ too_long_elf_line }
 {
     b"bad elf 0\n"
 }
 
 /// The line for a plan above its limit.
-#[tactic(auto, unfolding(crate::specs::Lines::long_plan_line))]
+#[tactic(auto, unfolding(crate::specs::Lines::too_long_plan_line))]
 pub fn too_long_plan_line() -> &'static [u8]
-    ensures { result.now ≡ long_plan_line }
+    ensures { result.now ≡ too_long_plan_line }
 {
     b"bad plan 0\n"
 }
 
 /// The line for a certificate above its limit.
-#[tactic(auto, unfolding(crate::specs::Lines::long_cert_line))]
+#[tactic(auto, unfolding(crate::specs::Lines::too_long_cert_line))]
 pub fn too_long_cert_line() -> &'static [u8]
-    ensures { result.now ≡ long_cert_line }
+    ensures { result.now ≡ too_long_cert_line }
 {
     b"bad cert 0\n"
 }
 
 /// The line for a turn script above its limit.
-#[tactic(auto, unfolding(crate::specs::Lines::long_script_line))]
+#[tactic(auto, unfolding(crate::specs::Lines::too_long_script_line))]
 pub fn too_long_script_line() -> &'static [u8]
-    ensures { result.now ≡ long_script_line }
+    ensures { result.now ≡ too_long_script_line }
 {
     b"bad script 0\n"
 }
 
 /// The line for a layout above its limit.
-#[tactic(auto, unfolding(crate::specs::Lines::long_layout_line))]
+#[tactic(auto, unfolding(crate::specs::Lines::too_long_layout_line))]
 pub fn too_long_layout_line() -> &'static [u8]
-    ensures { result.now ≡ long_layout_line }
+    ensures { result.now ≡ too_long_layout_line }
 {
     b"bad layout 0\n"
 }
 
 /// The line for a file of cells above its limit.
-#[tactic(auto, unfolding(crate::specs::Lines::long_cells_line))]
+#[tactic(auto, unfolding(crate::specs::Lines::too_long_cells_line))]
 pub fn too_long_cells_line() -> &'static [u8]
-    ensures { result.now ≡ long_cells_line }
+    ensures { result.now ≡ too_long_cells_line }
 {
     b"bad cells 0\n"
 }
 
 /// The line for a file of tasks above its limit.
-#[tactic(auto, unfolding(crate::specs::Lines::long_tasks_line))]
+#[tactic(auto, unfolding(crate::specs::Lines::too_long_tasks_line))]
 pub fn too_long_tasks_line() -> &'static [u8]
-    ensures { result.now ≡ long_tasks_line }
+    ensures { result.now ≡ too_long_tasks_line }
 {
     b"bad tasks 0\n"
 }
@@ -106,7 +106,7 @@ pub fn bad_elf_line(alloc: Global, e: ImageErr) -> Result<Vec<u8>, NoMemory>
 /// The line that says why a file is no plan.
 #[tactic(auto, unfolding(crate::specs::Lines::bad_plan_line, crate::specs::Lines::line_end_at_two))]
 pub fn bad_plan_line(alloc: Global, e: PlanErr) -> Result<Vec<u8>, NoMemory>
-    requires { HasText e }
+    requires { HasPrintedKey e }
     ensures line { IfOk result (λ line. line.items ≡ bad_plan_line e) }
     ensures memory { e ≡ PlanErr.NoMemory → IsErr result }
 {
@@ -173,17 +173,17 @@ pub fn bad_layout_line(alloc: Global, e: LayoutErr) -> Result<Vec<u8>, NoMemory>
 }
 
 /// The line for the source at this place, if it is above its limit.
-#[tactic(auto, unfolding(crate::specs::Lines::long_source_line, crate::specs::Lines::line_end_at_one))]
+#[tactic(auto, unfolding(crate::specs::Lines::too_long_source_line, crate::specs::Lines::line_end_at_one))]
 pub fn too_long_source_line(alloc: Global, place: u32) -> Result<Vec<u8>, NoMemory>
-    ensures { IfOk result (λ line. line.items ≡ long_source_line place) }
+    ensures { IfOk result (λ line. line.items ≡ too_long_source_line place) }
 {
     Ok(format!(in alloc; "bad source 0 at {place}\n")?.into_bytes())
 }
 
 /// The line for the object at this place, if it is above its limit.
-#[tactic(auto, unfolding(crate::specs::Lines::long_object_line, crate::specs::Lines::line_end_at_one))]
+#[tactic(auto, unfolding(crate::specs::Lines::too_long_object_line, crate::specs::Lines::line_end_at_one))]
 pub fn too_long_object_line(alloc: Global, place: u32) -> Result<Vec<u8>, NoMemory>
-    ensures { IfOk result (λ line. line.items ≡ long_object_line place) }
+    ensures { IfOk result (λ line. line.items ≡ too_long_object_line place) }
 {
     Ok(format!(in alloc; "bad object 0 at {place}\n")?.into_bytes())
 }
@@ -236,17 +236,17 @@ fn bad_plan_key_line(alloc: Global, front: &str, key: PlanKey) -> Result<Vec<u8>
 }
 
 // The line of a rejection to link that names a symbol or a section.
-#[tactic(auto, unfolding(crate::specs::Lines::name_at_line_end))]
+#[tactic(auto, unfolding(crate::specs::Lines::line_end_at_name))]
 fn bad_link_name_line(alloc: Global, front: &str, name: &str) -> Result<Vec<u8>, NoMemory>
-    ensures { IfOk result (λ line. line.items ≡ front.now ++ name_at_line_end name.now) }
+    ensures { IfOk result (λ line. line.items ≡ front.now ++ line_end_at_name name.now) }
 {
     Ok(format!(in alloc; "{front} name {name}\n")?.into_bytes())
 }
 
 /// The number that the line of a link prints for why a field can't be filled.
-#[tactic(auto, unfolding(crate::specs::Lines::printed_reloc_fault))]
+#[tactic(auto, unfolding(crate::specs::Lines::reloc_fault_number))]
 fn reloc_fault_number(err: RelocErr) -> u8
-    ensures { result ≡ printed_reloc_fault err }
+    ensures { result ≡ reloc_fault_number err }
 {
     match err {
         RelocErr::Odd => 1,

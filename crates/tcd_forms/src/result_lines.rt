@@ -1,7 +1,7 @@
 // The printed lines on results: runs, files that were written, certified needs, and refusals.
 ghost use Rattle.std.specs.Prelude.{◌≡◌, length, IfOk, ◌<◌};
 ghost use Rattle.depth_cert.specs.Nodes.{count_points};
-ghost use Rattle.tcd_forms.specs.Lines.{boots_line, generated_boot_line, certified_cells_line, certified_tasks_line, generated_line, assembled_line, linked_line, printed_death_cause, run_line, certified_line, refused_line, refused_switch_line, line_with_task, refused_task_line, refused_sum_line};
+ghost use Rattle.tcd_forms.specs.Lines.{boots_line, generated_boot_line, certified_cells_line, certified_tasks_line, generated_line, assembled_object_line, linked_image_line, death_cause_text, run_line, certified_line, refused_line, refused_switch_line, line_with_task, refused_task_line, refused_sum_line};
 ghost use Rattle.tcd_text.specs.HexNumbers.{hex_word};
 
 use crate::error_lines::{append_to_printed_line, copy_printed_line};
@@ -108,25 +108,25 @@ pub fn run_line(alloc: Global, events: u32, peak: u32, m: &Machine) -> Result<Ve
 }
 
 /// The line on an object that was written, with its size in bytes.
-#[tactic(auto, unfolding(crate::specs::Lines::assembled_line))]
+#[tactic(auto, unfolding(crate::specs::Lines::assembled_object_line))]
 pub fn assembled_object_line(alloc: Global, bytes: &[u8]) -> Result<Vec<u8>, NoMemory>
-    ensures { IfOk result (λ text. text.items ≡ assembled_line (length bytes.now)) }
+    ensures { IfOk result (λ text. text.items ≡ assembled_object_line (length bytes.now)) }
 {
     let size = bytes.len();
     Ok(format!(in alloc; "object {size} bytes\n")?.into_bytes())
 }
 
 /// The line on an image that was written, with its size in bytes.
-#[tactic(auto, unfolding(crate::specs::Lines::linked_line))]
+#[tactic(auto, unfolding(crate::specs::Lines::linked_image_line))]
 pub fn linked_image_line(alloc: Global, bytes: &[u8]) -> Result<Vec<u8>, NoMemory>
-    ensures { IfOk result (λ text. text.items ≡ linked_line (length bytes.now)) }
+    ensures { IfOk result (λ text. text.items ≡ linked_image_line (length bytes.now)) }
 {
     let size = bytes.len();
     Ok(format!(in alloc; "image {size} bytes\n")?.into_bytes())
 }
 
 /// The line on a rule that fails, with the address and the frame.
-#[tactic(auto, unfolding(crate::specs::Lines::refused_line, crate::specs::Lines::key_line))]
+#[tactic(auto, unfolding(crate::specs::Lines::refused_line, crate::specs::Lines::line_end_at_frame))]
 pub fn refused_line(alloc: Global, rule: u8, key: Key, addr: u32) -> Result<Vec<u8>, NoMemory>
     ensures { IfOk result (λ line. line.items ≡ refused_line rule key addr) }
 {
@@ -181,9 +181,9 @@ pub fn refused_sum_line(alloc: Global, sum: u64, areas: u32) -> Result<Vec<u8>, 
 }
 
 /// Returns the word for a cause of death in the printed line on the result of a run.
-#[tactic(auto, unfolding(crate::specs::Lines::printed_death_cause))]
+#[tactic(auto, unfolding(crate::specs::Lines::death_cause_text))]
 fn death_cause_text(cause: Cause) -> &'static [u8]
-    ensures { result.now ≡ printed_death_cause cause }
+    ensures { result.now ≡ death_cause_text cause }
 {
     match cause {
         Cause::Fcd => b"fcd",

@@ -8,9 +8,9 @@ use Rattle.std.proofs.lemmas.Bool.{and_parts}
 use Rattle.std.proofs.lemmas.Slice.Eq.{bytes_eq-Decides}
 use Rattle.std.proofs.lemmas.List.Elements.{All-nil, All-cons, All-head, All-tail}
 use Rattle.elf_image.specs.Images.{IsImage}
-use Rattle.elf_image.specs.WrittenElf.{file_of}
+use Rattle.elf_image.specs.WrittenElf.{elf_file}
 use Rattle.elf_image.proofs.Again.{image_of-file_of}
-use Rattle.tc_object.specs.Spelling.{bytes_of}
+use Rattle.tc_object.specs.Spelling.{bytes_of_object}
 use Rattle.tc_object.proofs.BackLaws.{object_of-bytes_of}
 use Rattle.tcd_base.specs.Files.{FileMap}
 use Rattle.tc_disasm.specs.Listing.{listing_of}
@@ -39,7 +39,7 @@ abbrev source_of : BuildPartData → List ℕ
 source_of p = (p.names).source
 
 abbrev with_object : FileMap → BuildPartData → FileMap
-with_object m p = insert m (name_of p) (bytes_of p.object)
+with_object m p = insert m (name_of p) (bytes_of_object p.object)
 
 with_objects : FileMap → List BuildPartData → FileMap
 with_objects m [] = m
@@ -54,13 +54,13 @@ unfolding with_objects
 input_kept form [] m name x other h = h
 input_kept form (p ∷ ps) m name x other h =
     input_kept form ps (with_object m p) name x (All-tail (IsOther name) p ps other)
-    (input_other form m (name_of p) (bytes_of p.object) name x (λ e. All-head (IsOther name) p ps other (sym e)) h)
+    (input_other form m (name_of p) (bytes_of_object p.object) name x (λ e. All-head (IsOther name) p ps other (sym e)) h)
 
 -- ---- asm of each source
 module _ (q : BuildPartData) where
   -- a part that another's object leaves
   part_after : (m : FileMap) (p : BuildPartData) → name_of q ≢ source_of p → IsPart (Some m) p → IsPart (Some (with_object m q)) p
-  part_after m p other h = record { source = input_other source_form m (name_of q) (bytes_of q.object) (source_of p) p.object (λ e. other (sym e)) h.source; short = h.short }
+  part_after m p other h = record { source = input_other source_form m (name_of q) (bytes_of_object q.object) (source_of p) p.object (λ e. other (sym e)) h.source; short = h.short }
 
   parts_after : (m : FileMap) (ps : List BuildPartData) → All (λ p. name_of q ≢ source_of p) ps → All (IsPart (Some m)) ps → All (IsPart (Some (with_object m q))) ps
   parts_after m ps other h k d less = part_after m (get_or ps k d) (other k d less) (h k d less)
@@ -109,7 +109,7 @@ objects_held (p ∷ ps) place m parts apart different =
     let here = All-head (IsPart (Some m)) p ps parts in
     let others = All-tail (λ q. name_of p ≢ source_of q) p ps (All-head (MissesSources (p ∷ ps)) p ps apart) in
     let good = source_object (here.source).0 p.object (here.source).3 in
-    let mine = input_same (object_form place) m (name_of p) (bytes_of p.object) p.object here.short (object_of-bytes_of p.object good.object) in (
+    let mine = input_same (object_form place) m (name_of p) (bytes_of_object p.object) p.object here.short (object_of-bytes_of p.object good.object) in (
       input_kept (object_form place) ps (with_object m p) (name_of p) p.object (others_of (name_of p) ps (not_true _ d.0)) mine,
       objects_held ps (place + 1) (with_object m p) (parts_after p m ps others (All-tail (IsPart (Some m)) p ps parts)) (later_sources p ps apart) d.1,
     )
@@ -127,12 +127,12 @@ build_in b m h =
     let layout = input_kept layout_form b.parts m b.layout b.rules (h.apart).layout h.layout in
     let objects = objects_held b.parts 0 m h.parts (h.apart).sources (h.apart).different in
     let good : IsImage b.image = links_give_images (objects_of_parts b.parts) b.rules b.image (objects_good m b.parts h.parts) (texts_give_layouts (h.layout).0 b.rules (h.layout).3) h.linked_is in
-    let executable = input_same elf_form all b.elf (file_of b.image) b.image h.short (image_of-file_of b.image good) in
+    let executable = input_same elf_form all b.elf (elf_file b.image) b.image h.short (image_of-file_of b.image good) in
     let commands : List Command = link (record { layout = b.layout; image = b.elf; objects = object_names b.parts }) ∷ dis b.elf ∷ [] in
     let reports : List Report = image_report b.elf b.image ∷ says Done (listing_of b.image) ∷ [] in
     sure_parts b.parts m commands reports h.parts (h.apart).sources (
       sure_link all (record { layout = b.layout; image = b.elf; objects = object_names b.parts }) b.rules (objects_of_parts b.parts) b.image layout objects h.linked_is,
-      (sure_dis (insert all b.elf (file_of b.image)) b.elf b.image executable, tt),
+      (sure_dis (insert all b.elf (elf_file b.image)) b.elf b.image executable, tt),
     )
 
 pub builds_report : BuildsReport

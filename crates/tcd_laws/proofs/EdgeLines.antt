@@ -21,8 +21,8 @@ use Rattle.depth_check.proofs.Sound.{accepted_is_safe}
 use Rattle.depth_check.proofs.Held.{edges_are_owed}
 use Rattle.tcd_text.specs.HexNumbers.{hex_digit, hex_byte, hex_word}
 use Rattle.tcd_report.specs.Texts.{key_kind_text, key_text}
-use Rattle.tcd_report.specs.Graphs.{Arrow, goes, back, key_front, line_front, line_end_to, way_end, arrow_end, line_text, ArePointLines, AreLineParts, AreJoinedLines, AreNodeLines, AreGraphLines}
-use Rattle.tcd_report.specs.Graphs.EdgeLaws.{EdgesStand}
+use Rattle.tcd_report.specs.Graphs.{Arrow, goes, back, key_front, line_front, line_end_to, way_end, arrow_end, graph_line, ArePointLines, AreLineParts, AreJoinedLines, AreNodeLines, AreGraphLines}
+use Rattle.tcd_report.specs.Graphs.EdgeLaws.{LinesHaveAllEdges}
 use Rattle.tcd_report.proofs.GraphLemmas.EdgeProofs.{edges_stand}
 use Rattle.tcd_laws.specs.EdgesOnLines.{printed_graph_lines, AcceptedEdgesStand}
 
@@ -113,7 +113,7 @@ arrow_line : (a : Arrow) → IsLine (arrow_end a)
 arrow_line (goes w) = way_line w
 arrow_line (back q) = ended (codes "back ") q (record { none = refl })
 
-text_line : (key : Key) (p : ℕ) (a : Arrow) → key.prio < 2 ^ 8 → IsLine (line_text key p a)
+text_line : (key : Key) (p : ℕ) (a : Arrow) → key.prio < 2 ^ 8 → IsLine (graph_line key p a)
 text_line key p a small =
     let e = arrow_line a in
     record {
@@ -132,7 +132,7 @@ unfolding AreLines
 lines_both [] ms h k = k
 lines_both (l ∷ ls) ms h k = (h.0, lines_both ls ms h.1 k)
 
-texts_lines : (key : Key) (p : ℕ) (arrows : List Arrow) → key.prio < 2 ^ 8 → AreLines (map (line_text key p) arrows)
+texts_lines : (key : Key) (p : ℕ) (arrows : List Arrow) → key.prio < 2 ^ 8 → AreLines (map (graph_line key p) arrows)
 unfolding AreLines
 texts_lines key p [] small = tt
 texts_lines key p (a ∷ arrows) small = (text_line key p a small, texts_lines key p arrows small)
@@ -187,5 +187,5 @@ printed_all (l ∷ ls) h = printed_front l (flat_map (λ l. l) ls) h.0 ∙ ap (�
 pub accepted_edges_stand : AcceptedEdgesStand
 accepted_edges_stand image plan cert text entry ok is_cert accepted g =
     let same : printed_graph_lines text ≡ g.lines = ap printed_graph_lines g.text_is ∙ printed_all g.lines (graph_lines image plan cert g.lines is_cert g.are) in
-    subst (EdgesStand image plan cert) (sym same)
+    subst (LinesHaveAllEdges image plan cert) (sym same)
     (edges_stand image plan cert g.lines ok is_cert entry (accepted_is_safe image plan cert ok is_cert accepted) (edges_are_owed image plan cert ok is_cert accepted) g.are)

@@ -5,12 +5,12 @@ use Rattle.std.specs.FinMap.{get, insert}
 use Rattle.std.specs.List.{flat_map}
 use Rattle.std.proofs.lemmas.List.Elements.{All-nil, All-cons, All-head, All-tail}
 use Rattle.elf_image.specs.Images.{IsImage}
-use Rattle.elf_image.specs.WrittenElf.{file_of}
+use Rattle.elf_image.specs.WrittenElf.{elf_file}
 use Rattle.elf_image.proofs.Again.{image_of-file_of}
 use Rattle.tcd_base.specs.Bytes.{bytes_of_word}
 use Rattle.tc_object.specs.Objects.{SectionData, ObjectData}
 use Rattle.tc_object.specs.Grammar as grammar
-use Rattle.tc_object.specs.Spelling.{bytes_of_name, bytes_of_section, bytes_of_header, bytes_of_symbol, bytes_of_reloc, bytes_of}
+use Rattle.tc_object.specs.Spelling.{bytes_of_name, bytes_of_section, bytes_of_header, bytes_of_symbol, bytes_of_reloc, bytes_of_object}
 use Rattle.tc_object.proofs.BackLaws.{object_of-bytes_of}
 use Rattle.tc_object.proofs.FromLaws.{read_is_object}
 use Rattle.tc_link.specs.Layouts.{LayoutData}
@@ -18,7 +18,7 @@ use Rattle.tcd_base.specs.Files.{FileMap, FilesSeen}
 use Rattle.tcd_base.specs.Sink.{SinkSeen}
 use Rattle.tcd_reading.specs.Reports.{Report, with_report_files}
 use Rattle.tcd_reading.specs.Inputs.{FormSeen, HoldsInput, Reading, each, ReadingSays}
-use Rattle.tcd_reading.specs.Endings.{PrintsWithStatus, whole, cut, IsReported, HasEnded}
+use Rattle.tcd_reading.specs.Endings.{PrintsWithStatus, whole, cut, IsEndingWithReport, HasEnded}
 use Rattle.tcd_reading.specs.Endings as ending
 use Rattle.tcd_reading.specs.declared.status.Status.TheVariants.{Done, BadInput, Fault, NoMemory}
 use Rattle.tcd_reading.proofs.Decided.{status_is}
@@ -55,7 +55,7 @@ module _ (reading : Reading) (files files' : FilesSeen) (sink sink' : SinkSeen) 
   printed_report r says held (whole e p) = record { report = r; said = says; status = sym e; written = held }
   printed_report r says held (cut e front counted full) = absurd (not_fault e)
 
-  reported_report : (r : Report) → ReadingSays reading files.held r → IsReported r files files' sink sink' Done → HasReport reading files.held files'.held
+  reported_report : (r : Report) → ReadingSays reading files.held r → IsEndingWithReport r files files' sink sink' Done → HasReport reading files.held files'.held
   reported_report r says (ending.printed held prints) = printed_report r says held prints
   reported_report r says (ending.unwritten e quiet stopped counted unsteady) = absurd (not_fault e)
   reported_report r says (ending.no_memory e quiet stopped) = absurd (not_memory e)
@@ -80,15 +80,15 @@ asm_from names (Some m) held' r some (inl b) e w = absurd (not_bad r b.status e)
 asm_from names (Some m) held' r some (inr s) e w =
     let o : ObjectData = s.0 in
     let good : IsObjectOfBytes o = source_object (s.1).0 o (s.1).3 in
-    let written : held' ≡ Some (insert m names.object (bytes_of o)) = w ∙ ap (λ (q : Report). with_report_files (Some m) q.writes) s.2 in
+    let written : held' ≡ Some (insert m names.object (bytes_of_object o)) = w ∙ ap (λ (q : Report). with_report_files (Some m) q.writes) s.2 in
     record {
       object = o;
       source = s.1;
       written = written;
-      bytes = subst (λ (h : Option FileMap). HandedFilesHoldBytes h (names.object ∷ [])) (sym written) (bytes_held m names.object (bytes_of o) (objects_spell_bytes o good));
+      bytes = subst (λ (h : Option FileMap). HandedFilesHoldBytes h (names.object ∷ [])) (sym written) (bytes_held m names.object (bytes_of_object o) (objects_spell_bytes o good));
       read = λ place short. subst (λ (h : Option FileMap). IsHandedExactly (object_form place) h names.object o) (sym written)
-          (exactly (object_form place) (insert m names.object (bytes_of o)) names.object o (object_lawful place)
-          (input_same (object_form place) m names.object (bytes_of o) o short (object_of-bytes_of o good.object)));
+          (exactly (object_form place) (insert m names.object (bytes_of_object o)) names.object o (object_lawful place)
+          (input_same (object_form place) m names.object (bytes_of_object o) o short (object_of-bytes_of o good.object)));
     }
 
 pub asm_hands_over : AsmHandsOver
@@ -113,8 +113,8 @@ sections_small (s ∷ ss) h =
     let behind = right_of IsByte (bytes_of_name s.name) (bytes_of_word (length s.bytes) ++ s.bytes) here in
     All-cons SectionHoldsBytes s ss (right_of IsByte (bytes_of_word (length s.bytes)) s.bytes behind) (sections_small ss (right_of IsByte (bytes_of_section s) (flat_map bytes_of_section ss) h))
 
-object_small : (o : ObjectData) → All IsByte (bytes_of o) → All SectionHoldsBytes o.sections
-unfolding bytes_of
+object_small : (o : ObjectData) → All IsByte (bytes_of_object o) → All SectionHoldsBytes o.sections
+unfolding bytes_of_object
 object_small o h =
     let rest = flat_map bytes_of_symbol o.symbols ++ flat_map bytes_of_reloc o.relocs in
     sections_small o.sections (left_of IsByte (flat_map bytes_of_section o.sections) rest (right_of IsByte (bytes_of_header o) (flat_map bytes_of_section o.sections ++ rest) h))
@@ -151,7 +151,7 @@ linked_from : (names : LinkNames) (m : FileMap) (held' : Option FileMap) (r : Re
     r.status ≡ Done → held' ≡ with_report_files (Some m) r.writes → IsLinkReport names.image l os r → IsImageHandedOver names (Some m) held'
 linked_from names m held' r l os are is_layout small e w (refused q f g) = absurd (not_bad r (status_is r _ g) e)
 linked_from names m held' r l os are is_layout small e w (image i f g) =
-    let written : held' ≡ Some (insert m names.image (file_of i)) = w ∙ ap (λ (q : Report). with_report_files (Some m) q.writes) g in
+    let written : held' ≡ Some (insert m names.image (elf_file i)) = w ∙ ap (λ (q : Report). with_report_files (Some m) q.writes) g in
     let good : IsImage i = links_give_images os l i small (texts_give_layouts (is_layout).0 l (is_layout).3) f in
     record {
       layout = l;
@@ -162,7 +162,7 @@ linked_from names m held' r l os are is_layout small e w (image i f g) =
       linked_is = f;
       written = written;
       read = λ short. subst (λ (h : Option FileMap). IsHandedExactly elf_form h names.image i) (sym written)
-          (exactly elf_form (insert m names.image (file_of i)) names.image i elf_lawful (input_same elf_form m names.image (file_of i) i short (image_of-file_of i good)));
+          (exactly elf_form (insert m names.image (elf_file i)) names.image i elf_lawful (input_same elf_form m names.image (elf_file i) i short (image_of-file_of i good)));
     }
 
 link_from : (names : LinkNames) (held held' : Option FileMap) (r : Report) → IsSome held → HandedFilesHoldBytes held names.objects → ReadingSays (link_reading names) held r → r.status ≡ Done → held' ≡ with_report_files held r.writes → IsImageHandedOver names held held'

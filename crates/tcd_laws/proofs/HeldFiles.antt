@@ -8,7 +8,7 @@ use Rattle.std.proofs.lemmas.Map.Text.{is_eq-slice_cmp}
 use Rattle.std.proofs.lemmas.Slice.Eq.{bytes_eq-Decides}
 use Rattle.tcd_base.specs.Files.{FileMap}
 use Rattle.tcd_reading.specs.Reports.{Report}
-use Rattle.tcd_reading.specs.Inputs.{FormSeen, HoldsInput, Reading, input, each, answer, ReadingSays, HoldsAsked}
+use Rattle.tcd_reading.specs.Inputs.{FormSeen, HoldsInput, Reading, input, each, answer, ReadingSays, HoldsNeededInputs}
 use Rattle.tcd_reading.specs.declared.status.Status.TheVariants.{Done}
 use Rattle.tcd_reading.proofs.Decided.{IsLawful, one_value, never_both}
 use Rattle.tcd_laws.specs.Sequences.{IsSureInSequence}
@@ -53,9 +53,9 @@ pub input_said : {A : Type 0} (form : FormSeen A) (m : FileMap) (name : List ℕ
 input_said form m name x next r lawful h (inl bad) = absurd (never_both form m name r.text x lawful h bad.line)
 input_said {A} form m name x next r lawful h (inr s) = subst (λ (y : A). ReadingSays (next y) (Some m) r) (one_value form m name s.0 x lawful s.1 h) s.2
 
-asked_input : {A : Type 0} (form : FormSeen A) (m : FileMap) (name : List ℕ) (x : A) (next : A → Reading) → IsLawful form → HoldsInput form (Some m) name x → HoldsAsked (next x) (Some m) → HoldsAsked (input A form name next) (Some m)
+asked_input : {A : Type 0} (form : FormSeen A) (m : FileMap) (name : List ℕ) (x : A) (next : A → Reading) → IsLawful form → HoldsInput form (Some m) name x → HoldsNeededInputs (next x) (Some m) → HoldsNeededInputs (input A form name next) (Some m)
 asked_input {A} form m name x next lawful h asked =
-    (is_held (get m name) h.0 h.1, λ y k. subst (λ (z : A). HoldsAsked (next z) (Some m)) (one_value form m name x y lawful h k) asked)
+    (is_held (get m name) h.0 h.1, λ y k. subst (λ (z : A). HoldsNeededInputs (next z) (Some m)) (one_value form m name x y lawful h k) asked)
 
 pub sure_input : {A : Type 0} (form : FormSeen A) (m : FileMap) (name : List ℕ) (x : A) (next : A → Reading) (q : Report) → IsLawful form → HoldsInput form (Some m) name x → IsSureInSequence (next x) (Some m) q → IsSureInSequence (input A form name next) (Some m) q
 sure_input form m name x next q lawful h s = record {

@@ -14,9 +14,9 @@ use Rattle.tcd_text.specs.HexNumbers.{hex_number_of, is_upper_hex}
 use Rattle.tc_object.specs.Names.{is_name_length, is_object_name, object_name_of}
 use Rattle.tc_object.specs.Objects.{InTurn}
 use Rattle.tc_link.specs.Layouts.{PlaceData, LayoutData, IsPlace, IsPlaceAfter, IsLayout, are_overlapping_places, is_placed}
-use Rattle.tc_link.specs.LayoutLines.{LayoutLineData, blank, entry, place, place_of_words, line_in, layout_line_contents, entry_in, region_in, layout_entries, places_of, IsGoodLayoutLine}
+use Rattle.tc_link.specs.LayoutLines.{LayoutLineData, blank, entry, place, place_of_words, layout_line_of_words, layout_line_contents, entry_in_line, place_in_line, layout_entries, places_in_lines, IsGoodLayoutLine}
 use Rattle.tcd_base.specs.Refusing.{unless_refused}
-use Rattle.tc_link.specs.LayoutFaults.{fault_of, first_fault}
+use Rattle.tc_link.specs.LayoutFaults.{line_fault, first_layout_fault}
 use Rattle.tc_link.specs.LayoutDrafts.{with_entry, LayoutDraftData, IsLayoutDraft, with_layout_line}
 use Rattle.tc_link.specs.declared.layout_errors.LayoutErr.{LayoutErr}
 use Rattle.tc_link.proofs.TurnLaws.{turn_push}
@@ -77,7 +77,7 @@ blank_good : (b : Bool) (l : LayoutLineData) → then_some b blank ≡ Some l �
 blank_good true l e = let same : blank ≡ l = cc in subst IsGoodLayoutLine same tt
 blank_good false l e = cc
 
-words_good : (ws : List (List ℕ)) (l : LayoutLineData) → line_in ws ≡ Some l → IsGoodLayoutLine l
+words_good : (ws : List (List ℕ)) (l : LayoutLineData) → layout_line_of_words ws ≡ Some l → IsGoodLayoutLine l
 words_good [] l e = cc
 words_good (w ∷ []) l e = blank_good (length w == 0) l e
 words_good (w ∷ name ∷ []) l e = when (bytes_eq w (codes "entry")) (option_map entry (object_name_of name)) l (λ k f. entry_good (object_name_of name) k (λ n g. named name n g) f) e
@@ -93,7 +93,7 @@ line_good line l e = words_good (line_words line) l e
 
 -- ---- the lines
 abbrev draft_of : List (List ℕ) → LayoutDraftData
-draft_of lines = record { entries = layout_entries lines; places = places_of lines }
+draft_of lines = record { entries = layout_entries lines; places = places_in_lines lines }
 
 as_list : {A : Type 0} (o : Option A) → cons_option o [] ≡ option_to_list o
 as_list None = refl
@@ -103,11 +103,11 @@ pushed : {A : Type 0} (f : LayoutLineData → Option A) (lines : List (List ℕ)
 pushed f lines line = filter_map-append (λ l. option_and_then f (layout_line_contents l)) lines (line ∷ []) ∙ ap (λ ys. filter_map (λ l. option_and_then f (layout_line_contents l)) lines ++ ys) (as_list (option_and_then f (layout_line_contents line)))
 
 draft_pushed : (lines : List (List ℕ)) (line : List ℕ) → draft_of (lines ++ line ∷ []) ≡ with_layout_line (draft_of lines) (layout_line_contents line)
-unfolding layout_entries places_of
-draft_pushed lines line = λ i. record { entries = pushed entry_in lines line i; places = pushed region_in lines line i }
+unfolding layout_entries places_in_lines
+draft_pushed lines line = λ i. record { entries = pushed entry_in_line lines line i; places = pushed place_in_line lines line i }
 
 -- a place that has no fault
-may_stand : (n : ℕ) (entries : List (List ℕ)) (places : List PlaceData) (p : PlaceData) → IsPlace p → fault_of n entries places (Some (place p)) ≡ None → IsPlaceAfter places p × (length places < 64)
+may_stand : (n : ℕ) (entries : List (List ℕ)) (places : List PlaceData) (p : PlaceData) → IsPlace p → line_fault n entries places (Some (place p)) ≡ None → IsPlaceAfter places p × (length places < 64)
 may_stand n entries places p is e = by_name (is_placed places p.section) refl e
   where
     by_shares : is_placed places p.section ≡ false → length places < 64 → (c : Bool) → list_any (are_overlapping_places p) places ≡ c → then_some c (LayoutErr.Overlap n) ≡ None → IsPlaceAfter places p × (length places < 64)
@@ -123,7 +123,7 @@ may_stand n entries places p is e = by_name (is_placed places p.section) refl e
     by_name false a f = by_count a (nat_le 64 (length places)) refl f
 
 -- a draft with a line more that has no fault
-draft_more : (d : LayoutDraftData) (n : ℕ) (o : Option LayoutLineData) → ((l : LayoutLineData) → o ≡ Some l → IsGoodLayoutLine l) → IsLayoutDraft d → fault_of n d.entries d.places o ≡ None → IsLayoutDraft (with_layout_line d o)
+draft_more : (d : LayoutDraftData) (n : ℕ) (o : Option LayoutLineData) → ((l : LayoutLineData) → o ≡ Some l → IsGoodLayoutLine l) → IsLayoutDraft d → line_fault n d.entries d.places o ≡ None → IsLayoutDraft (with_layout_line d o)
 draft_more d n None good h e = cc
 draft_more d n (Some blank) good h e = record {
   entries = subst (λ (xs : List (List ℕ)). All (λ x. object_name_of x ≡ Some x) xs) (sym (append-nil d.entries)) h.entries;
@@ -146,8 +146,8 @@ none_parts : {B : Type 0} (a b : Option B) → option_or a b ≡ None → (a ≡
 none_parts None b e = (refl, e)
 none_parts (Some x) b e = cc
 
-all_good : (before rest : List (List ℕ)) → IsLayoutDraft (draft_of before) → first_fault before rest ≡ None → IsLayoutDraft (draft_of (before ++ rest))
-unfolding first_fault
+all_good : (before rest : List (List ℕ)) → IsLayoutDraft (draft_of before) → first_layout_fault before rest ≡ None → IsLayoutDraft (draft_of (before ++ rest))
+unfolding first_layout_fault
 all_good before [] h e = subst (λ (ls : List (List ℕ)). IsLayoutDraft (draft_of ls)) (sym (append-nil before)) h
 all_good before (line ∷ lines) h e =
     let n = none_parts _ _ e in
@@ -155,7 +155,7 @@ all_good before (line ∷ lines) h e =
     subst (λ (ls : List (List ℕ)). IsLayoutDraft (draft_of ls)) (append_assoc before (line ∷ []) lines) (all_good (before ++ line ∷ []) lines more n.1)
 
 no_lines : IsLayoutDraft (draft_of [])
-unfolding layout_entries places_of
+unfolding layout_entries places_in_lines
 no_lines = record { entries = All-nil (λ x. object_name_of x ≡ Some x); few = omega arith; places = tt }
 
 -- ---- the layout
@@ -166,8 +166,8 @@ with_entry_good n (name ∷ names) places l h e =
     subst IsLayout same (record { entry = All-head (λ x. object_name_of x ≡ Some x) name names h.entries; few = h.few; places = h.places })
 
 pub texts_give_layouts : TextsGiveLayouts
-texts_give_layouts text layout e = by_fault (first_fault [] (text_lines text)) refl e
+texts_give_layouts text layout e = by_fault (first_layout_fault [] (text_lines text)) refl e
   where
-    by_fault : (o : Option LayoutErr) → first_fault [] (text_lines text) ≡ o → unless_refused o (with_entry (length (text_lines text)) (layout_entries (text_lines text)) (places_of (text_lines text))) ≡ Ok layout → IsLayout layout
+    by_fault : (o : Option LayoutErr) → first_layout_fault [] (text_lines text) ≡ o → unless_refused o (with_entry (length (text_lines text)) (layout_entries (text_lines text)) (places_in_lines (text_lines text))) ≡ Ok layout → IsLayout layout
     by_fault (Some x) f g = cc
-    by_fault None f g = with_entry_good (length (text_lines text)) (layout_entries (text_lines text)) (places_of (text_lines text)) layout (all_good [] (text_lines text) no_lines f) g
+    by_fault None f g = with_entry_good (length (text_lines text)) (layout_entries (text_lines text)) (places_in_lines (text_lines text)) layout (all_good [] (text_lines text) no_lines f) g

@@ -15,7 +15,7 @@ use Rattle.tc_link.specs.Placing.{PlacedData, bases_after, placed_after, placed_
 use Rattle.tc_link.specs.GlobalSymbols.{GlobalData, is_global, global_data, globals_of, global_address}
 use Rattle.tc_link.specs.PlaceSizes.{round_up_place_size}
 use Rattle.tc_reloc.specs.Fields.{reloc_field_number, reloc_field_bits, bits_outside_reloc_field, with_reloc_field}
-use Rattle.tc_link.specs.Relocated.{reloc_field_at, field_place, reloc_value, with_relocation, with_reloc, relocated_sections, contents_of}
+use Rattle.tc_link.specs.Relocated.{reloc_field_at, field_place, reloc_value, section_with_reloc, sections_with_reloc, relocated_sections, relocated_contents}
 use Rattle.tc_link.specs.Segments.{with_segment_padding, with_section, joined_sections, segment_of, segments_of}
 use Rattle.tc_link.proofs.ImageLaws.{image_of_bytes}
 use Rattle.tc_link.proofs.LinkLaws.{linked_image}
@@ -25,7 +25,7 @@ use Rattle.tcd_laws.proofs.ObjectBytes.{word_small}
 
 -- ---- relocations
 module _ (g : List GlobalData) (p : PlacedData) where
-  written_small : (r : Reloc) (s : SectionData) → SectionHoldsBytes s → SectionHoldsBytes (with_relocation g p r s)
+  written_small : (r : Reloc) (s : SectionData) → SectionHoldsBytes s → SectionHoldsBytes (section_with_reloc g p r s)
   written_small r s h =
       let old : List ℕ = reloc_field_at s.bytes r.offset in
       let content : ℕ = reloc_field_number r.kind (field_place p r) (reloc_value g p r) in
@@ -34,18 +34,18 @@ module _ (g : List GlobalData) (p : PlacedData) where
       All-append IsByte (take r.offset s.bytes) (new ++ rest) (All-take IsByte r.offset s.bytes h)
       (All-append IsByte new rest (word_small (bits_outside_reloc_field r.kind (word_in_bytes old 0) + reloc_field_bits r.kind content)) (All-drop IsByte (r.offset + 4) s.bytes h))
 
-  with_small : (ss : List SectionData) (r : Reloc) → All SectionHoldsBytes ss → All SectionHoldsBytes (with_reloc g p ss r)
+  with_small : (ss : List SectionData) (r : Reloc) → All SectionHoldsBytes ss → All SectionHoldsBytes (sections_with_reloc g p ss r)
   with_small ss r h = by_section (slice_get ss r.section) refl
     where
-      by_section : (o : Option SectionData) → slice_get ss r.section ≡ o → All SectionHoldsBytes (option_map_or (λ x. set ss r.section (with_relocation g p r x)) o ss)
+      by_section : (o : Option SectionData) → slice_get ss r.section ≡ o → All SectionHoldsBytes (option_map_or (λ x. set ss r.section (section_with_reloc g p r x)) o ss)
       by_section None e = h
       by_section (Some x) e =
           let here : SectionHoldsBytes x = subst SectionHoldsBytes (get_or_from_slice_get ss r.section x x e) (h r.section x (slice_get_within ss r.section x e)) in
-          All-set SectionHoldsBytes ss r.section (with_relocation g p r x) (written_small r x here) h
+          All-set SectionHoldsBytes ss r.section (section_with_reloc g p r x) (written_small r x here) h
 
-  all_with_small : (rs : List Reloc) (ss : List SectionData) → All SectionHoldsBytes ss → All SectionHoldsBytes (fold (with_reloc g p) ss rs)
+  all_with_small : (rs : List Reloc) (ss : List SectionData) → All SectionHoldsBytes ss → All SectionHoldsBytes (fold (sections_with_reloc g p) ss rs)
   all_with_small [] ss h = h
-  all_with_small (r ∷ rs) ss h = all_with_small rs (with_reloc g p ss r) (with_small ss r h)
+  all_with_small (r ∷ rs) ss h = all_with_small rs (sections_with_reloc g p ss r) (with_small ss r h)
 
   relocated_small : All SectionHoldsBytes (p.object).sections → All SectionHoldsBytes (relocated_sections g p)
   unfolding relocated_sections
@@ -116,11 +116,11 @@ global_low (g ∷ gs) name a h e = by_name (bytes_eq name g.name) (global_low gs
 
 -- ---- the image
 pub links_give_images : LinksGiveImages
-unfolding contents_of
+unfolding relocated_contents
 links_give_images objects layout image good is_layout e =
     let parts = parts_of objects layout image e in
     let placed = placed_of layout objects in
     let entry : image.entry < 2 ^ 32 = global_low (globals_of placed) layout.entry image.entry (globals_low placed) parts.entry in
     let limits = linked_image objects layout placed is_layout (λ k d less. (good k d less).object) parts.early refl image.entry entry in
-    let small : AreSegmentBytes (segments_of layout.places (contents_of placed)) = segments_small layout.places (contents_of placed) (contents_small (globals_of placed) layout.places [] objects good) in
+    let small : AreSegmentBytes (segments_of layout.places (relocated_contents placed)) = segments_small layout.places (relocated_contents placed) (contents_small (globals_of placed) layout.places [] objects good) in
     subst (λ (ss : List SegmentData). IsImage (record { entry = image.entry; segments = ss })) (sym parts.segments) (image_of_bytes _ limits small)

@@ -9,7 +9,7 @@ use Rattle.tc_object.specs.declared.relocs.Reloc.{Reloc}
 use Rattle.tcd_base.specs.NameBytes.{is_name_byte, is_name_first}
 use Rattle.tc_object.specs.Names.{IsNewObjectName}
 use Rattle.tc_object.specs.Objects.{SectionData, SymbolData, ObjectData, InTurn, IsSection, IsSymbol, IsReloc, is_section_name, is_symbol_name}
-use Rattle.tc_object.specs.Spelling.{bytes_of_name, bytes_of_section, bytes_of_symbol, bytes_of_reloc, bytes_of_header, bytes_of}
+use Rattle.tc_object.specs.Spelling.{bytes_of_name, bytes_of_section, bytes_of_symbol, bytes_of_reloc, bytes_of_header, bytes_of_object}
 use Rattle.tc_asm.proofs.ListLaws.{all_from_each}
 use Rattle.tcd_laws.specs.LimitsKept.{IsByte, SectionHoldsBytes, ObjectsSpellBytes}
 
@@ -112,7 +112,7 @@ header_small o =
     (All-append IsByte symbols relocs (half_small (length o.symbols)) (half_small (length o.relocs))))
 
 pub objects_spell_bytes : ObjectsSpellBytes
-unfolding bytes_of
+unfolding bytes_of_object
 objects_spell_bytes o is =
     let good = is.object in
     let sections = flat_map bytes_of_section o.sections in

@@ -6,7 +6,7 @@ use Rattle.tcd_base.specs.Files.{FileMap, FilesSeen, files_after_write}
 use Rattle.tcd_base.specs.Sink.{SinkSeen, sink_with_appended, HasRoomFor, IsPrinted}
 use Rattle.tcd_reading.specs.Reports.{Report, ReportFile, with_report_files}
 use Rattle.tcd_laws.specs.Sequences.{all_report_texts, EndInSequence, IsSureInSequence, AreSureInSequence, all_sequence_files, IsSequenceDone, RanOutInSequence, SequenceEndsSurely, SureSequencesEnd}
-use Rattle.tcd_reading.specs.Endings.{ReportWritingStopped, PrintsWithStatus, whole, cut, IsReported, HasRoomForReports, HasEnded, Ends}
+use Rattle.tcd_reading.specs.Endings.{ReportWritingStopped, PrintsWithStatus, whole, cut, IsEndingWithReport, HasRoomForReports, HasEnded, Ends}
 use Rattle.tcd_reading.specs.Inputs.{Reading, ReadingSays, HasAllInputs}
 use Rattle.tcd_reading.specs.Endings as ending
 use Rattle.tcd_reading.specs.declared.status.Status.{Status}
@@ -46,13 +46,13 @@ module _ (q : Report) (files files' : FilesSeen) (sink sink' : SinkSeen) (result
   done_printed held (whole is p) = record { held = held; printed = p }
   done_printed held (cut f front counted full) = absurd (no_fault result e f)
 
-  done_reported : IsReported q files files' sink sink' result → HasDone q files files' sink sink'
+  done_reported : IsEndingWithReport q files files' sink sink' result → HasDone q files files' sink sink'
   done_reported (ending.printed held prints) = done_printed held prints
   done_reported (ending.unwritten f quiet stopped counted unsteady) = absurd (no_fault result e f)
   done_reported (ending.no_memory f quiet stopped) = absurd (some_memory result e f)
 
   done_ended : (reading : Reading) → ((other : Report) → ReadingSays reading files.held other → other ≡ q) → HasEnded reading files files' sink sink' result → HasDone q files files' sink sink'
-  done_ended reading only (ending.reported r says h) = done_reported (subst (λ (x : Report). IsReported x files files' sink sink' result) (only r says) h)
+  done_ended reading only (ending.reported r says h) = done_reported (subst (λ (x : Report). IsEndingWithReport x files files' sink sink' result) (only r says) h)
   done_ended reading only (ending.unread f held quiet counted unsure) = absurd (no_fault result e f)
   done_ended reading only (ending.no_memory f held quiet) = absurd (some_memory result e f)
 
@@ -61,13 +61,13 @@ module _ (q : Report) (files files' : FilesSeen) (sink sink' : SinkSeen) (result
   memory_printed (whole is p) = absurd (some_memory result (is ∙ is_done) e)
   memory_printed (cut f front counted full) = absurd (no_fault_either result e f)
 
-  memory_reported : IsReported q files files' sink sink' result → HasRunOut q files files' sink sink'
+  memory_reported : IsEndingWithReport q files files' sink sink' result → HasRunOut q files files' sink sink'
   memory_reported (ending.printed held prints) = memory_printed prints
   memory_reported (ending.unwritten f quiet stopped counted unsteady) = absurd (no_fault_either result e f)
   memory_reported (ending.no_memory f quiet stopped) = record { held = inr stopped; quiet = quiet }
 
   memory_ended : (reading : Reading) → ((other : Report) → ReadingSays reading files.held other → other ≡ q) → HasEnded reading files files' sink sink' result → HasRunOut q files files' sink sink'
-  memory_ended reading only (ending.reported r says h) = memory_reported (subst (λ (x : Report). IsReported x files files' sink sink' result) (only r says) h)
+  memory_ended reading only (ending.reported r says h) = memory_reported (subst (λ (x : Report). IsEndingWithReport x files files' sink sink' result) (only r says) h)
   memory_ended reading only (ending.unread f held quiet counted unsure) = absurd (no_fault_either result e f)
   memory_ended reading only (ending.no_memory f held quiet) = record { held = inl held; quiet = quiet }
 

@@ -17,7 +17,7 @@ use Rattle.tc_isa.proofs.TableFacts.{row_at}
 use Rattle.tc_encode.proofs.Bytes.{word-lt, short-lt}
 use Rattle.tc_encode.specs.Decoding.{are_fitting_fields}
 use Rattle.tc_encode.proofs.Spelled.{below_from}
-use Rattle.tc_lex.specs.Pieces.{PieceData, text_at}
+use Rattle.tc_lex.specs.Pieces.{PieceData, token_text}
 use Rattle.tc_lex.specs.Operands.{OperandData, operands}
 use Rattle.tc_stmt.specs.RowFields.{RowFieldsData}
 use Rattle.tc_stmt.specs.Items.{ReferenceData, ItemData, label, section, global, code, bytes, zeros}
@@ -26,13 +26,13 @@ use Rattle.tc_stmt.specs.Names.{symbol_rule}
 use Rattle.tc_stmt.specs.OperandForms.{shape_index, is_symbol_operand, is_half_operand, operand_number_modulo}
 use Rattle.tc_stmt.specs.DataValues.{is_value_within_width, value_rule, value_item, space_item}
 use Rattle.tc_stmt.specs.StatementRow.{statement}
-use Rattle.tc_stmt.specs.Lines.{LineData, line_data, only_operand_name as name_operand, named_line, space_line, values_line, code_line, stated_line, line_from, has_label, line_with_label, pieces_line, line_token_with_text, label_of, label_before, cut_line, line_in, lines_in, items_in}
+use Rattle.tc_stmt.specs.Lines.{LineData, line_data, only_operand_name as name_operand, named_line, space_line, values_line, code_line, statement_line, line_from, has_label, line_with_label, tokens_line, line_token_with_text, label_of, label_before, meaning_of_cut_line, line_in, lines_in, items_in}
 use Rattle.tc_asm.specs.Symbols.{SymbolData}
-use Rattle.tc_asm.specs.Drafts.{PartData, DraftData, start, has_section, has_room, assembled_row_code, row_fields_with_target, code_bytes, draft_after_item, bytes_at}
+use Rattle.tc_asm.specs.Drafts.{PartData, DraftData, empty_draft, has_section, has_room, assembled_row_code, row_fields_with_target, code_bytes, draft_after_item, bytes_at}
 use Rattle.tc_asm.specs.DraftedSources.{symbols_of, draft_in}
 use Rattle.tc_asm.specs.Objects.{section_of}
 use Rattle.tc_asm.specs.DraftInvariants.{EachInDraft}
-use Rattle.tc_asm.specs.Statements.{StatementData, content_of, standing_statement, statements_from, section_bytes}
+use Rattle.tc_asm.specs.Statements.{StatementData, statement_of_item, statement_with_room, statements_from, section_bytes}
 use Rattle.tc_asm.proofs.LaidLaws.{drafted-bytes}
 use Rattle.tc_asm.proofs.ListLaws.{all_from_each}
 use Rattle.tc_asm.proofs.SourceDrafts.{source_object}
@@ -173,8 +173,8 @@ label_line_good : (name : List ℕ) (l : LineData) → GoodLine l → GoodLine (
 unfolding GoodItem GoodLine
 label_line_good name l h = (tt, h)
 
-stated_good : (name : List ℕ) (os : List OperandData) → GoodLine (stated_line name os)
-unfolding stated_line
+stated_good : (name : List ℕ) (os : List OperandData) → GoodLine (statement_line name os)
+unfolding statement_line
 stated_good name os =
     choose _ _ _ (named_good section section_good os)
     (choose _ _ _ (named_good global global_good os)
@@ -185,17 +185,17 @@ stated_good name os =
 
 from_good : (ps : List PieceData) (at : ℕ) → GoodLine (line_from ps at)
 unfolding line_from
-from_good ps at = choose _ _ _ (no_items 15) (choose _ _ _ (stated_good (text_at ps at) (operands (drop (at + 1) ps))) (no_items 1))
+from_good ps at = choose _ _ _ (no_items 15) (choose _ _ _ (stated_good (token_text ps at) (operands (drop (at + 1) ps))) (no_items 1))
 
-pieces_good : (ps : List PieceData) → GoodLine (pieces_line ps)
-unfolding pieces_line
-pieces_good ps = choose _ _ _ (label_line_good (text_at ps 0) (line_from ps 2) (from_good ps 2)) (from_good ps 0)
+pieces_good : (ps : List PieceData) → GoodLine (tokens_line ps)
+unfolding tokens_line
+pieces_good ps = choose _ _ _ (label_line_good (token_text ps 0) (line_from ps 2) (from_good ps 2)) (from_good ps 0)
 
 label_good : (ps : List PieceData) → EachInDraft GoodItem (label_of ps)
 unfolding GoodItem label_of
 label_good ps = by_label (has_label ps)
   where
-    by_label : (b : Bool) → EachInDraft GoodItem (cond b (label (text_at ps 0) ∷ []) [])
+    by_label : (b : Bool) → EachInDraft GoodItem (cond b (label (token_text ps 0) ∷ []) [])
     by_label true = (tt, tt)
     by_label false = tt
 
@@ -203,7 +203,7 @@ before_good : (text : List ℕ) (r : Result (List Token) ℕ) → EachInDraft Go
 before_good text (Ok ts) = label_good (map (line_token_with_text text) ts)
 before_good text (Err at) = tt
 
-cut_good : (line : List ℕ) (r : Result (List Token) ℕ) → GoodLine (cut_line line r)
+cut_good : (line : List ℕ) (r : Result (List Token) ℕ) → GoodLine (meaning_of_cut_line line r)
 unfolding GoodLine
 cut_good line (Ok ts) = pieces_good (map (line_token_with_text line) ts)
 cut_good line (Err at) = before_good (take at line) (tokens_of (take at line))
@@ -221,14 +221,14 @@ lines_good (l ∷ ls) = each_both GoodItem (line_in l).items (items_in (map line
 abbrev GoodStatement : StatementData → Type 0
 GoodStatement t = All IsByte t.bytes
 
-content_good : (labels : List SymbolData) (d : DraftData) (i : ItemData) → GoodItem i → IfSome (content_of labels d i) GoodStatement
+content_good : (labels : List SymbolData) (d : DraftData) (i : ItemData) → GoodItem i → IfSome (statement_of_item labels d i) GoodStatement
 unfolding GoodItem
 content_good labels d (code k f r) h = code_small labels d k f r
 content_good labels d (bytes bs r) h = h
 content_good labels d (zeros n) h = zeros_small n
 content_good labels d _ h = tt
 
-standing_good : (d : DraftData) (o : Option StatementData) → IfSome o GoodStatement → EachInDraft GoodStatement (standing_statement d o)
+standing_good : (d : DraftData) (o : Option StatementData) → IfSome o GoodStatement → EachInDraft GoodStatement (statement_with_room d o)
 standing_good d None h = tt
 standing_good d (Some t) h = by_room (has_section d && has_room d (length t.bytes))
   where
@@ -239,7 +239,7 @@ standing_good d (Some t) h = by_room (has_section d && has_room d (length t.byte
 statements_good : (labels : List SymbolData) (d : DraftData) (is : List ItemData) → EachInDraft GoodItem is → EachInDraft GoodStatement (statements_from labels d is)
 statements_good labels d [] h = tt
 statements_good labels d (i ∷ is) h =
-    each_both GoodStatement (standing_statement d (content_of labels d i)) (statements_from labels (draft_after_item labels d i) is) (standing_good d (content_of labels d i) (content_good labels d i h.0))
+    each_both GoodStatement (statement_with_room d (statement_of_item labels d i)) (statements_from labels (draft_after_item labels d i) is) (standing_good d (statement_of_item labels d i) (content_good labels d i h.0))
     (statements_good labels (draft_after_item labels d i) is h.1)
 
 section_small : (s : ℕ) (ts : List StatementData) → EachInDraft GoodStatement ts → All IsByte (section_bytes s ts)
@@ -259,7 +259,7 @@ source_bytes : (source : List ℕ) (s : ℕ) → All IsByte (bytes_at (draft_in 
 source_bytes source s =
     let labels : List SymbolData = symbols_of (lines_in source) in
     subst (λ (bs : List ℕ). All IsByte bs) (sym (drafted-bytes labels (lines_in source) s))
-    (section_small s (statements_from labels start (items_in (lines_in source))) (statements_good labels start (items_in (lines_in source)) (lines_good (slice_split (λ c. c == 10) source))))
+    (section_small s (statements_from labels empty_draft (items_in (lines_in source))) (statements_good labels empty_draft (items_in (lines_in source)) (lines_good (slice_split (λ c. c == 10) source))))
 
 pub sources_give_objects : SourcesGiveObjects
 sources_give_objects source keeps = record { object = source_object source keeps; bytes = parts_small (draft_in source).parts (source_bytes source) }

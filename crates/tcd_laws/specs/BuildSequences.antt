@@ -1,21 +1,21 @@
 -- Sources that are assembled and linked, and the listing of their image.
 use Rattle.std.specs.Prelude.{◌≡◌, ◌≢◌, ◌≤◌, ◌^◌, ℕ, true, List, [], ◌∷◌, ◌++◌, length, map, All, Option, Ok, IsTrue, IsSome}
 use Rattle.elf_image.specs.Images.{ImageData}
-use Rattle.elf_image.specs.WrittenElf.{file_of}
+use Rattle.elf_image.specs.WrittenElf.{elf_file}
 use Rattle.tc_object.specs.Objects.{ObjectData}
-use Rattle.tc_object.specs.Spelling.{bytes_of}
+use Rattle.tc_object.specs.Spelling.{bytes_of_object}
 use Rattle.tc_link.specs.Layouts.{LayoutData}
 use Rattle.tc_link.specs.Linked.{image_of_objects}
 use Rattle.tc_disasm.specs.Listing.{listing_of}
 use Rattle.tcd_base.specs.Files.{FileMap, FilesSeen}
 use Rattle.tcd_base.specs.Sink.{SinkSeen, HasRoomFor}
-use Rattle.tcd_reading.specs.Reports.{Report, says, writes_file}
+use Rattle.tcd_reading.specs.Reports.{Report, says, report_with_file}
 use Rattle.tcd_laws.specs.Sequences.{all_report_texts, EndInSequence, AreSureInSequence, SequenceEndsSurely}
 use Rattle.tcd_reading.specs.Inputs.{HoldsInput}
 use Rattle.tcd_reading.specs.declared.status.Status.{Status}
 use Rattle.tcd_reading.specs.declared.status.Status.TheVariants.{Done}
 use Rattle.tcd_forms.specs.Forms.{source_form, layout_form}
-use Rattle.tcd_forms.specs.Lines.{assembled_line, linked_line}
+use Rattle.tcd_forms.specs.Lines.{assembled_object_line, linked_image_line}
 use Rattle.tcd_driver.specs.Asm.{AsmNames}
 use Rattle.tcd_driver.specs.Commands.{Command, asm, link, dis}
 use Rattle.tcd_driver.specs.DistinctNames.{are_distinct_names}
@@ -54,18 +54,18 @@ build_commands b =
 
 -- the report of a part's `asm`: the object is written, and its size in bytes is printed
 abbrev pub asm_report : BuildPartData → Report
-asm_report p = writes_file (p.names).object (bytes_of p.object) (assembled_line (length (bytes_of p.object)))
+asm_report p = report_with_file (p.names).object (bytes_of_object p.object) (assembled_object_line (length (bytes_of_object p.object)))
 
 -- the objects, the executable and the listing, in this order
 abbrev pub build_reports : BuildData → List Report
 build_reports b =
-    map asm_report b.parts ++ writes_file b.elf (file_of b.image) (linked_line (length (file_of b.image))) ∷ says Done (listing_of b.image) ∷ []
+    map asm_report b.parts ++ report_with_file b.elf (elf_file b.image) (linked_image_line (length (elf_file b.image))) ∷ says Done (listing_of b.image) ∷ []
 
 -- ---- what is asked of them
 -- the source is held and breaks no rule, and its object isn't longer than what `link` reads
 pub record IsPart (held : Option FileMap) (p : BuildPartData) : Type 0 where
   pub source : HoldsInput source_form held (p.names).source p.object
-  pub short : length (bytes_of p.object) ≤ 2 ^ 24
+  pub short : length (bytes_of_object p.object) ≤ 2 ^ 24
 
 -- no object goes to the name of another, of a source or of the layout
 pub record AreApart (b : BuildData) : Type 0 where
@@ -80,7 +80,7 @@ pub record IsBuild (held : Option FileMap) (b : BuildData) : Type 0 where
   pub apart : AreApart b
   pub layout : HoldsInput layout_form held b.layout b.rules
   pub linked_is : image_of_objects (objects_of_parts b.parts) b.rules ≡ Ok b.image
-  pub short : length (file_of b.image) ≤ 2 ^ 24
+  pub short : length (elf_file b.image) ≤ 2 ^ 24
 
 -- ---- the laws
 -- each command of a build has what it reads, and its report is sure

@@ -6,7 +6,7 @@ use Rattle.depth_cert.specs.Certs.{CertData, IsCert}
 use Rattle.cfg_recover.specs.RulesHoldOrFail.{Accepts}
 use Rattle.tcd_text.specs.Lines.{text_lines}
 use Rattle.tcd_report.specs.Graphs.{IsGraph}
-use Rattle.tcd_report.specs.Graphs.EdgeLaws.{EdgesStand}
+use Rattle.tcd_report.specs.Graphs.EdgeLaws.{LinesHaveAllEdges}
 
 -- the lines on which the edges of runs stand: those of a graph's text as it is printed, each with
 -- the line feed that ends it
@@ -18,4 +18,4 @@ printed_graph_lines text = map (λ l. l ++ 10 ∷ []) (text_lines text)
 abbrev pub AcceptedEdgesStand : Type 0
 AcceptedEdgesStand =
     (image : ImageData) (plan : PlanData) (cert : CertData) (text : List ℕ) → image.entry < 2 ^ 32 → IsPlan plan → IsCert cert
-    → Accepts image plan cert → IsGraph image plan cert text → EdgesStand image plan cert (printed_graph_lines text)
+    → Accepts image plan cert → IsGraph image plan cert text → LinesHaveAllEdges image plan cert (printed_graph_lines text)

@@ -2,14 +2,14 @@
 use Rattle.std.specs.Prelude.{◌≡◌, ◌≤◌, ◌+◌, ◌^◌, ℕ, List, [], ◌∷◌, length, All, Option, Ok, IsSome, IfSome}
 use Rattle.std.specs.FinMap.{get}
 use Rattle.elf_image.specs.Images.{ImageData}
-use Rattle.elf_image.specs.WrittenElf.{file_of}
+use Rattle.elf_image.specs.WrittenElf.{elf_file}
 use Rattle.tc_object.specs.Objects.{ObjectData}
-use Rattle.tc_object.specs.Spelling.{bytes_of}
+use Rattle.tc_object.specs.Spelling.{bytes_of_object}
 use Rattle.tc_link.specs.Layouts.{LayoutData}
 use Rattle.tc_link.specs.Linked.{image_of_objects}
 use Rattle.tcd_base.specs.Files.{FileMap, FilesSeen, files_after_write}
 use Rattle.tcd_base.specs.Sink.{SinkSeen}
-use Rattle.tcd_reading.specs.Inputs.{FormSeen, HoldsInput, IsInputRefusal}
+use Rattle.tcd_reading.specs.Inputs.{FormSeen, HoldsInput, IsInputRejection}
 use Rattle.tcd_reading.specs.Endings.{Ends}
 use Rattle.tcd_reading.specs.declared.status.Status.TheVariants.{Done}
 use Rattle.tcd_forms.specs.Forms.{source_form, object_form, layout_form, elf_form}
@@ -21,7 +21,7 @@ use Rattle.tcd_laws.specs.LimitsKept.{IsByte}
 pub record IsHandedExactly {A : Type 0} (form : FormSeen A) (held : Option FileMap) (name : List ℕ) (x : A) : Type 0 where
   pub is : HoldsInput form held name x
   pub only : (y : A) → HoldsInput form held name y → y ≡ x
-  pub good : (text : List ℕ) → IsInputRefusal form held name text → ⊥
+  pub good : (text : List ℕ) → IsInputRejection form held name text → ⊥
 
 -- the files of these names are these values, each in the form of its place in the list
 abbrev pub HoldEachHanded : {A : Type 0} → (ℕ → FormSeen A) → ℕ → Option FileMap → List (List ℕ) → List A → Type 0
@@ -41,9 +41,9 @@ HandedFilesHoldBytes held names = IfSome held (λ m. All (λ name. IfSome (get m
 pub record IsObjectHandedOver (names : AsmNames) (held held' : Option FileMap) : Type 0 where
   pub object : ObjectData
   pub source : HoldsInput source_form held names.source object
-  pub written : held' ≡ files_after_write held names.object (bytes_of object)
+  pub written : held' ≡ files_after_write held names.object (bytes_of_object object)
   pub bytes : HandedFilesHoldBytes held' (names.object ∷ [])
-  pub read : (place : ℕ) → length (bytes_of object) ≤ 2 ^ 24 → IsHandedExactly (object_form place) held' names.object object
+  pub read : (place : ℕ) → length (bytes_of_object object) ≤ 2 ^ 24 → IsHandedExactly (object_form place) held' names.object object
 
 -- what each `asm` that is done hands to `link`, over files that tell what they hold
 abbrev pub AsmHandsOver : Type 0
@@ -61,8 +61,8 @@ pub record IsImageHandedOver (names : LinkNames) (held held' : Option FileMap) :
   pub objects_are : HoldEachHanded object_form 0 held names.objects objects
   pub image : ImageData
   pub linked_is : image_of_objects objects layout ≡ Ok image
-  pub written : held' ≡ files_after_write held names.image (file_of image)
-  pub read : length (file_of image) ≤ 2 ^ 24 → IsHandedExactly elf_form held' names.image image
+  pub written : held' ≡ files_after_write held names.image (elf_file image)
+  pub read : length (elf_file image) ≤ 2 ^ 24 → IsHandedExactly elf_form held' names.image image
 
 -- So after each `link` that is done, over files that tell what they hold, and whose objects are of
 -- bytes: those that `asm` wrote are, and so is all that a file system holds.

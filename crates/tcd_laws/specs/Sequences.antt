@@ -7,7 +7,7 @@ use Rattle.tcd_base.specs.Files.{FileMap, FilesSeen}
 use Rattle.tcd_base.specs.Sink.{SinkSeen, sink_with_appended, HasRoomFor}
 use Rattle.tcd_reading.specs.Reports.{Report, ReportFile, with_report_files}
 use Rattle.tcd_reading.specs.Endings.{ReportWritingStopped, FilesAndSinkStay, Ends}
-use Rattle.tcd_reading.specs.Inputs.{Reading, ReadingSays, HoldsAsked}
+use Rattle.tcd_reading.specs.Inputs.{Reading, ReadingSays, HoldsNeededInputs}
 use Rattle.tcd_reading.specs.declared.status.Status.{Status}
 use Rattle.tcd_reading.specs.declared.status.Status.TheVariants.{Done, NoMemory}
 use Rattle.tcd_driver.specs.Commands.{Command, reading_of}
@@ -34,7 +34,7 @@ EndInSequence (c ∷ cs) files files' sink sink' result = IsLastInSequence c fil
 -- ---- what they are to come to
 -- the files hold what is asked for, and what is said of them is this report, which is done
 pub record IsSureInSequence (reading : Reading) (held : Option FileMap) (report : Report) : Type 0 where
-  pub asked : HoldsAsked reading held
+  pub asked : HoldsNeededInputs reading held
   pub said : ReadingSays reading held report
   pub only : (other : Report) → ReadingSays reading held other → other ≡ report
   pub done : report.status ≡ Done

@@ -5,7 +5,7 @@ use Rattle.std.proofs.lemmas.List.{length-map}
 use Rattle.serde_json.specs.Data.{Data}
 use Rattle.tcd_plan.specs.Objects.{plan_objects_of}
 use Rattle.tcd_plan.specs.JsonValues.{json_elements_of, json_word_in}
-use Rattle.tcd_plan.specs.PlanData.{PlanData, are_areas, are_ranges_few, has_areas, has_vectors, passed_limits, too_many_of, plan_range_overlap}
+use Rattle.tcd_plan.specs.PlanData.{PlanData, are_valid_areas, are_ranges_few, has_valid_areas, has_even_vectors, exceeded_limits, first_oversized_array, plan_range_overlap}
 use Rattle.tcd_plan.specs.PlanReader.{HasShortPlanArrays, plan_device_of, irq_of, plan_range_of, plan_refusal, refusals, plan_in}
 use Rattle.tcd_plan.specs.KeyFaults.{first_bad_key}
 use Rattle.tcd_plan.specs.declared.plans.PlanErr.TheVariants.{BadValue, TooMany, BadCsa, BadVector}
@@ -26,9 +26,9 @@ pub record AreasHold (at areas reserve : ℕ) : Type 0 where
 
 pub record IsAccepted (d : Data) : Type 0 where
   pub bad_value : first_bad_key d ≡ None
-  pub too_many : too_many_of (plan_in d) ≡ None
-  pub areas : has_areas (plan_in d) ≡ true
-  pub vectors : has_vectors (plan_in d) ≡ true
+  pub too_many : first_oversized_array (plan_in d) ≡ None
+  pub areas : has_valid_areas (plan_in d) ≡ true
+  pub vectors : has_even_vectors (plan_in d) ≡ true
   pub overlap : plan_range_overlap (plan_in d) ≡ None
 
 stands : (d : Data) → plan_refusal d ≡ None → (i : ℕ) → i < 8 → get_or (refusals d) i None ≡ None
@@ -39,26 +39,26 @@ pub accepted : (d : Data) → plan_refusal d ≡ None → IsAccepted d
 accepted d e =
     record {
       bad_value = option_map_none BadValue (first_bad_key d) (stands d e 3 (lit< tt));
-      too_many = option_map_none TooMany (too_many_of (plan_in d)) (stands d e 4 (lit< tt));
-      areas = where_none (has_areas (plan_in d)) BadCsa (stands d e 5 (lit< tt));
-      vectors = where_none (has_vectors (plan_in d)) BadVector (stands d e 6 (lit< tt));
+      too_many = option_map_none TooMany (first_oversized_array (plan_in d)) (stands d e 4 (lit< tt));
+      areas = where_none (has_valid_areas (plan_in d)) BadCsa (stands d e 5 (lit< tt));
+      vectors = where_none (has_even_vectors (plan_in d)) BadVector (stands d e 6 (lit< tt));
       overlap = stands d e 7 (lit< tt);
     }
 
 -- the tests of a document's values, one by one
-pub few_ranges : (p : PlanData) → too_many_of p ≡ None → (are_ranges_few p.rom ≡ true) × (are_ranges_few p.ram ≡ true) × (nat_le (length p.devices) 16 ≡ true) × (nat_le (length p.irqs) 32 ≡ true)
-unfolding too_many_of
+pub few_ranges : (p : PlanData) → first_oversized_array p ≡ None → (are_ranges_few p.rom ≡ true) × (are_ranges_few p.ram ≡ true) × (nat_le (length p.devices) 16 ≡ true) × (nat_le (length p.irqs) 32 ≡ true)
+unfolding first_oversized_array
 few_ranges p e = (
-  key_none (are_ranges_few p.rom) 1 (first_some_none (passed_limits p) 0 e (lit< tt)),
-  key_none (are_ranges_few p.ram) 4 (first_some_none (passed_limits p) 1 e (lit< tt)),
-  key_none (nat_le (length p.devices) 16) 7 (first_some_none (passed_limits p) 2 e (lit< tt)),
-  key_none (nat_le (length p.irqs) 32) 20 (first_some_none (passed_limits p) 3 e (lit< tt)),
+  key_none (are_ranges_few p.rom) 1 (first_some_none (exceeded_limits p) 0 e (lit< tt)),
+  key_none (are_ranges_few p.ram) 4 (first_some_none (exceeded_limits p) 1 e (lit< tt)),
+  key_none (nat_le (length p.devices) 16) 7 (first_some_none (exceeded_limits p) 2 e (lit< tt)),
+  key_none (nat_le (length p.irqs) 32) 20 (first_some_none (exceeded_limits p) 3 e (lit< tt)),
 )
 
 few_of : (rs : List Range) → are_ranges_few rs ≡ true → length rs ≤ 16
 few_of rs e = leb-true _ _ (and_parts (nat_le (length rs) 16) _ e).0
 
-pub are_areas_parts : (at areas reserve : ℕ) → are_areas at areas reserve ≡ true → AreasHold at areas reserve
+pub are_areas_parts : (at areas reserve : ℕ) → are_valid_areas at areas reserve ≡ true → AreasHold at areas reserve
 are_areas_parts at areas reserve e =
     let fit = and_parts _ (nat_le (at % 2 ^ 22 + 64 * areas) (2 ^ 22)) e in
     let not_zero = and_parts _ (nat_lt 0 at) fit.0 in
@@ -78,8 +78,8 @@ are_areas_parts at areas reserve e =
       fit = leb-true _ _ fit.1;
     }
 
-pub few_arrays : (d : Data) → too_many_of (plan_in d) ≡ None → has_areas (plan_in d) ≡ true → HasShortPlanArrays d
-unfolding plan_in has_areas
+pub few_arrays : (d : Data) → first_oversized_array (plan_in d) ≡ None → has_valid_areas (plan_in d) ≡ true → HasShortPlanArrays d
+unfolding plan_in has_valid_areas
 few_arrays d many areas =
     let few = few_ranges (plan_in d) many in
     let rom = few_of (map plan_range_of (plan_objects_of Rom d)) few.0 in

@@ -7,36 +7,36 @@ use Rattle.tcd_base.specs.declared.range.Range.{Range}
 use Rattle.tcd_base.specs.Ranges.{IsWithinRange, IsInOneRange}
 use Rattle.tcd_base.proofs.RangeLaws.{IsInOne-front}
 use Rattle.tcd_plan.specs.declared.plans.Device.{Device}
-use Rattle.tcd_plan.specs.PlanData.{PlanData, IsPlan, is_range, is_device, are_ranges_apart, are_all_ranges_apart, areas_range}
+use Rattle.tcd_plan.specs.PlanData.{PlanData, IsPlan, is_plan_range, is_plan_device, are_ranges_apart, are_all_ranges_apart, areas_range}
 use Rattle.tcd_plan.specs.MappedAddresses.{IsInAreas}
 
 -- ---- ranges of whole words
-pub range_parts : (r : Range) → is_range r ≡ true → (r.at % 4 ≡ 0) × (r.len % 4 ≡ 0) × (0 < r.len) × (r.at + r.len ≤ 2 ^ 32)
+pub range_parts : (r : Range) → is_plan_range r ≡ true → (r.at % 4 ≡ 0) × (r.len % 4 ≡ 0) × (0 < r.len) × (r.at + r.len ≤ 2 ^ 32)
 range_parts r h =
     let a = and_parts ((r.at % 4 == 0) && (r.len % 4 == 0) && nat_lt 0 r.len) (nat_le (r.at + r.len) (2 ^ 32)) h in
     let c = and_parts ((r.at % 4 == 0) && (r.len % 4 == 0)) (nat_lt 0 r.len) a.0 in
     let d = and_parts (r.at % 4 == 0) (r.len % 4 == 0) c.0 in
     (eqb-true _ _ d.0, eqb-true _ _ d.1, ltb-true 0 r.len c.1, leb-true (r.at + r.len) (2 ^ 32) a.1)
 
-pub is_range-from : (r : Range) → r.at % 4 ≡ 0 → r.len % 4 ≡ 0 → 0 < r.len → r.at + r.len ≤ 2 ^ 32 → is_range r ≡ true
+pub is_range-from : (r : Range) → r.at % 4 ≡ 0 → r.len % 4 ≡ 0 → 0 < r.len → r.at + r.len ≤ 2 ^ 32 → is_plan_range r ≡ true
 is_range-from r a l some fits = and_from _ _ (and_from _ _ (and_from _ _ (eq-eqb _ _ a) (eq-eqb _ _ l)) (lt-ltb 0 r.len some)) (le-leb (r.at + r.len) (2 ^ 32) fits)
 
 -- the ranges of peripherals
-pub device_ranges : (ds : List Device) → list_all is_device ds ≡ true → list_all is_range (map (λ (d : Device). d.range) ds) ≡ true
+pub device_ranges : (ds : List Device) → list_all is_plan_device ds ≡ true → list_all is_plan_range (map (λ (d : Device). d.range) ds) ≡ true
 device_ranges [] h = refl
 device_ranges (d ∷ ds) h =
-    let p = and_parts (is_device d) (list_all is_device ds) h in
-    let q = and_parts (is_range d.range && nat_le d.lo d.hi) (nat_lt d.hi (2 ^ 32)) p.0 in
-    and_from _ _ (and_parts (is_range d.range) (nat_le d.lo d.hi) q.0).0 (device_ranges ds p.1)
+    let p = and_parts (is_plan_device d) (list_all is_plan_device ds) h in
+    let q = and_parts (is_plan_range d.range && nat_le d.lo d.hi) (nat_lt d.hi (2 ^ 32)) p.0 in
+    and_from _ _ (and_parts (is_plan_range d.range) (nat_le d.lo d.hi) q.0).0 (device_ranges ds p.1)
 
 -- each range of the list has a byte
 abbrev pub HaveBytes : List Range → Type 0
 HaveBytes [] = Unit {0}
 HaveBytes (r ∷ rs) = (0 < r.len) × HaveBytes rs
 
-pub HaveBytes-ranges : (rs : List Range) → list_all is_range rs ≡ true → HaveBytes rs
+pub HaveBytes-ranges : (rs : List Range) → list_all is_plan_range rs ≡ true → HaveBytes rs
 HaveBytes-ranges [] h = tt
-HaveBytes-ranges (r ∷ rs) h = let p = and_parts (is_range r) (list_all is_range rs) h in ((range_parts r p.0).2, HaveBytes-ranges rs p.1)
+HaveBytes-ranges (r ∷ rs) h = let p = and_parts (is_plan_range r) (list_all is_plan_range rs) h in ((range_parts r p.0).2, HaveBytes-ranges rs p.1)
 
 pub HaveBytes-append : (rs ss : List Range) → HaveBytes rs → HaveBytes ss → HaveBytes (rs ++ ss)
 HaveBytes-append [] ss a b = b
@@ -44,7 +44,7 @@ HaveBytes-append (r ∷ rs) ss a b = (a.0, HaveBytes-append rs ss a.1 b)
 
 -- ---- ranges that share no byte
 -- addresses inside a range don't pass 2^32
-pub IsInOne-fits : (x n : ℕ) (rs : List Range) → list_all is_range rs ≡ true → IsInOneRange x n rs → x + n ≤ 2 ^ 32
+pub IsInOne-fits : (x n : ℕ) (rs : List Range) → list_all is_plan_range rs ≡ true → IsInOneRange x n rs → x + n ≤ 2 ^ 32
 IsInOne-fits x n [] all h = absurd h
 IsInOne-fits x n (r ∷ rs) all (inl h) = let fits = (range_parts r (and_parts _ _ all).0).3 in omega arith
 IsInOne-fits x n (r ∷ rs) all (inr h) = IsInOne-fits x n rs (and_parts _ _ all).1 h

@@ -8,8 +8,8 @@ use Rattle.tcd_base.specs.declared.range.Range.{Range}
 use Rattle.tcd_plan.specs.KeyRows.{KeyRow, holder_key, holders, key_rows}
 use Rattle.tcd_plan.specs.Objects.{plan_objects_of}
 use Rattle.tcd_plan.specs.KeyFaults.{has_unknown_key, is_key_value_bad, lacks_key, first_bad_key, first_key, first_missing_key, refused_key, first_unknown_key}
-use Rattle.tcd_plan.specs.PlanData.{PlanData, all_ranges, are_ranges_apart, are_ranges_few, key_unless, has_areas, has_vectors, too_many_of, overlap_from, plan_range_overlap}
-use Rattle.tcd_plan.specs.PlanReader.{HasText, plan_refusal, plan_in, refusal_if}
+use Rattle.tcd_plan.specs.PlanData.{PlanData, all_ranges, are_ranges_apart, are_ranges_few, key_unless, has_valid_areas, has_even_vectors, first_oversized_array, overlap_from, plan_range_overlap}
+use Rattle.tcd_plan.specs.PlanReader.{HasPrintedKey, plan_refusal, plan_in, refusal_if}
 use Rattle.tcd_plan.specs.JsonValues.{is_object}
 use Rattle.tcd_plan.specs.declared.plans.PlanErr.{PlanErr}
 use Rattle.tcd_plan.specs.declared.plans.PlanErr.TheVariants.{NotJson, Missing, Unknown, BadValue, TooMany, BadCsa, BadVector, Overlap}
@@ -65,45 +65,45 @@ unless_few : (b : Bool) (key : ℕ) → IsKey (refused_key key) → IfSome (key_
 unless_few true key h = tt
 unless_few false key h = h
 
-too_many-small : (p : PlanData) → IfSome (too_many_of p) IsKey
-unfolding too_many_of
+too_many-small : (p : PlanData) → IfSome (first_oversized_array p) IsKey
+unfolding first_oversized_array
 too_many-small p =
     either IsKey (key_unless (are_ranges_few p.rom) 1) _ (unless_few (are_ranges_few p.rom) 1 (lit< tt))
     (either IsKey (key_unless (are_ranges_few p.ram) 4) _ (unless_few (are_ranges_few p.ram) 4 (lit< tt))
     (either IsKey (key_unless (nat_le (length p.devices) 16) 7) _ (unless_few (nat_le (length p.devices) 16) 7 (lit< tt))
     (either IsKey (key_unless (nat_le (length p.irqs) 32) 20) None (unless_few (nat_le (length p.irqs) 32) 20 (lit< tt)) tt)))
 
-wrapped : (err : PlanKey → PlanErr) (o : Option PlanKey) → ((key : PlanKey) → IsKey key → HasText (err key)) → IfSome o IsKey → IfSome (option_map err o) HasText
+wrapped : (err : PlanKey → PlanErr) (o : Option PlanKey) → ((key : PlanKey) → IsKey key → HasPrintedKey (err key)) → IfSome o IsKey → IfSome (option_map err o) HasPrintedKey
 wrapped err None tells h = tt
 wrapped err (Some key) tells h = tells key h
 
-stated : (b : Bool) (err : PlanErr) → HasText err → IfSome (refusal_if b err) HasText
+stated : (b : Bool) (err : PlanErr) → HasPrintedKey err → IfSome (refusal_if b err) HasPrintedKey
 stated true err h = h
 stated false err h = tt
 
-paired : (i : ℕ) (o : Option ℕ) (rest : Option PlanErr) → IfSome rest HasText → IfSome (option_map_or (λ k. Some (Overlap i (i + 1 + k))) o rest) HasText
+paired : (i : ℕ) (o : Option ℕ) (rest : Option PlanErr) → IfSome rest HasPrintedKey → IfSome (option_map_or (λ k. Some (Overlap i (i + 1 + k))) o rest) HasPrintedKey
 paired i None rest h = h
 paired i (Some k) rest h = tt
 
-overlap-text : (i : ℕ) (rs : List Range) → IfSome (overlap_from i rs) HasText
+overlap-text : (i : ℕ) (rs : List Range) → IfSome (overlap_from i rs) HasPrintedKey
 overlap-text i [] = tt
 overlap-text i (r ∷ rs) = paired i (position (λ s. not (are_ranges_apart r s)) rs) (overlap_from (i + 1) rs) (overlap-text (i + 1) rs)
 
-overlap_of-text : (p : PlanData) → IfSome (plan_range_overlap p) HasText
+overlap_of-text : (p : PlanData) → IfSome (plan_range_overlap p) HasPrintedKey
 unfolding plan_range_overlap
 overlap_of-text p = overlap-text 0 (all_ranges p)
 
-pub refusal_of-text : (d : Data) → IfSome (plan_refusal d) HasText
+pub refusal_of-text : (d : Data) → IfSome (plan_refusal d) HasPrintedKey
 unfolding plan_refusal
 refusal_of-text d =
-    either HasText (refusal_if (not (is_object d)) NotJson) _ (stated _ NotJson tt)
-    (either HasText (option_map Missing (first_missing_key d)) _ (wrapped Missing _ (λ key h. h) (missing-small d))
-    (either HasText (option_map Unknown (first_unknown_key d)) _ (wrapped Unknown _ (λ key h. h) (unknown-small d))
-    (either HasText (option_map BadValue (first_bad_key d)) _ (wrapped BadValue _ (λ key h. h) (bad_value-small d))
-    (either HasText (option_map TooMany (too_many_of (plan_in d))) _ (wrapped TooMany _ (λ key h. h) (too_many-small (plan_in d)))
-    (either HasText (refusal_if (not (has_areas (plan_in d))) BadCsa) _ (stated _ BadCsa tt)
-    (either HasText (refusal_if (not (has_vectors (plan_in d))) BadVector) _ (stated _ BadVector tt)
-    (either HasText (plan_range_overlap (plan_in d)) None (overlap_of-text (plan_in d)) tt)))))))
+    either HasPrintedKey (refusal_if (not (is_object d)) NotJson) _ (stated _ NotJson tt)
+    (either HasPrintedKey (option_map Missing (first_missing_key d)) _ (wrapped Missing _ (λ key h. h) (missing-small d))
+    (either HasPrintedKey (option_map Unknown (first_unknown_key d)) _ (wrapped Unknown _ (λ key h. h) (unknown-small d))
+    (either HasPrintedKey (option_map BadValue (first_bad_key d)) _ (wrapped BadValue _ (λ key h. h) (bad_value-small d))
+    (either HasPrintedKey (option_map TooMany (first_oversized_array (plan_in d))) _ (wrapped TooMany _ (λ key h. h) (too_many-small (plan_in d)))
+    (either HasPrintedKey (refusal_if (not (has_valid_areas (plan_in d))) BadCsa) _ (stated _ BadCsa tt)
+    (either HasPrintedKey (refusal_if (not (has_even_vectors (plan_in d))) BadVector) _ (stated _ BadVector tt)
+    (either HasPrintedKey (plan_range_overlap (plan_in d)) None (overlap_of-text (plan_in d)) tt)))))))
 
-pub refused-text : (d : Data) (err : PlanErr) → plan_refusal d ≡ Some err → HasText err
-refused-text d err e = let P : Option PlanErr → Type 0 = λ o. IfSome o HasText in subst P e (refusal_of-text d)
+pub refused-text : (d : Data) (err : PlanErr) → plan_refusal d ≡ Some err → HasPrintedKey err
+refused-text d err e = let P : Option PlanErr → Type 0 = λ o. IfSome o HasPrintedKey in subst P e (refusal_of-text d)

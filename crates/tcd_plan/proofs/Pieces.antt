@@ -6,33 +6,33 @@ use Rattle.std.proofs.lemmas.Bool.{and_from, and_parts, ltb-true, lt-ltb}
 use Rattle.std.proofs.lemmas.List.Elements.{All-nil, All-cons}
 use Rattle.serde_json.specs.Data.{Data}
 use Rattle.tcd_plan.specs.ValueForms.{are_irqs_above, has_value_form, is_range_len, is_present_and_passing}
-use Rattle.tcd_plan.specs.PlanData.{is_device, is_range}
+use Rattle.tcd_plan.specs.PlanData.{is_plan_device, is_plan_range}
 use Rattle.tcd_plan.specs.PlanReader.{plan_device_of, irq_of, plan_range_of}
 use Rattle.tcd_plan.specs.JsonValues.{is_object, json_number_at, json_number_of, json_word_at}
 use Rattle.tcd_plan.specs.declared.key_table.ValueForm.TheVariants.{At, Len, Hi}
 use Rattle.tcd_plan.proofs.Small.{passes-unwrap_or}
 use Rattle.tcd_plan.proofs.Words.{word_at-lt}
 
-range_is : (o : Data) → has_value_form At (codes "at") o ≡ true → has_value_form Len (codes "len") o ≡ true → is_range (plan_range_of o) ≡ true
+range_is : (o : Data) → has_value_form At (codes "at") o ≡ true → has_value_form Len (codes "len") o ≡ true → is_plan_range (plan_range_of o) ≡ true
 range_is o at len =
     let whole_at = passes-unwrap_or (λ n. n % 4 == 0) (json_number_at (codes "at") o) 0 at in
     let fits = and_parts (nat_lt 0 (json_word_at (codes "len") o) && (json_word_at (codes "len") o % 4 == 0)) _ (passes-unwrap_or (is_range_len (json_word_at (codes "at") o)) (json_number_at (codes "len") o) 0 len) in
     let whole_len = and_parts (nat_lt 0 (json_word_at (codes "len") o)) (json_word_at (codes "len") o % 4 == 0) fits.0 in
     and_from _ _ (and_from _ _ (and_from _ _ whole_at whole_len.1) whole_len.0) fits.1
 
-pub ranges_are : (os : List Data) → list_all (has_value_form At (codes "at")) os ≡ true → list_all (has_value_form Len (codes "len")) os ≡ true → list_all is_range (map plan_range_of os) ≡ true
+pub ranges_are : (os : List Data) → list_all (has_value_form At (codes "at")) os ≡ true → list_all (has_value_form Len (codes "len")) os ≡ true → list_all is_plan_range (map plan_range_of os) ≡ true
 ranges_are [] at len = refl
 ranges_are (o ∷ os) at len =
     let here_at = and_parts (has_value_form At (codes "at") o) _ at in
     let here_len = and_parts (has_value_form Len (codes "len") o) _ len in
     and_from _ _ (range_is o here_at.0 here_len.0) (ranges_are os here_at.1 here_len.1)
 
-device_is : (o : Data) → has_value_form At (codes "at") o ≡ true → has_value_form Len (codes "len") o ≡ true → has_value_form Hi (codes "hi") o ≡ true → is_device (plan_device_of o) ≡ true
+device_is : (o : Data) → has_value_form At (codes "at") o ≡ true → has_value_form Len (codes "len") o ≡ true → has_value_form Hi (codes "hi") o ≡ true → is_plan_device (plan_device_of o) ≡ true
 device_is o at len hi =
     let above = passes-unwrap_or (nat_le (json_word_at (codes "lo") o)) (json_number_at (codes "hi") o) 0 hi in
     and_from _ _ (and_from _ _ (range_is o at len) above) (lt-ltb _ _ (word_at-lt (codes "hi") o))
 
-pub devices_are : (os : List Data) → list_all (has_value_form At (codes "at")) os ≡ true → list_all (has_value_form Len (codes "len")) os ≡ true → list_all (has_value_form Hi (codes "hi")) os ≡ true → list_all is_device (map plan_device_of os) ≡ true
+pub devices_are : (os : List Data) → list_all (has_value_form At (codes "at")) os ≡ true → list_all (has_value_form Len (codes "len")) os ≡ true → list_all (has_value_form Hi (codes "hi")) os ≡ true → list_all is_plan_device (map plan_device_of os) ≡ true
 devices_are [] at len hi = refl
 devices_are (o ∷ os) at len hi =
     let here_at = and_parts (has_value_form At (codes "at") o) _ at in

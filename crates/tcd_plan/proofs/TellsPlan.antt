@@ -10,7 +10,7 @@ use Rattle.tcd_base.specs.declared.range.Range.{Range}
 use Rattle.tcd_plan.specs.Objects.{plan_objects_of}
 use Rattle.tcd_plan.specs.JsonValues.{json_elements_of, json_elements_at, json_word_at, json_word_in}
 use Rattle.tcd_plan.specs.ValueForms.{are_irqs_above, has_value_form}
-use Rattle.tcd_plan.specs.PlanData.{AreAreas, ArePlanIrqs, AreRanges, ArePlanWords, IsPlan, PlanData, are_all_ranges_apart, all_ranges, are_ranges_apart, are_ranges_few, has_areas, has_vectors, overlap_from, plan_range_overlap}
+use Rattle.tcd_plan.specs.PlanData.{ArePlanAreas, ArePlanIrqs, ArePlanRanges, ArePlanWords, IsPlan, PlanData, are_all_ranges_apart, all_ranges, are_ranges_apart, are_ranges_few, has_valid_areas, has_even_vectors, overlap_from, plan_range_overlap}
 use Rattle.tcd_plan.specs.PlanReader.{plan_range_of, plan_refusal, plan_in}
 use Rattle.tcd_plan.specs.KeyFaults.{first_bad_key}
 use Rattle.tcd_plan.specs.declared.plans.PlanErr.TheVariants.{Overlap}
@@ -39,7 +39,7 @@ rom_some d e = some_objects (json_elements_at (codes "rom") d) (alone (has_value
 sum_of : (rs : List Range) → are_ranges_few rs ≡ true → sum_by (λ r. r.len) rs ≤ 2 ^ 22
 sum_of rs e = leb-true _ _ (and_parts (nat_le (length rs) 16) _ e).1
 
-are_ranges : (d : Data) → IsAccepted d → AreRanges (plan_in d)
+are_ranges : (d : Data) → IsAccepted d → ArePlanRanges (plan_in d)
 unfolding plan_in
 are_ranges d a =
     let few = few_ranges (plan_in d) a.too_many in
@@ -56,8 +56,8 @@ are_ranges d a =
       small_ram = sum_of (map plan_range_of (plan_objects_of Ram d)) few.1;
     }
 
-are_areas : (d : Data) → IsAccepted d → AreAreas (plan_in d)
-unfolding plan_in has_areas
+are_areas : (d : Data) → IsAccepted d → ArePlanAreas (plan_in d)
+unfolding plan_in has_valid_areas
 are_areas d a =
     let hold = are_areas_parts (json_word_in (codes "csa") (codes "at") d) (json_word_in (codes "csa") (codes "areas") d) (json_word_in (codes "csa") (codes "reserve") d) a.areas in
     record {
@@ -77,7 +77,7 @@ words_small d [] = refl
 words_small d (name ∷ names) = and_from _ _ (lt-ltb _ _ (word_in-lt (codes "globals") name d)) (words_small d names)
 
 are_words : (d : Data) → IsAccepted d → ArePlanWords (plan_in d)
-unfolding plan_in has_vectors
+unfolding plan_in has_even_vectors
 are_words d a =
     let even = and_parts (json_word_at (codes "biv") d % 2 == 0) (json_word_at (codes "btv") d % 2 == 0) a.vectors in
     record {

@@ -8,9 +8,9 @@ use Rattle.std.proofs.lemmas.List.Folds.{list_all-map}
 use Rattle.serde_json.specs.Data.{Data, Members}
 use Rattle.serde_json.specs.View.{view, items_view, members_view}
 use Rattle.serde_json.specs.declared.value.Value.{Value}
-use Rattle.tcd_plan.specs.JsonValues.{list_of, json_member_names}
+use Rattle.tcd_plan.specs.JsonValues.{json_array_elements, json_member_names}
 
-pub list_of_items : (values : List Value) → list_of (items_view values) ≡ map view values
+pub list_of_items : (values : List Value) → json_array_elements (items_view values) ≡ map view values
 list_of_items [] = refl
 list_of_items (v ∷ values) = ap (λ ds. view v ∷ ds) (list_of_items values)
 

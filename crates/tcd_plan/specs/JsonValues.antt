@@ -9,9 +9,9 @@ use Rattle.serde_json.specs.Data.{Data, null, boolean, number, string, array, ob
 use Rattle.serde_json.specs.Find.{get, as_array, as_object, as_str, as_u64}
 
 -- the elements of an array
-abbrev pub list_of : Items → List Data
-list_of no_items = []
-list_of (item d ds) = d ∷ list_of ds
+abbrev pub json_array_elements : Items → List Data
+json_array_elements no_items = []
+json_array_elements (item d ds) = d ∷ json_array_elements ds
 
 -- the keys of the members of an object in a document, in order
 abbrev pub json_member_names : Members → List (List ℕ)
@@ -28,7 +28,7 @@ json_names_in d = option_map_or json_member_names (as_object d) []
 
 -- the elements of the array at a key
 abbrev pub json_elements_at : List ℕ → Data → Option (List Data)
-json_elements_at name d = option_map list_of (option_and_then as_array (get name d))
+json_elements_at name d = option_map json_array_elements (option_and_then as_array (get name d))
 
 -- the value is this text
 abbrev pub is_json_text : List ℕ → Data → Bool

@@ -77,8 +77,8 @@ holder_key Globals = 26
 
 -- a row of the table of keys has the printed key of its number: its name, with the key of its
 -- objects and a dot before it unless it is in the root object
-abbrev pub is_printed : KeyRow → Bool
-is_printed r = bytes_eq (key_text_of r.key) (if holder_key r.holder == 0 then r.name else key_text_of (holder_key r.holder) ++ codes "." ++ r.name)
+abbrev pub has_matching_key_text : KeyRow → Bool
+has_matching_key_text r = bytes_eq (key_text_of r.key) (if holder_key r.holder == 0 then r.name else key_text_of (holder_key r.holder) ++ codes "." ++ r.name)
 
 -- a row is of this key of the object
 abbrev pub is_row_of_key : Holder → List ℕ → KeyRow → Bool

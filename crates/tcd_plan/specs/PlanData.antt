@@ -59,13 +59,13 @@ plan_data p = record {
 
 -- what holds of each rom, ram or peripheral range in every plan's data: whole words, at least one,
 -- and an end at 2^32 or below
-abbrev pub is_range : Range → Bool
-is_range r = (r.at % 4 == 0) && (r.len % 4 == 0) && nat_lt 0 r.len && nat_le (r.at + r.len) (2 ^ 32)
+abbrev pub is_plan_range : Range → Bool
+is_plan_range r = (r.at % 4 == 0) && (r.len % 4 == 0) && nat_lt 0 r.len && nat_le (r.at + r.len) (2 ^ 32)
 
 -- what holds of each peripheral in every plan's data: its range is valid, and the bounds of the
 -- words that it answers are in order and below 2^32
-abbrev pub is_device : Device → Bool
-is_device d = is_range d.range && nat_le d.lo d.hi && nat_lt d.hi (2 ^ 32)
+abbrev pub is_plan_device : Device → Bool
+is_plan_device d = is_plan_range d.range && nat_le d.lo d.hi && nat_lt d.hi (2 ^ 32)
 
 -- in a plan's data, the save areas of 64 bytes each, as one range beside rom, ram and peripherals
 abbrev pub areas_range : PlanData → Range
@@ -87,20 +87,20 @@ are_all_ranges_apart (r ∷ rs) = list_all (are_ranges_apart r) rs && are_all_ra
 
 -- what holds of every plan's rom, ram and peripherals: how many they are, how large, and that each
 -- is a range
-pub record AreRanges (p : PlanData) : Type 0 where
+pub record ArePlanRanges (p : PlanData) : Type 0 where
   pub some : 1 ≤ length p.rom
   pub few_rom : length p.rom ≤ 16
   pub few_ram : length p.ram ≤ 16
   pub few_devices : length p.devices ≤ 16
-  pub rom : IsTrue (list_all is_range p.rom)
-  pub ram : IsTrue (list_all is_range p.ram)
-  pub devices : IsTrue (list_all is_device p.devices)
+  pub rom : IsTrue (list_all is_plan_range p.rom)
+  pub ram : IsTrue (list_all is_plan_range p.ram)
+  pub devices : IsTrue (list_all is_plan_device p.devices)
   pub small_rom : sum_by (λ r. r.len) p.rom ≤ 2 ^ 22
   pub small_ram : sum_by (λ r. r.len) p.ram ≤ 2 ^ 22
 
 -- the limits of the save areas in every plan's data: 1 to 4096 at a multiple of 64, in a segment of
 -- 2^22 bytes, first link not 0, 1 or more of them in reserve
-pub record AreAreas (p : PlanData) : Type 0 where
+pub record ArePlanAreas (p : PlanData) : Type 0 where
   pub some : 1 ≤ p.areas
   pub few : p.areas ≤ 4096
   pub reserved : 1 ≤ p.reserve
@@ -132,15 +132,15 @@ pub record ArePlanIrqs (irqs : List ℕ) : Type 0 where
 -- what holds of every plan as plain data: its ranges, save areas, start words and interrupts are
 -- within their limits, and no two of its ranges share a byte
 pub record IsPlan (p : PlanData) : Type 0 where
-  pub ranges : AreRanges p
-  pub areas : AreAreas p
+  pub ranges : ArePlanRanges p
+  pub areas : ArePlanAreas p
   pub words : ArePlanWords p
   pub irqs : ArePlanIrqs p.irqs
   pub apart : IsTrue (are_all_ranges_apart (all_ranges p))
 
 -- the interrupt is one of those in a plan's data
-abbrev pub is_source : PlanData → ℕ → Bool
-is_source plan irq = list_any (λ q. q == irq) plan.irqs
+abbrev pub is_plan_irq : PlanData → ℕ → Bool
+is_plan_irq plan irq = list_any (λ q. q == irq) plan.irqs
 
 -- the word that a plan's data has for the start of A0, A1, A8 or A9, by the register's number
 abbrev pub global_of : PlanData → ℕ → ℕ
@@ -161,8 +161,8 @@ key_unless few key = if few then None else Some (refused_key key)
 
 -- the limits that a plan's data passes: the keys of the arrays with too many elements, or with too
 -- many bytes in their ranges
-abbrev pub passed_limits : PlanData → List (Option PlanKey)
-passed_limits p =
+abbrev pub exceeded_limits : PlanData → List (Option PlanKey)
+exceeded_limits p =
     key_unless (are_ranges_few p.rom) 1 ∷
     key_unless (are_ranges_few p.ram) 4 ∷
     key_unless (nat_le (length p.devices) 16) 7 ∷
@@ -170,21 +170,21 @@ passed_limits p =
     []
 
 -- the first limit that a plan's data passes, if there is one
-unfoldable pub too_many_of : PlanData → Option PlanKey
-too_many_of p = first_given_refusal (passed_limits p)
+unfoldable pub first_oversized_array : PlanData → Option PlanKey
+first_oversized_array p = first_given_refusal (exceeded_limits p)
 
 -- what holds of every plan's save areas: 1 to 4096 from `at` on in a segment of 2^22 bytes, first
 -- link not 0, 1 or more in reserve (TriCore 1 Architecture Manual V1.3, volume 1, contexts)
-abbrev pub are_areas : ℕ → ℕ → ℕ → Bool
-are_areas at areas reserve = nat_le 1 areas && nat_le areas 4096 && nat_le 1 reserve && nat_le reserve areas && (at % 64 == 0) && (at / 2 ^ 22 % 2 ^ 6 == 0) && nat_lt 0 at && nat_le (at % 2 ^ 22 + 64 * areas) (2 ^ 22)
+abbrev pub are_valid_areas : ℕ → ℕ → ℕ → Bool
+are_valid_areas at areas reserve = nat_le 1 areas && nat_le areas 4096 && nat_le 1 reserve && nat_le reserve areas && (at % 64 == 0) && (at / 2 ^ 22 % 2 ^ 6 == 0) && nat_lt 0 at && nat_le (at % 2 ^ 22 + 64 * areas) (2 ^ 22)
 
 -- what holds of every plan's data: the save areas are within their limits
-unfoldable pub has_areas : PlanData → Bool
-has_areas p = are_areas p.csa_at p.areas p.reserve
+unfoldable pub has_valid_areas : PlanData → Bool
+has_valid_areas p = are_valid_areas p.csa_at p.areas p.reserve
 
 -- what holds of every plan's data: BIV and BTV are even (manual, volume 1, interrupts and traps)
-unfoldable pub has_vectors : PlanData → Bool
-has_vectors p = (p.biv % 2 == 0) && (p.btv % 2 == 0)
+unfoldable pub has_even_vectors : PlanData → Bool
+has_even_vectors p = (p.biv % 2 == 0) && (p.btv % 2 == 0)
 
 -- the first pair in a list of a plan's ranges that shares a byte; the ranges are numbered from i on
 abbrev pub overlap_from : ℕ → List Range → Option PlanErr

@@ -13,7 +13,7 @@ use Rattle.tcd_plan.specs.Objects.{plan_objects_of}
 use Rattle.tcd_plan.specs.JsonValues.{json_elements_of, is_object, is_json_text, json_number_of, json_word_at, json_word_in}
 use Rattle.tcd_plan.specs.KeyFaults.{first_bad_key, first_missing_key, first_unknown_key}
 use Rattle.tcd_plan.specs.ValueForms.{is_present_and_passing}
-use Rattle.tcd_plan.specs.PlanData.{PlanData, first_given_refusal, has_areas, has_vectors, too_many_of, plan_range_overlap}
+use Rattle.tcd_plan.specs.PlanData.{PlanData, first_given_refusal, has_valid_areas, has_even_vectors, first_oversized_array, plan_range_overlap}
 use Rattle.tcd_plan.specs.declared.plans.Device.{Device}
 use Rattle.tcd_plan.specs.declared.plans.PlanErr.{PlanErr}
 use Rattle.tcd_plan.specs.declared.plans.PlanErr.TheVariants.{NotJson, Missing, Unknown, BadValue, TooMany, BadCsa, BadVector, Overlap, NoMemory}
@@ -74,9 +74,9 @@ refusals d =
     option_map Missing (first_missing_key d) ∷
     option_map Unknown (first_unknown_key d) ∷
     option_map BadValue (first_bad_key d) ∷
-    option_map TooMany (too_many_of (plan_in d)) ∷
-    refusal_if (not (has_areas (plan_in d))) BadCsa ∷
-    refusal_if (not (has_vectors (plan_in d))) BadVector ∷
+    option_map TooMany (first_oversized_array (plan_in d)) ∷
+    refusal_if (not (has_valid_areas (plan_in d))) BadCsa ∷
+    refusal_if (not (has_even_vectors (plan_in d))) BadVector ∷
     plan_range_overlap (plan_in d) ∷
     []
 
@@ -107,12 +107,12 @@ AnswersPlan bytes (Err (Overlap i j)) = GivesPlan bytes (Err (Overlap i j))
 AnswersPlan bytes (Ok p) = GivesPlan bytes (Ok p)
 
 -- a refusal by the reader of plans names no key, or a key that has a printed text
-abbrev pub HasText : PlanErr → Type 0
-HasText (Missing key) = key.0 < length key_texts
-HasText (Unknown key) = key.0 < length key_texts
-HasText (BadValue key) = key.0 < length key_texts
-HasText (TooMany key) = key.0 < length key_texts
-HasText _ = Unit {0}
+abbrev pub HasPrintedKey : PlanErr → Type 0
+HasPrintedKey (Missing key) = key.0 < length key_texts
+HasPrintedKey (Unknown key) = key.0 < length key_texts
+HasPrintedKey (BadValue key) = key.0 < length key_texts
+HasPrintedKey (TooMany key) = key.0 < length key_texts
+HasPrintedKey _ = Unit {0}
 
 -- no array of a plan's document is too long, and there are not too many save areas
 pub record HasShortPlanArrays (d : Data) : Type 0 where

@@ -18,12 +18,12 @@ are_irqs_above low [] = true
 are_irqs_above low (d ∷ ds) = is_present_and_passing (λ q. nat_lt low q && nat_lt q 256 && are_irqs_above q ds) (json_number_of d)
 
 -- the text of a trap that a plan may state
-abbrev pub is_trap : Data → Bool
-is_trap d = is_json_text (codes "sys") d || is_json_text (codes "aln") d
+abbrev pub is_trap_text : Data → Bool
+is_trap_text d = is_json_text (codes "sys") d || is_json_text (codes "aln") d
 
 -- a list of `sys` and `aln` without repeats
 abbrev pub are_traps : List Data → Bool
-are_traps ds = list_all is_trap ds && nat_le (count_by (is_json_text (codes "sys")) ds) 1 && nat_le (count_by (is_json_text (codes "aln")) ds) 1
+are_traps ds = list_all is_trap_text ds && nat_le (count_by (is_json_text (codes "sys")) ds) 1 && nat_le (count_by (is_json_text (codes "aln")) ds) 1
 
 -- the form of the value of a plan's key `len`: a multiple of 4, not 0, and with `at` at most 2^32
 abbrev pub is_range_len : ℕ → ℕ → Bool

@@ -1,7 +1,7 @@
 // The table of keys: the object that each key is in, and the form of its value.
 ghost use Rattle.std.specs.Prelude.{◌≡◌, map, true};
 ghost use Rattle.std.specs.List.{list_all, range_with_len};
-ghost use Rattle.tcd_plan.specs.KeyRows.{holder_key, holders, is_printed, key_rows, row_of, is_row_of_key};
+ghost use Rattle.tcd_plan.specs.KeyRows.{holder_key, holders, has_matching_key_text, key_rows, row_of, is_row_of_key};
 
 /// The number of the key `root`, which is the whole document.
 const ROOT: u8 = 0;
@@ -281,7 +281,7 @@ static HOLDERS: [Holder; 7] = [
 pub fn key_table_rows() -> &'static [Row]
     ensures rows { map row_of result.now ≡ key_rows }
     ensures numbers { map (λ r. r.key) key_rows ≡ range_with_len 1 31 }
-    ensures texts { list_all is_printed key_rows ≡ true }
+    ensures texts { list_all has_matching_key_text key_rows ≡ true }
 {
     &ROWS
 }

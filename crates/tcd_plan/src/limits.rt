@@ -1,7 +1,7 @@
 // Refusals by values: arrays that are too long, save areas, vectors, and ranges that overlap.
 ghost use Rattle.std.specs.Prelude.{◌≡◌, ◌<◌, ◌≤◌, ◌+◌, IfSome, None, length, map, not, position, sum_by};
 ghost use Rattle.serde_json.specs.View.{view};
-ghost use Rattle.tcd_plan.specs.PlanData.{areas_range, are_ranges_apart, are_areas, are_ranges_few, has_areas, has_vectors, too_many_of, overlap_from, plan_range_overlap};
+ghost use Rattle.tcd_plan.specs.PlanData.{areas_range, are_ranges_apart, are_valid_areas, are_ranges_few, has_valid_areas, has_even_vectors, first_oversized_array, overlap_from, plan_range_overlap};
 ghost use Rattle.tcd_plan.specs.PlanReader.{HasShortPlanArrays, plan_range_of, plan_in};
 
 use crate::json_values::{json_elements_of, json_word_at, json_word_in};
@@ -14,9 +14,9 @@ use serde_json::Value;
 use tcd_base::Range;
 
 /// Returns the first array with too many elements, or with too many bytes in its ranges.
-#[tactic(auto, unfolding(crate::specs::PlanReader::plan_in, crate::specs::PlanData::too_many_of))]
+#[tactic(auto, unfolding(crate::specs::PlanReader::plan_in, crate::specs::PlanData::first_oversized_array))]
 pub fn first_oversized_array(value: &Value) -> Option<PlanKey>
-    ensures { result ≡ too_many_of (plan_in (view value.now)) }
+    ensures { result ≡ first_oversized_array (plan_in (view value.now)) }
 {
     if !are_ranges_few(plan_objects_of(Holder::Rom, value)) {
         return Some(PlanKey(ROM));
@@ -34,9 +34,9 @@ pub fn first_oversized_array(value: &Value) -> Option<PlanKey>
 }
 
 /// Returns true if the save areas are within their limits.
-#[tactic(auto, unfolding(crate::specs::PlanReader::plan_in, crate::specs::PlanData::has_areas))]
+#[tactic(auto, unfolding(crate::specs::PlanReader::plan_in, crate::specs::PlanData::has_valid_areas))]
 pub fn has_valid_areas(value: &Value) -> bool
-    ensures { result ≡ has_areas (plan_in (view value.now)) }
+    ensures { result ≡ has_valid_areas (plan_in (view value.now)) }
 {
     are_valid_areas(
         json_word_in(value, "csa", "at"),
@@ -46,9 +46,9 @@ pub fn has_valid_areas(value: &Value) -> bool
 }
 
 /// Returns true if BIV and BTV are even.
-#[tactic(auto, unfolding(crate::specs::PlanReader::plan_in, crate::specs::PlanData::has_vectors))]
+#[tactic(auto, unfolding(crate::specs::PlanReader::plan_in, crate::specs::PlanData::has_even_vectors))]
 pub fn has_even_vectors(value: &Value) -> bool
-    ensures { result ≡ has_vectors (plan_in (view value.now)) }
+    ensures { result ≡ has_even_vectors (plan_in (view value.now)) }
 {
     json_word_at(value, "biv") % 2 == 0 && json_word_at(value, "btv") % 2 == 0
 }
@@ -90,7 +90,7 @@ fn total_len(objects: &[Value]) -> u64
 /// Returns true if a plan's save areas are within their limits: 1 to 4096 from `at` on, whole, in a
 /// segment of 2^22 bytes, first link not 0, 1 or more of them in reserve.
 fn are_valid_areas(at: u32, areas: u32, reserve: u32) -> bool
-    ensures { result ≡ are_areas at areas reserve }
+    ensures { result ≡ are_valid_areas at areas reserve }
 {
     1 <= areas
         && areas <= 4096

@@ -3,7 +3,7 @@ ghost use Rattle.std.specs.Prelude.{◌≡◌, [], map, count_by, option_map};
 ghost use Rattle.std.specs.List.{list_all};
 ghost use Rattle.serde_json.specs.View.{view};
 ghost use Rattle.tcd_plan.specs.Objects.{plan_objects_at, plan_object_at, plan_objects_of};
-ghost use Rattle.tcd_plan.specs.ValueForms.{are_traps, are_irqs_above, has_value_form, is_core_text, is_range_len, is_trap};
+ghost use Rattle.tcd_plan.specs.ValueForms.{are_traps, are_irqs_above, has_value_form, is_core_text, is_range_len, is_trap_text};
 ghost use Rattle.tcd_plan.specs.JsonValues.{is_object, is_json_text, json_number_of};
 
 use crate::json_values::{
@@ -128,7 +128,7 @@ fn is_core_text(value: Option<&Value>) -> bool
 
 /// Returns true if each element of `traps` is `sys` or `aln`.
 fn are_trap_texts(places: &[Value]) -> bool
-    ensures { result ≡ list_all is_trap (map view places.now) }
+    ensures { result ≡ list_all is_trap_text (map view places.now) }
 {
     places.iter().all(is_trap_text)
 }
@@ -145,7 +145,7 @@ fn count_json_texts(places: &[Value], text: &str) -> usize
 
 /// Returns true if an element of the value of `traps` has its form: `sys` or `aln`.
 fn is_trap_text(place: &Value) -> bool
-    ensures { result ≡ is_trap (view place.now) }
+    ensures { result ≡ is_trap_text (view place.now) }
 {
     is_json_text(place, "sys") || is_json_text(place, "aln")
 }

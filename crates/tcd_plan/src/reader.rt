@@ -2,7 +2,7 @@
 ghost use Rattle.std.specs.Prelude.{◌≡◌, ◌≤◌, ◌^◌, ◌⊎◌, IfErr, None, length};
 ghost use Rattle.serde_json.specs.Errors.{IsMemory};
 ghost use Rattle.serde_json.specs.View.{view};
-ghost use Rattle.tcd_plan.specs.PlanReader.{AnswersPlan, HasText, plan_of, plan_refusal, plan_in};
+ghost use Rattle.tcd_plan.specs.PlanReader.{AnswersPlan, HasPrintedKey, plan_of, plan_refusal, plan_in};
 
 use crate::json_values::{
     has_json_text, json_byte_in, json_elements_of, json_word_at, json_word_in,
@@ -21,7 +21,7 @@ impl Plan {
     pub fn read(alloc: Global, bytes: &[u8]) -> Result<Plan, PlanErr>
         requires { length bytes.now ≤ 2 ^ 30 }
         ensures answer { AnswersPlan bytes.now result }
-        ensures keys { IfErr result HasText }
+        ensures keys { IfErr result HasPrintedKey }
     {
         match Value::from_slice(alloc, bytes) {
             Ok(value) => plan_of(&value),
@@ -44,7 +44,7 @@ fn plan_read_error(e: &Error) -> PlanErr
 /// Returns the plan in a document, or the first refusal.
 fn plan_of(value: &Value) -> Result<Plan, PlanErr>
     ensures answer { result ≡ plan_of (view value.now) }
-    ensures keys { IfErr result HasText }
+    ensures keys { IfErr result HasPrintedKey }
 {
     match plan_refusal(value) {
         Some(err) => Err(err),

@@ -4,7 +4,7 @@ use Rattle.std.specs.Prelude.{IsSomeAnd}
 use Rattle.std.specs.FinMap.{get}
 use Rattle.tcd_base.specs.Files.{FileMap}
 use Rattle.tcd_reading.specs.Reports.{Report, IsReportStatus}
-use Rattle.tcd_reading.specs.Inputs.{FormSeen, HoldsInput, IsInputRefusal, long, bad, Reading, answer, input, each, ReadingSays, HoldsAsked}
+use Rattle.tcd_reading.specs.Inputs.{FormSeen, HoldsInput, IsInputRejection, long, bad, Reading, answer, input, each, ReadingSays, HoldsNeededInputs}
 use Rattle.tcd_reading.specs.declared.status.Status.{Status}
 use Rattle.tcd_reading.specs.declared.status.Status.TheVariants.{Done, Refused, BadInput, Fault, BadWords}
 
@@ -26,7 +26,7 @@ pub record IsLawful {A : Type 0} (form : FormSeen A) : Type 0 where
 pub one_value : {A : Type 0} (form : FormSeen A) (m : FileMap) (name : List ℕ) (x y : A) → IsLawful form → HoldsInput form (Some m) name x → HoldsInput form (Some m) name y → x ≡ y
 one_value form m name x y lawful h k = lawful.one k.0 x y (subst (λ (b : List ℕ). form.Is b x) (same_bytes (get m name) h.0 k.0 h.1 k.1) h.3) k.3
 
-pub never_both : {A : Type 0} (form : FormSeen A) (m : FileMap) (name text : List ℕ) (x : A) → IsLawful form → HoldsInput form (Some m) name x → IsInputRefusal form (Some m) name text → ⊥
+pub never_both : {A : Type 0} (form : FormSeen A) (m : FileMap) (name text : List ℕ) (x : A) → IsLawful form → HoldsInput form (Some m) name x → IsInputRejection form (Some m) name text → ⊥
 never_both form m name text x lawful h (long too is) = not_long form.limit (get m name) h.0 h.1 h.2 too
 never_both form m name text x lawful h (bad bytes reads within is) = lawful.apart bytes text x (subst (λ (b : List ℕ). form.Is b x) (same_bytes (get m name) h.0 bytes h.1 reads) h.3) is
 
@@ -85,7 +85,7 @@ said_done (input A form name next) held r d (inl h) undone = h.nothing
 said_done (input A form name next) held r d (inr h) undone = said_done (next h.0) held r (d.1 h.0) h.2 undone
 
 -- two reports on the same inputs have the same status
-pub said_one : (reading : Reading) (held : Option FileMap) (r q : Report) → IsDecided reading → HoldsAsked reading held → ReadingSays reading held r → ReadingSays reading held q → r.status ≡ q.status
+pub said_one : (reading : Reading) (held : Option FileMap) (r q : Report) → IsDecided reading → HoldsNeededInputs reading held → ReadingSays reading held r → ReadingSays reading held q → r.status ≡ q.status
 unfolding IsDecided
 said_one (answer P) held r q d holds a b = d.one r q a b
 said_one (input A form name next) None r q d holds a b = absurd holds.0

@@ -6,8 +6,8 @@ use Rattle.std.proofs.lemmas.List.{append-nil, length-append}
 use Rattle.std.proofs.lemmas.Option.{slice_get-map, slice_get-get_or}
 use Rattle.tcd_base.specs.Files.{FilesSeen, LeavesFiles}
 use Rattle.tcd_reading.specs.Reports.{Report}
-use Rattle.tcd_reading.specs.Inputs.{FormSeen, HoldsInput, IsInputRefusal, Reading, answer, input, each}
-use Rattle.tcd_reading.specs.Outcomes.{Outcome, IsToldOutcome, IsBadInputStop, HasFailedToRead, IsCommandOutcome}
+use Rattle.tcd_reading.specs.Inputs.{FormSeen, HoldsInput, IsInputRejection, Reading, answer, input, each}
+use Rattle.tcd_reading.specs.Outcomes.{Outcome, IsReportOutcome, IsBadInputStop, HasFailedToRead, IsCommandOutcome}
 use Rattle.tcd_reading.specs.declared.outcome.Stop.{Stop}
 use Rattle.tcd_reading.specs.declared.outcome.Stop.TheVariants as stop
 use Rattle.tcd_reading.proofs.Told.{Leads, leads_here, leads_read, leads_then, comes_stopped, comes_told, comes_none}
@@ -77,7 +77,7 @@ module _ (A : Type 0) (form : ℕ → FormSeen A) (names : List (List ℕ)) (P :
 
   -- the next one isn't there
   pub next_stops : (whole : Reading) (i : ℕ) (name : List ℕ) (xs : List A) (old mid new : FilesSeen) (s : Stop) (o : Outcome) → IsErrAnd o (λ x. x ≡ s) → slice_get names i ≡ Some name → Leads whole (rest_of i xs) old mid → LeavesFiles name mid new →
-      mid.faults ≤ new.faults → IsBadInputStop (IsInputRefusal (form i) mid.held name) (HasFailedToRead name mid new) s → IsCommandOutcome whole old new o
+      mid.faults ≤ new.faults → IsBadInputStop (IsInputRejection (form i) mid.held name) (HasFailedToRead name mid new) s → IsCommandOutcome whole old new o
   next_stops whole i name xs old mid new s o is at so_far leaves later stops =
       so_far.comes new o (subst (λ (r : Reading). IsCommandOutcome r mid new o) (sym (rest_at i name xs at)) (comes_stopped A (form i) name _ mid new s o is leaves later stops))
 
@@ -88,7 +88,7 @@ module _ (A : Type 0) (form : ℕ → FormSeen A) (names : List (List ℕ)) (P :
       so_far.comes new (Err stop.NoMemory) ((step i name xs (xs ++ x ∷ []) x mid new at leaves later holds refl).comes new (Err stop.NoMemory) (comes_none (rest_of (i + 1) (xs ++ x ∷ [])) new))
 
   -- all are read
-  pub all_read : (whole : Reading) (i : ℕ) (xs : List A) (old new : FilesSeen) (o : Outcome) → i ≡ length names → Leads whole (rest_of i xs) old new → IsToldOutcome (P xs) ⊥ o → IsCommandOutcome whole old new o
+  pub all_read : (whole : Reading) (i : ℕ) (xs : List A) (old new : FilesSeen) (o : Outcome) → i ≡ length names → Leads whole (rest_of i xs) old new → IsReportOutcome (P xs) ⊥ o → IsCommandOutcome whole old new o
   all_read whole i xs old new o e so_far told =
       let none : rest_of i xs ≡ answer (P (xs ++ [])) = ap (λ (l : List (List ℕ)). each A form i l (λ ys. answer (P (xs ++ ys)))) (drop_all names i e) in
       let all : rest_of i xs ≡ answer (P xs) = none ∙ ap (λ (l : List A). answer (P l)) (append-nil xs) in

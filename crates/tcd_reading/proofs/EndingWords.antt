@@ -10,15 +10,15 @@ use Rattle.std.proofs.lemmas.Map.Text.{is_eq-slice_cmp}
 use Rattle.std.proofs.lemmas.Slice.Eq.{bytes_eq-Decides}
 use Rattle.tcd_base.specs.Files.{FileMap, FilesSeen, OthersStay}
 use Rattle.tcd_base.specs.Sink.{SinkSeen, HasRoomFor}
-use Rattle.tcd_reading.specs.Reports.{ReportFile, Report, IsReportStatus, with_report_files, RefusesInput}
-use Rattle.tcd_reading.specs.Endings.{ReportWritingStopped, whole, cut, IsReported, printed, unwritten, no_memory, HasEnded, Ends}
-use Rattle.tcd_reading.specs.Inputs.{FormSeen, HoldsInput, IsInputRefusal, Reading, answer, input, ReadingSays, HoldsAsked, HasAllInputs, IsHeldAs, IsHeldBad}
+use Rattle.tcd_reading.specs.Reports.{ReportFile, Report, IsReportStatus, with_report_files, RejectsInput}
+use Rattle.tcd_reading.specs.Endings.{ReportWritingStopped, whole, cut, IsEndingWithReport, printed, unwritten, no_memory, HasEnded, Ends}
+use Rattle.tcd_reading.specs.Inputs.{FormSeen, HoldsInput, IsInputRejection, Reading, answer, input, ReadingSays, HoldsNeededInputs, HasAllInputs, MapHoldsInput, MapHoldsBadInput}
 use Rattle.tcd_reading.specs.Inputs as inputs
 use Rattle.tcd_reading.proofs.Decided.{never_fault}
 use Rattle.tcd_reading.specs.Endings as ending
-use Rattle.tcd_reading.specs.EndingLaws.{HoldsLastWritten, WritingBreaksOff, HasEndedByLaw, EndsByLaw, EndsSay, EndsAnyhowByLaw, EndsAnyhowSay}
+use Rattle.tcd_reading.specs.EndingLaws.{HoldsLastWritten, WritingBreaksOff, HasEndedByLaw, EndsByLaw, EndingLaw, EndsInAllCasesByLaw, EndingLawInAllCases}
 use Rattle.tcd_base.specs.FailingCalls.{FaultCounted}
-use Rattle.tcd_reading.specs.ReportLaws.{ReportsSay, InputsSay}
+use Rattle.tcd_reading.specs.ReportLaws.{ReportLaw, NeededInputsLaw}
 use Rattle.tcd_reading.specs.EndingLaws as so
 use Rattle.tcd_reading.specs.declared.status.Status.{Status}
 use Rattle.tcd_reading.specs.declared.status.Status.TheVariants.{Fault, NoMemory}
@@ -127,7 +127,7 @@ module _ (reading : Reading) (files files' : FilesSeen) (sink sink' : SinkSeen) 
   same_sink : sink' ≡ sink → sink'.written ≡ Some text
   same_sink quiet = ap (λ (s : SinkSeen). s.written) quiet ∙ prints
 
-  by_report : (report : Report) → ReadingSays reading files.held report → IsReported report files files' sink sink' result → Ended
+  by_report : (report : Report) → ReadingSays reading files.held report → IsEndingWithReport report files files' sink sink' result → Ended
   by_report report says (printed is (whole e p)) = record {
     after = map_after m report.writes;
     held = is ∙ wrote report.writes;
@@ -162,7 +162,7 @@ module _ (reading : Reading) (files files' : FilesSeen) (sink sink' : SinkSeen) 
     held = held ∙ holds;
     printed = text;
     written = same_sink quiet;
-    ended = so.unread e (λ q. refl) refl counted (λ steady asked. unsure (record { steady = steady; hold = subst (λ (o : Option FileMap). HoldsAsked reading o) (sym holds) asked }));
+    ended = so.unread e (λ q. refl) refl counted (λ steady asked. unsure (record { steady = steady; hold = subst (λ (o : Option FileMap). HoldsNeededInputs reading o) (sym holds) asked }));
   }
   ended_so (ending.no_memory e held quiet) = record { after = m; held = held ∙ holds; printed = text; written = same_sink quiet; ended = so.no_memory e (λ q. refl) refl }
 
@@ -173,8 +173,8 @@ module _ (reading : Reading) (files files' : FilesSeen) (sink sink' : SinkSeen) 
   ends_so h =
       let e = ended_so h.ended in
       let here : (report : Report) → ReadingSays reading (Some m) report → ReadingSays reading files.held report = λ report s. subst (λ (o : Option FileMap). ReadingSays reading o report) (sym holds) s in
-      let sure : files.steady ≡ true → HoldsAsked reading (Some m) → HasAllInputs reading files =
-      λ steady asked. record { steady = steady; hold = subst (λ (o : Option FileMap). HoldsAsked reading o) (sym holds) asked }
+      let sure : files.steady ≡ true → HoldsNeededInputs reading (Some m) → HasAllInputs reading files =
+      λ steady asked. record { steady = steady; hold = subst (λ (o : Option FileMap). HoldsNeededInputs reading o) (sym holds) asked }
       in
       record {
         after = e.after;
@@ -227,7 +227,7 @@ module _ (reading : Reading) (files files' : FilesSeen) (sink sink' : SinkSeen) 
   unseen_of (ending.unread e held quiet counted unsure) none = ap (λ (s : SinkSeen). s.written) quiet ∙ none
   unseen_of (ending.no_memory e held quiet) none = ap (λ (s : SinkSeen). s.written) quiet ∙ none
 
-  pub ends_anyhow : Ends reading files files' sink sink' result → EndsAnyhowByLaw reading files files' sink sink' result
+  pub ends_anyhow : Ends reading files files' sink sink' result → EndsInAllCasesByLaw reading files files' sink sink' result
   ends_anyhow h = record {
     some_words = h.no_bad_words;
     statuses = h.statuses;
@@ -245,28 +245,28 @@ module _ (reading : Reading) (files files' : FilesSeen) (sink sink' : SinkSeen) 
     complete = λ n steady asked room fits. h.complete (record { steady = steady; hold = asked }) (λ report s. room_for sink report.text n room (fits report s));
   }
 
-pub anyhow_say : (reading : Reading) → EndsAnyhowSay reading
+pub anyhow_say : (reading : Reading) → EndingLawInAllCases reading
 anyhow_say reading files files' sink sink' result h = ends_anyhow reading files files' sink sink' result h
 
-pub ends_say : (reading : Reading) → EndsSay reading
+pub ends_say : (reading : Reading) → EndingLaw reading
 ends_say reading files files' sink sink' result m text holds prints h = ends_so reading files files' sink sink' result m text holds prints h
 
 -- ---- reports on files that are read in turn
-held_as : {A : Type 0} (form : FormSeen A) (m : FileMap) (name : List ℕ) (x : A) → HoldsInput form (Some m) name x → IsHeldAs form m name x
+held_as : {A : Type 0} (form : FormSeen A) (m : FileMap) (name : List ℕ) (x : A) → HoldsInput form (Some m) name x → MapHoldsInput form m name x
 held_as form m name x h = record { bytes = h.0; held = h.1; short = h.2; is = h.3 }
 
 long_of : (o : Option (List ℕ)) (limit : ℕ) → IsSomeAnd o (λ b. limit < length b) → (bytes : List ℕ) × (o ≡ Some bytes) × (limit < length bytes)
 long_of None limit h = absurd h
 long_of (Some bytes) limit h = (bytes, refl, h)
 
-held_bad : {A : Type 0} (form : FormSeen A) (m : FileMap) (name line : List ℕ) → IsInputRefusal form (Some m) name line → IsHeldBad form m name line
+held_bad : {A : Type 0} (form : FormSeen A) (m : FileMap) (name line : List ℕ) → IsInputRejection form (Some m) name line → MapHoldsBadInput form m name line
 held_bad form m name line (inputs.long too is) = let l = long_of (get m name) form.limit too in inputs.above_limit l.0 l.1 l.2 is
 held_bad form m name line (inputs.bad bytes reads short is) = inputs.without_value bytes reads short is
 
-line_of : {A : Type 0} (form : FormSeen A) (m : FileMap) (name : List ℕ) (report : Report) → RefusesInput (IsInputRefusal form (Some m) name) report → RefusesInput (IsHeldBad form m name) report
+line_of : {A : Type 0} (form : FormSeen A) (m : FileMap) (name : List ℕ) (report : Report) → RejectsInput (IsInputRejection form (Some m) name) report → RejectsInput (MapHoldsBadInput form m name) report
 line_of form m name report h = record { status = h.status; line = held_bad form m name report.text h.line; nothing = h.nothing }
 
-pub says_say : (reading : Reading) → ReportsSay reading
+pub says_say : (reading : Reading) → ReportLaw reading
 says_say (answer IsReport) m report h = h
 says_say (input A form name next) m report (inl h) = inl (line_of form m name report h)
 says_say (input A form name next) m report (inr h) = inr (h.0, held_as form m name h.0 h.1, says_say (next h.0) m report h.2)
@@ -275,6 +275,6 @@ says_say (input A form name next) m report (inr h) = inr (h.0, held_as form m na
 is_some_by : (o : Option (List ℕ)) (bytes : List ℕ) → o ≡ Some bytes → IsSome o
 is_some_by o bytes e = let P : Option (List ℕ) → Type 0 = λ x. IsSome x in subst P (sym e) refl
 
-pub asks_say : (reading : Reading) → InputsSay reading
+pub asks_say : (reading : Reading) → NeededInputsLaw reading
 asks_say (answer IsReport) m h = tt
 asks_say (input A form name next) m h = (is_some_by (get m name) (h.0).0 (h.0).1, λ x is. asks_say (next x) m (h.1 x (held_as form m name x is)))

@@ -4,7 +4,7 @@ use Rattle.std.specs.Prelude.{IsTrue}
 use Rattle.tcd_base.specs.Files.{FileMap, FilesSeen, LeavesFaults}
 use Rattle.tcd_base.specs.Sink.{SinkSeen}
 use Rattle.tcd_reading.specs.Reports.{ReportFile, Report, with_report_files, says}
-use Rattle.tcd_reading.specs.Endings.{ReportWritingStopped, FilesAndSinkStay, whole, cut, IsReported, printed, unwritten, no_memory, FinishesOutcome, HasRoomForReports, Ends}
+use Rattle.tcd_reading.specs.Endings.{ReportWritingStopped, FilesAndSinkStay, whole, cut, IsEndingWithReport, printed, unwritten, no_memory, FinishesOutcome, HasRoomForReports, Ends}
 use Rattle.tcd_reading.specs.Inputs.{Reading, ReadingSays, HasAllInputs, HasNotRead}
 use Rattle.tcd_reading.specs.Outcomes.{Outcome, IsCommandOutcome}
 use Rattle.tcd_reading.specs.Endings as ending
@@ -15,7 +15,7 @@ use Rattle.tcd_reading.proofs.Told.{counted_later}
 use Rattle.tcd_reading.proofs.Decided.{IsDecided, never_words, said_told, said_done, said_one}
 
 -- the files between the reading and the writing are as before
-reported_since : (r : Report) (reading : Reading) (old mid new : FilesSeen) (sink sink' : SinkSeen) (o : Outcome) (result : Status) → IsCommandOutcome reading old mid o → IsReported r mid new sink sink' result → IsReported r old new sink sink' result
+reported_since : (r : Report) (reading : Reading) (old mid new : FilesSeen) (sink sink' : SinkSeen) (o : Outcome) (result : Status) → IsCommandOutcome reading old mid o → IsEndingWithReport r mid new sink sink' result → IsEndingWithReport r old new sink sink' result
 reported_since r reading old mid new sink sink' o result comes (printed is prints) = printed (is ∙ ap (λ (m : Option FileMap). with_report_files m r.writes) comes.held) prints
 reported_since r reading old mid new sink sink' o result comes (unwritten e quiet stopped counted unsteady) =
     unwritten e quiet (subst (λ (m : Option FileMap). ReportWritingStopped m new.held r.writes) comes.held stopped) (counted_later old.faults mid.faults new.faults comes.later counted) (λ s. unsteady (subst IsTrue (sym comes.steady) s))
@@ -23,29 +23,29 @@ reported_since r reading old mid new sink sink' o result comes (no_memory e quie
 
 -- ---- a report
 module _ (reading : Reading) (decided : IsDecided reading) (r : Report) (old new : FilesSeen) (sink sink' : SinkSeen) (result : Status) (said : ReadingSays reading old.held r) where
-  words_here : IsReported r old new sink sink' result → result ≡ BadWords → ⊥
+  words_here : IsEndingWithReport r old new sink sink' result → result ≡ BadWords → ⊥
   words_here (printed is (whole e p)) b = never_words r.status (said_told reading old.held r decided said) (sym e ∙ b)
   words_here (printed is (cut e front counted full)) b = let f : Fault ≡ BadWords = sym e ∙ b in cc
   words_here (unwritten e quiet stopped counted unsteady) b = let f : Fault ≡ BadWords = sym e ∙ b in cc
   words_here (no_memory e quiet stopped) b = let f : NoMemory ≡ BadWords = sym e ∙ b in cc
 
-  stays_by : IsReported r old new sink sink' result → result ≢ Done → result ≢ Fault → result ≢ NoMemory → new.held ≡ old.held
+  stays_by : IsEndingWithReport r old new sink sink' result → result ≢ Done → result ≢ Fault → result ≢ NoMemory → new.held ≡ old.held
   stays_by (printed is (whole e p)) done fault memory = is ∙ ap (λ (w : List ReportFile). with_report_files old.held w) (said_done reading old.held r decided said (λ d. done (e ∙ d)))
   stays_by (printed is (cut e front counted full)) done fault memory = absurd (fault e)
   stays_by (unwritten e quiet stopped counted unsteady) done fault memory = absurd (fault e)
   stays_by (no_memory e quiet stopped) done fault memory = absurd (memory e)
 
-  stays_here : IsReported r old new sink sink' result → (result ≡ Refused) ⊎ (result ≡ BadInput) → new.held ≡ old.held
+  stays_here : IsEndingWithReport r old new sink sink' result → (result ≡ Refused) ⊎ (result ≡ BadInput) → new.held ≡ old.held
   stays_here h (inl e) = stays_by h (λ f. cc) (λ f. cc) (λ f. cc)
   stays_here h (inr e) = stays_by h (λ f. cc) (λ f. cc) (λ f. cc)
 
-  sink_here : IsReported r old new sink sink' result → HasRoomForReports reading old.held sink → sink'.faults ≡ sink.faults
+  sink_here : IsEndingWithReport r old new sink sink' result → HasRoomForReports reading old.held sink → sink'.faults ≡ sink.faults
   sink_here (printed is (whole e p)) room = p.faults (room r said)
   sink_here (printed is (cut e front counted full)) room = absurd (full (room r said))
   sink_here (unwritten e quiet stopped counted unsteady) room = ap (λ (s : SinkSeen). s.faults) quiet
   sink_here (no_memory e quiet stopped) room = ap (λ (s : SinkSeen). s.faults) quiet
 
-  complete_here : IsReported r old new sink sink' result → HasAllInputs reading old → HasRoomForReports reading old.held sink → (q : Report) → ReadingSays reading old.held q → (result ≡ q.status) ⊎ (result ≡ NoMemory)
+  complete_here : IsEndingWithReport r old new sink sink' result → HasAllInputs reading old → HasRoomForReports reading old.held sink → (q : Report) → ReadingSays reading old.held q → (result ≡ q.status) ⊎ (result ≡ NoMemory)
   complete_here (printed is (whole e p)) sure room q other = inl (e ∙ said_one reading old.held r q decided sure.hold said other)
   complete_here (printed is (cut e front counted full)) sure room q other = absurd (full (room r said))
   complete_here (unwritten e quiet stopped counted unsteady) sure room q other = absurd (unsteady sure.steady)
@@ -70,9 +70,9 @@ quiet_sink mid new sink sink' quiet = same_count sink.faults sink'.faults (ap (�
 
 -- ---- by the outcome
 reported_ends : (reading : Reading) (old mid new : FilesSeen) (sink sink' : SinkSeen) (o : Outcome) (r : Report) (result : Status) → IsDecided reading → IsCommandOutcome reading old mid o → ReadingSays reading old.held r →
-    IsReported r mid new sink sink' result → LeavesFaults mid new → mid.faults ≤ new.faults → sink.faults ≤ sink'.faults → Ends reading old new sink sink' result
+    IsEndingWithReport r mid new sink sink' result → LeavesFaults mid new → mid.faults ≤ new.faults → sink.faults ≤ sink'.faults → Ends reading old new sink sink' result
 reported_ends reading old mid new sink sink' o r result decided comes said h leaves files_later sink_later =
-    let here : IsReported r old new sink sink' result = reported_since r reading old mid new sink sink' o result comes h in
+    let here : IsEndingWithReport r old new sink sink' result = reported_since r reading old mid new sink sink' o result comes h in
     record {
       ended = ending.reported r said here;
       no_bad_words = words_here reading decided r old new sink sink' result said here;

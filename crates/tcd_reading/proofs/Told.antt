@@ -4,22 +4,22 @@ use Rattle.std.specs.Prelude.{IfErr, IsTrue}
 use Rattle.std.specs.Result.{IsErrAnd}
 use Rattle.tcd_base.specs.Files.{FileMap, FilesSeen, LeavesFiles, ReadsFile}
 use Rattle.tcd_base.specs.FailingCalls.{FaultCounted}
-use Rattle.tcd_reading.specs.Reports.{Report, RefusesInput, says}
-use Rattle.tcd_reading.specs.Inputs.{FormSeen, HoldsInput, IsInputRefusal, bad, Reading, answer, input, ReadingSays, HoldsAsked, HasAllInputs, HasNotRead}
-use Rattle.tcd_reading.specs.Outcomes.{Outcome, IsToldOutcome, IsBadInputStop, HasFailedToRead, IsCommandOutcome}
+use Rattle.tcd_reading.specs.Reports.{Report, RejectsInput, says}
+use Rattle.tcd_reading.specs.Inputs.{FormSeen, HoldsInput, IsInputRejection, bad, Reading, answer, input, ReadingSays, HoldsNeededInputs, HasAllInputs, HasNotRead}
+use Rattle.tcd_reading.specs.Outcomes.{Outcome, IsReportOutcome, IsBadInputStop, HasFailedToRead, IsCommandOutcome}
 use Rattle.tcd_reading.specs.declared.outcome.Stop.{Stop}
 use Rattle.tcd_reading.specs.declared.outcome.Stop.TheVariants as stop
 use Rattle.tcd_reading.specs.declared.status.Status.TheVariants.{BadInput}
 
 -- ---- outcomes
 -- an outcome for one property of reports is one for a weaker property
-pub told_as : (P Q : Report → Type 0) (F G : Type 0) (o : Outcome) → IsToldOutcome P F o → ((r : Report) → P r → Q r) → (F → G) → IsToldOutcome Q G o
+pub told_as : (P Q : Report → Type 0) (F G : Type 0) (o : Outcome) → IsReportOutcome P F o → ((r : Report) → P r → Q r) → (F → G) → IsReportOutcome Q G o
 told_as P Q F G (Ok r) h p f = p r h
 told_as P Q F G (Err (stop.BadInput line)) h p f = p (says BadInput line.items) h
 told_as P Q F G (Err stop.Unread) h p f = f h
 told_as P Q F G (Err stop.NoMemory) h p f = tt
 
-pub told_more : (P Q : Report → Type 0) (o : Outcome) → IsToldOutcome P ⊥ o → ((r : Report) → P r → Q r) → IsToldOutcome Q ⊥ o
+pub told_more : (P Q : Report → Type 0) (o : Outcome) → IsReportOutcome P ⊥ o → ((r : Report) → P r → Q r) → IsReportOutcome Q ⊥ o
 told_more P Q o h p = told_as P Q ⊥ ⊥ o h p (λ f. f)
 
 -- a stop by other words
@@ -33,13 +33,13 @@ err_as P Q F G (Ok x) h p f = tt
 err_as P Q F G (Err s) h p f = stops_as P Q F G s h p f
 
 -- a stop of a command that may end with the report on a bad input
-stopped : (P : List ℕ → Type 0) (Q : Report → Type 0) (F G : Type 0) (s : Stop) → IsBadInputStop P F s → ((r : Report) → RefusesInput P r → Q r) → (F → G) → IsToldOutcome Q G (Err s)
+stopped : (P : List ℕ → Type 0) (Q : Report → Type 0) (F G : Type 0) (s : Stop) → IsBadInputStop P F s → ((r : Report) → RejectsInput P r → Q r) → (F → G) → IsReportOutcome Q G (Err s)
 stopped P Q F G (stop.BadInput line) h p f = p _ (record { status = refl; line = h; nothing = refl })
 stopped P Q F G stop.Unread h p f = f h
 stopped P Q F G stop.NoMemory h p f = tt
 
 -- ---- one input
-pub bad_line : {A : Type 0} (form : FormSeen A) (held : Option FileMap) (name bytes : List ℕ) (limit : ℕ) (t : List ℕ) → limit ≡ form.limit → ReadsFile held name bytes → length bytes ≤ limit → form.IsBad bytes t → IsInputRefusal form held name t
+pub bad_line : {A : Type 0} (form : FormSeen A) (held : Option FileMap) (name bytes : List ℕ) (limit : ℕ) (t : List ℕ) → limit ≡ form.limit → ReadsFile held name bytes → length bytes ≤ limit → form.IsBad bytes t → IsInputRejection form held name t
 bad_line form held name bytes limit t l holds short is = bad bytes holds (subst (λ (n : ℕ). length bytes ≤ n) l short) is
 
 -- ---- inputs one after another
@@ -59,13 +59,13 @@ passed_on {T} {E} P (Err x) e is h = subst (λ (y : E). P (Err y)) (sym is) h
 
 -- an input that isn't there
 pub comes_stopped : (A : Type 0) (form : FormSeen A) (name : List ℕ) (next : A → Reading) (old new : FilesSeen) (s : Stop) (o : Outcome) → IsErrAnd o (λ x. x ≡ s) → LeavesFiles name old new → old.faults ≤ new.faults →
-    IsBadInputStop (IsInputRefusal form old.held name) (HasFailedToRead name old new) s → IsCommandOutcome (input A form name next) old new o
+    IsBadInputStop (IsInputRejection form old.held name) (HasFailedToRead name old new) s → IsCommandOutcome (input A form name next) old new o
 comes_stopped A form name next old new s o is leaves later stops = passed_on (IsCommandOutcome (input A form name next) old new) o s is (record {
   held = leaves.held;
   steady = leaves.steady;
   later = later;
   sure = λ s. leaves.sure (record { steady = s.steady; holds = s.hold.0 });
-  told = stopped (IsInputRefusal form old.held name) (ReadingSays (input A form name next) old.held) (HasFailedToRead name old new) (HasNotRead (input A form name next) old new) s stops
+  told = stopped (IsInputRejection form old.held name) (ReadingSays (input A form name next) old.held) (HasFailedToRead name old new) (HasNotRead (input A form name next) old new) s stops
       (λ r h. inl h)
       (λ f. record { counted = f.counted; unsure = λ s. f.unsure (record { steady = s.steady; holds = s.hold.0 }) });
 })
@@ -73,7 +73,7 @@ comes_stopped A form name next old new s o is leaves later stops = passed_on (Is
 -- an input that is read, and then the rest
 sure_next : (A : Type 0) (form : FormSeen A) (name : List ℕ) (next : A → Reading) (x : A) (old mid : FilesSeen) → LeavesFiles name old mid → HoldsInput form old.held name x → HasAllInputs (input A form name next) old → HasAllInputs (next x) mid
 sure_next A form name next x old mid leaves holds s =
-    record { steady = subst IsTrue (sym leaves.steady) s.steady; hold = subst (λ (h : Option FileMap). HoldsAsked (next x) h) (sym leaves.held) (s.hold.1 x holds) }
+    record { steady = subst IsTrue (sym leaves.steady) s.steady; hold = subst (λ (h : Option FileMap). HoldsNeededInputs (next x) h) (sym leaves.held) (s.hold.1 x holds) }
 
 pub leads_read : (A : Type 0) (form : FormSeen A) (name : List ℕ) (next : A → Reading) (x : A) (old mid : FilesSeen) → LeavesFiles name old mid → old.faults ≤ mid.faults → HoldsInput form old.held name x → Leads (input A form name next) (next x) old mid
 leads_read A form name next x old mid leaves later holds = record {
@@ -95,7 +95,7 @@ pub leads_here : (a : Reading) (x : FilesSeen) → Leads a a x x
 leads_here a x = record { comes = λ new o rest. rest }
 
 -- all inputs are read
-pub comes_told : (P : Report → Type 0) (files : FilesSeen) (o : Outcome) → IsToldOutcome P ⊥ o → IsCommandOutcome (answer P) files files o
+pub comes_told : (P : Report → Type 0) (files : FilesSeen) (o : Outcome) → IsReportOutcome P ⊥ o → IsCommandOutcome (answer P) files files o
 comes_told P files o h = record {
   held = refl;
   steady = refl;

@@ -5,7 +5,7 @@ use Rattle.std.specs.FinMap.{get}
 use Rattle.tcd_base.specs.Files.{FileMap, FilesSeen}
 use Rattle.tcd_base.specs.Sink.{SinkSeen}
 use Rattle.tcd_reading.specs.Reports.{ReportFile, Report}
-use Rattle.tcd_reading.specs.Inputs.{Reading, ReadingSays, HoldsAsked}
+use Rattle.tcd_reading.specs.Inputs.{Reading, ReadingSays, HoldsNeededInputs}
 use Rattle.tcd_reading.specs.Endings.{Ends}
 use Rattle.tcd_reading.specs.declared.status.Status.{Status}
 use Rattle.tcd_reading.specs.declared.status.Status.TheVariants.{Done, Refused, BadInput, Fault, NoMemory, BadWords}
@@ -60,7 +60,7 @@ pub data HasEndedByLaw (reading : Reading) (files files' : FilesSeen) (sink sink
       (report : Report) → ReadingSays reading (Some m) report → result ≡ NoMemory → WritingBreaksOff m m' report.writes → text' ≡ text
       → HasEndedByLaw reading files files' sink sink' m m' text text' result
   unread :
-      result ≡ Fault → AllFilesStay m m' → text' ≡ text → FaultCounted files.faults files'.faults → (files.steady ≡ true → HoldsAsked reading (Some m) → ⊥)
+      result ≡ Fault → AllFilesStay m m' → text' ≡ text → FaultCounted files.faults files'.faults → (files.steady ≡ true → HoldsNeededInputs reading (Some m) → ⊥)
       → HasEndedByLaw reading files files' sink sink' m m' text text' result
   no_memory : result ≡ NoMemory → AllFilesStay m m' → text' ≡ text → HasEndedByLaw reading files files' sink sink' m m' text text' result
 
@@ -79,11 +79,11 @@ pub record EndsByLaw (reading : Reading) (files files' : FilesSeen) (sink sink' 
   pub only_done : (report : Report) → ReadingSays reading (Some m) report → report.status ≢ Done → report.writes ≡ []
   pub stays : (result ≡ Refused) ⊎ (result ≡ BadInput) → AllFilesStay m after
   pub steady : files'.steady ≡ files.steady
-  pub files_sure : files.steady ≡ true → HoldsAsked reading (Some m) → files'.faults ≡ files.faults
+  pub files_sure : files.steady ≡ true → HoldsNeededInputs reading (Some m) → files'.faults ≡ files.faults
   pub sink_sure :
       (n : ℕ) → sink.room ≡ Some n → ((report : Report) → ReadingSays reading (Some m) report → length report.text ≤ n) → sink'.faults ≡ sink.faults
   pub complete :
-      (n : ℕ) → files.steady ≡ true → HoldsAsked reading (Some m) → sink.room ≡ Some n
+      (n : ℕ) → files.steady ≡ true → HoldsNeededInputs reading (Some m) → sink.room ≡ Some n
       → ((report : Report) → ReadingSays reading (Some m) report → length report.text ≤ n)
       → (report : Report) → ReadingSays reading (Some m) report → (result ≡ report.status) ⊎ (result ≡ NoMemory)
 
@@ -91,7 +91,7 @@ pub record EndsByLaw (reading : Reading) (files files' : FilesSeen) (sink sink' 
 -- status of its report, except after a counted fault or out of memory. Contents that aren't
 -- revealed remain so, and no count of faults falls. Over steady files with all needed inputs, and a
 -- sink with room, no fault is counted. The status is then that of the report, or out of memory.
-pub record EndsAnyhowByLaw (reading : Reading) (files files' : FilesSeen) (sink sink' : SinkSeen) (result : Status) : Type 0 where
+pub record EndsInAllCasesByLaw (reading : Reading) (files files' : FilesSeen) (sink sink' : SinkSeen) (result : Status) : Type 0 where
   pub some_words : result ≢ BadWords
   pub statuses :
       (report : Report) → ReadingSays reading files.held report
@@ -107,23 +107,23 @@ pub record EndsAnyhowByLaw (reading : Reading) (files files' : FilesSeen) (sink 
   pub steady : files'.steady ≡ files.steady
   pub files_later : files.faults ≤ files'.faults
   pub sink_later : sink.faults ≤ sink'.faults
-  pub files_sure : files.steady ≡ true → HoldsAsked reading files.held → files'.faults ≡ files.faults
+  pub files_sure : files.steady ≡ true → HoldsNeededInputs reading files.held → files'.faults ≡ files.faults
   pub sink_sure :
       (n : ℕ) → sink.room ≡ Some n → ((report : Report) → ReadingSays reading files.held report → length report.text ≤ n) → sink'.faults ≡ sink.faults
   pub complete :
-      (n : ℕ) → files.steady ≡ true → HoldsAsked reading files.held → sink.room ≡ Some n
+      (n : ℕ) → files.steady ≡ true → HoldsNeededInputs reading files.held → sink.room ≡ Some n
       → ((report : Report) → ReadingSays reading files.held report → length report.text ≤ n)
       → (report : Report) → ReadingSays reading files.held report → (result ≡ report.status) ⊎ (result ≡ NoMemory)
 
 -- a command with this reading that ends, ends so, if files and sink reveal their contents
-abbrev pub EndsSay : Reading → Type 0
-EndsSay reading =
+abbrev pub EndingLaw : Reading → Type 0
+EndingLaw reading =
     (files files' : FilesSeen) (sink sink' : SinkSeen) (result : Status) (m : FileMap) (text : List ℕ)
     → files.held ≡ Some m → sink.written ≡ Some text → Ends reading files files' sink sink' result
     → EndsByLaw reading files files' sink sink' m text result
 
 -- a command with this reading that ends, ends so in all cases
-abbrev pub EndsAnyhowSay : Reading → Type 0
-EndsAnyhowSay reading =
+abbrev pub EndingLawInAllCases : Reading → Type 0
+EndingLawInAllCases reading =
     (files files' : FilesSeen) (sink sink' : SinkSeen) (result : Status)
-    → Ends reading files files' sink sink' result → EndsAnyhowByLaw reading files files' sink sink' result
+    → Ends reading files files' sink sink' result → EndsInAllCasesByLaw reading files files' sink sink' result

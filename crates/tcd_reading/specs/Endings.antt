@@ -35,12 +35,12 @@ pub record ReportWritingStopped (held held' : Option FileMap) (writes : List Rep
 
 -- how a command that has a report ends: its files are written and its text goes to the sink; or a
 -- write failed, over files that aren't steady, or ran out of memory, and nothing is printed
-pub data IsReported (report : Report) (files files' : FilesSeen) (sink sink' : SinkSeen) (result : Status) : Type 0 where
-  printed : files'.held ≡ with_report_files files.held report.writes → PrintsWithStatus report.status report.text sink sink' result → IsReported report files files' sink sink' result
+pub data IsEndingWithReport (report : Report) (files files' : FilesSeen) (sink sink' : SinkSeen) (result : Status) : Type 0 where
+  printed : files'.held ≡ with_report_files files.held report.writes → PrintsWithStatus report.status report.text sink sink' result → IsEndingWithReport report files files' sink sink' result
   unwritten :
       result ≡ status.Fault → sink' ≡ sink → ReportWritingStopped files.held files'.held report.writes → FaultCounted files.faults files'.faults
-      → (IsTrue files.steady → ⊥) → IsReported report files files' sink sink' result
-  no_memory : result ≡ status.NoMemory → sink' ≡ sink → ReportWritingStopped files.held files'.held report.writes → IsReported report files files' sink sink' result
+      → (IsTrue files.steady → ⊥) → IsEndingWithReport report files files' sink sink' result
+  no_memory : result ≡ status.NoMemory → sink' ≡ sink → ReportWritingStopped files.held files'.held report.writes → IsEndingWithReport report files files' sink sink' result
 
 -- the views of the files and of the sink don't change
 pub record FilesAndSinkStay (files files' : FilesSeen) (sink sink' : SinkSeen) : Type 0 where
@@ -50,7 +50,7 @@ pub record FilesAndSinkStay (files files' : FilesSeen) (sink sink' : SinkSeen) :
 -- how a command that has a report ends, with the counts of faults
 abbrev pub FinishesReport : Report → FilesSeen → FilesSeen → SinkSeen → SinkSeen → Status → Type 0
 FinishesReport report files files' sink sink' result =
-    IsReported report files files' sink sink' result × LeavesFaults files files' × (files.faults ≤ files'.faults) × (sink.faults ≤ sink'.faults)
+    IsEndingWithReport report files files' sink sink' result × LeavesFaults files files' × (files.faults ≤ files'.faults) × (sink.faults ≤ sink'.faults)
 
 -- how a command with this outcome ends, by the views of the files and of the sink before and after
 abbrev pub FinishesOutcome : Outcome → FilesSeen → FilesSeen → SinkSeen → SinkSeen → Status → Type 0
@@ -62,7 +62,7 @@ FinishesOutcome (Err stop.NoMemory) files files' sink sink' result = FilesAndSin
 -- A report was written and printed. Or a file couldn't be read, so the files aren't sure of all
 -- needed inputs. Or memory ran out before anything was written or printed.
 pub data HasEnded (reading : Reading) (files files' : FilesSeen) (sink sink' : SinkSeen) (result : Status) : Type 0 where
-  reported : (report : Report) → ReadingSays reading files.held report → IsReported report files files' sink sink' result → HasEnded reading files files' sink sink' result
+  reported : (report : Report) → ReadingSays reading files.held report → IsEndingWithReport report files files' sink sink' result → HasEnded reading files files' sink sink' result
   unread :
       result ≡ Fault → files'.held ≡ files.held → sink' ≡ sink → FaultCounted files.faults files'.faults → (HasAllInputs reading files → ⊥)
       → HasEnded reading files files' sink sink' result

@@ -1,7 +1,7 @@
 -- The inputs of a command, in the order in which they are read.
 use Rattle.std.specs.Prelude.{◌≡◌, ◌≤◌, ◌+◌, ◌⊎◌, ℕ, List, ◌∷◌, length, Option, IsTrue, ◌<◌, Some, []}
 use Rattle.tcd_base.specs.Files.{FileMap, FilesSeen, ReadsFile, IsFileTooLong, HasFileOfName}
-use Rattle.tcd_reading.specs.Reports.{Report, RefusesInput}
+use Rattle.tcd_reading.specs.Reports.{Report, RejectsInput}
 use Rattle.std.specs.FinMap.{get}
 use Rattle.tcd_base.specs.FailingCalls.{FaultCounted}
 
@@ -19,7 +19,7 @@ abbrev pub HoldsInput : {A : Type 0} → FormSeen A → Option FileMap → List 
 HoldsInput form held name x = (bytes : List ℕ) × ReadsFile held name bytes × (length bytes ≤ form.limit) × form.Is bytes x
 
 -- The input of this name is held: its bytes are within its form's limit, and have this value.
-pub record IsHeldAs {A : Type 0} (form : FormSeen A) (m : FileMap) (name : List ℕ) (x : A) : Type 0 where
+pub record MapHoldsInput {A : Type 0} (form : FormSeen A) (m : FileMap) (name : List ℕ) (x : A) : Type 0 where
   pub bytes : List ℕ
   pub held : get m name ≡ Some bytes
   pub short : length bytes ≤ form.limit
@@ -27,15 +27,15 @@ pub record IsHeldAs {A : Type 0} (form : FormSeen A) (m : FileMap) (name : List 
 
 -- the files hold an input of a command that isn't in its form, and this is a line for it: the one
 -- for bytes above the limit, or one of those for bytes without a value
-pub data IsHeldBad {A : Type 0} (form : FormSeen A) (m : FileMap) (name line : List ℕ) : Type 0 where
-  above_limit : (bytes : List ℕ) → get m name ≡ Some bytes → form.limit < length bytes → line ≡ form.too_long_line → IsHeldBad form m name line
-  without_value : (bytes : List ℕ) → get m name ≡ Some bytes → length bytes ≤ form.limit → form.IsBad bytes line → IsHeldBad form m name line
+pub data MapHoldsBadInput {A : Type 0} (form : FormSeen A) (m : FileMap) (name line : List ℕ) : Type 0 where
+  above_limit : (bytes : List ℕ) → get m name ≡ Some bytes → form.limit < length bytes → line ≡ form.too_long_line → MapHoldsBadInput form m name line
+  without_value : (bytes : List ℕ) → get m name ≡ Some bytes → length bytes ≤ form.limit → form.IsBad bytes line → MapHoldsBadInput form m name line
 
 -- why an input of a command is rejected when it is read: this is the line for a file above its
 -- form's limit, or one of the lines for a file that isn't in its form
-pub data IsInputRefusal {A : Type 0} (form : FormSeen A) (held : Option FileMap) (name text : List ℕ) : Type 0 where
-  long : IsFileTooLong held name form.limit → text ≡ form.too_long_line → IsInputRefusal form held name text
-  bad : (bytes : List ℕ) → ReadsFile held name bytes → length bytes ≤ form.limit → form.IsBad bytes text → IsInputRefusal form held name text
+pub data IsInputRejection {A : Type 0} (form : FormSeen A) (held : Option FileMap) (name text : List ℕ) : Type 0 where
+  long : IsFileTooLong held name form.limit → text ≡ form.too_long_line → IsInputRejection form held name text
+  bad : (bytes : List ℕ) → ReadsFile held name bytes → length bytes ≤ form.limit → form.IsBad bytes text → IsInputRejection form held name text
 
 -- ---- the inputs of a command
 -- the inputs of a command, each in its form, and its report after all of them
@@ -54,19 +54,19 @@ each A form place (name ∷ names) next = input A (form place) name (λ x. each 
 abbrev pub ReadingSays : Reading → Option FileMap → Report → Type 0
 ReadingSays (answer IsReport) held report = IsReport report
 ReadingSays (input A form name next) held report =
-    RefusesInput (IsInputRefusal form held name) report ⊎ ((x : A) × HoldsInput form held name x × ReadingSays (next x) held report)
+    RejectsInput (IsInputRejection form held name) report ⊎ ((x : A) × HoldsInput form held name x × ReadingSays (next x) held report)
 
 -- the files hold each input that the command needs: the first, and each next one if the earlier
 -- ones are in their forms
-abbrev pub HoldsAsked : Reading → Option FileMap → Type 0
-HoldsAsked (answer IsReport) held = Unit {0}
-HoldsAsked (input A form name next) held = HasFileOfName held name × ((x : A) → HoldsInput form held name x → HoldsAsked (next x) held)
+abbrev pub HoldsNeededInputs : Reading → Option FileMap → Type 0
+HoldsNeededInputs (answer IsReport) held = Unit {0}
+HoldsNeededInputs (input A form name next) held = HasFileOfName held name × ((x : A) → HoldsInput form held name x → HoldsNeededInputs (next x) held)
 
 -- the files are steady and hold each input that the command needs, so reading its inputs never
 -- fails
 pub record HasAllInputs (reading : Reading) (files : FilesSeen) : Type 0 where
   pub steady : IsTrue files.steady
-  pub hold : HoldsAsked reading files.held
+  pub hold : HoldsNeededInputs reading files.held
 
 -- an input of a command couldn't be read: a fault was counted, and the files weren't steady or
 -- lacked an input that it needs

@@ -1,6 +1,6 @@
 -- The outcome of a command.
 use Rattle.std.specs.Prelude.{◌≡◌, ◌≤◌, ℕ, List, Result, Ok, Err}
-use Rattle.tcd_base.specs.Files.{FilesSeen, AreSure}
+use Rattle.tcd_base.specs.Files.{FilesSeen, IsReadSure}
 use Rattle.tcd_base.specs.FailingCalls.{FaultCounted}
 use Rattle.tcd_reading.specs.Reports.{Report, says}
 use Rattle.tcd_reading.specs.Inputs.{Reading, ReadingSays, HasAllInputs, HasNotRead}
@@ -13,11 +13,11 @@ abbrev pub Outcome : Type 0
 Outcome = Result Report Stop
 
 -- the outcome is such a report; or a file wasn't read, if that can happen; or memory ran out
-abbrev pub IsToldOutcome : (Report → Type 0) → Type 0 → Outcome → Type 0
-IsToldOutcome IsReport MayFail (Ok report) = IsReport report
-IsToldOutcome IsReport MayFail (Err (stop.BadInput line)) = IsReport (says BadInput line.items)
-IsToldOutcome IsReport MayFail (Err stop.Unread) = MayFail
-IsToldOutcome IsReport MayFail (Err stop.NoMemory) = Unit {0}
+abbrev pub IsReportOutcome : (Report → Type 0) → Type 0 → Outcome → Type 0
+IsReportOutcome IsReport MayFail (Ok report) = IsReport report
+IsReportOutcome IsReport MayFail (Err (stop.BadInput line)) = IsReport (says BadInput line.items)
+IsReportOutcome IsReport MayFail (Err stop.Unread) = MayFail
+IsReportOutcome IsReport MayFail (Err stop.NoMemory) = Unit {0}
 
 -- an input that isn't in its form stops a command, with one of these lines
 abbrev pub IsBadInputStop : (List ℕ → Type 0) → Type 0 → Stop → Type 0
@@ -29,7 +29,7 @@ IsBadInputStop IsLine MayFail stop.NoMemory = Unit {0}
 -- weren't sure of that file
 pub record HasFailedToRead (name : List ℕ) (old new : FilesSeen) : Type 0 where
   pub counted : FaultCounted old.faults new.faults
-  pub unsure : AreSure old name → ⊥
+  pub unsure : IsReadSure old name → ⊥
 
 -- the outcome of a command with this reading, and the files after its inputs were read
 pub record IsCommandOutcome (reading : Reading) (old new : FilesSeen) (o : Outcome) : Type 0 where
@@ -37,4 +37,4 @@ pub record IsCommandOutcome (reading : Reading) (old new : FilesSeen) (o : Outco
   pub steady : new.steady ≡ old.steady
   pub later : old.faults ≤ new.faults
   pub sure : HasAllInputs reading old → new.faults ≡ old.faults
-  pub told : IsToldOutcome (ReadingSays reading old.held) (HasNotRead reading old new) o
+  pub told : IsReportOutcome (ReadingSays reading old.held) (HasNotRead reading old new) o

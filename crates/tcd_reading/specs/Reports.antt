@@ -25,12 +25,12 @@ abbrev pub says : Status → List ℕ → Report
 says status text = record { status = status; text = text; writes = [] }
 
 -- a report with one file to write
-abbrev pub writes_file : List ℕ → List ℕ → List ℕ → Report
-writes_file name bytes text = record { status = Done; text = text; writes = record { name = name; bytes = bytes } ∷ [] }
+abbrev pub report_with_file : List ℕ → List ℕ → List ℕ → Report
+report_with_file name bytes text = record { status = Done; text = text; writes = record { name = name; bytes = bytes } ∷ [] }
 
 -- a report with two files to write, in this order
-abbrev pub writes_two : ReportFile → ReportFile → List ℕ → Report
-writes_two first second text = record { status = Done; text = text; writes = first ∷ second ∷ [] }
+abbrev pub report_with_two_files : ReportFile → ReportFile → List ℕ → Report
+report_with_two_files first second text = record { status = Done; text = text; writes = first ∷ second ∷ [] }
 
 -- the files after a report's own files were written into them, in the order in which the report has
 -- them
@@ -39,12 +39,12 @@ with_report_files held [] = held
 with_report_files held (w ∷ ws) = with_report_files (files_after_write held w.name w.bytes) ws
 
 -- several files to write, one after another, and the text on them
-abbrev pub writes_files : List ReportFile → List ℕ → Report
-writes_files writes text = record { status = Done; text = text; writes = writes }
+abbrev pub report_with_files : List ReportFile → List ℕ → Report
+report_with_files writes text = record { status = Done; text = text; writes = writes }
 
 -- a report on an input that isn't in its form: one of these lines with status BadInput, and nothing
 -- to write
-pub record RefusesInput (IsLine : List ℕ → Type 0) (report : Report) : Type 0 where
+pub record RejectsInput (IsLine : List ℕ → Type 0) (report : Report) : Type 0 where
   pub status : report.status ≡ BadInput
   pub line : IsLine report.text
   pub nothing : report.writes ≡ []

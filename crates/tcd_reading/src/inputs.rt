@@ -1,7 +1,7 @@
 // Reads the input files of commands, and turns each into a value.
 ghost use Rattle.std.specs.Prelude.{◌≡◌, ◌≤◌, length, IfOk, IfErr};
 ghost use Rattle.tcd_base.specs.Files.{LeavesFiles};
-ghost use Rattle.tcd_reading.specs.Inputs.{FormSeen, HoldsInput, IsInputRefusal};
+ghost use Rattle.tcd_reading.specs.Inputs.{FormSeen, HoldsInput, IsInputRejection};
 ghost use Rattle.tcd_reading.specs.Outcomes.{HasFailedToRead, IsBadInputStop};
 
 use crate::outcome::{Stop, bad_input_stop};
@@ -48,7 +48,7 @@ pub fn read_input<I: Form, F: Files>(
     ensures found { IfOk result (HoldsInput (I.form form.now) (F.seen files.old).held name.now) }
     ensures fits { IfOk result (I.Fits form.now) }
     ensures stops { IfErr result
-        (IsBadInputStop (IsInputRefusal (I.form form.now) (F.seen files.old).held name.now)
+        (IsBadInputStop (IsInputRejection (I.form form.now) (F.seen files.old).held name.now)
         (HasFailedToRead name.now (F.seen files.old) (F.seen files.new))) }
 {
     match files.read(alloc, name, form.limit()) {

@@ -1,6 +1,6 @@
 // Public laws of how a command ends.
-ghost use Rattle.tcd_reading.specs.EndingLaws.{EndsAnyhowSay, EndsSay};
-ghost use Rattle.tcd_reading.specs.ReportLaws.{InputsSay, ReportsSay};
+ghost use Rattle.tcd_reading.specs.EndingLaws.{EndingLawInAllCases, EndingLaw};
+ghost use Rattle.tcd_reading.specs.ReportLaws.{NeededInputsLaw, ReportLaw};
 ghost use Rattle.tcd_reading.specs.Inputs.{Reading, answer};
 
 use std::marker::Brand;
@@ -20,13 +20,13 @@ impl AnyCommand for Brand {
 /// How a command ends, in plain equations: its status, the files after it, and the printed text.
 /// Each holds for files and sinks that reveal their contents; a part holds for all of them.
 pub fn ending_laws<C: AnyCommand>()
-    ensures told { EndsSay C.reading }
-    ensures anyhow { EndsAnyhowSay C.reading }
+    ensures told { EndingLaw C.reading }
+    ensures anyhow { EndingLawInAllCases C.reading }
 {}
 
 /// The reports of a command, whatever number of files it reads, and the files that it needs, in
 /// plain equations.
 pub fn reading_laws<C: AnyCommand>()
-    ensures says { ReportsSay C.reading }
-    ensures asks { InputsSay C.reading }
+    ensures says { ReportLaw C.reading }
+    ensures asks { NeededInputsLaw C.reading }
 {}

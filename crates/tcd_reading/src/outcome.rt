@@ -2,7 +2,7 @@
 ghost use Rattle.std.specs.Prelude.{◌≡◌, ◌≢◌, ◌≤◌, IsTrue, IfOk, OnOk, IfErr, IsOk, IsOkAnd};
 ghost use Rattle.tcd_base.specs.Files.{LeavesFaults};
 ghost use Rattle.tcd_base.specs.FailingCalls.{FaultCounted};
-ghost use Rattle.tcd_reading.specs.Reports.{says, writes_file, writes_two, with_report_files};
+ghost use Rattle.tcd_reading.specs.Reports.{says, report_with_file, report_with_two_files, with_report_files};
 ghost use Rattle.tcd_reading.specs.Endings.{ReportWritingStopped, FinishesOutcome};
 ghost use Rattle.tcd_reading.specs.Outcomes.{IsBadInputStop};
 
@@ -104,7 +104,7 @@ pub fn report_with_file(
     bytes: Vec<u8>,
     text: Vec<u8>,
 ) -> Result<Report, NoMemory>
-    ensures { IfOk result (λ r. r ≡ writes_file name.now bytes.items text.items) }
+    ensures { IfOk result (λ r. r ≡ report_with_file name.now bytes.items text.items) }
 {
     let mut writes = Vec::new(alloc);
     writes.push(Write::of(alloc, name, bytes)?)?;
@@ -122,7 +122,7 @@ pub fn report_with_two_files(
     second: Write,
     text: Vec<u8>,
 ) -> Result<Report, NoMemory>
-    ensures { IfOk result (λ r. r ≡ writes_two first second text.items) }
+    ensures { IfOk result (λ r. r ≡ report_with_two_files first second text.items) }
 {
     let mut writes = Vec::new(alloc);
     writes.push(first)?;

@@ -19,8 +19,8 @@ unfoldable pub generated_code : List ℕ → Fields → List ℕ
 generated_code name f = option_map_or (λ r. spelling r f) (find (λ r. bytes_eq r.name name) listed) []
 
 -- the address of function i: each function has 32 bytes
-abbrev pub generated_function_at : ℕ → ℕ
-generated_function_at i = 0x80008000 + 32 * i
+abbrev pub generated_function_address : ℕ → ℕ
+generated_function_address i = 0x80008000 + 32 * i
 
 -- the call instruction at an address of the generated image that calls later code in it: the
 -- displacement is in halfwords
@@ -31,8 +31,8 @@ call_from at to = generated_code (codes "call") (fields 0 0 0 0 ((to - at) / 2))
 -- a15 is the address of the peripheral, F0000000. Its word d15 is the number of a word in the
 -- table, 256 bytes after the start of the program. That function is called, then a system call is
 -- made, and then all again.
-unfoldable pub main_code : List ℕ
-main_code =
+unfoldable pub generated_main_code : List ℕ
+generated_main_code =
     generated_code (codes "movh.a") (fields 15 0 0 0 0xf000) ++ generated_code (codes "ld.w.l") (fields 0 15 15 0 0)
     ++ generated_code (codes "movh.a") (fields 14 0 0 0 0x8000) ++ generated_code (codes "addsc.a") (fields 14 15 14 2 0)
     ++ generated_code (codes "ld.a.l") (fields 0 14 14 0 256) ++ generated_code (codes "calli") (fields 0 14 0 0 0)
@@ -40,21 +40,21 @@ main_code =
 
 -- ---- the table, at 80000100
 -- sixteen addresses of functions; after the last function comes the first
-unfoldable pub generated_table : ℕ → List ℕ
-generated_table n = flat_map (λ j. bytes_of_word (generated_function_at (j % n))) (range_with_len 0 16)
+unfoldable pub generated_function_table : ℕ → List ℕ
+generated_function_table n = flat_map (λ j. bytes_of_word (generated_function_address (j % n))) (range_with_len 0 16)
 
 -- ---- the vectors
 -- the address of the handler of interrupt p in a generated image: BIV with the priority in bits
 -- 12:5
-abbrev pub generated_handler_at : ℕ → ℕ
-generated_handler_at p = 0x80002000 + 32 * p
+abbrev pub generated_handler_address : ℕ → ℕ
+generated_handler_address p = 0x80002000 + 32 * p
 
 -- the handler of interrupt p: it saves the lower context, enables interrupts of higher priority,
 -- and calls the last function
 unfoldable pub generated_handler : ℕ → ℕ → List ℕ
 generated_handler n p =
     generated_code (codes "bisr16") (fields 0 0 0 0 p)
-    ++ (call_from (generated_handler_at p + 2) (generated_function_at (n - 1)) ++ (generated_code (codes "rslcx") (fields 0 0 0 0 0) ++ generated_code (codes "rfe16") (fields 0 0 0 0 0)))
+    ++ (call_from (generated_handler_address p + 2) (generated_function_address (n - 1)) ++ (generated_code (codes "rslcx") (fields 0 0 0 0 0) ++ generated_code (codes "rfe16") (fields 0 0 0 0 0)))
 
 -- the bytes of a function or handler of a generated image, with zeros up to this length, where the
 -- next one begins
@@ -66,26 +66,26 @@ unfoldable pub generated_vectors : ℕ → List ℕ
 generated_vectors n = flat_map (λ j. zero_padded_bytes 320 (generated_handler n (10 * j + 10))) (range_with_len 0 15) ++ generated_handler n 160
 
 -- the handler of system calls
-unfoldable pub system_code : List ℕ
-system_code = generated_code (codes "rfe16") (fields 0 0 0 0 0)
+unfoldable pub generated_system_call_handler : List ℕ
+generated_system_call_handler = generated_code (codes "rfe16") (fields 0 0 0 0 0)
 
 -- ---- functions
 -- a call of function i, if i is below n
 abbrev pub call_if_below : ℕ → ℕ → ℕ → List ℕ
-call_if_below n at i = if nat_lt i n then call_from at (generated_function_at i) else []
+call_if_below n at i = if nat_lt i n then call_from at (generated_function_address i) else []
 
 -- function i: it reserves eight bytes of stack, stores a word there, and calls the functions 2i + 1
 -- and 2i + 2, if there are any
-unfoldable pub function_code : ℕ → ℕ → List ℕ
-function_code n i =
+unfoldable pub generated_function_code : ℕ → ℕ → List ℕ
+generated_function_code n i =
     generated_code (codes "sub16.a") (fields 0 0 0 0 8)
     ++ (generated_code (codes "st16.w") (fields 0 15 10 0 0)
-    ++ (call_if_below n (generated_function_at i + 4) (2 * i + 1)
-    ++ (call_if_below n (generated_function_at i + 8) (2 * i + 2) ++ generated_code (codes "ret16") (fields 0 0 0 0 0))))
+    ++ (call_if_below n (generated_function_address i + 4) (2 * i + 1)
+    ++ (call_if_below n (generated_function_address i + 8) (2 * i + 2) ++ generated_code (codes "ret16") (fields 0 0 0 0 0))))
 
 -- the functions, each except the last with zeros up to 32 bytes
 unfoldable pub generated_functions : ℕ → List ℕ
-generated_functions n = flat_map (λ i. zero_padded_bytes 32 (function_code n i)) (range_with_len 0 (n - 1)) ++ function_code n (n - 1)
+generated_functions n = flat_map (λ i. zero_padded_bytes 32 (generated_function_code n i)) (range_with_len 0 (n - 1)) ++ generated_function_code n (n - 1)
 
 -- ---- the image
 -- these bytes at an address
@@ -95,7 +95,7 @@ generated_segment at bytes = record { at = at; bytes = bytes }
 -- the main program, the table, the vectors, the handler of system calls, and the functions
 abbrev pub generated_segments : ℕ → List SegmentData
 generated_segments n =
-    generated_segment 0x80000000 main_code ∷ generated_segment 0x80000100 (generated_table n) ∷ generated_segment 0x80002140 (generated_vectors n) ∷ generated_segment 0x800040c0 system_code ∷
+    generated_segment 0x80000000 generated_main_code ∷ generated_segment 0x80000100 (generated_function_table n) ∷ generated_segment 0x80002140 (generated_vectors n) ∷ generated_segment 0x800040c0 generated_system_call_handler ∷
     generated_segment 0x80008000 (generated_functions n) ∷ []
 
 -- the image of n functions; its entry is the main program

@@ -15,7 +15,7 @@ use Rattle.depth_cert.specs.declared.points.Point.{Point}
 use Rattle.depth_cert.specs.Nodes.{NodeData, find_node}
 use Rattle.depth_cert.specs.Certs.{CertData}
 use Rattle.cfg_recover.specs.Code.{IsCode}
-use Rattle.cfg_recover.specs.Duties.{Duty, jump, enter, resume, Owed, duties_of, successors_of}
+use Rattle.cfg_recover.specs.Duties.{Duty, jump, enter, resume, Owed, duties_of, successor_duties_of}
 use Rattle.cfg_recover.specs.RulesHoldOrFail.{limits_in}
 use Rattle.cfg_recover.specs.StepEdges.{EdgeWay, to, call, irq, sys, aln, ret, rfe}
 use Rattle.tcd_text.specs.HexNumbers.{hex_word}
@@ -63,19 +63,19 @@ arrow_end (goes w) = way_end w
 arrow_end (back q) = line_end_to (codes "back ") q
 
 -- a line: the key, the point's address, and the arrow
-abbrev pub line_text : Key → ℕ → Arrow → List ℕ
-line_text key p a = line_front key p ++ arrow_end a
+abbrev pub graph_line : Key → ℕ → Arrow → List ℕ
+graph_line key p a = line_front key p ++ arrow_end a
 
 -- ---- the arrows of a point
 -- the address in the frame that a duty leads to
-abbrev pub jump_by : Duty → List ℕ
-jump_by (jump q t) = q ∷ []
-jump_by _ = []
+abbrev pub jump_target_of_duty : Duty → List ℕ
+jump_target_of_duty (jump q t) = q ∷ []
+jump_target_of_duty _ = []
 
 -- the entry that a duty asks for
-abbrev pub entry_by : Duty → List ℕ
-entry_by (enter k t) = k.entry ∷ []
-entry_by _ = []
+abbrev pub entry_of_duty : Duty → List ℕ
+entry_of_duty (enter k t) = k.entry ∷ []
+entry_of_duty _ = []
 
 -- for the graph's lines: the number of the rule that asks for the entries of called functions
 abbrev pub call_rule : ℕ
@@ -92,37 +92,37 @@ abbrev pub interrupt_rule : ℕ
 interrupt_rule = 11
 
 -- the entries that the duties of a rule ask for, in their order
-abbrev pub entries_in : ℕ → List Owed → List ℕ
-entries_in rule ds = flat_map (λ d. if d.rule == rule then entry_by d.duty else []) ds
+abbrev pub entries_by_rule : ℕ → List Owed → List ℕ
+entries_by_rule rule ds = flat_map (λ d. if d.rule == rule then entry_of_duty d.duty else []) ds
 
 -- the address where the frame goes on after the node of a key, if that node is there and has an
 -- exit
-abbrev pub back_by : CertData → Duty → List ℕ
-back_by cert (resume k q) = if option_map_or (λ n. is_some n.exit) (find_node k cert.nodes) false then q ∷ [] else []
-back_by cert _ = []
+abbrev pub return_address_of_duty : CertData → Duty → List ℕ
+return_address_of_duty cert (resume k q) = if option_map_or (λ n. is_some n.exit) (find_node k cert.nodes) false then q ∷ [] else []
+return_address_of_duty cert _ = []
 
 -- addresses in the order of their first places, each once, as no line of the graph is there twice
-abbrev pub each_address_once : List ℕ → List ℕ
-each_address_once [] = []
-each_address_once (x ∷ xs) = x ∷ filter (λ y. not (y == x)) (each_address_once xs)
+abbrev pub unique_addresses : List ℕ → List ℕ
+unique_addresses [] = []
+unique_addresses (x ∷ xs) = x ∷ filter (λ y. not (y == x)) (unique_addresses xs)
 
 -- the arrow of a return, if the instruction is one
-abbrev pub leaves_by : Shape → List Arrow
-leaves_by shape.Ret = goes ret ∷ []
-leaves_by shape.Rfe = goes rfe ∷ []
-leaves_by _ = []
+abbrev pub return_arrow_of : Shape → List Arrow
+return_arrow_of shape.Ret = goes ret ∷ []
+return_arrow_of shape.Rfe = goes rfe ∷ []
+return_arrow_of _ = []
 
 -- the addresses in the frame that the duties of a point lead to, ascending
-abbrev pub jumps_in : List Owed → List ℕ
-jumps_in ds = sorted_set_of (flat_map (λ d. jump_by d.duty) ds)
+abbrev pub sorted_jump_targets_of : List Owed → List ℕ
+sorted_jump_targets_of ds = sorted_set_of (flat_map (λ d. jump_target_of_duty d.duty) ds)
 
 -- the entries of the called functions, ascending
-abbrev pub calls_in : List Owed → List ℕ
-calls_in ds = sorted_set_of (entries_in call_rule ds)
+abbrev pub called_entries_of : List Owed → List ℕ
+called_entries_of ds = sorted_set_of (entries_by_rule call_rule ds)
 
 -- the addresses where the frame goes on after an entered frame returns, each once
-abbrev pub backs_in : CertData → List Owed → List ℕ
-backs_in cert ds = each_address_once (flat_map (λ d. back_by cert d.duty) ds)
+abbrev pub unique_return_addresses_of : CertData → List Owed → List ℕ
+unique_return_addresses_of cert ds = unique_addresses (flat_map (λ d. return_address_of_duty cert d.duty) ds)
 
 -- the number of the rule whose duties give the `sys` lines of a graph: they ask for the entry of
 -- the handler of system calls
@@ -130,28 +130,28 @@ abbrev pub system_call_rule : ℕ
 system_call_rule = 12
 
 -- the entry of the handler of system calls
-abbrev pub systems_in : List Owed → List ℕ
-systems_in ds = each_address_once (entries_in system_call_rule ds)
+abbrev pub system_call_entries_of : List Owed → List ℕ
+system_call_entries_of ds = unique_addresses (entries_by_rule system_call_rule ds)
 
 -- the address on the graph's `aln` line of a point, by its duties: the entry of the handler of
 -- misaligned accesses that they ask for, if any
-abbrev pub misaligned_in : List Owed → List ℕ
-misaligned_in ds = each_address_once (entries_in misaligned_rule ds)
+abbrev pub misaligned_entries_of : List Owed → List ℕ
+misaligned_entries_of ds = unique_addresses (entries_by_rule misaligned_rule ds)
 
 -- the addresses on the graph's `irq` lines of a point, by its duties: the entries of the interrupts
 -- by ascending priority; a vector that two of them share is there once
-abbrev pub interrupts_in : List Owed → List ℕ
-interrupts_in ds = each_address_once (entries_in interrupt_rule ds)
+abbrev pub interrupt_entries_of : List Owed → List ℕ
+interrupt_entries_of ds = unique_addresses (entries_by_rule interrupt_rule ds)
 
 -- the arrows of a point, by its duties and its instruction
 unfoldable pub arrows_of : CertData → List Owed → Shape → List Arrow
 arrows_of cert ds shape =
-    map (λ q. goes (to q)) (jumps_in ds)
-    ++ (map (λ q. goes (call q)) (calls_in ds)
-    ++ (map back (backs_in cert ds)
-    ++ (map (λ q. goes (sys q)) (systems_in ds)
-    ++ (map (λ q. goes (aln q)) (misaligned_in ds)
-    ++ (map (λ q. goes (irq q)) (interrupts_in ds) ++ leaves_by shape)))))
+    map (λ q. goes (to q)) (sorted_jump_targets_of ds)
+    ++ (map (λ q. goes (call q)) (called_entries_of ds)
+    ++ (map back (unique_return_addresses_of cert ds)
+    ++ (map (λ q. goes (sys q)) (system_call_entries_of ds)
+    ++ (map (λ q. goes (aln q)) (misaligned_entries_of ds)
+    ++ (map (λ q. goes (irq q)) (interrupt_entries_of ds) ++ return_arrow_of shape)))))
 
 -- ---- the graph
 -- the lines of a point
@@ -159,7 +159,7 @@ pub record ArePointLines (image : ImageData) (plan : PlanData) (cert : CertData)
   pub shape : Shape
   pub size : ℕ
   pub code : IsCode image plan point.addr shape size
-  pub are : lines ≡ map (line_text key point.addr) (arrows_of cert (duties_of (limits_in plan cert) image plan key point.addr point.state shape size) shape)
+  pub are : lines ≡ map (graph_line key point.addr) (arrows_of cert (duties_of (limits_in plan cert) image plan key point.addr point.state shape size) shape)
 
 -- one part for each element, in order
 abbrev pub AreLineParts : {A : Type 0} → (A → List (List ℕ) → Type 0) → List A → List (List (List ℕ)) → Type 0
@@ -190,49 +190,49 @@ pub record IsGraph (image : ImageData) (plan : PlanData) (cert : CertData) (text
 
 -- the addresses for the lines of the graph with one more at their end, unless it is there already,
 -- as no line is there twice
-abbrev pub with_address_once : List ℕ → ℕ → List ℕ
-with_address_once xs x = if list_any (λ y. y == x) xs then xs else xs ++ x ∷ []
+abbrev pub with_unique_address : List ℕ → ℕ → List ℕ
+with_unique_address xs x = if list_any (λ y. y == x) xs then xs else xs ++ x ∷ []
 
 -- the addresses for the `to` lines of a point in the graph, in the order of the duties that lead to
 -- them in the frame
-abbrev pub jumped_in : List Owed → List ℕ
-jumped_in ds = flat_map (λ d. jump_by d.duty) ds
+abbrev pub jump_targets_of : List Owed → List ℕ
+jump_targets_of ds = flat_map (λ d. jump_target_of_duty d.duty) ds
 
 -- the address where the frame goes on after an entered frame returns, once for each entered node
 -- with an exit
-abbrev pub returned_in : CertData → List Owed → List ℕ
-returned_in cert ds = flat_map (λ d. back_by cert d.duty) ds
+abbrev pub return_addresses_of : CertData → List Owed → List ℕ
+return_addresses_of cert ds = flat_map (λ d. return_address_of_duty cert d.duty) ds
 
 -- the functions that an instruction of this shape calls
-abbrev pub called_of : PlanData → State → ℕ → Shape → List ℕ
-called_of plan s p (Call target) = unwrap_or (targets_of plan s p target) []
-called_of plan s p _ = []
+abbrev pub call_targets_of : PlanData → State → ℕ → Shape → List ℕ
+call_targets_of plan s p (Call target) = unwrap_or (targets_of plan s p target) []
+call_targets_of plan s p _ = []
 
 -- the entries of the frames of a kind, for the lines of the graph with its word
 abbrev pub entries_of_kind : ℕ → List Key → List ℕ
 entries_of_kind kind keys = flat_map (λ k. if k.kind == kind then k.entry ∷ [] else []) keys
 
 -- the address where a frame goes on after these frames, once for each whose node has an exit
-abbrev pub backs_after : CertData → ℕ → List Key → List ℕ
-backs_after cert q keys = flat_map (λ k. back_by cert (resume k q)) keys
+abbrev pub return_addresses_after : CertData → ℕ → List Key → List ℕ
+return_addresses_after cert q keys = flat_map (λ k. return_address_of_duty cert (resume k q)) keys
 
 -- for the graph: the addresses where a point goes on, by the words of its lines, are those that its
 -- duties give
 pub record AreEdges (cert : CertData) (ds : List Owed) (w : Edges) : Type 0 where
-  pub to : w.to.items ≡ jumps_in ds
-  pub call : w.call.items ≡ calls_in ds
-  pub back : w.back.items ≡ backs_in cert ds
-  pub sys : w.sys.items ≡ systems_in ds
-  pub aln : w.aln.items ≡ misaligned_in ds
-  pub irq : w.irq.entries.items ≡ interrupts_in ds
+  pub to : w.to.items ≡ sorted_jump_targets_of ds
+  pub call : w.call.items ≡ called_entries_of ds
+  pub back : w.back.items ≡ unique_return_addresses_of cert ds
+  pub sys : w.sys.items ≡ system_call_entries_of ds
+  pub aln : w.aln.items ≡ misaligned_entries_of ds
+  pub irq : w.irq.entries.items ≡ interrupt_entries_of ds
 
 -- one line with this front and word for each address
 abbrev pub lines_to : List ℕ → List ℕ → List ℕ → List ℕ
 lines_to front word targets = flat_map (λ q. front ++ line_end_to word q) targets
 
 -- the lines of a point with this front, except that of its own return
-abbrev pub ways_text : List ℕ → Edges → List ℕ
-ways_text front w =
+abbrev pub edge_lines_text : List ℕ → Edges → List ℕ
+edge_lines_text front w =
     lines_to front (codes "to ") w.to.items
     ++ (lines_to front (codes "call ") w.call.items
     ++ (lines_to front (codes "back ") w.back.items
@@ -241,11 +241,11 @@ ways_text front w =
     ++ lines_to front (codes "irq ") w.irq.entries.items))))
 
 -- the line of a return, if the instruction is one
-abbrev pub leaving_text : List ℕ → Shape → List ℕ
-leaving_text front Ret = front ++ (codes "ret" ++ 10 ∷ [])
-leaving_text front Rfe = front ++ (codes "rfe" ++ 10 ∷ [])
-leaving_text front _ = []
+abbrev pub return_line_text : List ℕ → Shape → List ℕ
+return_line_text front Ret = front ++ (codes "ret" ++ 10 ∷ [])
+return_line_text front Rfe = front ++ (codes "rfe" ++ 10 ∷ [])
+return_line_text front _ = []
 
 -- the successors of a point in its frame, by its instruction
 abbrev pub successors_at : Judged → Point → Located → List Owed
-successors_at j point found = successors_of j.bounds.now j.image.now j.plan.now point.addr point.state found.shape found.size
+successors_at j point found = successor_duties_of j.bounds.now j.image.now j.plan.now point.addr point.state found.shape found.size

@@ -8,7 +8,7 @@ use Rattle.cfg_recover.specs.RulesHoldOrFail.{Accepts, limits_in}
 use Rattle.tcd_report.specs.declared.judged.Judged.{Judged}
 
 -- the certificate is accepted for the image and the plan, and the bounds are those of its format
-pub record IsJudged (j : Judged) : Type 0 where
+pub record IsAcceptedWithLimits (j : Judged) : Type 0 where
   pub limits : j.bounds.now ≡ limits_in j.plan.now j.cert.now
   pub accepted : Accepts j.image.now j.plan.now j.cert.now
 

@@ -13,7 +13,7 @@ use Rattle.depth_cert.specs.Certs.{CertData}
 use Rattle.cfg_recover.specs.RulesHoldOrFail.{certified_need}
 use Rattle.tcd_report.specs.declared.reports.longest_by_priority.LongestCalls.{LongestCalls}
 use Rattle.tcd_report.specs.Texts.{key_text}
-use Rattle.tcd_report.specs.Reports.Longest.{prios_of, IsLongest}
+use Rattle.tcd_report.specs.Reports.Longest.{priorities_of, IsLongestCallChain}
 
 -- a number of the report
 abbrev pub reported_count : ℕ → Data
@@ -25,21 +25,21 @@ reported_node n = object (member (codes "key") (string (key_text n.key)) (member
 
 -- a row of the longest call chains in the report's JSON: an object of a priority and the length of
 -- its longest call chain
-abbrev pub row_data : LongestCalls → Data
-row_data r = object (member (codes "longest") (reported_count r.longest) (member (codes "prio") (reported_count r.prio) no_members))
+abbrev pub longest_calls_data : LongestCalls → Data
+longest_calls_data r = object (member (codes "longest") (reported_count r.longest) (member (codes "prio") (reported_count r.prio) no_members))
 
 -- the whole: the CSAs, the longest call chains, the certified need, the nodes in the order of their
 -- frames, and the reserve
-abbrev pub whole_data : ℕ → Data → ℕ → Data → ℕ → Data
-whole_data areas calls certified nodes reserve =
+abbrev pub report_object_data : ℕ → Data → ℕ → Data → ℕ → Data
+report_object_data areas calls certified nodes reserve =
     object
     (member (codes "areas") (reported_count areas)
     (member (codes "calls") calls
     (member (codes "certified") (reported_count certified) (member (codes "nodes") nodes (member (codes "reserve") (reported_count reserve) no_members)))))
 
 -- the longest call chains in the report's JSON: an array of one object for each priority
-abbrev pub rows_data : List LongestCalls → Data
-rows_data rows = array (items_of (map row_data rows))
+abbrev pub all_longest_calls_data : List LongestCalls → Data
+all_longest_calls_data rows = array (items_of (map longest_calls_data rows))
 
 -- the nodes
 abbrev pub nodes_data : List NodeData → Data
@@ -47,12 +47,12 @@ nodes_data nodes = array (items_of (map reported_node nodes))
 
 -- the report of a certificate with these longest call chains
 abbrev pub report_data : ImageData → PlanData → CertData → List LongestCalls → Data
-report_data image plan cert rows = whole_data plan.areas (rows_data rows) (certified_need image plan cert) (nodes_data cert.nodes) plan.reserve
+report_data image plan cert rows = report_object_data plan.areas (all_longest_calls_data rows) (certified_need image plan cert) (nodes_data cert.nodes) plan.reserve
 
 -- The text is the report and a line feed. It has the longest call chain of each priority that has
 -- nodes, by ascending priority.
 pub record IsReport (image : ImageData) (plan : PlanData) (cert : CertData) (text : List ℕ) : Type 0 where
   pub rows : List LongestCalls
-  pub prios : map (λ r. r.prio) rows ≡ prios_of cert.nodes
-  pub longest : All (λ r. IsLongest image plan cert r.prio r.longest) rows
+  pub prios : map (λ r. r.prio) rows ≡ priorities_of cert.nodes
+  pub longest : All (λ r. IsLongestCallChain image plan cert r.prio r.longest) rows
   pub is : text ≡ compact_text (report_data image plan cert rows) ++ 10 ∷ []

@@ -12,7 +12,7 @@ unfoldable pub key_text : Key → List ℕ
 key_text key = key_kind_text key.kind ++ (hex_word key.entry ++ (codes " prio " ++ (decimal key.prio ++ (codes " is " ++ ((if key.is then 49 else 48) ∷ [])))))
 
 -- a text grows at its end by lines with this property
-pub record GrowsBy (Are : List (List ℕ) → Type 0) (old new : List ℕ) : Type 0 where
+pub record GrowsByLines (Are : List (List ℕ) → Type 0) (old new : List ℕ) : Type 0 where
   pub lines : List (List ℕ)
   pub are : Are lines
   pub grown : new ≡ old ++ flat_map (λ l. l) lines

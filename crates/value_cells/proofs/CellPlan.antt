@@ -7,7 +7,7 @@ use Rattle.std.specs.List.{list_all}
 use Rattle.std.specs.Prelude.{sum_by, AllPairs}
 use Rattle.tcd_base.specs.declared.range.Range.{Range}
 use Rattle.tcd_plan.specs.declared.plans.Device.{Device}
-use Rattle.tcd_plan.specs.PlanData.{PlanData, IsPlan, is_range, is_device, are_all_ranges_apart, areas_range}
+use Rattle.tcd_plan.specs.PlanData.{PlanData, IsPlan, is_plan_range, is_plan_device, are_all_ranges_apart, areas_range}
 use Rattle.tcd_base.specs.Ranges.{IsWithinRange, IsInOneRange}
 use Rattle.tcd_plan.specs.Cutting.{cut_plan_ranges}
 use Rattle.tcd_plan.proofs.ApartLaws.{range_parts, is_range-from, device_ranges, HaveBytes, HaveBytes-ranges, HaveBytes-append, IsInOne-fits, each_apart, all_apart-before, all_apart-behind, all_apart-front, all_apart-append}
@@ -18,11 +18,11 @@ use Rattle.value_cells.specs.Cells.{ram_without_cells, cell_device, with_cells, 
 use Rattle.value_cells.proofs.CellRanges.{ram_in, ram_out, first_cell, later_cells, cell_in_ram, ram_not_rom, ram_not_device}
 
 -- ---- all words
-ram_ranges : (plan : PlanData) (cells : List Cell) (rs : List Range) → All (IsCell plan) cells → list_all is_range rs ≡ true → list_all is_range (ram_without_cells cells rs) ≡ true
+ram_ranges : (plan : PlanData) (cells : List Cell) (rs : List Range) → All (IsCell plan) cells → list_all is_plan_range rs ≡ true → list_all is_plan_range (ram_without_cells cells rs) ≡ true
 ram_ranges plan [] rs all h = h
 ram_ranges plan (c ∷ cs) rs all h = ram_ranges plan cs (cut_plan_ranges c.at 4 rs) (later_cells plan c cs all) (ranges_without_ranges c.at 4 (first_cell plan c cs all).aligned refl rs h)
 
-ram_apart : (plan : PlanData) (cells : List Cell) (rs : List Range) → All (IsCell plan) cells → list_all is_range rs ≡ true → are_all_ranges_apart rs ≡ true → are_all_ranges_apart (ram_without_cells cells rs) ≡ true
+ram_apart : (plan : PlanData) (cells : List Cell) (rs : List Range) → All (IsCell plan) cells → list_all is_plan_range rs ≡ true → are_all_ranges_apart rs ≡ true → are_all_ranges_apart (ram_without_cells cells rs) ≡ true
 ram_apart plan [] rs all h g = g
 ram_apart plan (c ∷ cs) rs all h g =
     let a = (first_cell plan c cs all).aligned in
@@ -40,17 +40,17 @@ ram_size (c ∷ cs) rs = let a = ram_size cs (cut_plan_ranges c.at 4 rs) in let 
 abbrev cell_ranges : List Cell → List Range
 cell_ranges cells = map (λ (d : Device). d.range) (map cell_device cells)
 
-device_all : (xs ys : List Device) → list_all is_device xs ≡ true → list_all is_device ys ≡ true → list_all is_device (xs ++ ys) ≡ true
-device_all xs ys h g = list_all-append is_device xs ys ∙ and_from _ _ h g
+device_all : (xs ys : List Device) → list_all is_plan_device xs ≡ true → list_all is_plan_device ys ≡ true → list_all is_plan_device (xs ++ ys) ≡ true
+device_all xs ys h g = list_all-append is_plan_device xs ys ∙ and_from _ _ h g
 
 module _ (plan : PlanData) (ok : IsPlan plan) where
   cell_fits : (c : Cell) → IsCell plan c → c.at + 4 ≤ 2 ^ 32
   cell_fits c is = IsInOne-fits c.at 4 plan.ram (ok.ranges).ram is.in_ram
 
-  cell_range : (c : Cell) → IsCell plan c → is_range (record { at = c.at; len = 4 }) ≡ true
+  cell_range : (c : Cell) → IsCell plan c → is_plan_range (record { at = c.at; len = 4 }) ≡ true
   cell_range c is = is_range-from (record { at = c.at; len = 4 }) is.aligned refl (omega arith) (cell_fits c is)
 
-  cell_devices : (cells : List Cell) → All (IsCell plan) cells → list_all is_device (map cell_device cells) ≡ true
+  cell_devices : (cells : List Cell) → All (IsCell plan) cells → list_all is_plan_device (map cell_device cells) ≡ true
   cell_devices [] all = refl
   cell_devices (c ∷ cs) all =
       let is = first_cell plan c cs all in
@@ -96,13 +96,13 @@ module _ {plan : PlanData} (ok : IsPlan plan) (cells : List Cell) (are : AreCell
   all : All (IsCell plan) cells
   all = are.each
 
-  ram_is : list_all is_range ram ≡ true
+  ram_is : list_all is_plan_range ram ≡ true
   ram_is = ram_ranges plan cells plan.ram are.each (ok.ranges).ram
 
-  old_is : list_all is_range old_devices ≡ true
+  old_is : list_all is_plan_range old_devices ≡ true
   old_is = device_ranges plan.devices (ok.ranges).devices
 
-  new_is : list_all is_range (cell_ranges cells) ≡ true
+  new_is : list_all is_plan_range (cell_ranges cells) ≡ true
   new_is = device_ranges (map cell_device cells) (cell_devices plan ok cells are.each)
 
   three : are_all_ranges_apart (plan.rom ++ plan.ram ++ old_devices) ≡ true
@@ -217,10 +217,10 @@ take_cells plan (c ∷ cs) zero each k d lt = absurd (omega arith)
 take_cells plan (c ∷ cs) (suc i) each zero d lt = first_cell plan c cs each
 take_cells plan (c ∷ cs) (suc i) each (suc k) d lt = take_cells plan cs i (later_cells plan c cs each) k d (omega arith)
 
-fits_each : (rs : List Range) → list_all is_range rs ≡ true → All (λ r. r.at + r.len ≤ 2 ^ 32) rs
+fits_each : (rs : List Range) → list_all is_plan_range rs ≡ true → All (λ r. r.at + r.len ≤ 2 ^ 32) rs
 fits_each [] h k d lt = absurd (omega arith)
-fits_each (r ∷ rs) h zero d lt = (range_parts r (and_parts (is_range r) (list_all is_range rs) h).0).3
-fits_each (r ∷ rs) h (suc k) d lt = fits_each rs (and_parts (is_range r) (list_all is_range rs) h).1 k d (omega arith)
+fits_each (r ∷ rs) h zero d lt = (range_parts r (and_parts (is_plan_range r) (list_all is_plan_range rs) h).0).3
+fits_each (r ∷ rs) h (suc k) d lt = fits_each rs (and_parts (is_plan_range r) (list_all is_plan_range rs) h).1 k d (omega arith)
 
 -- no range that is left passes 2^32
 pub ram_fits : {plan : PlanData} → IsPlan plan → (cells : List Cell) → All (IsCell plan) cells → All (λ r. r.at + r.len ≤ 2 ^ 32) (ram_without_cells cells plan.ram)

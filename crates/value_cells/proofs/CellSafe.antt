@@ -17,9 +17,9 @@ use Rattle.tc_machine.specs.declared.events.Cause.TheVariants.{NoCode}
 use Rattle.tc_machine.specs.declared.events.Event.{Event}
 use Rattle.tc_machine.specs.declared.state.Machine.{Machine}
 use Rattle.tc_machine.specs.Machine.{reg, IsMachine}
-use Rattle.tc_machine.specs.Fetching.{mapped_bytes, fetched_shape, fetched}
+use Rattle.tc_machine.specs.Fetching.{mapped_bytes, fetched_shape, fetched_instruction}
 use Rattle.tc_machine.specs.Instructions.{access_address, is_trapping_access}
-use Rattle.tc_machine.specs.Stepping.{is_taken, step, run, load_in, load_at_pc, store_in, where_running, stored}
+use Rattle.tc_machine.specs.Stepping.{is_interrupt_taken, step, run, load_of_fetched, load_at_pc, store_of_fetched, none_if_dead, stored}
 use Rattle.tc_machine.specs.Safe.{Fits, AllFit, IsAtCode, IsSafeAt}
 use Rattle.tc_mem.specs.PlanMemory.{IsPlanMemory}
 use Rattle.tcd_plan.specs.MappedAddresses.{IsStoreInRange}
@@ -42,8 +42,8 @@ use Rattle.depth_cert.specs.Certs.{CertData, IsCert}
 use Rattle.cfg_recover.specs.Code.{IsCode, HasCode}
 use Rattle.cfg_recover.specs.Entries.{start_key}
 use Rattle.cfg_recover.specs.RulesHoldOrFail.{limits_in, RuleHolds, HoldsAtNode, Accepts}
-use Rattle.cfg_recover.specs.Frames.{Standing, frames_after, frames_from, HoldFrames}
-use Rattle.cfg_recover.specs.MovesAreOwed.{InState}
+use Rattle.cfg_recover.specs.Frames.{RunFrame, frames_after, frames_from, HoldFrames}
+use Rattle.cfg_recover.specs.MovesAreOwed.{IsInState}
 use Rattle.cfg_recover.proofs.EntryLaws.{reg_lt}
 use Rattle.depth_cert.proofs.KeyLaws.{found_in}
 use Rattle.cfg_recover.proofs.PointLaws.{limits_are}
@@ -53,7 +53,7 @@ use Rattle.value_cells.specs.Cells.{with_cells, IsCell}
 use Rattle.value_cells.specs.Keeping.{KeepsAll, KeepsCells}
 use Rattle.value_cells.specs.Safe.{IsSafeWithCellsAt}
 use Rattle.value_cells.specs.Laws.{CellsKeepTheirBounds}
-use Rattle.value_cells.specs.BesideCells.{machine_without_cells, event_with_cell_load, event_beside_cells, NamesAreas}
+use Rattle.value_cells.specs.BesideCells.{machine_without_cells, event_with_cell_load, event_beside_cells, AreNamedAreasOffCells}
 use Rattle.value_cells.proofs.WithoutCells.{get-without}
 use Rattle.value_cells.proofs.CellSteps.{address-hidden, status_of_taken, hidden-step}
 use Rattle.value_cells.proofs.CellCode.{fetched-more, chain_there, names_areas}
@@ -74,8 +74,8 @@ some_byte false o b e = e
 
 -- ---- code
 -- the code at pc is what is fetched
-fetched_there : (image : ImageData) {plan : PlanData} → IsPlan plan → (m : Machine) → m.pc % 2 ≡ 0 → (c : IsAtCode image plan m) → fetched m ≡ Ok (shape_of c.inst, length c.bytes)
-unfolding fetched
+fetched_there : (image : ImageData) {plan : PlanData} → IsPlan plan → (m : Machine) → m.pc % 2 ≡ 0 → (c : IsAtCode image plan m) → fetched_instruction m ≡ Ok (shape_of c.inst, length c.bytes)
+unfolding fetched_instruction
 fetched_there image ok m even c =
     let s = c.spells in
     let short = (decode_laws.lengths (c.bytes ++ []) c.inst (length c.bytes) (decode_laws.spelled c.bytes [] c.inst s.spelled)).1 in
@@ -85,18 +85,18 @@ fetched_there image ok m even c =
     ∙ ap fetched_shape (decode_laws.spelled c.bytes front.0 c.inst s.spelled)
 
 -- ---- what a step stores
-store_hidden : (cells : List Cell) (m : Machine) (e : Event) (shape : Shape) (n : ℕ) → store_in (machine_without_cells cells m) (event_with_cell_load cells m e (load_in m (Ok (shape, n)))) (Ok (shape, n)) ≡ store_in m e (Ok (shape, n))
+store_hidden : (cells : List Cell) (m : Machine) (e : Event) (shape : Shape) (n : ℕ) → store_of_fetched (machine_without_cells cells m) (event_with_cell_load cells m e (load_of_fetched m (Ok (shape, n)))) (Ok (shape, n)) ≡ store_of_fetched m e (Ok (shape, n))
 store_hidden cells m e (Store src base offset size after) n = ap (λ x. cond (is_trapping_access e x size) None (Some (x, size))) (address-hidden cells m base offset after)
 store_hidden cells m e _ n = refl
 
-stored_same : (cells : List Cell) (m : Machine) (e : Event) (shape : Shape) (n : ℕ) → fetched m ≡ Ok (shape, n) → fetched (machine_without_cells cells m) ≡ Ok (shape, n) → stored (machine_without_cells cells m) (event_beside_cells cells m e) ≡ stored m e
+stored_same : (cells : List Cell) (m : Machine) (e : Event) (shape : Shape) (n : ℕ) → fetched_instruction m ≡ Ok (shape, n) → fetched_instruction (machine_without_cells cells m) ≡ Ok (shape, n) → stored (machine_without_cells cells m) (event_beside_cells cells m e) ≡ stored m e
 unfolding stored
 stored_same cells m e shape n here there =
-    ap (λ t. where_running m.end (cond t None (store_in (machine_without_cells cells m) (event_beside_cells cells m e) (fetched (machine_without_cells cells m))))) (status_of_taken cells m e (load_at_pc m))
-    ∙ ap (λ f. where_running m.end (cond (is_taken m e) None (store_in (machine_without_cells cells m) (event_beside_cells cells m e) f))) there
-    ∙ ap (λ f. where_running m.end (cond (is_taken m e) None (store_in (machine_without_cells cells m) (event_with_cell_load cells m e (load_in m f)) (Ok (shape, n))))) here
-    ∙ ap (λ o. where_running m.end (cond (is_taken m e) None o)) (store_hidden cells m e shape n)
-    ∙ ap (λ f. where_running m.end (cond (is_taken m e) None (store_in m e f))) (sym here)
+    ap (λ t. none_if_dead m.end (cond t None (store_of_fetched (machine_without_cells cells m) (event_beside_cells cells m e) (fetched_instruction (machine_without_cells cells m))))) (status_of_taken cells m e (load_at_pc m))
+    ∙ ap (λ f. none_if_dead m.end (cond (is_interrupt_taken m e) None (store_of_fetched (machine_without_cells cells m) (event_beside_cells cells m e) f))) there
+    ∙ ap (λ f. none_if_dead m.end (cond (is_interrupt_taken m e) None (store_of_fetched (machine_without_cells cells m) (event_with_cell_load cells m e (load_of_fetched m f)) (Ok (shape, n))))) here
+    ∙ ap (λ o. none_if_dead m.end (cond (is_interrupt_taken m e) None o)) (store_hidden cells m e shape n)
+    ∙ ap (λ f. none_if_dead m.end (cond (is_interrupt_taken m e) None (store_of_fetched m e f))) (sym here)
 
 module _ (image : ImageData) {plan : PlanData} (ok : IsPlan plan) (cells : List Cell) (each : All (IsCell plan) cells) (ok2 : IsPlan (with_cells plan cells)) (cert : CertData) (is_cert : IsCert cert)
     (accepted : Accepts image (with_cells plan cells) cert) (keeps : KeepsCells image (with_cells plan cells) cells cert) (most : ℕ) where
@@ -107,11 +107,11 @@ module _ (image : ImageData) {plan : PlanData} (ok : IsPlan plan) (cells : List 
   abbrev SafeFrom : Machine → Type 0
   SafeFrom h = (es : List Event) (e : Event) → AllFit other h es → Fits other (run h es) e → IsSafeAt image other most (run h es) e
 
-  abbrev HeldFrom : Machine → List Standing → Type 0
+  abbrev HeldFrom : Machine → List RunFrame → Type 0
   HeldFrom h fs = (es : List Event) → AllFit other h es → HoldFrames other cert (run h es) (frames_from h es fs)
 
   -- the machine with the cells takes the steps of the machine without them
-  pub record GoesBeside (m : Machine) (fs : List Standing) : Type 0 where
+  pub record GoesBeside (m : Machine) (fs : List RunFrame) : Type 0 where
     pub words : IsMachine m
     pub kept : AreKept cells m.mem
     pub safe : SafeFrom (machine_without_cells cells m)
@@ -124,11 +124,11 @@ module _ (image : ImageData) {plan : PlanData} (ok : IsPlan plan) (cells : List 
     pub in_cert : Contains cert.nodes node
     pub in_node : Contains node.points point
     pub addr : point.addr ≡ m.pc
-    pub inside : InState other m point.state
+    pub inside : IsInState other m point.state
     pub even : m.pc % 2 ≡ 0
     pub setting : IsSoundSetting (limits_in other cert) other point.state
 
-  at_found : (m : Machine) (f : Standing) → f.at ≡ m.pc → (o : Option NodeData) → find_node f.key cert.nodes ≡ o → IsSomeAnd o (λ n. IsSomeAnd (find_point f.at n.points) (λ p. InState other m p.state)) → AtPoint m
+  at_found : (m : Machine) (f : RunFrame) → f.at ≡ m.pc → (o : Option NodeData) → find_node f.key cert.nodes ≡ o → IsSomeAnd o (λ n. IsSomeAnd (find_point f.at n.points) (λ p. IsInState other m p.state)) → AtPoint m
   at_found m f at None e h = absurd h
   at_found m f at (Some node) e h = at_point (find_point f.at node.points) refl h
     where
@@ -141,7 +141,7 @@ module _ (image : ImageData) {plan : PlanData} (ok : IsPlan plan) (cells : List 
       is_node : IsNode cert.version node
       is_node = All-contains (IsNode cert.version) cert.nodes node is_cert.nodes in_cert
 
-      at_point : (o : Option Point) → find_point f.at node.points ≡ o → IsSomeAnd o (λ p. InState other m p.state) → AtPoint m
+      at_point : (o : Option Point) → find_point f.at node.points ≡ o → IsSomeAnd o (λ p. IsInState other m p.state) → AtPoint m
       at_point None g k = absurd k
       at_point (Some point) g k =
           let there = found_in (λ p. p.addr == f.at) node.points point g in
@@ -161,7 +161,7 @@ module _ (image : ImageData) {plan : PlanData} (ok : IsPlan plan) (cells : List 
             setting = record { limits = limits_are other cert.version; plan = ok2; regs = (is.state).regs; values = values };
           }
 
-  at_held : (m : Machine) (fs : List Standing) → HoldFrames other cert m fs → AtPoint m
+  at_held : (m : Machine) (fs : List RunFrame) → HoldFrames other cert m fs → AtPoint m
   at_held m [] h = absurd h
   at_held m (f ∷ fs) h = at_found m f h.at (find_node f.key cert.nodes) refl h.point
 
@@ -174,23 +174,23 @@ module _ (image : ImageData) {plan : PlanData} (ok : IsPlan plan) (cells : List 
     written_keeps v size x w cs member (λ i d lt. k (suc i) d (omega arith)),
   )
 
-  module _ (m : Machine) (fs : List Standing) (e : Event) (b : GoesBeside m fs) (f : Fits plan m e) where
+  module _ (m : Machine) (fs : List RunFrame) (e : Event) (b : GoesBeside m fs) (f : Fits plan m e) where
     fits2 : Fits other (machine_without_cells cells m) (event_beside_cells cells m e)
     fits2 = hidden_fits ok cells each m e b.words (b.kept).mapped (b.kept).bounds f
 
     safe2 : IsSafeAt image other most (machine_without_cells cells m) (event_beside_cells cells m e)
     safe2 = b.safe [] (event_beside_cells cells m e) tt fits2
 
-    names : NamesAreas cells m
+    names : AreNamedAreasOffCells cells m
     names = let c = (safe2).chains in names_areas cells m c.used c.free c.used_chain c.free_chain
 
     point : AtPoint (machine_without_cells cells m)
     point = at_held (machine_without_cells cells m) fs (b.held [] tt)
 
-    there : fetched (machine_without_cells cells m) ≡ Ok (shape_of (safe2).code_in_rom.inst, length (safe2).code_in_rom.bytes)
+    there : fetched_instruction (machine_without_cells cells m) ≡ Ok (shape_of (safe2).code_in_rom.inst, length (safe2).code_in_rom.bytes)
     there = fetched_there image ok2 (machine_without_cells cells m) (point).even (safe2).code_in_rom
 
-    here : fetched m ≡ Ok (shape_of (safe2).code_in_rom.inst, length (safe2).code_in_rom.bytes)
+    here : fetched_instruction m ≡ Ok (shape_of (safe2).code_in_rom.inst, length (safe2).code_in_rom.bytes)
     here = fetched-more cells m (shape_of (safe2).code_in_rom.inst) (length (safe2).code_in_rom.bytes) there
 
     code : IsCode image other (point).point.addr (shape_of (safe2).code_in_rom.inst) (length (safe2).code_in_rom.bytes)
@@ -198,7 +198,7 @@ module _ (image : ImageData) {plan : PlanData} (ok : IsPlan plan) (cells : List 
         (record { even = (point).even; bytes = (safe2).code_in_rom.bytes; inst = (safe2).code_in_rom.inst; spells = (safe2).code_in_rom.spells; shaped = refl; sized = refl })
 
     -- the store of an instruction keeps the cells
-    store_keeps : (shape : Shape) (n : ℕ) → is_taken m e ≡ false → fetched m ≡ Ok (shape, n) → fetched (machine_without_cells cells m) ≡ Ok (shape, n) → IsShape shape → IsCode image other (point).point.addr shape n → StoreKeeps cells m e shape
+    store_keeps : (shape : Shape) (n : ℕ) → is_interrupt_taken m e ≡ false → fetched_instruction m ≡ Ok (shape, n) → fetched_instruction (machine_without_cells cells m) ≡ Ok (shape, n) → IsShape shape → IsCode image other (point).point.addr shape n → StoreKeeps cells m e shape
     store_keeps (Store src base offset size after) n none h t is c = λ quiet.
         let x = access_address m base offset after in
         let s = ((point).point).state in
@@ -256,7 +256,7 @@ module _ (image : ImageData) {plan : PlanData} (ok : IsPlan plan) (cells : List 
         }
 
   -- ---- runs
-  pub run_beside : (m : Machine) (fs : List Standing) (es : List Event) (e : Event) → GoesBeside m fs → AllFit plan m es → Fits plan (run m es) e → IsSafeWithCellsAt image plan cells most (run m es) e
+  pub run_beside : (m : Machine) (fs : List RunFrame) (es : List Event) (e : Event) → GoesBeside m fs → AllFit plan m es → Fits plan (run m es) e → IsSafeWithCellsAt image plan cells most (run m es) e
   run_beside m fs [] e b fits f = beside_safe m fs e b f
   run_beside m fs (d ∷ es) e b fits f = run_beside (step m d) (frames_after (machine_without_cells cells m) (event_beside_cells cells m d) fs) es e (beside_next m fs d b fits.0) fits.1 f
 

@@ -19,14 +19,14 @@ use Rattle.cfg_recover.proofs.FirstFault.{all_done, least_point, in_cert, least_
 use Rattle.value_cells.specs.declared.cells.Cell.{Cell}
 use Rattle.value_cells.specs.Cells.{AreCells}
 use Rattle.packed_cert.proofs.WalkedPoints.{met}
-use Rattle.value_cells.specs.Keeping.{KeepsCellsAt, KeepsCellsAtPoint, KeepsCells, BreaksCells, breaks_at, cell_break_number, IsFirstBreak, IsNodeBreak}
+use Rattle.value_cells.specs.Keeping.{KeepsCellsByShape, KeepsCellsAtPoint, KeepsCells, BreaksCells, breaks_at, cell_break_number, IsRule16Fault, IsRule16NodeFault}
 
 -- ---- a point
 module _ (b : Limits) (image : ImageData) (plan : PlanData) (cells : List Cell) (point : Point) where
   -- the instruction that is found is the one there
-  pub keeps_found : (found : Shape) (n : ℕ) (r : Bool) → IsCode image plan point.addr found n → (IsTrue r ↔ KeepsCellsAt b plan cells point.state found) → IsTrue r ↔ KeepsCellsAtPoint b image plan cells point
+  pub keeps_found : (found : Shape) (n : ℕ) (r : Bool) → IsCode image plan point.addr found n → (IsTrue r ↔ KeepsCellsByShape b plan cells point.state found) → IsTrue r ↔ KeepsCellsAtPoint b image plan cells point
   keeps_found found n r there both = (
-    λ t shape m code. subst (KeepsCellsAt b plan cells point.state) (IsCode-one image plan point.addr found shape n m there code).0 (both.0 t),
+    λ t shape m code. subst (KeepsCellsByShape b plan cells point.state) (IsCode-one image plan point.addr found shape n m there code).0 (both.0 t),
     λ keeps. both.1 (keeps found n there),
   )
 
@@ -35,7 +35,7 @@ module _ (b : Limits) (image : ImageData) (plan : PlanData) (cells : List Cell) 
   abbrev Keeps : Point → Type 0
   Keeps p = KeepsCellsAtPoint b image plan cells p
 
-  pub node_breaks : (i : ℕ) (point : Point) → ArePoints node.points → i < length points → point ≡ get_or points i point → All Keeps (take i points) → (Keeps point → ⊥) → IsNodeBreak b image plan cells node point.addr
+  pub node_breaks : (i : ℕ) (point : Point) → ArePoints node.points → i < length points → point ≡ get_or points i point → All Keeps (take i points) → (Keeps point → ⊥) → IsRule16NodeFault b image plan cells node point.addr
   node_breaks i point rising lt at before breaks = record {
     point = point;
     stands = subst (λ (l : List Point). Contains l point) same (i, lt, sym at);
@@ -46,7 +46,7 @@ module _ (b : Limits) (image : ImageData) (plan : PlanData) (cells : List Cell) 
 
 -- the first point of a walk that doesn't keep the cells
 pub walked_breaks : (b : Limits) (image : ImageData) (plan : PlanData) (cells : List Cell) (node : NodeData) (done after : List Point) (point : Point) → ArePoints node.points → node.points ≡ done ++ point ∷ after
-    → All (KeepsCellsAtPoint b image plan cells) done → (KeepsCellsAtPoint b image plan cells point → ⊥) → IsNodeBreak b image plan cells node point.addr
+    → All (KeepsCellsAtPoint b image plan cells) done → (KeepsCellsAtPoint b image plan cells point → ⊥) → IsRule16NodeFault b image plan cells node point.addr
 walked_breaks b image plan cells node done after point rising split keep breaks =
     let m = met done after point in
     let all : List Point = done ++ point ∷ after in
@@ -57,17 +57,17 @@ module _ (image : ImageData) (plan : PlanData) (cells : List Cell) (cert : CertD
   abbrev KeepsAll : NodeData → Type 0
   KeepsAll n = All (KeepsCellsAtPoint (limits_in plan cert) image plan cells) n.points
 
-  breaks_here : (node : NodeData) (p : ℕ) → Contains cert.nodes node → IsNodeBreak (limits_in plan cert) image plan cells node p → BreaksCells image plan cells cert node.key p
+  breaks_here : (node : NodeData) (p : ℕ) → Contains cert.nodes node → IsRule16NodeFault (limits_in plan cert) image plan cells node p → BreaksCells image plan cells cert node.key p
   breaks_here node p member f = subst (BreaksCells image plan cells cert node.key) f.addr (breaks_at node f.point member f.stands f.breaks)
 
   abbrev KeepsIn : NodeData → Point → Type 0
   KeepsIn n p = KeepsCellsAtPoint (limits_in plan cert) image plan cells p
 
-  least_of_all : (i : ℕ) (node : NodeData) (p : ℕ) (j : Key) (x : ℕ) → i < length nodes → node ≡ get_or nodes i node → All KeepsAll (take i nodes) → IsNodeBreak (limits_in plan cert) image plan cells node p → p < 2 ^ 32
+  least_of_all : (i : ℕ) (node : NodeData) (p : ℕ) (j : Key) (x : ℕ) → i < length nodes → node ≡ get_or nodes i node → All KeepsAll (take i nodes) → IsRule16NodeFault (limits_in plan cert) image plan cells node p → p < 2 ^ 32
       → BreaksCells image plan cells cert j x → cell_break_number node.key p ≤ cell_break_number j x
   least_of_all i node p _ _ lt at before f small (breaks_at other point member stands wrong) = least_place KeepsIn cert is_cert nodes same i node other p point lt at before f.least small member stands wrong
 
-  pub first_breaks : (i : ℕ) (node : NodeData) (p : ℕ) → i < length nodes → node ≡ get_or nodes i node → All KeepsAll (take i nodes) → IsNodeBreak (limits_in plan cert) image plan cells node p → IsFirstBreak image plan cells cert node.key p
+  pub first_breaks : (i : ℕ) (node : NodeData) (p : ℕ) → i < length nodes → node ≡ get_or nodes i node → All KeepsAll (take i nodes) → IsRule16NodeFault (limits_in plan cert) image plan cells node p → IsRule16Fault image plan cells cert node.key p
   first_breaks i node p lt at before f =
       let member = in_cert KeepsIn cert is_cert nodes same i node lt at in
       let small = subst (λ n. n < 2 ^ 32) f.addr (address_small cert is_cert node f.point member f.stands) in

@@ -21,7 +21,7 @@ use Rattle.cfg_recover.specs.RulesHoldOrFail.{limits_in, Accepts}
 use Rattle.cfg_recover.specs.Assignments.{known_in, IsBelowAt}
 use Rattle.cfg_recover.proofs.CodeLaws.{IsCode-bounded}
 use Rattle.value_cells.specs.declared.cells.Cell.{Cell}
-use Rattle.value_cells.specs.Keeping.{KeepsCellsAt, KeepsCellsAtPoint, KeepsCells, BreaksCells, breaks_at}
+use Rattle.value_cells.specs.Keeping.{KeepsCellsByShape, KeepsCellsAtPoint, KeepsCells, BreaksCells, breaks_at}
 use Rattle.value_cells.specs.Rule16Growth.{CellFaultsGrow, LesserKeepsCells}
 use Rattle.value_cells.specs.Laws.{CellFaultsRefute}
 use Rattle.cfg_recover.proofs.AccessGrowth.{value_grows, access_grows}
@@ -30,7 +30,7 @@ use Rattle.cfg_recover.proofs.KnownPlaces.{Above, above, limits_same, setting}
 -- ---- a store from a smaller state
 module _ (b : Limits) (p : PlanData) (s t : State) (low : IsSoundSetting b p s) (high : IsSoundSetting b p t) (c : Covers t s) where
   -- a store that keeps the cells does so from the smaller state
-  keeps_shrinks : (cells : List Cell) (shape : Shape) → IsShape shape → KeepsCellsAt b p cells t shape → KeepsCellsAt b p cells s shape
+  keeps_shrinks : (cells : List Cell) (shape : Shape) → IsShape shape → KeepsCellsByShape b p cells t shape → KeepsCellsByShape b p cells s shape
   unfolding address_of
   keeps_shrinks cells (Store src base offset size after) is h =
       λ x m i d lt touches.
@@ -47,7 +47,7 @@ module _ (image : ImageData) (plan : PlanData) (cells : List Cell) (lower upper 
   keeps_below node q has stands a keeps shape n code =
       let high = subst (λ (b : Limits). IsSoundSetting b plan (a.place).state) (limits_same plan lower upper same) (setting image plan upper ok up_cert up_ok a.node a.place a.member a.stands) in
       let there = keeps shape n (subst (λ x. IsCode image plan x shape n) (sym a.addr) code) in
-      let limited = subst (λ (b : Limits). KeepsCellsAt b plan cells (a.place).state shape) (limits_same plan lower upper same) there in
+      let limited = subst (λ (b : Limits). KeepsCellsByShape b plan cells (a.place).state shape) (limits_same plan lower upper same) there in
       keeps_shrinks (limits_in plan lower) plan q.state (a.place).state (setting image plan lower ok low_cert low_ok node q has stands) high a.covers cells shape (IsCode-bounded image plan q.addr shape n code) limited
 
   all_below : KeepsCells image plan cells upper → KeepsCells image plan cells lower

@@ -10,7 +10,7 @@ use Rattle.value_cells.specs.declared.cells.Cell.{Cell}
 use Rattle.value_cells.specs.declared.errors.CellsErr.{CellsErr}
 use Rattle.value_cells.specs.declared.errors.CellsErr.TheVariants.{BadLine, NotRam, Twice, TooMany}
 use Rattle.value_cells.specs.Cells.{with_cells, IsCell, AreCells}
-use Rattle.value_cells.specs.CellListText.{cell_of, IsCellLine, AreRead, HasRoom, IsRefused, IsBadLine, IsFirstBad, CellTextReadsOne}
+use Rattle.value_cells.specs.CellListText.{cell_of, IsCellLine, AreCellsOfText, HasRoomForCell, IsErrOfCell, IsErrOfCellLine, IsErrOfCellText, CellTextHasOneResult}
 use Rattle.value_cells.proofs.CellPlan.{take_whole}
 
 -- ---- the first of some cells
@@ -36,7 +36,7 @@ front_cells plan xs ys are = record {
 
 -- ---- one line that is good isn't bad
 module _ (plan : PlanData) (cells : List Cell) where
-  whole_room : (c : Cell) → AreCells plan (cells ++ c ∷ []) → HasRoom plan cells c
+  whole_room : (c : Cell) → AreCells plan (cells ++ c ∷ []) → HasRoomForCell plan cells c
   whole_room c are = record {
     ram = subst (λ (l : List Cell). length (with_cells plan l).ram ≤ 16) (take_whole (cells ++ c ∷ [])) (are.few_ram (length (cells ++ c ∷ [])) (omega arith));
     devices = subst (λ (l : List Cell). length (with_cells plan l).devices ≤ 16) (take_whole (cells ++ c ∷ [])) (are.few_devices (length (cells ++ c ∷ [])) (omega arith));
@@ -47,17 +47,17 @@ module _ (plan : PlanData) (cells : List Cell) where
       let last = subst (λ (a : Cell). a.at ≢ (get_or (cells ++ c ∷ []) k d).at) (last_at cells c d) (are.once k (length cells) d lt (omega (arith, length-append cells (c ∷ [])))) in
       subst (λ (a : Cell). c.at ≢ a.at) (front_at cells (c ∷ []) k d lt ∙ at) last (sym eq)
 
-  not_refused : (n : ℕ) (c : Cell) (e : CellsErr) → AreCells plan (cells ++ c ∷ []) → IsRefused plan cells c n e → ⊥
+  not_refused : (n : ℕ) (c : Cell) (e : CellsErr) → AreCells plan (cells ++ c ∷ []) → IsErrOfCell plan cells c n e → ⊥
   not_refused n c (BadLine k) are bad = bad
   not_refused n c (NotRam k) are bad = bad.1 (All-contains (IsCell plan) (cells ++ c ∷ []) c are.each (Contains-push cells c)).in_ram
   not_refused n c (Twice k) are bad = not_twice c are bad.2
   not_refused n c (TooMany k) are bad = bad.3 (whole_room c are)
 
-  of_option : (n : ℕ) (e : CellsErr) (o : Option Cell) → ((c : Cell) → o ≡ Some c → AreCells plan (cells ++ c ∷ [])) → IsSomeAnd o (λ c. IsRefused plan cells c n e) → ⊥
+  of_option : (n : ℕ) (e : CellsErr) (o : Option Cell) → ((c : Cell) → o ≡ Some c → AreCells plan (cells ++ c ∷ [])) → IsSomeAnd o (λ c. IsErrOfCell plan cells c n e) → ⊥
   of_option n e None are bad = absurd bad
   of_option n e (Some c) are bad = not_refused n c e (are c refl) bad
 
-  not_bad : (n : ℕ) (line : List ℕ) (e : CellsErr) → IsCellLine line → ((c : Cell) → cell_of line ≡ Some c → AreCells plan (cells ++ c ∷ [])) → IsBadLine plan cells line n e → ⊥
+  not_bad : (n : ℕ) (line : List ℕ) (e : CellsErr) → IsCellLine line → ((c : Cell) → cell_of line ≡ Some c → AreCells plan (cells ++ c ∷ [])) → IsErrOfCellLine plan cells line n e → ⊥
   not_bad n line (BadLine k) form are bad = bad.1 form
   not_bad n line it form are bad = of_option n it (cell_of line) are bad
 
@@ -71,7 +71,7 @@ one_more before behind line c is =
     regroup (x ∷ xs) = ap (λ l. x ∷ l) (regroup xs)
 
 module _ (plan : PlanData) (before behind : List (List ℕ)) (line : List ℕ) (all cells : List Cell) (e : CellsErr) where
-  good_and_bad : AreRead plan (before ++ line ∷ behind) all → cells ≡ filter_map cell_of before → IsBadLine plan cells line (length before + 1) e → ⊥
+  good_and_bad : AreCellsOfText plan (before ++ line ∷ behind) all → cells ≡ filter_map cell_of before → IsErrOfCellLine plan cells line (length before + 1) e → ⊥
   good_and_bad read named bad =
       let form = All-contains IsCellLine (before ++ line ∷ behind) line read.forms (Contains-append_right before (line ∷ behind) line (0, omega arith, refl)) in
       not_bad plan cells (length before + 1) line e form
@@ -83,7 +83,7 @@ module _ (plan : PlanData) (cells : List Cell) where
   none_and_one : (c : Cell) → All (λ (d : Cell). d.at ≢ c.at) cells → Any (λ (d : Cell). d.at ≡ c.at) cells → ⊥
   none_and_one c all (i, d, lt, at, eq) = subst (λ (a : Cell). a.at ≢ c.at) at (all i d lt) eq
 
-  one_refusal : (n : ℕ) (c : Cell) (e f : CellsErr) → IsRefused plan cells c n e → IsRefused plan cells c n f → e ≡ f
+  one_refusal : (n : ℕ) (c : Cell) (e f : CellsErr) → IsErrOfCell plan cells c n e → IsErrOfCell plan cells c n f → e ≡ f
   one_refusal n c (BadLine k) f bad worse = absurd bad
   one_refusal n c (NotRam k) (BadLine j) bad worse = absurd worse
   one_refusal n c (NotRam k) (NotRam j) bad worse = ap NotRam (bad.0 ∙ sym worse.0)
@@ -98,15 +98,15 @@ module _ (plan : PlanData) (cells : List Cell) where
   one_refusal n c (TooMany k) (Twice j) bad worse = absurd (none_and_one c bad.2 worse.2)
   one_refusal n c (TooMany k) (TooMany j) bad worse = ap TooMany (bad.0 ∙ sym worse.0)
 
-  one_of_option : (n : ℕ) (e f : CellsErr) (o : Option Cell) → IsSomeAnd o (λ c. IsRefused plan cells c n e) → IsSomeAnd o (λ c. IsRefused plan cells c n f) → e ≡ f
+  one_of_option : (n : ℕ) (e f : CellsErr) (o : Option Cell) → IsSomeAnd o (λ c. IsErrOfCell plan cells c n e) → IsSomeAnd o (λ c. IsErrOfCell plan cells c n f) → e ≡ f
   one_of_option n e f None bad worse = absurd bad
   one_of_option n e f (Some c) bad worse = one_refusal n c e f bad worse
 
-  named_line : (n : ℕ) (line : List ℕ) (e : CellsErr) (o : Option Cell) → cell_of line ≡ o → IsSomeAnd o (λ c. IsRefused plan cells c n e) → IsCellLine line
+  named_line : (n : ℕ) (line : List ℕ) (e : CellsErr) (o : Option Cell) → cell_of line ≡ o → IsSomeAnd o (λ c. IsErrOfCell plan cells c n e) → IsCellLine line
   named_line n line e None is bad = absurd bad
   named_line n line e (Some c) is bad = inr (subst IsSome (sym is) refl)
 
-  one_bad : (n : ℕ) (line : List ℕ) (e f : CellsErr) → IsBadLine plan cells line n e → IsBadLine plan cells line n f → e ≡ f
+  one_bad : (n : ℕ) (line : List ℕ) (e f : CellsErr) → IsErrOfCellLine plan cells line n e → IsErrOfCellLine plan cells line n f → e ≡ f
   one_bad n line (BadLine k) (BadLine j) bad worse = ap BadLine (bad.0 ∙ sym worse.0)
   one_bad n line (BadLine k) (NotRam j) bad worse = absurd (bad.1 (named_line n line (NotRam j) (cell_of line) refl worse))
   one_bad n line (BadLine k) (Twice j) bad worse = absurd (bad.1 (named_line n line (Twice j) (cell_of line) refl worse))
@@ -147,25 +147,25 @@ splits (x ∷ xs) (y ∷ ys) behind behind2 line line2 e =
     ]
 
 module _ (plan : PlanData) (lines : List (List ℕ)) where
-  ok_and_bad : (all : List Cell) (e : CellsErr) → AreRead plan lines all → IsFirstBad plan lines e → ⊥
-  ok_and_bad all e read first = good_and_bad plan first.before first.behind first.line all first.cells e (subst (λ (l : List (List ℕ)). AreRead plan l all) first.split read) (first.read).named first.bad
+  ok_and_bad : (all : List Cell) (e : CellsErr) → AreCellsOfText plan lines all → IsErrOfCellText plan lines e → ⊥
+  ok_and_bad all e read first = good_and_bad plan first.before first.behind first.line all first.cells e (subst (λ (l : List (List ℕ)). AreCellsOfText plan l all) first.split read) (first.read).named first.bad
 
-  one_first : (e f : CellsErr) → IsFirstBad plan lines e → IsFirstBad plan lines f → e ≡ f
+  one_first : (e f : CellsErr) → IsErrOfCellText plan lines e → IsErrOfCellText plan lines f → e ≡ f
   one_first e f a b =
       elim (splits a.before b.before a.behind b.behind a.line b.line (sym a.split ∙ b.split)) [
         | same before line ↦
             let cells : a.cells ≡ b.cells = (a.read).named ∙ ap (λ l. filter_map cell_of l) before ∙ sym (b.read).named in
             let count : length a.before ≡ length b.before = ap (λ (l : List (List ℕ)). length l) before in
-            let moved = subst (λ (l : List ℕ). IsBadLine plan a.cells l (length a.before + 1) e) line a.bad in
-            let counted = subst (λ n. IsBadLine plan a.cells b.line (n + 1) e) count moved in
-            one_bad plan b.cells (length b.before + 1) b.line e f (subst (λ (cs : List Cell). IsBadLine plan cs b.line (length b.before + 1) e) cells counted) b.bad
+            let moved = subst (λ (l : List ℕ). IsErrOfCellLine plan a.cells l (length a.before + 1) e) line a.bad in
+            let counted = subst (λ n. IsErrOfCellLine plan a.cells b.line (n + 1) e) count moved in
+            one_bad plan b.cells (length b.before + 1) b.line e f (subst (λ (cs : List Cell). IsErrOfCellLine plan cs b.line (length b.before + 1) e) cells counted) b.bad
         | earlier rest before ↦
-            absurd (good_and_bad plan a.before rest a.line b.cells a.cells e (subst (λ (l : List (List ℕ)). AreRead plan l b.cells) before b.read) (a.read).named a.bad)
+            absurd (good_and_bad plan a.before rest a.line b.cells a.cells e (subst (λ (l : List (List ℕ)). AreCellsOfText plan l b.cells) before b.read) (a.read).named a.bad)
         | later rest before ↦
-            absurd (good_and_bad plan b.before rest b.line a.cells b.cells f (subst (λ (l : List (List ℕ)). AreRead plan l a.cells) before a.read) (b.read).named b.bad)
+            absurd (good_and_bad plan b.before rest b.line a.cells b.cells f (subst (λ (l : List (List ℕ)). AreCellsOfText plan l a.cells) before a.read) (b.read).named b.bad)
       ]
 
-pub reads_one : CellTextReadsOne
+pub reads_one : CellTextHasOneResult
 reads_one plan bytes (Ok a) (Ok b) h k = ap Ok (h.named ∙ sym k.named)
 reads_one plan bytes (Ok a) (Err f) h k = absurd (ok_and_bad plan (text_lines bytes) a f h k)
 reads_one plan bytes (Err e) (Ok b) h k = absurd (ok_and_bad plan (text_lines bytes) b e k h)

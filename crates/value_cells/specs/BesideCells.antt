@@ -7,7 +7,7 @@ use Rattle.csa_chain.specs.Chain.{link_in, is_area}
 use Rattle.tc_isa.specs.declared.shapes.Shape.{Shape}
 use Rattle.tc_machine.specs.declared.events.Event.{Event}
 use Rattle.tc_machine.specs.declared.state.Machine.{Machine}
-use Rattle.tc_machine.specs.Fetching.{fetched}
+use Rattle.tc_machine.specs.Fetching.{fetched_instruction}
 use Rattle.tc_machine.specs.Stepping.{step, load_at_pc}
 use Rattle.value_cells.specs.declared.cells.Cell.{Cell}
 use Rattle.value_cells.specs.Cells.{is_in_cell}
@@ -45,13 +45,13 @@ abbrev pub event_beside_cells : List Cell → Machine → Event → Event
 event_beside_cells cells m e = event_with_cell_load cells m e (load_at_pc m)
 
 -- FCX and PCXI name no area, or an area without bytes of cells
-pub record NamesAreas (cells : List Cell) (m : Machine) : Type 0 where
+pub record AreNamedAreasOffCells (cells : List Cell) (m : Machine) : Type 0 where
   pub fcx : (link_in m.fcx ≡ 0) ⊎ (is_area (memory_without_cells cells m.mem) (link_in m.fcx) ≡ true)
   pub pcxi : (link_in m.pcxi ≡ 0) ⊎ (is_area (memory_without_cells cells m.mem) (link_in m.pcxi) ≡ true)
 
 -- each step of the machine without the cells' bytes is the same step of the machine with them,
 -- beside which it runs
-abbrev pub StepsBeside : Type 0
-StepsBeside =
-    (cells : List Cell) (m : Machine) (e : Event) (shape : Shape) (n : ℕ) → HasBytes m.mem → NamesAreas cells m → fetched (machine_without_cells cells m) ≡ Ok (shape, n)
+abbrev pub StepsMatchWithoutCells : Type 0
+StepsMatchWithoutCells =
+    (cells : List Cell) (m : Machine) (e : Event) (shape : Shape) (n : ℕ) → HasBytes m.mem → AreNamedAreasOffCells cells m → fetched_instruction (machine_without_cells cells m) ≡ Ok (shape, n)
     → step (machine_without_cells cells m) (event_beside_cells cells m e) ≡ machine_without_cells cells (step m e)

@@ -41,53 +41,53 @@ pub record IsCellOfLine (c : Cell) : Type 0 where
 
 -- ---- texts
 -- these lines name these cells, and they are cells of the plan
-pub record AreRead (plan : PlanData) (lines : List (List ℕ)) (cells : List Cell) : Type 0 where
+pub record AreCellsOfText (plan : PlanData) (lines : List (List ℕ)) (cells : List Cell) : Type 0 where
   pub forms : All IsCellLine lines
   pub named : cells ≡ filter_map cell_of lines
   pub are : AreCells plan cells
 
 -- there is room for the cell of one more line of the text: it leaves at most 16 ranges of ram and
 -- at most 16 peripherals, which are a plan's limits
-pub record HasRoom (plan : PlanData) (cells : List Cell) (c : Cell) : Type 0 where
+pub record HasRoomForCell (plan : PlanData) (cells : List Cell) (c : Cell) : Type 0 where
   pub ram : length (with_cells plan (cells ++ c ∷ [])).ram ≤ 16
   pub devices : length (with_cells plan (cells ++ c ∷ [])).devices ≤ 16
 
 -- The error of one more cell from line n, the first of these that fits: its word isn't inside one
 -- range of ram, an earlier line names the same word, or there is no room.
-abbrev pub IsRefused : PlanData → List Cell → Cell → ℕ → CellsErr → Type 0
-IsRefused plan cells c n (BadLine k) = ⊥
-IsRefused plan cells c n (NotRam k) = (k ≡ n) × (IsInOneRange c.at 4 plan.ram → ⊥)
-IsRefused plan cells c n (Twice k) = (k ≡ n) × IsInOneRange c.at 4 plan.ram × Any (λ d. d.at ≡ c.at) cells
-IsRefused plan cells c n (TooMany k) = (k ≡ n) × IsInOneRange c.at 4 plan.ram × All (λ d. d.at ≢ c.at) cells × (HasRoom plan cells c → ⊥)
+abbrev pub IsErrOfCell : PlanData → List Cell → Cell → ℕ → CellsErr → Type 0
+IsErrOfCell plan cells c n (BadLine k) = ⊥
+IsErrOfCell plan cells c n (NotRam k) = (k ≡ n) × (IsInOneRange c.at 4 plan.ram → ⊥)
+IsErrOfCell plan cells c n (Twice k) = (k ≡ n) × IsInOneRange c.at 4 plan.ram × Any (λ d. d.at ≡ c.at) cells
+IsErrOfCell plan cells c n (TooMany k) = (k ≡ n) × IsInOneRange c.at 4 plan.ram × All (λ d. d.at ≢ c.at) cells × (HasRoomForCell plan cells c → ⊥)
 
 -- the error of line n after lines that name these cells: that of its form, else that of its cell
-abbrev pub IsBadLine : PlanData → List Cell → List ℕ → ℕ → CellsErr → Type 0
-IsBadLine plan cells line n (BadLine k) = (k ≡ n) × (IsCellLine line → ⊥)
-IsBadLine plan cells line n e = IsSomeAnd (cell_of line) (λ c. IsRefused plan cells c n e)
+abbrev pub IsErrOfCellLine : PlanData → List Cell → List ℕ → ℕ → CellsErr → Type 0
+IsErrOfCellLine plan cells line n (BadLine k) = (k ≡ n) × (IsCellLine line → ⊥)
+IsErrOfCellLine plan cells line n e = IsSomeAnd (cell_of line) (λ c. IsErrOfCell plan cells c n e)
 
 -- some line, counted from 1, has this error, and those before it are read
-pub record IsFirstBad (plan : PlanData) (lines : List (List ℕ)) (e : CellsErr) : Type 0 where
+pub record IsErrOfCellText (plan : PlanData) (lines : List (List ℕ)) (e : CellsErr) : Type 0 where
   pub before : List (List ℕ)
   pub line : List ℕ
   pub behind : List (List ℕ)
   pub split : lines ≡ before ++ line ∷ behind
   pub cells : List Cell
-  pub read : AreRead plan before cells
-  pub bad : IsBadLine plan cells line (length before + 1) e
+  pub read : AreCellsOfText plan before cells
+  pub bad : IsErrOfCellLine plan cells line (length before + 1) e
 
 -- the answer for a text: the cells that its lines name, or the error of the first bad line
-abbrev pub Reads : PlanData → List ℕ → Result (List Cell) CellsErr → Type 0
-Reads plan bytes (Ok cells) = AreRead plan (text_lines bytes) cells
-Reads plan bytes (Err e) = IsFirstBad plan (text_lines bytes) e
+abbrev pub IsResultOfCellText : PlanData → List ℕ → Result (List Cell) CellsErr → Type 0
+IsResultOfCellText plan bytes (Ok cells) = AreCellsOfText plan (text_lines bytes) cells
+IsResultOfCellText plan bytes (Err e) = IsErrOfCellText plan (text_lines bytes) e
 
 -- one more line after lines that name cells: it is empty or names a cell, and all are cells of the
 -- plan
-pub record TakesLine (plan : PlanData) (cells : List Cell) (line : List ℕ) (more : List Cell) : Type 0 where
+pub record AreCellsAfterLine (plan : PlanData) (cells : List Cell) (line : List ℕ) (more : List Cell) : Type 0 where
   pub form : IsCellLine line
   pub named : more ≡ cells ++ filter_map cell_of (line ∷ [])
   pub are : AreCells plan more
 
 -- ---- the law
 -- for each plan, a text of cells has at most one answer: a list of cells, or an error
-abbrev pub CellTextReadsOne : Type 0
-CellTextReadsOne = (plan : PlanData) (bytes : List ℕ) (r s : Result (List Cell) CellsErr) → Reads plan bytes r → Reads plan bytes s → r ≡ s
+abbrev pub CellTextHasOneResult : Type 0
+CellTextHasOneResult = (plan : PlanData) (bytes : List ℕ) (r s : Result (List Cell) CellsErr) → IsResultOfCellText plan bytes r → IsResultOfCellText plan bytes s → r ≡ s

@@ -20,8 +20,8 @@ use Rattle.cfg_recover.specs.RulesHoldOrFail.{limits_in}
 use Rattle.value_cells.specs.declared.cells.Cell.{Cell}
 
 -- the access from x shares a byte with the cell
-abbrev pub Touches : ℕ → ℕ → Cell → Type 0
-Touches x size c = (x < c.at + 4) × (c.at < x + size)
+abbrev pub TouchesCell : ℕ → ℕ → Cell → Type 0
+TouchesCell x size c = (x < c.at + 4) × (c.at < x + size)
 
 -- a store at the cell, of its whole word, of a value whose words are all in its bounds
 pub record KeepsCell (v : Val) (size x : ℕ) (c : Cell) : Type 0 where
@@ -31,17 +31,17 @@ pub record KeepsCell (v : Val) (size x : ℕ) (c : Cell) : Type 0 where
 
 -- the access from x keeps each cell that it touches
 abbrev pub KeepsAll : Val → ℕ → ℕ → List Cell → Type 0
-KeepsAll v size x cells = All (λ c. Touches x size c → KeepsCell v size x c) cells
+KeepsAll v size x cells = All (λ c. TouchesCell x size c → KeepsCell v size x c) cells
 
 -- each possible access of a store keeps the cells; other instructions always do
-abbrev pub KeepsCellsAt : Limits → PlanData → List Cell → State → Shape → Type 0
-KeepsCellsAt b plan cells s (Store src base offset size after) =
+abbrev pub KeepsCellsByShape : Limits → PlanData → List Cell → State → Shape → Type 0
+KeepsCellsByShape b plan cells s (Store src base offset size after) =
     (x : ℕ) → IsMember x (address_of b plan (Store src base offset size after) s) → KeepsAll (reg_of plan s src) size x cells
-KeepsCellsAt b plan cells s _ = Unit {0}
+KeepsCellsByShape b plan cells s _ = Unit {0}
 
 -- K16 at a point of a certificate: the instruction there keeps the cells
 abbrev pub KeepsCellsAtPoint : Limits → ImageData → PlanData → List Cell → Point → Type 0
-KeepsCellsAtPoint b image plan cells point = (shape : Shape) (n : ℕ) → IsCode image plan point.addr shape n → KeepsCellsAt b plan cells point.state shape
+KeepsCellsAtPoint b image plan cells point = (shape : Shape) (n : ℕ) → IsCode image plan point.addr shape n → KeepsCellsByShape b plan cells point.state shape
 
 -- K16, at each point of a certificate under the plan with cells.
 abbrev pub KeepsCells : ImageData → PlanData → List Cell → CertData → Type 0
@@ -59,12 +59,12 @@ abbrev pub cell_break_number : Key → ℕ → ℕ
 cell_break_number k p = number_of_key k * 2 ^ 32 + p
 
 -- K16 fails there, and at no lesser key or address
-pub record IsFirstBreak (image : ImageData) (plan : PlanData) (cells : List Cell) (cert : CertData) (k : Key) (p : ℕ) : Type 0 where
+pub record IsRule16Fault (image : ImageData) (plan : PlanData) (cells : List Cell) (cert : CertData) (k : Key) (p : ℕ) : Type 0 where
   pub breaks : BreaksCells image plan cells cert k p
   pub least : (j : Key) (x : ℕ) → BreaksCells image plan cells cert j x → cell_break_number k p ≤ cell_break_number j x
 
 -- K16 fails at an address of a node's points, and at no lesser one
-pub record IsNodeBreak (b : Limits) (image : ImageData) (plan : PlanData) (cells : List Cell) (node : NodeData) (p : ℕ) : Type 0 where
+pub record IsRule16NodeFault (b : Limits) (image : ImageData) (plan : PlanData) (cells : List Cell) (node : NodeData) (p : ℕ) : Type 0 where
   pub point : Point
   pub stands : Contains node.points point
   pub addr : point.addr ≡ p
@@ -72,8 +72,8 @@ pub record IsNodeBreak (b : Limits) (image : ImageData) (plan : PlanData) (cells
   pub least : (other : Point) → Contains node.points other → (KeepsCellsAtPoint b image plan cells other → ⊥) → p ≤ other.addr
 
 -- each access from a member of a value keeps one cell
-abbrev pub KeepsFrom : Val → ℕ → Val → Cell → Type 0
-KeepsFrom at size v c = (x : ℕ) → IsMember x at → Touches x size c → KeepsCell v size x c
+abbrev pub StoreKeepsCell : Val → ℕ → Val → Cell → Type 0
+StoreKeepsCell at size v c = (x : ℕ) → IsMember x at → TouchesCell x size c → KeepsCell v size x c
 
 -- all words of a value are in lo..=hi
 abbrev pub AreWithinCellBounds : Val → ℕ → ℕ → Type 0

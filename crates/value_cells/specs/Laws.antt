@@ -25,8 +25,8 @@ RamIsWithoutCells =
 
 -- If an image is safe with cells, and each cell's word is in its bounds at the start, then in every
 -- state of every run of fitting events each cell's word is in its bounds, and the state is safe.
-abbrev pub EachCellStays : Type 0
-EachCellStays =
+abbrev pub EachCellStaysInBounds : Type 0
+EachCellStaysInBounds =
     (image : ImageData) (plan : PlanData) (cells : List Cell) (most : ℕ) (m : Machine) (es : List Event) (e : Event) (c : Cell) → SafeWithCells image plan cells most
     → Starts image plan m → All (λ d. (d.lo ≤ word_at m.mem d.at) × (word_at m.mem d.at ≤ d.hi)) cells → AllFit plan m es → Fits plan (run m es) e → Contains cells c
     → IsSafeAt image plan most (run m es) e × (c.lo ≤ word_at (run m es).mem c.at) × (word_at (run m es).mem c.at ≤ c.hi)

@@ -37,14 +37,14 @@ impl Model for Cells {
 impl Cells {
     ghost use Rattle.std.specs.Prelude.{◌≡◌, ◌≤◌, ◌^◌, ◌↔◌, [], length, IsTrue, Any, OnOk, IfOk, IfErr};
     ghost use Rattle.value_cells.specs.Cells.{IsCell, AreCells};
-    ghost use Rattle.value_cells.specs.CellListText.{HasRoom, TakesLine, IsBadLine, Reads};
+    ghost use Rattle.value_cells.specs.CellListText.{HasRoomForCell, AreCellsAfterLine, IsErrOfCellLine, IsResultOfCellText};
 
     /// Reads the cells of a plan from a text. Each line is empty or `cell AT LO HI`, where each
     /// number has eight upper-case hex digits. The error is that of the first bad line; if several
     /// errors fit it, the first in the order of `CellsErr`.
     pub fn read(bytes: &[u8], plan: &Plan) -> Result<Cells, CellsErr>
         requires { length bytes.now ≤ 2 ^ 30 }
-        ensures read { Reads plan.now bytes.now result }
+        ensures read { IsResultOfCellText plan.now bytes.now result }
         ensures cells { IfOk result (AreCells plan.now) }
     {
         let mut cells = Cells::new(plan);
@@ -80,8 +80,8 @@ impl Cells {
     // Adds the cell of line `number`, or returns its error.
     fn add_line(&mut self, plan: &Plan, number: u32, line: &[u8]) -> Result<(), CellsErr>
         requires { AreCells plan.now self.old }
-        ensures ok { OnOk result (TakesLine plan.now self.old line.now self.new) }
-        ensures err { IfErr result (IsBadLine plan.now self.old line.now number) }
+        ensures ok { OnOk result (AreCellsAfterLine plan.now self.old line.now self.new) }
+        ensures err { IfErr result (IsErrOfCellLine plan.now self.old line.now number) }
     {
         if line.is_empty() {
             return Ok(());
@@ -113,7 +113,7 @@ impl Cells {
     fn has_room(&self, plan: &Plan, cell: &Cell) -> bool
         requires cells { AreCells plan.now self.now }
         requires cell { IsCell plan.now cell.now }
-        ensures { IsTrue result ↔ HasRoom plan.now self.now cell.now }
+        ensures { IsTrue result ↔ HasRoomForCell plan.now self.now cell.now }
     {
         let _areas = plan.areas;
         let ram = ram_without_cells(plan, self.list());

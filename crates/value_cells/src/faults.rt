@@ -4,7 +4,7 @@ ghost use Rattle.value_domain.specs.State.{AreValues};
 ghost use Rattle.cfg_recover.specs.RulesHoldOrFail.{Accepts};
 ghost use Rattle.value_cells.specs.Cells as spec;
 ghost use Rattle.value_cells.specs.Cells.{AreCells};
-ghost use Rattle.value_cells.specs.Keeping.{KeepsCells, KeepsCellsAtPoint, IsFirstBreak, IsNodeBreak};
+ghost use Rattle.value_cells.specs.Keeping.{KeepsCells, KeepsCellsAtPoint, IsRule16Fault, IsRule16NodeFault};
 
 use crate::cells::Cells;
 use crate::plans::with_cells;
@@ -26,7 +26,7 @@ pub fn cells_fault(image: &Image, plan: &Plan, cells: &Cells, cert: &Cert) -> Op
     ensures none { IfNone result
         (KeepsCells image.now (spec.with_cells plan.now cells.now) cells.now cert.now) }
     ensures some { let other = spec.with_cells plan.now cells.now in
-        IfSome result (λ f. IsFirstBreak image.now other cells.now cert.now f.0 f.1) }
+        IfSome result (λ f. IsRule16Fault image.now other cells.now cert.now f.0 f.1) }
 {
     let _areas = plan.areas;
     let other = with_cells(plan, cells);
@@ -64,7 +64,7 @@ fn node_cells_fault<'a>(
         (All (KeepsCellsAtPoint r.bounds.now r.image.now r.plan.now r.cells.now) node.now.points) }
     ensures some { let r = rule.now in
         IfSome result
-        (IsNodeBreak r.bounds.now r.image.now r.plan.now r.cells.now node.now) }
+        (IsRule16NodeFault r.bounds.now r.image.now r.plan.now r.cells.now node.now) }
 {
     node.walk(walk);
     while let Some(addr) = walk.step() {

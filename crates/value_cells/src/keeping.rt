@@ -1,8 +1,8 @@
 // The test of K16: stores keep the cells' bounds.
 ghost use Rattle.std.specs.Prelude.{◌≤◌, ◌+◌, ◌^◌, ◌↔◌, ℕ, IsTrue, All};
-ghost use Rattle.value_domain.specs.Values.{IsWell, IsMember};
+ghost use Rattle.value_domain.specs.Values.{IsWellFormed, IsMember};
 ghost use Rattle.store_ranges.specs.Accesses.{IsAccessSize};
-ghost use Rattle.value_cells.specs.Keeping.{KeepsAll, KeepsFrom, FitsCell, AreWithinCellBounds, IsCellKept};
+ghost use Rattle.value_cells.specs.Keeping.{KeepsAll, StoreKeepsCell, FitsCell, AreWithinCellBounds, IsCellKept};
 
 use crate::cells::Cell;
 use value_domain::{Val, extent_of, member};
@@ -11,8 +11,8 @@ use value_domain::{Val, extent_of, member};
 /// number inside the cell's bounds. The store has 1, 2 or 4 bytes (`size`); its address can be any
 /// word of `at`, and what it stores any word of `stored`.
 pub(crate) fn keeps_cells(at: &Val, size: u8, stored: &Val, cells: &[Cell]) -> bool
-    requires at { IsWell at.now }
-    requires stored { IsWell stored.now }
+    requires at { IsWellFormed at.now }
+    requires stored { IsWellFormed stored.now }
     requires size { IsAccessSize size }
     requires cells { All (λ c. c.at + 4 ≤ 2 ^ 32) cells.now }
     ensures { IsTrue result ↔ ((x : ℕ) → IsMember x at.now → KeepsAll stored.now size x cells.now) }
@@ -28,11 +28,11 @@ pub(crate) fn keeps_cells(at: &Val, size: u8, stored: &Val, cells: &[Cell]) -> b
 /// Returns whether a store keeps one cell. Only stores from at most three bytes below the cell up
 /// to its last byte touch it.
 fn keeps_cell(at: &Val, size: u8, stored: &Val, cell: &Cell) -> bool
-    requires at { IsWell at.now }
-    requires stored { IsWell stored.now }
+    requires at { IsWellFormed at.now }
+    requires stored { IsWellFormed stored.now }
     requires size { IsAccessSize size }
     requires cell { cell.now.at + 4 ≤ 2 ^ 32 }
-    ensures { IsTrue result ↔ KeepsFrom at.now size stored.now cell.now }
+    ensures { IsTrue result ↔ StoreKeepsCell at.now size stored.now cell.now }
 {
     let fits = fits_cell(size, stored, cell);
     let mut x = cell.at.saturating_sub(u32::from(size) - 1);
@@ -48,7 +48,7 @@ fn keeps_cell(at: &Val, size: u8, stored: &Val, cell: &Cell) -> bool
 /// Returns whether a store to exactly the cell's word keeps its bounds: it is of a whole word, and
 /// all words of the stored value are in the bounds.
 fn fits_cell(size: u8, stored: &Val, cell: &Cell) -> bool
-    requires { IsWell stored.now }
+    requires { IsWellFormed stored.now }
     ensures { IsTrue result ↔ FitsCell stored.now size cell.now }
 {
     size == 4 && is_within_cell_bounds(stored, cell.lo, cell.hi)
@@ -56,7 +56,7 @@ fn fits_cell(size: u8, stored: &Val, cell: &Cell) -> bool
 
 /// Returns whether x is no address of the value, or is the cell's, and the store fits the cell.
 fn is_cell_kept(x: u32, at: &Val, fits: bool, cell: u32) -> bool
-    requires { IsWell at.now }
+    requires { IsWellFormed at.now }
     ensures { IsTrue result ↔ IsCellKept at.now fits cell x }
 {
     !member(x, at) || fits && x == cell
@@ -64,7 +64,7 @@ fn is_cell_kept(x: u32, at: &Val, fits: bool, cell: u32) -> bool
 
 /// Returns whether all words of a value are in `lo..=hi`.
 fn is_within_cell_bounds(v: &Val, lo: u32, hi: u32) -> bool
-    requires { IsWell v.now }
+    requires { IsWellFormed v.now }
     ensures { IsTrue result ↔ AreWithinCellBounds v.now lo hi }
 {
     let words = extent_of(v);

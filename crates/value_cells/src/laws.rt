@@ -1,8 +1,8 @@
 // Laws of plans with cells.
-ghost use Rattle.value_cells.specs.BesideCells.{StepsBeside};
-ghost use Rattle.value_cells.specs.Laws.{CellsMakeAPlan, RamIsWithoutCells, EachCellStays, CellsKeepTheirBounds, CellFaultsRefute};
+ghost use Rattle.value_cells.specs.BesideCells.{StepsMatchWithoutCells};
+ghost use Rattle.value_cells.specs.Laws.{CellsMakeAPlan, RamIsWithoutCells, EachCellStaysInBounds, CellsKeepTheirBounds, CellFaultsRefute};
 ghost use Rattle.value_cells.specs.Rule16Growth.{CellFaultsGrow, LesserKeepsCells};
-ghost use Rattle.value_cells.specs.CellListText.{CellTextReadsOne};
+ghost use Rattle.value_cells.specs.CellListText.{CellTextHasOneResult};
 
 /// The plan with cells is a plan. The machine without the cells' bytes, whose inputs are the cells'
 /// words, takes the same steps as the machine with them. So if the rules accept a certificate under
@@ -10,7 +10,7 @@ ghost use Rattle.value_cells.specs.CellListText.{CellTextReadsOne};
 /// stays in its bounds.
 pub fn cells_keep_their_bounds()
     ensures plan { CellsMakeAPlan }
-    ensures steps { StepsBeside }
+    ensures steps { StepsMatchWithoutCells }
     ensures bounds { CellsKeepTheirBounds }
 {}
 
@@ -18,8 +18,8 @@ pub fn cells_keep_their_bounds()
 /// one list of cells, or one error.
 pub fn cells_in_words()
     ensures ram { RamIsWithoutCells }
-    ensures stays { EachCellStays }
-    ensures one { CellTextReadsOne }
+    ensures stays { EachCellStaysInBounds }
+    ensures one { CellTextHasOneResult }
 {}
 
 /// If a greater certificate keeps the cells, a lesser one does, since each fault of K16 in the

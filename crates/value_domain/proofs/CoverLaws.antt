@@ -5,11 +5,11 @@ use Rattle.std.proofs.lemmas.Bool.{cases_eq, cases_lt, le-leb, lt-leb}
 use Rattle.std.proofs.lemmas.Bool.Decides.{nat_tests}
 use Rattle.value_domain.specs.declared.values.Val.{Val}
 use Rattle.value_domain.specs.declared.values.Val.TheVariants.{Set, Span}
-use Rattle.value_domain.specs.Sets.{Among, Within, Rising, sorted_set_of, alignment_log2, least, greatest, step_of_set, multiples, AreCoverable}
+use Rattle.value_domain.specs.Sets.{Among, Within, IsAscending, sorted_set_of, alignment_log2, least, greatest, step_of_set, multiples, AreCoverable}
 use Rattle.value_domain.specs.Limits.{Limits, AreLimits}
 use Rattle.value_domain.specs.Floors.{floor, above}
-use Rattle.value_domain.specs.Values.{IsMember, IsWell, IsBelow, cover, value_of_words, members, range, first_in_span, count_in}
-use Rattle.value_domain.specs.Laws.{AreMembers, IsLeastValue}
+use Rattle.value_domain.specs.Values.{IsMember, IsWellFormed, IsBelow, cover, value_of_words, members, range, first_in_span, span_len}
+use Rattle.value_domain.specs.Laws.{MembersAreListed, IsLeastValue}
 use Rattle.value_domain.proofs.SetLaws.{rising_distinct, among_distinct, distinct_has, distinct_same, length-distinct, length_within, least_among, least_least, greatest_among, greatest_greatest, step_least, step_greatest, step_le}
 use Rattle.value_domain.proofs.LimitLaws.{floor_le, floor_mono, floor_same, above_lt, above_le, above_mono, above_same}
 
@@ -40,7 +40,7 @@ length-multiples (suc n) start unit = let e = length-multiples n (start + 1) uni
 later_multiple : (start k unit y : ℕ) → 0 < unit → start + 1 ≤ k → y ≡ k * unit → start * unit < y
 later_multiple start k unit y some low e = grind (arith, mul-le-mul_left unit low)
 
-pub rising_multiples : (n start unit : ℕ) → 0 < unit → Rising (multiples n start unit)
+pub rising_multiples : (n start unit : ℕ) → 0 < unit → IsAscending (multiples n start unit)
 unfolding multiples
 rising_multiples zero start unit some = tt
 rising_multiples (suc n) start unit some =
@@ -88,23 +88,23 @@ from_units =
     (λ k x h. from_twos_2 x (omega arith))
 
 -- the multiples of a range, in units
-in_range : (s : ℕ) → s ≤ 2 → (lo last k : ℕ) → first_in_span lo s ≤ k → k < first_in_span lo s + count_in lo last s → (lo ≤ k * 2 ^ s) × (k * 2 ^ s ≤ last)
+in_range : (s : ℕ) → s ≤ 2 → (lo last k : ℕ) → first_in_span lo s ≤ k → k < first_in_span lo s + span_len lo last s → (lo ≤ k * 2 ^ s) × (k * 2 ^ s ≤ last)
 in_range =
-    step_cases (λ s. (lo last k : ℕ) → first_in_span lo s ≤ k → k < first_in_span lo s + count_in lo last s → (lo ≤ k * 2 ^ s) × (k * 2 ^ s ≤ last))
+    step_cases (λ s. (lo last k : ℕ) → first_in_span lo s ≤ k → k < first_in_span lo s + span_len lo last s → (lo ≤ k * 2 ^ s) × (k * 2 ^ s ≤ last))
     (λ lo last k l h. (omega arith, omega arith))
     (λ lo last k l h. (omega arith, omega arith))
     (λ lo last k l h. (omega arith, omega arith))
 
-from_range : (s : ℕ) → s ≤ 2 → (lo last k : ℕ) → lo ≤ k * 2 ^ s → k * 2 ^ s ≤ last → (first_in_span lo s ≤ k) × (k < first_in_span lo s + count_in lo last s)
+from_range : (s : ℕ) → s ≤ 2 → (lo last k : ℕ) → lo ≤ k * 2 ^ s → k * 2 ^ s ≤ last → (first_in_span lo s ≤ k) × (k < first_in_span lo s + span_len lo last s)
 from_range =
-    step_cases (λ s. (lo last k : ℕ) → lo ≤ k * 2 ^ s → k * 2 ^ s ≤ last → (first_in_span lo s ≤ k) × (k < first_in_span lo s + count_in lo last s))
+    step_cases (λ s. (lo last k : ℕ) → lo ≤ k * 2 ^ s → k * 2 ^ s ≤ last → (first_in_span lo s ≤ k) × (k < first_in_span lo s + span_len lo last s))
     (λ lo last k l h. (omega arith, omega arith))
     (λ lo last k l h. (omega arith, omega arith))
     (λ lo last k l h. (omega arith, omega arith))
 
 pub range_among : (x lo last s : ℕ) → s ≤ 2 → Among x (range lo last s) → IsMember x (Span lo last s)
 range_among x lo last s small h =
-    let k = multiples_among x (count_in lo last s) (first_in_span lo s) (2 ^ s) h in
+    let k = multiples_among x (span_len lo last s) (first_in_span lo s) (2 ^ s) h in
     let e : x ≡ k.0 * 2 ^ s = k.3 in
     let b = in_range s small lo last k.0 k.1 k.2 in
     (rw e b.0, rw e b.1, from_units s small k.0 x e)
@@ -113,7 +113,7 @@ pub among_range : (x lo last s : ℕ) → s ≤ 2 → IsMember x (Span lo last s
 among_range x lo last s small h =
     let e : x ≡ x / 2 ^ s * 2 ^ s = in_units s small x h.2 in
     let b = from_range s small lo last (x / 2 ^ s) (rw (← e) h.0) (rw (← e) h.1) in
-    subst (λ (y : ℕ). Among y (range lo last s)) (sym e) (among_multiples (x / 2 ^ s) (count_in lo last s) (first_in_span lo s) (2 ^ s) b.0 b.1)
+    subst (λ (y : ℕ). Among y (range lo last s)) (sym e) (among_multiples (x / 2 ^ s) (span_len lo last s) (first_in_span lo s) (2 ^ s) b.0 b.1)
 
 -- what the members of a well-formed value need
 abbrev pub HasStep : Val → Type 0
@@ -128,11 +128,11 @@ pub among_member : (v : Val) (x : ℕ) → HasStep v → IsMember x v → Among 
 among_member (Set ws) x s h = h
 among_member (Span lo last step) x s h = among_range x lo last step s h
 
-pub has_step : (v : Val) → IsWell v → HasStep v
+pub has_step : (v : Val) → IsWellFormed v → HasStep v
 has_step (Set ws) w = tt
 has_step (Span lo last step) w = w.0
 
-pub member_same : AreMembers
+pub member_same : MembersAreListed
 member_same v x well = (among_member v x (has_step v well), member_among v x (has_step v well))
 
 -- ---- the two forms of a cover
@@ -155,7 +155,7 @@ some_distinct xs some = some_length (sorted_set_of xs) (least xs) (distinct_has 
     some_length [] x i = absurd i
     some_length (w ∷ ws) x i = omega arith
 
-span_holds : (b : Limits) (ws : List ℕ) → Rising ws → (z : ℕ) → Among z ws → IsMember z (span_of b ws)
+span_holds : (b : Limits) (ws : List ℕ) → IsAscending ws → (z : ℕ) → Among z ws → IsMember z (span_of b ws)
 span_holds b ws r z i =
     let low : least ws ≤ z = least_least ws r z i in
     let f : floor b.thresholds (least ws) ≤ least ws = floor_le b.thresholds (least ws) in
@@ -177,7 +177,7 @@ cover_step b xs =
       | inr few ↦ rw (cover-few b xs few) tt
     ]
 
-span_mono : (b : Limits) (ws vs : List ℕ) → Rising vs → 1 ≤ length ws → Within ws vs → (z : ℕ) → IsMember z (span_of b ws) → IsMember z (span_of b vs)
+span_mono : (b : Limits) (ws vs : List ℕ) → IsAscending vs → 1 ≤ length ws → Within ws vs → (z : ℕ) → IsMember z (span_of b ws) → IsMember z (span_of b vs)
 span_mono b ws vs r some there z m =
     let low : least vs ≤ least ws = least_least vs r (least ws) (there (least ws) (least_among ws some)) in
     let high : greatest ws ≤ greatest vs = greatest_greatest vs (greatest ws) (there (greatest ws) (greatest_among ws some)) in
@@ -207,7 +207,7 @@ unfolding cover
 cover-same b xs ys there back = ap (value_of_words b) (distinct_same xs ys there back)
 
 -- a cover is the cover of its members
-span_own : (b : Limits) (ws ms : List ℕ) → Rising ws → Rising ms → 1 ≤ length ws → Within ws ms
+span_own : (b : Limits) (ws ms : List ℕ) → IsAscending ws → IsAscending ms → 1 ≤ length ws → Within ws ms
     → ((z : ℕ) → Among z ms → IsMember z (span_of b ws)) → span_of b ms ≡ span_of b ws
 span_own b ws ms rw_ rm some there held =
     let some_m : 1 ≤ length ms = omega (arith, length_within ws ms rw_ rm there) in
@@ -241,7 +241,7 @@ cover_own b xs some =
           there
     ]
 
-pub cover_well : (b : Limits) (xs : List ℕ) → AreLimits b → AreCoverable xs → IsWell (cover b xs)
+pub cover_well : (b : Limits) (xs : List ℕ) → AreLimits b → AreCoverable xs → IsWellFormed (cover b xs)
 cover_well b xs limits good =
     elim (cases_lt b.most_words (length (sorted_set_of xs))) [
       | inl many ↦
@@ -270,10 +270,10 @@ cover_well b xs limits good =
           })
     ]
   where
-    wide_range : (ws : List ℕ) (lo last step : ℕ) → Rising ws → Within ws (range lo last step) → 64 < length ws → 64 < count_in lo last step
+    wide_range : (ws : List ℕ) (lo last step : ℕ) → IsAscending ws → Within ws (range lo last step) → 64 < length ws → 64 < span_len lo last step
     wide_range ws lo last step r there many =
-        let shorter : length ws ≤ length (range lo last step) = length_within ws (range lo last step) r (rising_multiples (count_in lo last step) (first_in_span lo step) (2 ^ step) (unit_some step)) there in
-        omega (arith, length-multiples (count_in lo last step) (first_in_span lo step) (2 ^ step))
+        let shorter : length ws ≤ length (range lo last step) = length_within ws (range lo last step) r (rising_multiples (span_len lo last step) (first_in_span lo step) (2 ^ step) (unit_some step)) there in
+        omega (arith, length-multiples (span_len lo last step) (first_in_span lo step) (2 ^ step))
 
 pub cover_least : (b : Limits) (xs : List ℕ) → AreLimits b → AreCoverable xs → IsLeastValue b xs (cover b xs)
 cover_least b xs limits good = record {

@@ -3,10 +3,10 @@ use Rattle.std.proofs.Common.{◌≡◌, ℕ, ◌+◌, ◌-◌, ◌*◌, ◌/◌
 use Rattle.std.proofs.Math.Nat.{mul-le-mul_right, mul-one}
 use Rattle.std.proofs.lemmas.Bool.{cases_lt}
 use Rattle.value_domain.specs.declared.values.Val.TheVariants.{Set, Span}
-use Rattle.value_domain.specs.Sets.{Among, Within, Rising, sorted_set_of, alignment_log2, least, greatest, step_of_set, IsExtent}
+use Rattle.value_domain.specs.Sets.{Among, Within, IsAscending, sorted_set_of, alignment_log2, least, greatest, step_of_set, IsExtent}
 use Rattle.value_domain.specs.Limits.{Limits}
 use Rattle.value_domain.specs.Floors.{floor, above}
-use Rattle.value_domain.specs.Values.{IsMember, IsValue, IsBelow, cover, members, range, first_in_span, count_in}
+use Rattle.value_domain.specs.Values.{IsMember, IsValue, IsBelow, cover, members, range, first_in_span, span_len}
 use Rattle.value_domain.proofs.SetLaws.{rising_distinct, among_distinct, distinct_has, least_among, least_least, greatest_among, greatest_greatest, step_least, step_greatest, step_le, twos_le}
 use Rattle.value_domain.proofs.CoverLaws.{cover-few, cover-many, cover_holds, cover_mono, cover_own, cover_step, cover-same, among_member, member_among, step_cases, from_units, in_units, multiples_among, among_multiples}
 
@@ -75,7 +75,7 @@ cover-more b xs x some =
     ∙ cover-part b xs (x ∷ []) some
 
 -- ---- extents
-pub extent_rising : (ws : List ℕ) → Rising ws → 1 ≤ length ws → IsExtent ws (least ws) (greatest ws) (step_of_set ws)
+pub extent_rising : (ws : List ℕ) → IsAscending ws → 1 ≤ length ws → IsExtent ws (least ws) (greatest ws) (step_of_set ws)
 extent_rising ws r some = record {
   low_in = least_among ws some;
   high_in = greatest_among ws some;
@@ -177,27 +177,27 @@ next_unit =
           | inr h ↦ h
         ]
 
-pub extent_range : (lo last s : ℕ) → s ≤ 2 → 2 ≤ count_in lo last s → IsExtent (range lo last s) (first_in_span lo s * 2 ^ s) (last / 2 ^ s * 2 ^ s) s
+pub extent_range : (lo last s : ℕ) → s ≤ 2 → 2 ≤ span_len lo last s → IsExtent (range lo last s) (first_in_span lo s * 2 ^ s) (last / 2 ^ s * 2 ^ s) s
 extent_range lo last s small two = record {
-  low_in = among_multiples (first_in_span lo s) (count_in lo last s) (first_in_span lo s) (2 ^ s) (omega arith) (omega arith);
-  high_in = among_multiples (last / 2 ^ s) (count_in lo last s) (first_in_span lo s) (2 ^ s) (omega arith) (omega arith);
+  low_in = among_multiples (first_in_span lo s) (span_len lo last s) (first_in_span lo s) (2 ^ s) (omega arith) (omega arith);
+  high_in = among_multiples (last / 2 ^ s) (span_len lo last s) (first_in_span lo s) (2 ^ s) (omega arith) (omega arith);
   low = λ z i.
-      let k = multiples_among z (count_in lo last s) (first_in_span lo s) (2 ^ s) i in
+      let k = multiples_among z (span_len lo last s) (first_in_span lo s) (2 ^ s) i in
       let e : z ≡ k.0 * 2 ^ s = k.3 in
       omega (arith, mul-le-mul_right (2 ^ s) k.1);
   high = λ z i.
-      let k = multiples_among z (count_in lo last s) (first_in_span lo s) (2 ^ s) i in
+      let k = multiples_among z (span_len lo last s) (first_in_span lo s) (2 ^ s) i in
       let e : z ≡ k.0 * 2 ^ s = k.3 in
       let at_most : k.0 ≤ last / 2 ^ s = omega arith in
       omega (arith, mul-le-mul_right (2 ^ s) at_most);
   fits = λ z i.
-      let k = multiples_among z (count_in lo last s) (first_in_span lo s) (2 ^ s) i in
+      let k = multiples_among z (span_len lo last s) (first_in_span lo s) (2 ^ s) i in
       from_units s small k.0 z k.3;
   small = small;
   full = λ t le each.
       next_unit s small t (first_in_span lo s) le
-      (each (first_in_span lo s * 2 ^ s) (among_multiples (first_in_span lo s) (count_in lo last s) (first_in_span lo s) (2 ^ s) (omega arith) (omega arith)))
-      (each ((first_in_span lo s + 1) * 2 ^ s) (among_multiples (first_in_span lo s + 1) (count_in lo last s) (first_in_span lo s) (2 ^ s) (omega arith) (omega arith)));
+      (each (first_in_span lo s * 2 ^ s) (among_multiples (first_in_span lo s) (span_len lo last s) (first_in_span lo s) (2 ^ s) (omega arith) (omega arith)))
+      (each ((first_in_span lo s + 1) * 2 ^ s) (among_multiples (first_in_span lo s + 1) (span_len lo last s) (first_in_span lo s) (2 ^ s) (omega arith) (omega arith)));
 }
 
 -- a Span that is a value has more members than a Set may have

@@ -9,7 +9,7 @@ use Rattle.std.proofs.lemmas.List.{get_or_default, take-append-le, take_all}
 use Rattle.value_domain.proofs.Loops.{among_get}
 use Rattle.value_domain.proofs.WordLaws.{among_place}
 use Rattle.value_domain.specs.Sets.{Among, Within}
-use Rattle.value_domain.specs.Thresholds.{InOrder, threshold_ends, powers_of_two, thresholds_of, HasThresholds}
+use Rattle.value_domain.specs.Thresholds.{AreSortedThresholds, threshold_ends, powers_of_two, thresholds_of, HasNearestThresholds}
 use Rattle.value_domain.specs.Floors.{floor, above}
 use Rattle.value_domain.proofs.LimitLaws.{floor_le, above_lt, above_le}
 
@@ -206,7 +206,7 @@ among_contained xs x c =
 pub refill-all : (xs ys : List ℕ) → length ys ≡ length xs → refill (length xs) xs ys ≡ ys
 refill-all xs ys e = take-append-le (length xs) ys (drop (length ys) xs) (omega arith) ∙ take_all (length xs) ys (omega arith)
 
-pub sorted_in_order : (xs ys : List ℕ) → IsPermutation xs ys → IsNonDecreasing ys → InOrder ys xs
+pub sorted_in_order : (xs ys : List ℕ) → IsPermutation xs ys → IsNonDecreasing ys → AreSortedThresholds ys xs
 sorted_in_order xs ys moved ordered = record {
   ordered = ordered;
   within = λ z i. among_contained xs z (Contains-permutation ys xs z (IsPermutation-sym xs ys moved) (contained ys z i));
@@ -232,7 +232,7 @@ unfolding IsFound
 among_found ts other n has found =
     elim found [ inl last ↦ subst (λ (k : ℕ). Among k ts) (sym last) has | inr among ↦ among ]
 
-pub has_thresholds : (plan : PlanData) (x : ℕ) → x < 2 ^ 32 → HasThresholds (thresholds_of plan) x
+pub has_thresholds : (plan : PlanData) (x : ℕ) → x < 2 ^ 32 → HasNearestThresholds (thresholds_of plan) x
 has_thresholds plan x small =
     let low : Among 0 (thresholds_of plan) = inl refl in
     let high : Among (2 ^ 32) (thresholds_of plan) = inr (among_front (2 ^ 32) (powers_of_two 33) (threshold_ends (all_ranges plan)) last_power) in

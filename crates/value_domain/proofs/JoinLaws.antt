@@ -5,8 +5,8 @@ use Rattle.value_domain.specs.declared.values.Val.{Val}
 use Rattle.value_domain.specs.Limits.{Limits, AreLimits}
 use Rattle.value_domain.specs.Values.{IsValue, IsBelow, members, any_val, join_of}
 use Rattle.value_domain.specs.State.{FlagsImpliedBy, joined_regs, joined_locals}
-use Rattle.value_domain.specs.Laws.{AreJoins}
-use Rattle.value_domain.specs.StateLaws.{AreStateJoins}
+use Rattle.value_domain.specs.Laws.{JoinIsLeast}
+use Rattle.value_domain.specs.StateLaws.{StateJoinIsLeast}
 use Rattle.value_domain.proofs.CoverLaws.{cover_holds, cover_least, among_member, member_among, has_step}
 use Rattle.value_domain.proofs.ExtentLaws.{append_left, append_right, among_append}
 use Rattle.value_domain.proofs.RangeLaws.{join_value, members_below, some_members}
@@ -41,7 +41,7 @@ join_below b v w u limits vv vw vu left right =
       | inr j ↦ right z (member_among w z (has_step w vw.well) j)
     ])
 
-pub join_least : AreJoins
+pub join_least : JoinIsLeast
 join_least b v w limits vv vw = record {
   value = join_value b v w limits vv vw;
   left = join_left b v w vv;
@@ -69,7 +69,7 @@ locals_least (u ∷ us) [] ys h k = absurd h
 locals_least (u ∷ us) (x ∷ xs) [] h k = absurd k
 locals_least (u ∷ us) (x ∷ xs) (y ∷ ys) h k = ((λ t. and_from x y (h.0 t) (k.0 t)), locals_least us xs ys h.1 k.1)
 
-pub joined_least : AreStateJoins
+pub joined_least : StateJoinIsLeast
 joined_least b s t limits same flags vs vt =
     let len = length-joined b s.regs t.regs same in
     record {

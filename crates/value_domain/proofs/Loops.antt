@@ -6,8 +6,8 @@ use Rattle.std.proofs.lemmas.Bool.{cases_lt}
 use Rattle.std.specs.List.{insert}
 use Rattle.value_domain.proofs.ExtentLaws.{some_length, extent_rising, extent_range}
 use Rattle.value_domain.proofs.CoverLaws.{step_cases}
-use Rattle.value_domain.specs.Values.{IsWell, range}
-use Rattle.value_domain.specs.Sets.{IsExtent, Among, Rising, alignment_log2, step_of_set, least, greatest, sorted_insert, AreWords}
+use Rattle.value_domain.specs.Values.{IsWellFormed, range}
+use Rattle.value_domain.specs.Sets.{IsExtent, Among, IsAscending, alignment_log2, step_of_set, least, greatest, sorted_insert, AreWords}
 use Rattle.value_domain.specs.declared.values.Val.TheVariants.{Span}
 use Rattle.value_domain.proofs.SetLaws.{put-lt, put-gt, rising_put, among_put, length_put, put_has, greatest_greatest}
 
@@ -32,7 +32,7 @@ among_get (w ∷ ws) zero h = inl refl
 among_get (w ∷ ws) (suc i) h = inr (among_get ws i (omega arith))
 
 -- a word that isn't there goes before the first greater one
-pub put-insert : (x : ℕ) (ws : List ℕ) (at : ℕ) → Rising ws → at ≤ length ws → (0 < at → get_or ws (at - 1) 0 < x) → (at < length ws → x < get_or ws at 0)
+pub put-insert : (x : ℕ) (ws : List ℕ) (at : ℕ) → IsAscending ws → at ≤ length ws → (0 < at → get_or ws (at - 1) 0 < x) → (at < length ws → x < get_or ws at 0)
     → sorted_insert x ws ≡ insert ws at x
 unfolding sorted_insert
 put-insert x [] zero r within before after = refl
@@ -56,7 +56,7 @@ words_put x ws a room small = record {
   below = λ z i. elim (among_put z x ws i) [ inl e ↦ let e2 : z ≡ x = e in omega arith | inr j ↦ a.below z j ];
 }
 
-pub greatest-last : (ws : List ℕ) → Rising ws → 1 ≤ length ws → greatest ws ≡ get_or ws (length ws - 1) 0
+pub greatest-last : (ws : List ℕ) → IsAscending ws → 1 ≤ length ws → greatest ws ≡ get_or ws (length ws - 1) 0
 unfolding greatest
 greatest-last [] r some = absurd (omega arith)
 greatest-last (w ∷ []) r some = omega arith
@@ -80,7 +80,7 @@ extent_places ws step a e = rw (← least-first ws a.some, ← greatest-last ws 
 unit_shift : (s : ℕ) → s ≤ 2 → 1 * 2 ^ s % 2 ^ 64 ≡ 2 ^ s
 unit_shift = step_cases (λ s. 1 * 2 ^ s % 2 ^ 64 ≡ 2 ^ s) refl refl refl
 
-pub extent_units : (lo last s lo2 last2 : ℕ) → lo2 ≡ lo → last2 ≡ last → IsWell (Span lo last s)
+pub extent_units : (lo last s lo2 last2 : ℕ) → lo2 ≡ lo → last2 ≡ last → IsWellFormed (Span lo last s)
     → IsExtent (range lo last s) ((lo2 + (1 * 2 ^ s % 2 ^ 64 - 1)) / (1 * 2 ^ s % 2 ^ 64) * (1 * 2 ^ s % 2 ^ 64)) (last2 / (1 * 2 ^ s % 2 ^ 64) * (1 * 2 ^ s % 2 ^ 64)) s
 extent_units lo last s lo2 last2 e f well = rw (unit_shift s well.0, e, f) (extent_range lo last s well.0 (omega (arith, well.1)))
 

@@ -7,23 +7,23 @@ use Rattle.value_domain.specs.declared.values.Val.{Val}
 use Rattle.value_domain.specs.declared.values.Val.TheVariants.{Set, Span}
 use Rattle.value_domain.specs.Sets.{Among, Within, alignment_log2, multiples}
 use Rattle.value_domain.specs.Limits.{Limits, AreLimits}
-use Rattle.value_domain.specs.Values.{IsWell, cover, members, range, count_in, first_in_span, in_span, is_member}
-use Rattle.value_domain.specs.Meets.{cover_of_meet}
+use Rattle.value_domain.specs.Values.{IsWellFormed, cover, members, range, span_len, first_in_span, is_in_span, is_member}
+use Rattle.value_domain.specs.Meets.{cover_if_any}
 use Rattle.value_domain.proofs.CoverLaws.{cover-same, range_among, among_range, length-multiples}
 use Rattle.value_domain.proofs.ExtentLaws.{cover-more, cover-part, append_left, append_right, among_append}
 use Rattle.value_domain.proofs.RangeLaws.{cover-one}
 
-pub cover_some-same : (b : Limits) (xs ys : List ℕ) → Within xs ys → Within ys xs → cover_of_meet b xs ≡ cover_of_meet b ys
+pub cover_some-same : (b : Limits) (xs ys : List ℕ) → Within xs ys → Within ys xs → cover_if_any b xs ≡ cover_if_any b ys
 cover_some-same b [] [] there back = refl
 cover_some-same b [] (y ∷ ys) there back = absurd (back y (inl refl))
 cover_some-same b (x ∷ xs) [] there back = absurd (there x (inl refl))
 cover_some-same b (x ∷ xs) (y ∷ ys) there back = ap (λ (v : Val). Some v) (cover-same b (x ∷ xs) (y ∷ ys) there back)
 
-pub add_first : (b : Limits) (x : ℕ) (xs : List ℕ) → AreLimits b → x < 2 ^ 32 → None ≡ cover_of_meet b xs → Some (Set (x ∷ [])) ≡ cover_of_meet b (xs ++ x ∷ [])
+pub add_first : (b : Limits) (x : ℕ) (xs : List ℕ) → AreLimits b → x < 2 ^ 32 → None ≡ cover_if_any b xs → Some (Set (x ∷ [])) ≡ cover_if_any b (xs ++ x ∷ [])
 add_first b x [] limits small e = ap (λ (v : Val). Some v) (cover-one b x limits small)
 add_first b x (y ∷ ys) limits small e = absurd (let f : None ≡ Some (cover b (y ∷ ys)) = e in cc)
 
-pub add_more : (b : Limits) (v : Val) (x : ℕ) (xs : List ℕ) → Some v ≡ cover_of_meet b xs → Some (cover b (x ∷ members v)) ≡ cover_of_meet b (xs ++ x ∷ [])
+pub add_more : (b : Limits) (v : Val) (x : ℕ) (xs : List ℕ) → Some v ≡ cover_if_any b xs → Some (cover b (x ∷ members v)) ≡ cover_if_any b (xs ++ x ∷ [])
 add_more b v x [] e = absurd (let f : Some v ≡ None = e in cc)
 add_more b v x (y ∷ ys) e =
     let same : v ≡ cover b (y ∷ ys) = some_same v (cover b (y ∷ ys)) e in
@@ -39,8 +39,8 @@ cover-parts b xs ys some_x some_y =
     ∙ cover-part b ys xs some_y
     ∙ cover-same b (ys ++ xs) (xs ++ ys) (swap_within ys xs) (swap_within xs ys)
 
-pub join_both : (b : Limits) (v w : Val) (xs ys : List ℕ) → Some v ≡ cover_of_meet b xs → Some w ≡ cover_of_meet b ys
-    → Some (cover b (members v ++ members w)) ≡ cover_of_meet b (xs ++ ys)
+pub join_both : (b : Limits) (v w : Val) (xs ys : List ℕ) → Some v ≡ cover_if_any b xs → Some w ≡ cover_if_any b ys
+    → Some (cover b (members v ++ members w)) ≡ cover_if_any b (xs ++ ys)
 join_both b v w [] ys e f = absurd (let g : Some v ≡ None = e in cc)
 join_both b v w (x ∷ xs) [] e f = absurd (let g : Some w ≡ None = f in cc)
 join_both b v w (x ∷ xs) (y ∷ ys) e f =
@@ -76,43 +76,43 @@ filter_has p z (x ∷ xs) i e =
           ])
     ]
 
-pub in_span_parts : (lo last step x : ℕ) → in_span lo last step x ≡ true → (lo ≤ x) × (x ≤ last) × (step ≤ alignment_log2 x)
+pub in_span_parts : (lo last step x : ℕ) → is_in_span lo last step x ≡ true → (lo ≤ x) × (x ≤ last) × (step ≤ alignment_log2 x)
 in_span_parts lo last step x e =
     let a = and_parts (leb lo x && leb x last) (leb step (alignment_log2 x)) e in
     let c = and_parts (leb lo x) (leb x last) a.0 in
     (leb-true lo x c.0, leb-true x last c.1, leb-true step (alignment_log2 x) a.1)
 
-pub in_span_from : (lo last step x : ℕ) → lo ≤ x → x ≤ last → step ≤ alignment_log2 x → in_span lo last step x ≡ true
+pub in_span_from : (lo last step x : ℕ) → lo ≤ x → x ≤ last → step ≤ alignment_log2 x → is_in_span lo last step x ≡ true
 in_span_from lo last step x a b c =
     and_from (leb lo x && leb x last) (leb step (alignment_log2 x)) (and_from (leb lo x) (leb x last) (le-leb lo x a) (le-leb x last b)) (le-leb step (alignment_log2 x) c)
 
 -- a range met with a range
 pub meet_range : (b : Limits) (lo last step lo2 last2 step2 : ℕ) → step ≤ 2 → step2 ≤ 2
-    → cover_of_meet b (range (max lo lo2) (min last last2) (max step step2)) ≡ cover_of_meet b (filter (in_span lo last step) (range lo2 last2 step2))
+    → cover_if_any b (range (max lo lo2) (min last last2) (max step step2)) ≡ cover_if_any b (filter (is_in_span lo last step) (range lo2 last2 step2))
 meet_range b lo last step lo2 last2 step2 small small2 =
-    cover_some-same b (range (max lo lo2) (min last last2) (max step step2)) (filter (in_span lo last step) (range lo2 last2 step2))
+    cover_some-same b (range (max lo lo2) (min last last2) (max step step2)) (filter (is_in_span lo last step) (range lo2 last2 step2))
     (λ z i.
     let m = range_among z (max lo lo2) (min last last2) (max step step2) (omega arith) i in
-    filter_has (in_span lo last step) z (range lo2 last2 step2)
+    filter_has (is_in_span lo last step) z (range lo2 last2 step2)
     (among_range z lo2 last2 step2 small2 (omega (arith, m.0), omega (arith, m.1), omega (arith, m.2)))
     (in_span_from lo last step z (omega (arith, m.0)) (omega (arith, m.1)) (omega (arith, m.2))))
     (λ z i.
-    let f = among_filter (in_span lo last step) z (range lo2 last2 step2) i in
+    let f = among_filter (is_in_span lo last step) z (range lo2 last2 step2) i in
     let m = range_among z lo2 last2 step2 small2 f.0 in
     let n = in_span_parts lo last step z f.1 in
     among_range z (max lo lo2) (min last last2) (max step step2) (omega arith)
     (omega (arith, m.0, n.0), omega (arith, m.1, n.1), omega (arith, m.2, n.2)))
 
-pub none_range : (b : Limits) (lo last s : ℕ) → count_in lo last s ≡ 0 → None ≡ cover_of_meet b (range lo last s)
+pub none_range : (b : Limits) (lo last s : ℕ) → span_len lo last s ≡ 0 → None ≡ cover_if_any b (range lo last s)
 unfolding multiples
-none_range b lo last s e = ap (λ n. cover_of_meet b (multiples n (first_in_span lo s) (2 ^ s))) (sym e)
+none_range b lo last s e = ap (λ n. cover_if_any b (multiples n (first_in_span lo s) (2 ^ s))) (sym e)
 
-pub cover_some-some : (b : Limits) (xs : List ℕ) → 1 ≤ length xs → Some (cover b xs) ≡ cover_of_meet b xs
+pub cover_some-some : (b : Limits) (xs : List ℕ) → 1 ≤ length xs → Some (cover b xs) ≡ cover_if_any b xs
 cover_some-some b [] some = absurd (omega arith)
 cover_some-some b (x ∷ xs) some = refl
 
-pub some_range : (b : Limits) (lo last s : ℕ) → (count_in lo last s ≡ 0 → ⊥) → Some (cover b (range lo last s)) ≡ cover_of_meet b (range lo last s)
-some_range b lo last s some = cover_some-some b (range lo last s) (omega (arith, length-multiples (count_in lo last s) (first_in_span lo s) (2 ^ s)))
+pub some_range : (b : Limits) (lo last s : ℕ) → (span_len lo last s ≡ 0 → ⊥) → Some (cover b (range lo last s)) ≡ cover_if_any b (range lo last s)
+some_range b lo last s some = cover_some-some b (range lo last s) (omega (arith, length-multiples (span_len lo last s) (first_in_span lo s) (2 ^ s)))
 
 -- ---- tests of some word
 pub any_among : (p : ℕ → Bool) (ws : List ℕ) → list_any p ws ≡ true → (y : ℕ) × Among y ws × (p y ≡ true)
@@ -131,7 +131,7 @@ among_any p y (w ∷ ws) i e =
       | inr j ↦ or_right (p w) (list_any p ws) (among_any p y ws j e)
     ]
 
-pub is_member_parts : (x : ℕ) (v : Val) → IsWell v → (is_member x v ≡ true → Among x (members v)) × (Among x (members v) → is_member x v ≡ true)
+pub is_member_parts : (x : ℕ) (v : Val) → IsWellFormed v → (is_member x v ≡ true → Among x (members v)) × (Among x (members v) → is_member x v ≡ true)
 is_member_parts x (Set ws) well = (
   (λ e. let r = any_among (λ w. eqb x w) ws e in let f : x ≡ r.0 = eqb-true x r.0 r.2 in subst (λ (y : ℕ). Among y ws) (sym f) r.1),
   (λ i. among_any (λ w. eqb x w) x ws i (eq-eqb x x refl)),

@@ -3,18 +3,18 @@ use Rattle.std.proofs.Common.{◌≡◌, ℕ, zero, suc, ◌-◌, ◌<◌, ◌�
 use Rattle.std.proofs.lemmas.Bool.{cases_lt, cases_eq}
 use Rattle.std.proofs.lemmas.List.Sorted.{IsNonDecreasingBy-from_default}
 use Rattle.std.specs.List.Sorted.{IsNonDecreasing}
-use Rattle.value_domain.specs.Sets.{Among, Rising}
+use Rattle.value_domain.specs.Sets.{Among, IsAscending}
 use Rattle.value_domain.proofs.Loops.{among_get}
 use Rattle.value_domain.proofs.WordLaws.{among_place}
 
 -- a later word is above an earlier one
-pub rising_places : (xs : List ℕ) → Rising xs → (i k : ℕ) → i < k → k < length xs → get_or xs i 0 < get_or xs k 0
+pub rising_places : (xs : List ℕ) → IsAscending xs → (i k : ℕ) → i < k → k < length xs → get_or xs i 0 < get_or xs k 0
 rising_places [] r i k lt h = absurd (omega arith)
 rising_places (x ∷ xs) r i zero lt h = absurd (omega arith)
 rising_places (x ∷ xs) r zero (suc k) lt h = r.0 (get_or xs k 0) (among_get xs k (omega arith))
 rising_places (x ∷ xs) r (suc i) (suc k) lt h = rising_places xs r.1 i k (omega arith) (omega arith)
 
-pub rising_order : (xs : List ℕ) → Rising xs → IsNonDecreasing xs
+pub rising_order : (xs : List ℕ) → IsAscending xs → IsNonDecreasing xs
 rising_order xs r =
     IsNonDecreasingBy-from_default (λ x. x) xs 0
     (λ i j le h. elim (cases_lt i j) [
@@ -23,7 +23,7 @@ rising_order xs r =
     ])
 
 -- if the last word is below x, all are
-pub below_last : (xs : List ℕ) (x : ℕ) → Rising xs → get_or xs (length xs - 1) 0 < x → (k : ℕ) → k < length xs → get_or xs k 0 < x
+pub below_last : (xs : List ℕ) (x : ℕ) → IsAscending xs → get_or xs (length xs - 1) 0 < x → (k : ℕ) → k < length xs → get_or xs k 0 < x
 below_last xs x r last k h =
     elim (cases_lt k (length xs - 1)) [
       | inl lt ↦ let over : get_or xs k 0 < get_or xs (length xs - 1) 0 = rising_places xs r k (length xs - 1) lt (omega arith) in omega arith
@@ -35,7 +35,7 @@ abbrev pub Below : List ℕ → ℕ → ℕ → Type 0
 Below xs k x = (j : ℕ) → j < k → get_or xs j 0 < x
 
 -- if the word that is reached isn't x, x is none of them
-pub not_among : (xs : List ℕ) (k x : ℕ) → Rising xs → Below xs k x → (k < length xs → x ≤ get_or xs k 0) → (k < length xs → get_or xs k 0 ≡ x → ⊥) → Among x xs → ⊥
+pub not_among : (xs : List ℕ) (k x : ℕ) → IsAscending xs → Below xs k x → (k < length xs → x ≤ get_or xs k 0) → (k < length xs → get_or xs k 0 ≡ x → ⊥) → Among x xs → ⊥
 not_among xs k x rising below reached other i =
     let p = among_place xs x i in
     elim (cases_lt p.0 k) [
@@ -51,7 +51,7 @@ not_among xs k x rising below reached other i =
     ]
 
 -- if x is one of the words, it is the one that is reached
-pub reached_is : (xs : List ℕ) (k x : ℕ) → Rising xs → Below xs k x → (k < length xs → x ≤ get_or xs k 0) → Among x xs → get_or xs k 0 ≡ x
+pub reached_is : (xs : List ℕ) (k x : ℕ) → IsAscending xs → Below xs k x → (k < length xs → x ≤ get_or xs k 0) → Among x xs → get_or xs k 0 ≡ x
 reached_is xs k x rising below reached i =
     elim (cases_eq (get_or xs k 0) x) [ inl e ↦ e | inr other ↦ absurd (not_among xs k x rising below reached (λ h e. other e) i) ]
 

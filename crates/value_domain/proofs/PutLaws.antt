@@ -3,10 +3,10 @@ use Rattle.std.proofs.Common.{◌≡◌, ℕ, ◌-◌, ◌<◌, ◌≤◌, inl, 
 use Rattle.std.proofs.lemmas.List.{take_more, take_all, take-append-drop}
 use Rattle.value_domain.specs.declared.values.Val.{Val}
 use Rattle.value_domain.specs.declared.values.Val.TheVariants.{Set, Span}
-use Rattle.value_domain.specs.Sets.{Among, Rising, AreWords, sorted_insert, sorted_set_of, alignment_log2, IsExtent, least}
+use Rattle.value_domain.specs.Sets.{Among, IsAscending, AreWords, sorted_insert, sorted_set_of, alignment_log2, IsExtent, least}
 use Rattle.value_domain.specs.Limits.{Limits, AreLimits}
 use Rattle.value_domain.specs.Floors.{floor, above}
-use Rattle.value_domain.specs.Values.{IsMember, IsWell, IsValue, cover, members, range, words_of}
+use Rattle.value_domain.specs.Values.{IsMember, IsWellFormed, IsValue, cover, members, range, words_of}
 use Rattle.value_domain.proofs.SetLaws.{distinct-rising, length-put_new, length_put, length-distinct, least_among}
 use Rattle.value_domain.proofs.CoverLaws.{cover-few, cover-same, among_member, has_step}
 use Rattle.value_domain.proofs.ExtentLaws.{cover_span, cover-part, extent_append, extent_one, many_span, append_left, among_append}
@@ -20,7 +20,7 @@ with_member b v x value m =
     ∙ cover-same b (members v) (x ∷ members v) (λ z i. inr i)
     (λ z i. elim i [ inl e ↦ subst (λ (y : ℕ). Among y (members v)) (sym e) (among_member v x (has_step v value.well) m) | inr j ↦ j ])
 
-distinct-more : (x : ℕ) (ws : List ℕ) → Rising ws → sorted_set_of (x ∷ ws) ≡ sorted_insert x ws
+distinct-more : (x : ℕ) (ws : List ℕ) → IsAscending ws → sorted_set_of (x ∷ ws) ≡ sorted_insert x ws
 unfolding sorted_set_of
 distinct-more x ws r = ap (sorted_insert x) (distinct-rising ws r)
 
@@ -76,7 +76,7 @@ widened b (Span lo last step) ws value span e =
     (omega (arith, many_span b lo last step value, length-distinct (range lo last step) (range lo last step ++ ws) (λ z i. append_left z (range lo last step) ws i))) e)
 
 -- the rest of the words, after some of them
-pub words_rest : (b : Limits) (v out : Val) (words : List ℕ) (i : ℕ) → IsWell v → out ≡ cover b (members v ++ take i words)
+pub words_rest : (b : Limits) (v out : Val) (words : List ℕ) (i : ℕ) → IsWellFormed v → out ≡ cover b (members v ++ take i words)
     → cover b (members out ++ take (length words - i) (drop i words)) ≡ cover b (members v ++ words)
 words_rest b v out words i well e =
     ap (λ (l : List ℕ). cover b (members out ++ l)) (take_all (length words - i) (drop i words) (omega (arith, length-drop i words))) ∙

@@ -4,10 +4,10 @@ use Rattle.std.proofs.lemmas.Bool.{cases_lt}
 use Rattle.std.proofs.lemmas.List.{take_more}
 use Rattle.value_domain.specs.declared.values.Val.{Val}
 use Rattle.value_domain.specs.declared.values.Val.TheVariants.{Set, Span}
-use Rattle.value_domain.specs.Sets.{Among, Within, Rising, AreWords, sorted_set_of, multiples, IsExtent}
+use Rattle.value_domain.specs.Sets.{Among, Within, IsAscending, AreWords, sorted_set_of, multiples, IsExtent}
 use Rattle.value_domain.specs.Limits.{Limits, AreLimits}
 use Rattle.value_domain.specs.Floors.{floor, above}
-use Rattle.value_domain.specs.Values.{IsWell, IsValue, IsBelow, cover, value_of_words, members, range, first_in_span, count_in, any_val}
+use Rattle.value_domain.specs.Values.{IsWellFormed, IsValue, IsBelow, cover, value_of_words, members, range, first_in_span, span_len, any_val}
 use Rattle.value_domain.proofs.SetLaws.{distinct-rising, length-distinct}
 use Rattle.value_domain.proofs.CoverLaws.{cover-few, cover-many, span_of, cover-same, cover_least, among_member, member_among, has_step, multiples_among, among_multiples, rising_multiples, length-multiples, unit_some, step_cases}
 use Rattle.value_domain.proofs.LimitLaws.{floor_le, above_lt, above_le}
@@ -16,12 +16,12 @@ use Rattle.value_domain.proofs.Loops.{among_get}
 
 pub within_range : (lo last s : ℕ) (ws : List ℕ) → ((j : ℕ) → first_in_span lo s ≤ j → j < last / 2 ^ s + 1 → Among (j * 2 ^ s) ws) → Within (range lo last s) ws
 within_range lo last s ws each z i =
-    let k = multiples_among z (count_in lo last s) (first_in_span lo s) (2 ^ s) i in
+    let k = multiples_among z (span_len lo last s) (first_in_span lo s) (2 ^ s) i in
     let e : z ≡ k.0 * 2 ^ s = k.3 in
     subst (λ (y : ℕ). Among y ws) (sym e) (each k.0 k.1 (omega arith))
 
 pub range_has : (lo last s k : ℕ) → first_in_span lo s ≤ k → k < last / 2 ^ s + 1 → Among (k * 2 ^ s) (range lo last s)
-range_has lo last s k low high = among_multiples k (count_in lo last s) (first_in_span lo s) (2 ^ s) low (omega arith)
+range_has lo last s k low high = among_multiples k (span_len lo last s) (first_in_span lo s) (2 ^ s) low (omega arith)
 
 pub multiples-more : (n start unit : ℕ) → multiples (n + 1) start unit ≡ multiples n start unit ++ (start + n) * unit ∷ []
 unfolding multiples
@@ -32,7 +32,7 @@ multiples-more (suc n) start unit =
     ap (λ k. multiples k start unit) e
     ∙ ap (λ (l : List ℕ). start * unit ∷ l) (multiples-more n (start + 1) unit ∙ ap (λ k. multiples n (start + 1) unit ++ k * unit ∷ []) f)
 
-pub members_below : (v : Val) → IsWell v → (z : ℕ) → Among z (members v) → z < 2 ^ 32
+pub members_below : (v : Val) → IsWellFormed v → (z : ℕ) → Among z (members v) → z < 2 ^ 32
 members_below (Set ws) w z i = w.below z i
 members_below (Span lo last step) w z i = let m = member_among (Span lo last step) z w.0 i in omega (arith, m.1, w.2)
 
@@ -45,9 +45,9 @@ more_value b v x limits value small =
     (λ z i. elim i [ inl e ↦ let e2 : z ≡ x = e in omega arith | inr j ↦ members_below v value.well z j ])
 
 -- a value has a member
-pub some_members : (v : Val) → IsWell v → 1 ≤ length (members v)
+pub some_members : (v : Val) → IsWellFormed v → 1 ≤ length (members v)
 some_members (Set ws) w = w.some
-some_members (Span lo last step) w = omega (arith, length-multiples (count_in lo last step) (first_in_span lo step) (2 ^ step), w.1)
+some_members (Span lo last step) w = omega (arith, length-multiples (span_len lo last step) (first_in_span lo step) (2 ^ step), w.1)
 
 pub join_value : (b : Limits) (v w : Val) → AreLimits b → IsValue b v → IsValue b w → IsValue b (cover b (members v ++ members w))
 join_value b v w limits vv vw =
@@ -68,7 +68,7 @@ words_none b v words value =
     none [] z i = i
     none (w ∷ ws) z i = i
 
-pub words_more : (b : Limits) (v out : Val) (words : List ℕ) (i : ℕ) → IsWell v → i < length words → out ≡ cover b (members v ++ take i words)
+pub words_more : (b : Limits) (v out : Val) (words : List ℕ) (i : ℕ) → IsWellFormed v → i < length words → out ≡ cover b (members v ++ take i words)
     → cover b (get_or words i 0 ∷ members out) ≡ cover b (members v ++ take (i + 1) words)
 words_more b v out words i well h e =
     ap (λ (o : Val). cover b (get_or words i 0 ∷ members o)) e
@@ -76,12 +76,12 @@ words_more b v out words i well h e =
     ∙ ap (cover b) (append_assoc (members v) (take i words) (get_or words i 0 ∷ []) ∙ ap (λ (l : List ℕ). members v ++ l) (sym (take_more words i 0 h)))
 
 -- ---- Spans
-pub many_range : (b : Limits) (lo last s : ℕ) → b.most_words < count_in lo last s → b.most_words < length (sorted_set_of (range lo last s))
+pub many_range : (b : Limits) (lo last s : ℕ) → b.most_words < span_len lo last s → b.most_words < length (sorted_set_of (range lo last s))
 many_range b lo last s many =
-    let r = distinct-rising (range lo last s) (rising_multiples (count_in lo last s) (first_in_span lo s) (2 ^ s) (unit_some s)) in
-    rw r (omega (arith, length-multiples (count_in lo last s) (first_in_span lo s) (2 ^ s)))
+    let r = distinct-rising (range lo last s) (rising_multiples (span_len lo last s) (first_in_span lo s) (2 ^ s) (unit_some s)) in
+    rw r (omega (arith, length-multiples (span_len lo last s) (first_in_span lo s) (2 ^ s)))
 
-pub span_value : {least greatest s2 : ℕ} (b : Limits) (lo last s : ℕ) → AreLimits b → s ≤ 2 → last < 2 ^ 32 → b.most_words < count_in lo last s → IsExtent (range lo last s) least greatest s2
+pub span_value : {least greatest s2 : ℕ} (b : Limits) (lo last s : ℕ) → AreLimits b → s ≤ 2 → last < 2 ^ 32 → b.most_words < span_len lo last s → IsExtent (range lo last s) least greatest s2
     → lo ≡ floor b.thresholds least → last ≡ above b.thresholds greatest - 1 → IsValue b (Span lo last s)
 span_value {least} {greatest} {s2} b lo last s limits small below many e low high =
     let step : s2 ≡ s = (extent_only (range lo last s) e (extent_range lo last s small (omega (arith, limits.wide)))).2 in
@@ -102,11 +102,11 @@ value_span {least} {greatest} {s2} b lo last s value e =
     in
     (cc, cc)
 
-pub span_count : (b : Limits) (lo last s : ℕ) → IsValue b (Span lo last s) → b.most_words < count_in lo last s
+pub span_count : (b : Limits) (lo last s : ℕ) → IsValue b (Span lo last s) → b.most_words < span_len lo last s
 span_count b lo last s value =
-    let r = distinct-rising (range lo last s) (rising_multiples (count_in lo last s) (first_in_span lo s) (2 ^ s) (unit_some s)) in
+    let r = distinct-rising (range lo last s) (rising_multiples (span_len lo last s) (first_in_span lo s) (2 ^ s) (unit_some s)) in
     let m : b.most_words < length (range lo last s) = rw r at (many_span b lo last s value) in
-    omega (arith, length-multiples (count_in lo last s) (first_in_span lo s) (2 ^ s))
+    omega (arith, length-multiples (span_len lo last s) (first_in_span lo s) (2 ^ s))
 
 pub cover_join_span : {lo1 hi1 s1 lo2 hi2 s2 : ℕ} (b : Limits) (xs : List ℕ) (lo last s : ℕ) → IsValue b (Span lo last s) → IsExtent xs lo1 hi1 s1 → IsExtent (range lo last s) lo2 hi2 s2
     → Span (floor b.thresholds (min lo1 lo2)) (above b.thresholds (max hi1 hi2) - 1) (min s1 s2) ≡ cover b (xs ++ range lo last s)
@@ -116,7 +116,7 @@ cover_join_span b xs lo last s value e f =
     (extent_append xs (range lo last s) e f))
 
 -- ---- inclusion in a Span
-pub below_span : {lo hi s : ℕ} (v : Val) (lo2 last2 s2 : ℕ) → IsWell v → s2 ≤ 2 → IsExtent (members v) lo hi s
+pub below_span : {lo hi s : ℕ} (v : Val) (lo2 last2 s2 : ℕ) → IsWellFormed v → s2 ≤ 2 → IsExtent (members v) lo hi s
     → (lo2 ≤ lo → hi ≤ last2 → s2 ≤ s → IsBelow v (Span lo2 last2 s2)) × (IsBelow v (Span lo2 last2 s2) → (lo2 ≤ lo) × (hi ≤ last2) × (s2 ≤ s))
 below_span {lo} {hi} {s} v lo2 last2 s2 well small e = (
   (λ a b c z m.
@@ -132,10 +132,10 @@ below_span {lo} {hi} {s} v lo2 last2 s2 well small e = (
 pub unit_shift : (s : ℕ) → s ≤ 2 → 1 * 2 ^ s % 2 ^ 64 ≡ 2 ^ s
 unit_shift = step_cases (λ s. 1 * 2 ^ s % 2 ^ 64 ≡ 2 ^ s) refl refl refl
 
-pub range_value : (b : Limits) (lo last s : ℕ) → AreLimits b → s ≤ 2 → 1 ≤ count_in lo last s → last < 2 ^ 32 → IsValue b (cover b (range lo last s))
+pub range_value : (b : Limits) (lo last s : ℕ) → AreLimits b → s ≤ 2 → 1 ≤ span_len lo last s → last < 2 ^ 32 → IsValue b (cover b (range lo last s))
 range_value b lo last s limits small some below =
     (cover_least b (range lo last s) limits (record {
-      some = omega (arith, length-multiples (count_in lo last s) (first_in_span lo s) (2 ^ s));
+      some = omega (arith, length-multiples (span_len lo last s) (first_in_span lo s) (2 ^ s));
       below = λ z i. let m = member_among (Span lo last s) z small i in omega (arith, m.1);
     })).value
 
@@ -199,7 +199,7 @@ pub any_value : (b : Limits) → AreLimits b → IsValue b any_val
 any_value b limits = subst (λ (v : Val). IsValue b v) (any_cover b limits) (range_value b 0 (2 ^ 32 - 1) 0 limits (omega arith) (omega arith) (omega arith))
 
 -- each value is below that of all words
-pub below_any : (v : Val) → IsWell v → IsBelow v any_val
+pub below_any : (v : Val) → IsWellFormed v → IsBelow v any_val
 below_any v well z m = (omega arith, omega (arith, members_below v well z (among_member v z (has_step v well) m)), omega arith)
 
 -- multiples that are put into a list one after another
@@ -219,6 +219,6 @@ fill_more xs k start unit low e len =
       omega (arith, length-append xs (k * unit ∷ [])),
     )
 
-pub value-rising : (b : Limits) (ws : List ℕ) → Rising ws → value_of_words b ws ≡ cover b ws
+pub value-rising : (b : Limits) (ws : List ℕ) → IsAscending ws → value_of_words b ws ≡ cover b ws
 unfolding cover
 value-rising b ws r = ap (value_of_words b) (sym (distinct-rising ws r))

@@ -5,11 +5,11 @@ use Rattle.value_domain.specs.Limits.{Limits}
 use Rattle.value_domain.specs.Values.{cover}
 
 -- the cover of the words, or none if there are no words
-abbrev pub cover_of_meet : Limits → List ℕ → Option Val
-cover_of_meet b [] = None
-cover_of_meet b (x ∷ xs) = Some (cover b (x ∷ xs))
+abbrev pub cover_if_any : Limits → List ℕ → Option Val
+cover_if_any b [] = None
+cover_if_any b (x ∷ xs) = Some (cover b (x ∷ xs))
 
 -- the value of a meet, or none if nothing was found
-abbrev pub meet_if : Bool → Val → Option Val
-meet_if true v = Some v
-meet_if false v = None
+abbrev pub value_if_found : Bool → Val → Option Val
+value_if_found true v = Some v
+value_if_found false v = None

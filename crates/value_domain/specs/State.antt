@@ -3,11 +3,11 @@ use Rattle.std.specs.Prelude.{◌<◌, ◌≤◌, ℕ, Bool, ◌&&◌, ◌||◌,
 use Rattle.value_domain.specs.declared.values.Val.{Val}
 use Rattle.value_domain.specs.declared.states.State.{State}
 use Rattle.value_domain.specs.Limits.{Limits}
-use Rattle.value_domain.specs.Values.{IsWell, IsValue, IsBelow, any_val, join_of}
+use Rattle.value_domain.specs.Values.{IsWellFormed, IsValue, IsBelow, any_val, join_of}
 
 -- each of a state's registers has a well-formed value
-abbrev pub AreWell : List Val → Type 0
-AreWell vs = (r : ℕ) → r < length vs → IsWell (slice_index_or vs r any_val)
+abbrev pub AreWellFormed : List Val → Type 0
+AreWellFormed vs = (r : ℕ) → r < length vs → IsWellFormed (slice_index_or vs r any_val)
 
 -- each of a state's registers has a value that is in the lattice of these limits
 abbrev pub AreValues : Limits → List Val → Type 0
@@ -47,8 +47,8 @@ joined_locals (x ∷ xs) [] = []
 joined_locals (x ∷ xs) (y ∷ ys) = (x && y) ∷ joined_locals xs ys
 
 -- the least state that covers both
-abbrev pub joined_of : Limits → State → State → State
-joined_of b s t = record {
+abbrev pub state_join_of : Limits → State → State → State
+state_join_of b s t = record {
   regs = joined_regs b s.regs t.regs;
   ie = s.ie || t.ie;
   ccpn = min s.ccpn t.ccpn;
@@ -58,7 +58,7 @@ joined_of b s t = record {
 
 -- the least state that covers both; none if they have different numbers of locals
 abbrev pub joined_states : Limits → State → State → Option State
-joined_states b s t = if length s.locals.items == length t.locals.items then Some (joined_of b s t) else None
+joined_states b s t = if length s.locals.items == length t.locals.items then Some (state_join_of b s t) else None
 
 -- the places of the lower registers D0..D7 and A2..A7 among the values of a state
 abbrev pub is_lower_slot : ℕ → Bool

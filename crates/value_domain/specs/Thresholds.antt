@@ -21,17 +21,17 @@ abbrev pub thresholds_of : PlanData → List ℕ
 thresholds_of p = (0 ∷ powers_of_two 33) ++ threshold_ends (all_ranges p)
 
 -- the thresholds of a plan next to a word
-pub record HasThresholds (ts : List ℕ) (x : ℕ) : Type 0 where
+pub record HasNearestThresholds (ts : List ℕ) (x : ℕ) : Type 0 where
   pub floor : IsFloor ts x (floor ts x)
   pub above : IsAbove ts x (above ts x)
 
 -- each word has two thresholds of a plan next to it: the greatest that is at most the word, and the
 -- least above it
-abbrev pub AreThresholds : Type 0
-AreThresholds = (plan : PlanData) (x : ℕ) → x < 2 ^ 32 → HasThresholds (thresholds_of plan) x
+abbrev pub ThresholdsAreNearest : Type 0
+ThresholdsAreNearest = (plan : PlanData) (x : ℕ) → x < 2 ^ 32 → HasNearestThresholds (thresholds_of plan) x
 
 -- a list of thresholds, as the limits hold them, has the numbers of another, in ascending order
-pub record InOrder (ascending xs : List ℕ) : Type 0 where
+pub record AreSortedThresholds (ascending xs : List ℕ) : Type 0 where
   pub ordered : IsNonDecreasing ascending
   pub within : Within ascending xs
   pub back : Within xs ascending

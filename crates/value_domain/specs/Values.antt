@@ -18,12 +18,12 @@ abbrev pub first_in_span : ℕ → ℕ → ℕ
 first_in_span lo step = (lo + (2 ^ step - 1)) / 2 ^ step
 
 -- the number of multiples of 2 ^ step in lo..=last
-abbrev pub count_in : ℕ → ℕ → ℕ → ℕ
-count_in lo last step = (last / 2 ^ step + 1) - first_in_span lo step
+abbrev pub span_len : ℕ → ℕ → ℕ → ℕ
+span_len lo last step = (last / 2 ^ step + 1) - first_in_span lo step
 
 -- the multiples of 2 ^ step in lo..=last
 abbrev pub range : ℕ → ℕ → ℕ → List ℕ
-range lo last step = multiples (count_in lo last step) (first_in_span lo step) (2 ^ step)
+range lo last step = multiples (span_len lo last step) (first_in_span lo step) (2 ^ step)
 
 -- the members of a value; those of a Span in ascending order
 abbrev pub members : Val → List ℕ
@@ -31,9 +31,9 @@ members (Set ws) = ws
 members (Span lo last step) = range lo last step
 
 -- a Set of ascending words, or a Span of more than 64
-abbrev pub IsWell : Val → Type 0
-IsWell (Set ws) = AreWords ws
-IsWell (Span lo last step) = (step ≤ 2) × (64 < count_in lo last step) × (last < 2 ^ 32)
+abbrev pub IsWellFormed : Val → Type 0
+IsWellFormed (Set ws) = AreWords ws
+IsWellFormed (Span lo last step) = (step ≤ 2) × (64 < span_len lo last step) × (last < 2 ^ 32)
 
 -- the value of ascending words: the Set of them if they are few enough, else the lattice's least
 -- Span that holds them
@@ -49,7 +49,7 @@ cover b xs = value_of_words b (sorted_set_of xs)
 
 -- a value is the cover of its members
 pub record IsValue (b : Limits) (v : Val) : Type 0 where
-  pub well : IsWell v
+  pub well : IsWellFormed v
   pub own : cover b (members v) ≡ v
 
 -- each member of one value is a member of the other
@@ -90,10 +90,10 @@ abbrev pub join_of : Limits → Val → Val → Val
 join_of b v w = cover b (members v ++ members w)
 
 -- the test of a Span's member: a word is in lo..=last, and its alignment is at least the step
-abbrev pub in_span : ℕ → ℕ → ℕ → ℕ → Bool
-in_span lo last step x = nat_le lo x && nat_le x last && nat_le step (alignment_log2 x)
+abbrev pub is_in_span : ℕ → ℕ → ℕ → ℕ → Bool
+is_in_span lo last step x = nat_le lo x && nat_le x last && nat_le step (alignment_log2 x)
 
 -- the test of a value's member
 abbrev pub is_member : ℕ → Val → Bool
 is_member x (Set ws) = list_any (λ w. x == w) ws
-is_member x (Span lo last step) = in_span lo last step x
+is_member x (Span lo last step) = is_in_span lo last step x

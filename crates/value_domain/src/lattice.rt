@@ -1,11 +1,11 @@
 // Operations of the lattice of values: order, join, and the least value that holds a set.
 ghost use Rattle.std.specs.Prelude.{◌≡◌, ◌==◌, ◌≤◌, ◌<◌, ◌+◌, ◌-◌, ◌*◌, ◌/◌, IsTrue, length, min, max, ◌∷◌, ◌++◌, List, ℕ, ◌↔◌, IsSome, IsNone, slice_index};
 ghost use Rattle.value_domain.specs.Values as values;
-ghost use Rattle.value_domain.specs.Sets.{AreWords, Within, Rising, least, greatest, step_of_set, IsExtent};
+ghost use Rattle.value_domain.specs.Sets.{AreWords, Within, IsAscending, least, greatest, step_of_set, IsExtent};
 ghost use Rattle.value_domain.specs.Sets as sets;
 ghost use Rattle.value_domain.specs.Floors.{floor, above};
 ghost use Rattle.value_domain.specs.Limits.{AreLimits};
-ghost use Rattle.value_domain.specs.Values.{IsWell, IsValue, IsBelow, cover, members, range, count_in, words_of};
+ghost use Rattle.value_domain.specs.Values.{IsWellFormed, IsValue, IsBelow, cover, members, range, span_len, words_of};
 ghost use Rattle.value_domain.specs.declared.values.Val.TheVariants.{Set, Span};
 
 use crate::merged_lists::merge;
@@ -39,7 +39,7 @@ pub(crate) fn set_extent(words: &[u32]) -> Extent
 
 /// Returns the extent of a Span, by which the lattice compares and joins values.
 pub(crate) fn span_extent(lo: u32, last: u32, step: u8) -> Extent
-    requires { IsWell (Span lo last step) }
+    requires { IsWellFormed (Span lo last step) }
     ensures { IsExtent (range lo last step) result.least result.greatest result.step }
 {
     let unit = 1u64 << step;
@@ -159,8 +159,8 @@ pub fn join_into(b: &Bounds, v: &mut Val, w: &Val)
 
 /// Returns true if each member of `v` is a member of `w`.
 pub fn leq(v: &Val, w: &Val) -> bool
-    requires left { IsWell v.now }
-    requires right { IsWell w.now }
+    requires left { IsWellFormed v.now }
+    requires right { IsWellFormed w.now }
     ensures { IsTrue result ↔ IsBelow v.now w.now }
 {
     match w {
@@ -193,7 +193,7 @@ pub fn is_value(b: &Bounds, v: &Val) -> bool
 /// Returns the least value that holds the multiples of `2 ^ step` in `first..=last`.
 pub fn cover(b: &Bounds, first: u32, last: u32, step: u8) -> Val
     requires step { step ≤ 2 }
-    requires some { 1 ≤ count_in first last step }
+    requires some { 1 ≤ span_len first last step }
     ensures cover { result ≡ cover b.now (range first last step) }
     ensures value { IsValue b.now result }
 {
@@ -206,7 +206,7 @@ pub fn cover(b: &Bounds, first: u32, last: u32, step: u8) -> Val
 /// `first..=last`.
 pub fn write_cover(b: &Bounds, first: u32, last: u32, step: u8, out: &mut Val)
     requires step { step ≤ 2 }
-    requires some { 1 ≤ count_in first last step }
+    requires some { 1 ≤ span_len first last step }
     ensures cover { out.new ≡ cover b.now (range first last step) }
     ensures value { IsValue b.now out.new }
 {
@@ -220,7 +220,7 @@ pub fn write_cover(b: &Bounds, first: u32, last: u32, step: u8, out: &mut Val)
 
 /// Returns the extent of a value, by which the lattice compares and joins values.
 pub fn extent_of(v: &Val) -> Extent
-    requires { IsWell v.now }
+    requires { IsWellFormed v.now }
     ensures { IsExtent (members v.now) result.least result.greatest result.step }
 {
     match v {
@@ -356,7 +356,7 @@ fn join_set_with_set(b: &Bounds, v: &mut Val, words: &Words)
 /// Overwrites a value with the least one that holds an ascending list of words.
 fn write_ascending(b: &Bounds, words: &[u32], out: &mut Val)
     requires some { 1 ≤ length words.now }
-    requires rising { Rising words.now }
+    requires rising { IsAscending words.now }
     ensures { out.new ≡ values.value_of_words b.now words.now }
 {
     if words.len() <= b.most_words() {
@@ -368,7 +368,7 @@ fn write_ascending(b: &Bounds, words: &[u32], out: &mut Val)
 
 /// Returns true if each member of `v` is a multiple of `2 ^ step` in `lo..=last`.
 fn is_below_span(v: &Val, lo: u32, last: u32, step: u8) -> bool
-    requires left { IsWell v.now }
+    requires left { IsWellFormed v.now }
     requires step { step ≤ 2 }
     ensures { IsTrue result ↔ IsBelow v.now (Span lo last step) }
 {
@@ -381,8 +381,8 @@ fn is_below_span(v: &Val, lo: u32, last: u32, step: u8) -> bool
 
 /// Returns true if each of the words is one of the others. Both lists ascend and are walked once.
 fn is_set_below_set(own: &[u32], words: &[u32]) -> bool
-    requires own { Rising own.now }
-    requires words { Rising words.now }
+    requires own { IsAscending own.now }
+    requires words { IsAscending words.now }
     ensures { IsTrue result ↔ Within own.now words.now }
 {
     let mut k = 0;
@@ -398,7 +398,7 @@ fn is_set_below_set(own: &[u32], words: &[u32]) -> bool
 /// Returns true if each multiple of `2 ^ step` in `lo..=last` is one of the ascending words.
 fn is_span_below_set(lo: u32, last: u32, step: u8, words: &[u32]) -> bool
     requires step { step ≤ 2 }
-    requires words { Rising words.now }
+    requires words { IsAscending words.now }
     ensures { IsTrue result ↔ Within (range lo last step) words.now }
 {
     let unit = 1u64 << step;
@@ -434,7 +434,7 @@ fn is_span_value(b: &Bounds, lo: u32, last: u32, step: u8) -> bool
 /// least value that holds them, which is a Span.
 fn write_cover_as_span(b: &Bounds, first: u32, last: u32, step: u8, out: &mut Val)
     requires step { step ≤ 2 }
-    requires many { b.now.most_words < count_in first last step }
+    requires many { b.now.most_words < span_len first last step }
     requires limits { AreLimits b.now }
     ensures { out.new ≡ cover b.now (range first last step) }
 {
@@ -447,8 +447,8 @@ fn write_cover_as_span(b: &Bounds, first: u32, last: u32, step: u8, out: &mut Va
 #[inline(never)]
 fn write_cover_as_set(b: &Bounds, first: u32, last: u32, step: u8, out: &mut Val)
     requires step { step ≤ 2 }
-    requires some { 1 ≤ count_in first last step }
-    requires few { count_in first last step ≤ 128 }
+    requires some { 1 ≤ span_len first last step }
+    requires few { span_len first last step ≤ 128 }
     ensures { out.new ≡ cover b.now (range first last step) }
 {
     let unit = 1u64 << step;

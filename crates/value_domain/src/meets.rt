@@ -1,7 +1,7 @@
 // Meets: the members of a value that are in a range or among given words.
 ghost use Rattle.std.specs.Prelude.{◌≡◌, ◌==◌, ◌≤◌, List, ℕ, [], ◌∷◌, ◌++◌, filter, IfSome, Some};
-ghost use Rattle.value_domain.specs.Values.{IsValue, IsWell, members, range, in_span, is_member};
-ghost use Rattle.value_domain.specs.Meets.{cover_of_meet, meet_if};
+ghost use Rattle.value_domain.specs.Values.{IsValue, IsWellFormed, members, range, is_in_span, is_member};
+ghost use Rattle.value_domain.specs.Meets.{cover_if_any, value_if_found};
 
 use crate::lattice::{join_word, write_cover};
 use crate::values::{span_len, is_member, is_word_in_span, set_word};
@@ -12,9 +12,9 @@ use crate::{Bounds, Val};
 pub fn write_meet(b: &Bounds, v: &Val, lo: u32, last: u32, step: u8, out: &mut Val) -> bool
     requires value { IsValue b.now v.now }
     requires step { step ≤ 2 }
-    ensures meet { meet_if result out.new
-        ≡ cover_of_meet b.now (filter (in_span lo last step) (members v.now)) }
-    ensures value { IfSome (meet_if result out.new) (IsValue b.now) }
+    ensures meet { value_if_found result out.new
+        ≡ cover_if_any b.now (filter (is_in_span lo last step) (members v.now)) }
+    ensures value { IfSome (value_if_found result out.new) (IsValue b.now) }
 {
     match v {
         Val::Set(words) => write_meet_of_set(b, words.as_slice(), lo, last, step, out),
@@ -29,10 +29,10 @@ pub fn write_meet(b: &Bounds, v: &Val, lo: u32, last: u32, step: u8, out: &mut V
 /// Overwrites `out` with the cover of the words that are members of `v`. Returns false if there are
 /// none; then `out` may be any value.
 pub fn write_meet_with_words(b: &Bounds, words: &[u32], v: &Val, out: &mut Val) -> bool
-    requires { IsWell v.now }
-    ensures kept { meet_if result out.new
-        ≡ cover_of_meet b.now (filter (λ x. is_member x v.now) words.now) }
-    ensures value { IfSome (meet_if result out.new) (IsValue b.now) }
+    requires { IsWellFormed v.now }
+    ensures kept { value_if_found result out.new
+        ≡ cover_if_any b.now (filter (λ x. is_member x v.now) words.now) }
+    ensures value { IfSome (value_if_found result out.new) (IsValue b.now) }
 {
     let mut found = false;
     for x in words {
@@ -47,9 +47,9 @@ pub fn write_meet_with_words(b: &Bounds, words: &[u32], v: &Val, out: &mut Val) 
 /// Overwrites `out` with the cover of the words that are in this Span. Returns false if there are
 /// none; then `out` may be any value.
 fn write_meet_of_set(b: &Bounds, words: &[u32], lo: u32, last: u32, step: u8, out: &mut Val) -> bool
-    ensures meet { meet_if result out.new
-        ≡ cover_of_meet b.now (filter (in_span lo last step) words.now) }
-    ensures value { IfSome (meet_if result out.new) (IsValue b.now) }
+    ensures meet { value_if_found result out.new
+        ≡ cover_if_any b.now (filter (is_in_span lo last step) words.now) }
+    ensures value { IfSome (value_if_found result out.new) (IsValue b.now) }
 {
     let mut found = false;
     for x in words {
@@ -65,8 +65,8 @@ fn write_meet_of_set(b: &Bounds, words: &[u32], lo: u32, last: u32, step: u8, ou
 /// there are none.
 fn write_meet_of_span(b: &Bounds, lo: u32, last: u32, step: u8, out: &mut Val) -> bool
     requires { step ≤ 2 }
-    ensures meet { meet_if result out.new ≡ cover_of_meet b.now (range lo last step) }
-    ensures value { IfSome (meet_if result out.new) (IsValue b.now) }
+    ensures meet { value_if_found result out.new ≡ cover_if_any b.now (range lo last step) }
+    ensures value { IfSome (value_if_found result out.new) (IsValue b.now) }
 {
     if span_len(lo, last, step) == 0 {
         return false;
@@ -77,9 +77,9 @@ fn write_meet_of_span(b: &Bounds, lo: u32, last: u32, step: u8, out: &mut Val) -
 
 /// Widens a value by a word. If nothing was found before, the value becomes that of the word alone.
 fn add_word_to_meet(b: &Bounds, found: bool, out: &mut Val, x: u32)
-    requires { IfSome (meet_if found out.old) (IsValue b.now) }
-    ensures more { (xs : List ℕ) → meet_if found out.old ≡ cover_of_meet b.now xs
-        → Some out.new ≡ cover_of_meet b.now (xs ++ x ∷ []) }
+    requires { IfSome (value_if_found found out.old) (IsValue b.now) }
+    ensures more { (xs : List ℕ) → value_if_found found out.old ≡ cover_if_any b.now xs
+        → Some out.new ≡ cover_if_any b.now (xs ++ x ∷ []) }
     ensures value { IsValue b.now out.new }
 {
     let _most_words = b.most_words();

@@ -1,6 +1,6 @@
 // States of 27 registers: copies, order and join.
 ghost use Rattle.std.specs.Prelude.{◌≡◌, ◌≤◌, ◌<◌, ◌↔◌, IsTrue, length, ◌&&◌};
-ghost use Rattle.value_domain.specs.State.{Covers, AreWell, AreValues, joined_states, joined_regs, joined_locals, AreBelow, FlagsImpliedBy};
+ghost use Rattle.value_domain.specs.State.{Covers, AreWellFormed, AreValues, joined_states, joined_regs, joined_locals, AreBelow, FlagsImpliedBy};
 
 use crate::values::{are_values_equal, copied_elements, copy_to};
 use crate::{Bounds, Val, join, leq};
@@ -53,8 +53,8 @@ fn copy_regs(regs: &[Val; 27]) -> [Val; 27]
 
 /// Returns true if each run that a state allows is allowed by the upper one.
 pub fn covers(upper: &State, s: &State) -> bool
-    requires upper { AreWell upper.now.regs }
-    requires state { AreWell s.now.regs }
+    requires upper { AreWellFormed upper.now.regs }
+    requires state { AreWellFormed s.now.regs }
     ensures { IsTrue result ↔ Covers upper.now s.now }
 {
     if !covers_context(upper, s.ie, s.ccpn, s.lower) {
@@ -138,8 +138,8 @@ pub fn join_locals(s: &[bool], t: &[bool]) -> ArrayVec<bool, 8>
 /// Returns true if the value of each register is below that of the same register in the other
 /// state.
 fn are_regs_below(low: &[Val; 27], high: &[Val; 27]) -> bool
-    requires low { AreWell low.now }
-    requires high { AreWell high.now }
+    requires low { AreWellFormed low.now }
+    requires high { AreWellFormed high.now }
     ensures { IsTrue result ↔ AreBelow low.now high.now }
 {
     for i in 0..27 {

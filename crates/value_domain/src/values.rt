@@ -3,10 +3,10 @@
 ghost use Rattle.std.specs.Prelude.{◌≡◌, ◌≤◌, ◌<◌, ◌+◌, ◌-◌, IsTrue, length, IfSome, [], ◌∷◌, List, ℕ, option_map, ◌↔◌, slice_index, IsSome, ◌==◌, ◌*◌, ◌/◌};
 ghost use Rattle.std.specs.List.{list_any};
 ghost use Rattle.std.specs.List.Sorted.{IsStrictlyIncreasing};
-ghost use Rattle.value_domain.specs.Sets.{AreWords, Among, sorted_insert, Rising};
+ghost use Rattle.value_domain.specs.Sets.{AreWords, Among, sorted_insert, IsAscending};
 ghost use Rattle.value_domain.specs.declared.values.Val.TheVariants.{Set, Span};
 ghost use Rattle.value_domain.specs.Sets as sets;
-ghost use Rattle.value_domain.specs.Values.{IsMember, IsWell, count_in, any_val, words_of, in_span, is_member};
+ghost use Rattle.value_domain.specs.Values.{IsMember, IsWellFormed, span_len, any_val, words_of, is_in_span, is_member};
 ghost use Rattle.value_domain.specs.Values as spec;
 
 use arrayvec::ArrayVec;
@@ -128,7 +128,7 @@ fn are_ascending(words: &[u32]) -> bool
 /// Returns the number of a value's ascending words that are below `x`: the place of `x` if it is a
 /// member.
 fn count_words_below(words: &[u32], x: u32) -> usize
-    requires { Rising words.now }
+    requires { IsAscending words.now }
     ensures within { result ≤ length words.now }
     ensures before { (k : ℕ) → k < result → slice_index words.now k < x }
     ensures after { (k : ℕ) → result ≤ k → k < length words.now → x ≤ slice_index words.now k }
@@ -141,7 +141,7 @@ fn count_words_below(words: &[u32], x: u32) -> usize
 
 /// Returns true if `x` is one of the ascending words.
 pub(crate) fn has_set_word(words: &[u32], x: u32) -> bool
-    requires { Rising words.now }
+    requires { IsAscending words.now }
     ensures { IsTrue result ↔ Among x words.now }
 {
     let at = count_words_below(words, x);
@@ -161,7 +161,7 @@ pub(crate) fn copied_elements<T: Copy + Default, const N: usize>(items: &[T]) ->
 /// Returns true if a value's list of ascending words isn't empty and all its words are below `x`:
 /// then `x` is no member.
 fn are_words_below(words: &[u32], x: u32) -> bool
-    requires { Rising words.now }
+    requires { IsAscending words.now }
     ensures { IsTrue result → (k : ℕ) → k < length words.now → slice_index words.now k < x }
 {
     if words.is_empty() {
@@ -316,7 +316,7 @@ pub fn alignment_log2(x: u32) -> u8
 
 /// Returns true if the word is a member of the value.
 pub fn member(x: u32, v: &Val) -> bool
-    requires { IsWell v.now }
+    requires { IsWellFormed v.now }
     ensures { IsTrue result ↔ IsMember x v.now }
 {
     match v {
@@ -363,7 +363,7 @@ pub(crate) fn is_all_words(lo: u32, last: u32, step: u8) -> bool
 /// Returns the number of multiples of `2 ^ step` in a range.
 pub fn span_len(lo: u32, last: u32, step: u8) -> u64
     requires { step ≤ 2 }
-    ensures { result ≡ count_in lo last step }
+    ensures { result ≡ span_len lo last step }
 {
     let unit = 1u64 << step;
     (u64::from(last) / unit + 1).saturating_sub((u64::from(lo) + (unit - 1)) / unit)
@@ -371,7 +371,7 @@ pub fn span_len(lo: u32, last: u32, step: u8) -> u64
 
 /// Returns true if the word is a member of this Span.
 pub(crate) fn is_word_in_span(lo: u32, last: u32, step: u8, x: u32) -> bool
-    ensures { result ≡ in_span lo last step x }
+    ensures { result ≡ is_in_span lo last step x }
 {
     lo <= x && x <= last && step <= alignment_log2(x)
 }

@@ -15,8 +15,8 @@ use Rattle.vd_transfer.specs.declared.change.Base.TheVariants.{Same, Forgotten, 
 use Rattle.vd_transfer.specs.declared.change.Put.{Put}
 use Rattle.vd_transfer.specs.declared.change.Change.{Change}
 use Rattle.vd_transfer.specs.Registers.{slot, set_slot, set_reg, write_reg, is_lower_register, set_arg, arg_slot}
-use Rattle.vd_transfer.specs.EffectsOnStates.{forgotten_from}
-use Rattle.vd_transfer.specs.Changes.{base_of, values_changed_at, put_in, state_after, reg_put, kept_in}
+use Rattle.vd_transfer.specs.EffectsOnStates.{with_lower_unknown_from}
+use Rattle.vd_transfer.specs.Changes.{base_of, values_changed_at, with_put, state_after, put_of_register, identity_change_over}
 use Rattle.vd_transfer.proofs.HoldLaws.{set_values_at}
 use Rattle.vd_transfer.proofs.RegisterLaws.{length-forgotten, get_or-forgotten}
 
@@ -26,16 +26,16 @@ set_slot-is s v None = refl
 set_slot-is s v (Some i) = refl
 
 -- ---- writes
-pub written-is : (s : State) (c : Change) (r : ℕ) (v : Val) → state_after s (record (kept_in c s) { second = reg_put r v; lower = s.lower && not (is_lower_register r) }) ≡ write_reg s r v
+pub written-is : (s : State) (c : Change) (r : ℕ) (v : Val) → state_after s (record (identity_change_over c s) { second = put_of_register r v; lower = s.lower && not (is_lower_register r) }) ≡ write_reg s r v
 written-is s c r v = ap (λ (t : State). record t { lower = s.lower && not (is_lower_register r) }) (sym (set_slot-is s v (slot r)))
 
 pub written-values : (b : Limits) (s : State) (c : Change) (r : ℕ) (v : Val) → AreValues b s.regs → IsValue b v
-    → AreValues b (state_after s (record (kept_in c s) { second = reg_put r v; lower = s.lower && not (is_lower_register r) })).regs
+    → AreValues b (state_after s (record (identity_change_over c s) { second = put_of_register r v; lower = s.lower && not (is_lower_register r) })).regs
 written-values b s c r v values value = subst (λ (t : State). AreValues b t.regs) (sym (written-is s c r v)) (set_values_at b s v (slot r) values value)
 
 -- before the third value is put
 abbrev two_put : State → Change → List Val
-two_put s c = put_in (put_in (base_of c.base s.regs) c.first) c.second
+two_put s c = with_put (with_put (base_of c.base s.regs) c.first) c.second
 
 free-regs : (s : State) (c : Change) → c.third.at ≡ None → (state_after s c).regs ≡ two_put s c
 free-regs s c free = ap (λ (o : Option ℕ). values_changed_at (two_put s c) c.third.value o) free
@@ -49,8 +49,8 @@ third-free s c v free =
 -- nor is a second one
 pub second-free : (s : State) (c : Change) (v : Val) → c.second.at ≡ None → state_after s (record c { second = record c.second { value = v } }) ≡ state_after s c
 second-free s c v free =
-    ap (λ (o : Option ℕ). record (state_after s c) { regs = put_in (values_changed_at (put_in (base_of c.base s.regs) c.first) v o) c.third }) free
-    ∙ sym (ap (λ (o : Option ℕ). record (state_after s c) { regs = put_in (values_changed_at (put_in (base_of c.base s.regs) c.first) c.second.value o) c.third }) free)
+    ap (λ (o : Option ℕ). record (state_after s c) { regs = with_put (values_changed_at (with_put (base_of c.base s.regs) c.first) v o) c.third }) free
+    ∙ sym (ap (λ (o : Option ℕ). record (state_after s c) { regs = with_put (values_changed_at (with_put (base_of c.base s.regs) c.first) c.second.value o) c.third }) free)
 
 pub written_last-is : (s : State) (c : Change) (r : ℕ) → c.third.at ≡ None
     → state_after s (record c { third = record c.third { at = slot r }; lower = c.lower && not (is_lower_register r) }) ≡ write_reg (state_after s c) r c.third.value
@@ -65,19 +65,19 @@ written_last-values b s c r values free value =
     subst (λ (t : State). AreValues b t.regs) (sym (written_last-is s c r free)) (set_values_at b (state_after s c) c.third.value (slot r) values value)
 
 -- ---- sides of branches
-bare-regs : (s : State) (c : Change) → c.second.at ≡ None → c.third.at ≡ None → (state_after s c).regs ≡ put_in (base_of c.base s.regs) c.first
-bare-regs s c none free = free-regs s c free ∙ ap (λ (o : Option ℕ). values_changed_at (put_in (base_of c.base s.regs) c.first) c.second.value o) none
+bare-regs : (s : State) (c : Change) → c.second.at ≡ None → c.third.at ≡ None → (state_after s c).regs ≡ with_put (base_of c.base s.regs) c.first
+bare-regs s c none free = free-regs s c free ∙ ap (λ (o : Option ℕ). values_changed_at (with_put (base_of c.base s.regs) c.first) c.second.value o) none
 
-pub one-is : (s : State) (c : Change) (x : ℕ) (v : Val) → state_after s (record (kept_in c s) { first = reg_put x v }) ≡ set_reg s x v
+pub one-is : (s : State) (c : Change) (x : ℕ) (v : Val) → state_after s (record (identity_change_over c s) { first = put_of_register x v }) ≡ set_reg s x v
 one-is s c x v = sym (set_slot-is s v (slot x))
 
 -- a second value, if no later one is put at its place
 pub second-is : (s : State) (c : Change) (y : Arg) (w : Val) → c.second.at ≡ None → c.third.at ≡ None
     → state_after s (record c { second = record { at = arg_slot y; value = w } }) ≡ set_arg (state_after s c) y w
 second-is s c (Word z) w none free =
-    sym (ap (λ (o : Option ℕ). record (state_after s c) { regs = put_in (values_changed_at (put_in (base_of c.base s.regs) c.first) c.second.value o) c.third }) none)
+    sym (ap (λ (o : Option ℕ). record (state_after s c) { regs = with_put (values_changed_at (with_put (base_of c.base s.regs) c.first) c.second.value o) c.third }) none)
 second-is s c (Reg r) w none free =
-    ap (λ (o : Option ℕ). record (state_after s c) { regs = values_changed_at (values_changed_at (put_in (base_of c.base s.regs) c.first) w (slot r)) c.third.value o }) free
+    ap (λ (o : Option ℕ). record (state_after s c) { regs = values_changed_at (values_changed_at (with_put (base_of c.base s.regs) c.first) w (slot r)) c.third.value o }) free
     ∙ ap (λ (vs : List Val). record (state_after s c) { regs = values_changed_at vs w (slot r) }) (sym (bare-regs s c none free))
     ∙ sym (set_slot-is (state_after s c) w (slot r))
 
@@ -89,7 +89,7 @@ pub second_values : (b : Limits) (s : State) (c : Change) (y : Arg) (w : Val) �
     → AreValues b (state_after s (record c { second = record { at = arg_slot y; value = w } })).regs
 second_values b s c y w none free values value = subst (λ (t : State). AreValues b t.regs) (sym (second-is s c y w none free)) (arg_values b (state_after s c) y w values value)
 
-pub one_values : (b : Limits) (s : State) (c : Change) (x : ℕ) (v : Val) → AreValues b s.regs → IsValue b v → AreValues b (state_after s (record (kept_in c s) { first = reg_put x v })).regs
+pub one_values : (b : Limits) (s : State) (c : Change) (x : ℕ) (v : Val) → AreValues b s.regs → IsValue b v → AreValues b (state_after s (record (identity_change_over c s) { first = put_of_register x v })).regs
 one_values b s c x v values value = subst (λ (t : State). AreValues b t.regs) (sym (one-is s c x v)) (set_values_at b s v (slot x) values value)
 
 -- ---- places
@@ -97,12 +97,12 @@ one_values b s c x v values value = subst (λ (t : State). AreValues b t.regs) (
 pub apart : (t : Bool) (P : Type 0) → t ≡ false → IsTrue t ↔ P → P → ⊥
 apart t P e d p = let f = d.1 p in cc
 
-pub forgotten-lower : (vs : List Val) (i : ℕ) → i < length vs → is_lower_slot i ≡ true → get_or (forgotten_from 0 vs) i any_val ≡ any_val
+pub forgotten-lower : (vs : List Val) (i : ℕ) → i < length vs → is_lower_slot i ≡ true → get_or (with_lower_unknown_from 0 vs) i any_val ≡ any_val
 forgotten-lower vs i h e =
     let at : 0 + i ≡ i = omega arith in
     get_or-forgotten 0 vs i any_val h ∙ ap (λ n. cond (is_lower_slot n) any_val (get_or vs i any_val)) at ∙ ap (λ b. cond b any_val (get_or vs i any_val)) e
 
-pub forgotten-other : (vs : List Val) (i : ℕ) → i < length vs → is_lower_slot i ≡ false → get_or (forgotten_from 0 vs) i any_val ≡ get_or vs i any_val
+pub forgotten-other : (vs : List Val) (i : ℕ) → i < length vs → is_lower_slot i ≡ false → get_or (with_lower_unknown_from 0 vs) i any_val ≡ get_or vs i any_val
 forgotten-other vs i h e =
     let at : 0 + i ≡ i = omega arith in
     get_or-forgotten 0 vs i any_val h ∙ ap (λ n. cond (is_lower_slot n) any_val (get_or vs i any_val)) at ∙ ap (λ b. cond b any_val (get_or vs i any_val)) e
@@ -111,7 +111,7 @@ length-value_put : (vs : List Val) (v : Val) (o : Option ℕ) → length (values
 length-value_put vs v None = refl
 length-value_put vs v (Some i) = length-set vs i v
 
-length-put : (vs : List Val) (p : Put) → length (put_in vs p) ≡ length vs
+length-put : (vs : List Val) (p : Put) → length (with_put vs p) ≡ length vs
 length-put vs p = length-value_put vs p.value p.at
 
 length-base : (base : Base) (vs : List Val) → length vs ≡ 27 → length (base_of base vs) ≡ 27
@@ -122,9 +122,9 @@ length-base Any vs e = length-replicate 27 any_val
 pub length-changed : (s : State) (c : Change) → length s.regs ≡ 27 → length (state_after s c).regs ≡ 27
 length-changed s c e =
     let base = base_of c.base s.regs in
-    length-put (put_in (put_in base c.first) c.second) c.third ∙ length-put (put_in base c.first) c.second ∙ length-put base c.first ∙ length-base c.base s.regs e
+    length-put (with_put (with_put base c.first) c.second) c.third ∙ length-put (with_put base c.first) c.second ∙ length-put base c.first ∙ length-base c.base s.regs e
 
-put-here : (vs : List Val) (p : Put) (i : ℕ) → i < length vs → p.at ≡ Some i → get_or (put_in vs p) i any_val ≡ p.value
+put-here : (vs : List Val) (p : Put) (i : ℕ) → i < length vs → p.at ≡ Some i → get_or (with_put vs p) i any_val ≡ p.value
 put-here vs p i h e = ap (λ (o : Option ℕ). get_or (values_changed_at vs p.value o) i any_val) e ∙ get_or-set_same vs i p.value any_val h
 
 put-there : (vs : List Val) (v : Val) (o : Option ℕ) (i : ℕ) → (o ≡ Some i → ⊥) → get_or (values_changed_at vs v o) i any_val ≡ get_or vs i any_val
@@ -138,19 +138,19 @@ module _ (s : State) (c : Change) (i : ℕ) (len : length s.regs ≡ 27) (h : i 
 
   pub value-third : c.third.at ≡ Some i → get_or (state_after s c).regs i any_val ≡ c.third.value
   value-third e =
-      put-here (put_in (put_in (base_of c.base s.regs) c.first) c.second) c.third i
-      (omega (arith, length-put (put_in (base_of c.base s.regs) c.first) c.second, length-put (base_of c.base s.regs) c.first, length-base c.base s.regs len)) e
+      put-here (with_put (with_put (base_of c.base s.regs) c.first) c.second) c.third i
+      (omega (arith, length-put (with_put (base_of c.base s.regs) c.first) c.second, length-put (base_of c.base s.regs) c.first, length-base c.base s.regs len)) e
 
-  past-third : (c.third.at ≡ Some i → ⊥) → get_or (state_after s c).regs i any_val ≡ get_or (put_in (put_in (base_of c.base s.regs) c.first) c.second) i any_val
-  past-third n = put-there (put_in (put_in (base_of c.base s.regs) c.first) c.second) c.third.value c.third.at i n
+  past-third : (c.third.at ≡ Some i → ⊥) → get_or (state_after s c).regs i any_val ≡ get_or (with_put (with_put (base_of c.base s.regs) c.first) c.second) i any_val
+  past-third n = put-there (with_put (with_put (base_of c.base s.regs) c.first) c.second) c.third.value c.third.at i n
 
   pub value-second : (c.third.at ≡ Some i → ⊥) → c.second.at ≡ Some i → get_or (state_after s c).regs i any_val ≡ c.second.value
   value-second n e =
       past-third n
-      ∙ put-here (put_in (base_of c.base s.regs) c.first) c.second i (omega (arith, length-put (base_of c.base s.regs) c.first, length-base c.base s.regs len)) e
+      ∙ put-here (with_put (base_of c.base s.regs) c.first) c.second i (omega (arith, length-put (base_of c.base s.regs) c.first, length-base c.base s.regs len)) e
 
-  past-second : (c.third.at ≡ Some i → ⊥) → (c.second.at ≡ Some i → ⊥) → get_or (state_after s c).regs i any_val ≡ get_or (put_in (base_of c.base s.regs) c.first) i any_val
-  past-second n m = past-third n ∙ put-there (put_in (base_of c.base s.regs) c.first) c.second.value c.second.at i m
+  past-second : (c.third.at ≡ Some i → ⊥) → (c.second.at ≡ Some i → ⊥) → get_or (state_after s c).regs i any_val ≡ get_or (with_put (base_of c.base s.regs) c.first) i any_val
+  past-second n m = past-third n ∙ put-there (with_put (base_of c.base s.regs) c.first) c.second.value c.second.at i m
 
   pub value-first : (c.third.at ≡ Some i → ⊥) → (c.second.at ≡ Some i → ⊥) → c.first.at ≡ Some i → get_or (state_after s c).regs i any_val ≡ c.first.value
   value-first n m e = past-second n m ∙ put-here (base_of c.base s.regs) c.first i (omega (arith, length-base c.base s.regs len)) e

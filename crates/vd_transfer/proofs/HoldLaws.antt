@@ -11,7 +11,7 @@ use Rattle.tc_isa.specs.declared.shapes.Arg.TheVariants.{Reg, Word}
 use Rattle.tc_isa.specs.declared.shapes.Cond.{Cond}
 use Rattle.tc_isa.specs.declared.shapes.Op.TheVariants.{Add, Sub, Sh}
 use Rattle.tc_isa.specs.declared.shapes.Shape.TheVariants.{Compute, Scaled, Load, Store, Svlcx, Bisr, Enable, Disable, Mfcr, Mtcr, Nothing}
-use Rattle.tc_isa.specs.Arithmetic.{alu_of, taken_of, shift_by}
+use Rattle.tc_isa.specs.Arithmetic.{alu_of, taken_of, logical_shift}
 use Rattle.tc_isa.specs.InBounds.{IsArg}
 use Rattle.value_domain.specs.declared.values.Val.{Val}
 use Rattle.value_domain.specs.declared.states.State.{State}
@@ -22,12 +22,12 @@ use Rattle.value_domain.specs.State.{AreValues, is_lower_slot}
 use Rattle.value_domain.proofs.CoverLaws.{among_member, has_step, cover_holds}
 use Rattle.value_domain.proofs.RangeLaws.{one_value, cover_value, members_below}
 use Rattle.vd_transfer.specs.Operations.{value_of}
-use Rattle.vd_transfer.specs.Refinement.{kept_left, kept_right, kept_both, refining_condition_holds}
-use Rattle.value_domain.specs.Meets.{cover_of_meet}
-use Rattle.vd_transfer.specs.Registers.{slot, reg_of, arg_of, register_value_at, fixed_of, set_slot, set_reg, write_reg, is_lower_register, RegisterHasValue, set_arg, HasBaseValue, is_operand_register}
-use Rattle.vd_transfer.specs.EffectsOnStates.{state_with_base, access_of, state_saved_lower, state_restored_lower, transfer_of, address_of}
-use Rattle.vd_transfer.specs.EffectsOnWords.{ie_after, words_with_register, word_of, access_word, with_base_word, words_after, ccpn_after}
-use Rattle.vd_transfer.specs.Branches.{side_with_register, side_with_operands, state_on_side, with_lowered_counter, refine_of}
+use Rattle.vd_transfer.specs.Refinement.{kept_left, kept_right, kept_against_itself, condition_goes_to_side}
+use Rattle.value_domain.specs.Meets.{cover_if_any}
+use Rattle.vd_transfer.specs.Registers.{slot, reg_of, arg_of, register_value_at, fixed_value_of, set_slot, set_reg, write_reg, is_lower_register, RegisterHasValue, set_arg, IncreasesNoFixedRegister, is_operand_register}
+use Rattle.vd_transfer.specs.EffectsOnStates.{state_with_increased_base, access_of, state_after_lower_save, state_after_lower_restore, transfer_of, address_of}
+use Rattle.vd_transfer.specs.EffectsOnWords.{ie_after, words_with_register, word_of, access_word, words_with_increased_base, words_after, ccpn_after}
+use Rattle.vd_transfer.specs.Branches.{side_with_register, side_with_operands, state_on_side, with_decremented_counter, refine_of}
 use Rattle.vd_transfer.specs.Holding.{Holds}
 use Rattle.vd_transfer.specs.Soundness.{IsSoundSetting, TransferIsSound, RestoreIsSound, BranchIsSound, AddressIsSound}
 use Rattle.value_domain.proofs.MeetLaws.{filter_has, among_any, among_filter}
@@ -144,8 +144,8 @@ holds_write : (p : PlanData) (s : State) (word : ℕ → ℕ) (ie : Bool) (ccpn 
     → Holds p (words_with_register word r w) ie ccpn (write_reg s r v)
 holds_write p s word ie ccpn r w v len has m h = written p s (words_with_register word r w) ie ccpn r v (holds_set p s word ie ccpn r w v len has m h)
 
-base_holds : (b : Limits) (p : PlanData) (s : State) (word : ℕ → ℕ) (ie : Bool) (ccpn : ℕ) (base : Arg) (offset : ℕ) (after : Bool) → IsSoundSetting b p s → IsArg base → offset < 2 ^ 32 → HasBaseValue base after
-    → Holds p word ie ccpn s → Holds p (with_base_word word base offset after) ie ccpn (state_with_base b p s base offset after)
+base_holds : (b : Limits) (p : PlanData) (s : State) (word : ℕ → ℕ) (ie : Bool) (ccpn : ℕ) (base : Arg) (offset : ℕ) (after : Bool) → IsSoundSetting b p s → IsArg base → offset < 2 ^ 32 → IncreasesNoFixedRegister base after
+    → Holds p word ie ccpn s → Holds p (words_with_increased_base word base offset after) ie ccpn (state_with_increased_base b p s base offset after)
 base_holds b p s word ie ccpn (Word w) offset after set small off has h = h
 base_holds b p s word ie ccpn (Reg r) offset false set small off has h = h
 base_holds b p s word ie ccpn (Reg r) offset true set small off has h =
@@ -155,12 +155,12 @@ base_holds b p s word ie ccpn (Reg r) offset true set small off has h =
 write_length : (s : State) (r : ℕ) (v : Val) → length (write_reg s r v).regs ≡ length s.regs
 write_length s r v = same_length s v (slot r)
 
-base_length : (b : Limits) (p : PlanData) (s : State) (base : Arg) (offset : ℕ) (after : Bool) → length (state_with_base b p s base offset after).regs ≡ length s.regs
+base_length : (b : Limits) (p : PlanData) (s : State) (base : Arg) (offset : ℕ) (after : Bool) → length (state_with_increased_base b p s base offset after).regs ≡ length s.regs
 base_length b p s (Word w) offset after = refl
 base_length b p s (Reg r) offset false = refl
 base_length b p s (Reg r) offset true = write_length s r (value_of b Add (reg_of p s r) (word_val offset))
 
-scaled_word : (a x n : ℕ) → n < 4 → (a + shift_by x (n % 64)) % 2 ^ 32 ≡ (a + x * 2 ^ n) % 2 ^ 32
+scaled_word : (a x n : ℕ) → n < 4 → (a + logical_shift x (n % 64)) % 2 ^ 32 ≡ (a + x * 2 ^ n) % 2 ^ 32
 scaled_word a x n small =
     let same : n % 64 ≡ n = omega arith in
     rw (same, lt-ltb n 32 (omega arith)) (mod_twice a (x * 2 ^ n))
@@ -175,9 +175,9 @@ scaled_member b p s word ie ccpn base index n set small_b small_i few h =
     let vb = reg_value b p s base set in
     let vi = reg_value b p s index set in
     let vn = const_value b n set.limits (omega arith) in
-    let by : IsMember (shift_by (word index) (n % 64)) (value_of b Sh (reg_of p s index) (word_val n)) = sound b Sh (reg_of p s index) (word_val n) set.limits vi vn (word index) n (h.regs index small_i) (const_member n) in
-    let sum : IsMember ((word base + shift_by (word index) (n % 64)) % 2 ^ 32) (value_of b Add (reg_of p s base) (value_of b Sh (reg_of p s index) (word_val n))) =
-    sound b Add (reg_of p s base) (value_of b Sh (reg_of p s index) (word_val n)) set.limits vb (value_of_value b Sh (reg_of p s index) (word_val n) set.limits vi vn) (word base) (shift_by (word index) (n % 64)) (h.regs base small_b) by in
+    let by : IsMember (logical_shift (word index) (n % 64)) (value_of b Sh (reg_of p s index) (word_val n)) = sound b Sh (reg_of p s index) (word_val n) set.limits vi vn (word index) n (h.regs index small_i) (const_member n) in
+    let sum : IsMember ((word base + logical_shift (word index) (n % 64)) % 2 ^ 32) (value_of b Add (reg_of p s base) (value_of b Sh (reg_of p s index) (word_val n))) =
+    sound b Add (reg_of p s base) (value_of b Sh (reg_of p s index) (word_val n)) set.limits vb (value_of_value b Sh (reg_of p s index) (word_val n) set.limits vi vn) (word base) (logical_shift (word index) (n % 64)) (h.regs base small_b) by in
     subst (λ (w : ℕ). IsMember w (value_of b Add (reg_of p s base) (value_of b Sh (reg_of p s index) (word_val n)))) (scaled_word (word base) (word index) n few) sum
 
 any_member : (w : ℕ) → w < 2 ^ 32 → IsMember w any_val
@@ -191,13 +191,13 @@ transfer_holds b p (Compute op dst x y) s loaded word ie ccpn input set is write
 transfer_holds b p (Scaled dst base index n) s loaded word ie ccpn input set is writes stays small reads h =
     holds_write p s word ie ccpn dst _ _ set.regs writes (scaled_member b p s word ie ccpn base index n set is.1 is.2 is.3 h) h
 transfer_holds b p (Load dst base offset size signed after) s loaded word ie ccpn input set is writes stays small reads h =
-    holds_write p (state_with_base b p s base offset after) (with_base_word word base offset after) ie ccpn dst input loaded (base_length b p s base offset after ∙ set.regs) writes.0 reads
+    holds_write p (state_with_increased_base b p s base offset after) (words_with_increased_base word base offset after) ie ccpn dst input loaded (base_length b p s base offset after ∙ set.regs) writes.0 reads
     (base_holds b p s word ie ccpn base offset after set is.1 is.2 writes.1 h)
 transfer_holds b p (Store src base offset size after) s loaded word ie ccpn input set is writes stays small reads h =
     base_holds b p s word ie ccpn base offset after set is.1 is.2 writes h
-transfer_holds b p Svlcx s loaded word ie ccpn input set is writes stays small reads h = moved p s (state_saved_lower s) word ie ie ccpn ccpn refl h.enabled h.priority h
+transfer_holds b p Svlcx s loaded word ie ccpn input set is writes stays small reads h = moved p s (state_after_lower_save s) word ie ie ccpn ccpn refl h.enabled h.priority h
 transfer_holds b p (Bisr c) s loaded word ie ccpn input set is writes stays small reads h =
-    moved p s (record (state_saved_lower s) { ie = true; ccpn = c }) word ie true ccpn c refl (λ t. refl) (omega arith) h
+    moved p s (record (state_after_lower_save s) { ie = true; ccpn = c }) word ie true ccpn c refl (λ t. refl) (omega arith) h
 transfer_holds b p Enable s loaded word ie ccpn input set is writes stays small reads h = moved p s (record s { ie = true }) word ie true ccpn ccpn refl (λ t. refl) h.priority h
 transfer_holds b p Disable s loaded word ie ccpn input set is writes stays small reads h = moved p s (record s { ie = false }) word ie false ccpn ccpn refl (λ t. t) h.priority h
 transfer_holds b p (Mfcr dst number) s loaded word ie ccpn input set is writes stays small reads h =
@@ -208,8 +208,8 @@ transfer_holds b p _ s loaded word ie ccpn input set is writes stays small reads
 
 -- ---- restoring
 restored_at : (p : PlanData) (s : State) (word word2 : ℕ → ℕ) (q : ℕ) (o : Option ℕ) → length s.regs ≡ 27 → o ≡ slot q → word2 q < 2 ^ 32 → (is_lower_register q ≡ false → word2 q ≡ word q) → (o ≡ None → word2 q ≡ word q)
-    → IsMember (word q) (register_value_at p s q o) → IsMember (word2 q) (register_value_at p (state_restored_lower s) q o)
-restored_at p s word word2 q None len e small same none m = subst (λ (w : ℕ). IsMember w (fixed_of p q)) (sym (none refl)) m
+    → IsMember (word q) (register_value_at p s q o) → IsMember (word2 q) (register_value_at p (state_after_lower_restore s) q o)
+restored_at p s word word2 q None len e small same none m = subst (λ (w : ℕ). IsMember w (fixed_value_of p q)) (sym (none refl)) m
 restored_at p s word word2 q (Some i) len e small same none m =
     let is = slot_is q i (sym e) in
     rw (get_or-forgotten 0 s.regs i any_val (omega (arith, is.within)))
@@ -245,37 +245,37 @@ pub record HasMember (b : Limits) (x : ℕ) (v : Val) : Type 0 where
   pub member : IsMember x v
 
 -- what is kept of a set has its words as members
-kept_has : (b : Limits) (xs : List ℕ) (x : ℕ) → AreLimits b → Among x xs → ((z : ℕ) → Among z xs → z < 2 ^ 32) → IsSomeAnd (cover_of_meet b xs) (HasMember b x)
+kept_has : (b : Limits) (xs : List ℕ) (x : ℕ) → AreLimits b → Among x xs → ((z : ℕ) → Among z xs → z < 2 ^ 32) → IsSomeAnd (cover_if_any b xs) (HasMember b x)
 kept_has b [] x limits i below = absurd i
 kept_has b (y ∷ ys) x limits i below = record { value = cover_value b (y ∷ ys) x limits i below; member = cover_holds b (y ∷ ys) x i }
 
 -- the condition goes to the side that it takes
-goes : (cond : Cond) (side : Bool) (x y : ℕ) → taken_of cond x y ≡ side → refining_condition_holds cond side x y ≡ true
+goes : (cond : Cond) (side : Bool) (x y : ℕ) → taken_of cond x y ≡ side → condition_goes_to_side cond side x y ≡ true
 goes cond true x y e = e
 goes cond false x y e = ap not e
 
 left_has : (b : Limits) (cond : Cond) (side : Bool) (v w : Val) (x y : ℕ) → AreLimits b → IsValue b v → IsValue b w → IsMember x v → IsMember y w → taken_of cond x y ≡ side
-    → IsSomeAnd (cover_of_meet b (kept_left cond side (members v) (members w))) (HasMember b x)
+    → IsSomeAnd (cover_if_any b (kept_left cond side (members v) (members w))) (HasMember b x)
 unfolding kept_left
 left_has b cond side v w x y limits vv vw mx my e =
     kept_has b _ x limits
-    (filter_has (λ x. list_any (λ y. refining_condition_holds cond side x y) (members w)) x (members v) (among_member v x (has_step v vv.well) mx)
-    (among_any (λ y. refining_condition_holds cond side x y) y (members w) (among_member w y (has_step w vw.well) my) (goes cond side x y e)))
+    (filter_has (λ x. list_any (λ y. condition_goes_to_side cond side x y) (members w)) x (members v) (among_member v x (has_step v vv.well) mx)
+    (among_any (λ y. condition_goes_to_side cond side x y) y (members w) (among_member w y (has_step w vw.well) my) (goes cond side x y e)))
     (λ z i. members_below v vv.well z (among_filter _ z (members v) i).0)
 
 right_has : (b : Limits) (cond : Cond) (side : Bool) (v w : Val) (x y : ℕ) → AreLimits b → IsValue b v → IsValue b w → IsMember x v → IsMember y w → taken_of cond x y ≡ side
-    → IsSomeAnd (cover_of_meet b (kept_right cond side (members v) (members w))) (HasMember b y)
+    → IsSomeAnd (cover_if_any b (kept_right cond side (members v) (members w))) (HasMember b y)
 unfolding kept_right
 right_has b cond side v w x y limits vv vw mx my e =
     kept_has b _ y limits
-    (filter_has (λ y. list_any (λ x. refining_condition_holds cond side x y) (members v)) y (members w) (among_member w y (has_step w vw.well) my)
-    (among_any (λ x. refining_condition_holds cond side x y) x (members v) (among_member v x (has_step v vv.well) mx) (goes cond side x y e)))
+    (filter_has (λ y. list_any (λ x. condition_goes_to_side cond side x y) (members v)) y (members w) (among_member w y (has_step w vw.well) my)
+    (among_any (λ x. condition_goes_to_side cond side x y) x (members v) (among_member v x (has_step v vv.well) mx) (goes cond side x y e)))
     (λ z i. members_below w vw.well z (among_filter _ z (members w) i).0)
 
-both_has : (b : Limits) (cond : Cond) (side : Bool) (v : Val) (x : ℕ) → AreLimits b → IsValue b v → IsMember x v → taken_of cond x x ≡ side → IsSomeAnd (cover_of_meet b (kept_both cond side (members v))) (HasMember b x)
-unfolding kept_both
+both_has : (b : Limits) (cond : Cond) (side : Bool) (v : Val) (x : ℕ) → AreLimits b → IsValue b v → IsMember x v → taken_of cond x x ≡ side → IsSomeAnd (cover_if_any b (kept_against_itself cond side (members v))) (HasMember b x)
+unfolding kept_against_itself
 both_has b cond side v x limits vv mx e =
-    kept_has b _ x limits (filter_has (λ z. refining_condition_holds cond side z z) x (members v) (among_member v x (has_step v vv.well) mx) (goes cond side x x e)) (λ z i. members_below v vv.well z (among_filter _ z (members v) i).0)
+    kept_has b _ x limits (filter_has (λ z. condition_goes_to_side cond side z z) x (members v) (among_member v x (has_step v vv.well) mx) (goes cond side x x e)) (λ z i. members_below v vv.well z (among_filter _ z (members v) i).0)
 
 pub set_values_at : (b : Limits) (s : State) (v : Val) (o : Option ℕ) → AreValues b s.regs → IsValue b v → AreValues b (set_slot s v o).regs
 set_values_at b s v None values value r h = values r h
@@ -342,7 +342,7 @@ less_member b v x limits vv m =
     subst (λ (w : ℕ). IsMember w (value_of b Sub v (word_val 1))) same (sound b Sub v (word_val 1) limits vv (const_value b 1 limits (omega arith)) x 1 m (const_member 1))
 
 lowered_holds : (b : Limits) (p : PlanData) (x : ℕ) (lowers : Bool) (t : Option State) (word : ℕ → ℕ) (ie : Bool) (ccpn : ℕ) → x < 32 → (IsTrue lowers → RegisterHasValue x) → IsSomeAnd t (HoldsWell b p word ie ccpn)
-    → IsSomeAnd (with_lowered_counter b p x lowers t) (Holds p (if lowers then words_with_register word x ((word x + (2 ^ 32 - 1)) % 2 ^ 32) else word) ie ccpn)
+    → IsSomeAnd (with_decremented_counter b p x lowers t) (Holds p (if lowers then words_with_register word x ((word x + (2 ^ 32 - 1)) % 2 ^ 32) else word) ie ccpn)
 lowered_holds b p x lowers None word ie ccpn small has h = h
 lowered_holds b p x false (Some s) word ie ccpn small has h = h.holds
 lowered_holds b p x true (Some s) word ie ccpn small has h =

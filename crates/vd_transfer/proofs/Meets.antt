@@ -5,12 +5,12 @@ use Rattle.std.proofs.lemmas.Bool.{cases_Bool, leb-true, le-leb, cases_order, eq
 use Rattle.value_domain.specs.Sets.{Among, IsExtent}
 use Rattle.value_domain.specs.Limits.{Limits}
 use Rattle.value_domain.specs.declared.values.Val.{Val}
-use Rattle.value_domain.specs.Values.{cover, range, in_span}
-use Rattle.value_domain.specs.Meets.{cover_of_meet}
+use Rattle.value_domain.specs.Values.{cover, range, is_in_span}
+use Rattle.value_domain.specs.Meets.{cover_if_any}
 use Rattle.value_domain.proofs.CoverLaws.{range_among, among_range}
 use Rattle.value_domain.proofs.ExtentLaws.{append_left, append_right, among_append}
 use Rattle.value_domain.proofs.MeetLaws.{cover_some-same, among_filter, filter_has, in_span_parts, in_span_from, any_among, among_any}
-use Rattle.vd_transfer.specs.Relations.{is_related, Reaches, related_words}
+use Rattle.vd_transfer.specs.Relations.{is_related, MayBeRelated, related_words}
 use Rattle.vd_transfer.specs.Intervals.{IsInInterval}
 use Rattle.vd_transfer.specs.declared.refinement.Relation.{Relation}
 use Rattle.vd_transfer.specs.declared.refinement.Relation.TheVariants.{Same, Other, Less, AtLeast, More, AtMost}
@@ -19,8 +19,8 @@ use Rattle.vd_transfer.proofs.RelationLaws.{filter_none}
 
 -- ---- some word of a set in a relation
 pub reaches : (rel : Relation) (x low high s : ℕ) (ws : List ℕ) → (rel ≡ Same → ⊥) → IsExtent ws low high s
-    → (list_any (λ y. is_related rel x y) ws ≡ true → Reaches rel low high x) × (Reaches rel low high x → list_any (λ y. is_related rel x y) ws ≡ true)
-unfolding is_related Reaches
+    → (list_any (λ y. is_related rel x y) ws ≡ true → MayBeRelated rel low high x) × (MayBeRelated rel low high x → list_any (λ y. is_related rel x y) ws ≡ true)
+unfolding is_related MayBeRelated
 reaches Same x low high s ws order e = absurd (order refl)
 reaches Other x low high s ws order e = (
   (λ t.
@@ -54,55 +54,55 @@ reaches AtMost x low high s ws order e = (
 )
 
 -- no word is in an empty interval
-not_in : (lo last z : ℕ) → last < lo → in_span lo last 0 z ≡ false
+not_in : (lo last z : ℕ) → last < lo → is_in_span lo last 0 z ≡ false
 not_in lo last z lt =
-    elim (cases_Bool (in_span lo last 0 z)) [
+    elim (cases_Bool (is_in_span lo last 0 z)) [
       | inl t ↦ absurd (let n = in_span_parts lo last 0 z t in omega (arith, n.0, n.1))
       | inr f ↦ f
     ]
 
-pub past_empty : (b : Limits) (i : Interval) (xs vs : List ℕ) → i.last < i.lo → cover_of_meet b xs ≡ cover_of_meet b (xs ++ filter (in_span i.lo i.last 0) vs)
+pub past_empty : (b : Limits) (i : Interval) (xs vs : List ℕ) → i.last < i.lo → cover_if_any b xs ≡ cover_if_any b (xs ++ filter (is_in_span i.lo i.last 0) vs)
 past_empty b i xs vs lt =
-    ap (cover_of_meet b)
-    (sym (append-nil xs) ∙ ap (λ (l : List ℕ). xs ++ l) (sym (filter_none (in_span i.lo i.last 0) vs (λ z. not_in i.lo i.last z lt))))
+    ap (cover_if_any b)
+    (sym (append-nil xs) ∙ ap (λ (l : List ℕ). xs ++ l) (sym (filter_none (is_in_span i.lo i.last 0) vs (λ z. not_in i.lo i.last z lt))))
 
 -- parts without members
-pub none_before : (b : Limits) (xs ys : List ℕ) (o : Option Val) → None ≡ cover_of_meet b xs → o ≡ cover_of_meet b ys → o ≡ cover_of_meet b (xs ++ ys)
+pub none_before : (b : Limits) (xs ys : List ℕ) (o : Option Val) → None ≡ cover_if_any b xs → o ≡ cover_if_any b ys → o ≡ cover_if_any b (xs ++ ys)
 none_before b [] ys o e f = f
 none_before b (x ∷ xs) ys o e f = absurd (let g : None ≡ Some (cover b (x ∷ xs)) = e in cc)
 
-pub none_after : (b : Limits) (xs ys : List ℕ) (o : Option Val) → o ≡ cover_of_meet b xs → None ≡ cover_of_meet b ys → o ≡ cover_of_meet b (xs ++ ys)
-none_after b xs [] o e f = e ∙ ap (cover_of_meet b) (sym (append-nil xs))
+pub none_after : (b : Limits) (xs ys : List ℕ) (o : Option Val) → o ≡ cover_if_any b xs → None ≡ cover_if_any b ys → o ≡ cover_if_any b (xs ++ ys)
+none_after b xs [] o e f = e ∙ ap (cover_if_any b) (sym (append-nil xs))
 none_after b xs (y ∷ ys) o e f = absurd (let g : None ≡ Some (cover b (y ∷ ys)) = f in cc)
 
 -- the members of two intervals
 pub kept_intervals : (b : Limits) (rel : Relation) (vs ws : List ℕ) (i j : Interval) (low high s : ℕ) → (rel ≡ Same → ⊥) → IsExtent ws low high s
     → ((x : ℕ) → Among x vs → x < 2 ^ 32)
-    → ((x : ℕ) → x < 2 ^ 32 → (IsInInterval i x ⊎ IsInInterval j x → Reaches rel low high x) × (Reaches rel low high x → IsInInterval i x ⊎ IsInInterval j x))
-    → cover_of_meet b (filter (in_span i.lo i.last 0) vs ++ filter (in_span j.lo j.last 0) vs) ≡ cover_of_meet b (related_words rel vs ws)
+    → ((x : ℕ) → x < 2 ^ 32 → (IsInInterval i x ⊎ IsInInterval j x → MayBeRelated rel low high x) × (MayBeRelated rel low high x → IsInInterval i x ⊎ IsInInterval j x))
+    → cover_if_any b (filter (is_in_span i.lo i.last 0) vs ++ filter (is_in_span j.lo j.last 0) vs) ≡ cover_if_any b (related_words rel vs ws)
 unfolding related_words
 kept_intervals b rel vs ws i j low high s order e small are =
-    cover_some-same b (filter (in_span i.lo i.last 0) vs ++ filter (in_span j.lo j.last 0) vs) (filter (λ x. list_any (λ y. is_related rel x y) ws) vs)
-    (λ z k. elim (among_append z (filter (in_span i.lo i.last 0) vs) (filter (in_span j.lo j.last 0) vs) k) [
+    cover_some-same b (filter (is_in_span i.lo i.last 0) vs ++ filter (is_in_span j.lo j.last 0) vs) (filter (λ x. list_any (λ y. is_related rel x y) ws) vs)
+    (λ z k. elim (among_append z (filter (is_in_span i.lo i.last 0) vs) (filter (is_in_span j.lo j.last 0) vs) k) [
       | inl l ↦
-          let f = among_filter (in_span i.lo i.last 0) z vs l in
+          let f = among_filter (is_in_span i.lo i.last 0) z vs l in
           let n = in_span_parts i.lo i.last 0 z f.1 in
           filter_has (λ x. list_any (λ y. is_related rel x y) ws) z vs f.0 ((reaches rel z low high s ws order e).1 ((are z (small z f.0)).0 (inl (n.0, n.1))))
       | inr l ↦
-          let f = among_filter (in_span j.lo j.last 0) z vs l in
+          let f = among_filter (is_in_span j.lo j.last 0) z vs l in
           let n = in_span_parts j.lo j.last 0 z f.1 in
           filter_has (λ x. list_any (λ y. is_related rel x y) ws) z vs f.0 ((reaches rel z low high s ws order e).1 ((are z (small z f.0)).0 (inr (n.0, n.1))))
     ])
     (λ z k.
     let f = among_filter (λ x. list_any (λ y. is_related rel x y) ws) z vs k in
     elim ((are z (small z f.0)).1 ((reaches rel z low high s ws order e).0 f.1)) [
-      | inl n ↦ append_left z (filter (in_span i.lo i.last 0) vs) (filter (in_span j.lo j.last 0) vs) (filter_has (in_span i.lo i.last 0) z vs f.0 (in_span_from i.lo i.last 0 z n.0 n.1 (omega arith)))
-      | inr n ↦ append_right z (filter (in_span i.lo i.last 0) vs) (filter (in_span j.lo j.last 0) vs) (filter_has (in_span j.lo j.last 0) z vs f.0 (in_span_from j.lo j.last 0 z n.0 n.1 (omega arith)))
+      | inl n ↦ append_left z (filter (is_in_span i.lo i.last 0) vs) (filter (is_in_span j.lo j.last 0) vs) (filter_has (is_in_span i.lo i.last 0) z vs f.0 (in_span_from i.lo i.last 0 z n.0 n.1 (omega arith)))
+      | inr n ↦ append_right z (filter (is_in_span i.lo i.last 0) vs) (filter (is_in_span j.lo j.last 0) vs) (filter_has (is_in_span j.lo j.last 0) z vs f.0 (in_span_from j.lo j.last 0 z n.0 n.1 (omega arith)))
     ])
 
 -- the common members, by the words of either or by a range
 pub kept_common : (b : Limits) (vs ws : List ℕ) (p : ℕ → Bool) → ((x : ℕ) → (p x ≡ true → Among x vs) × (Among x vs → p x ≡ true))
-    → cover_of_meet b (filter p ws) ≡ cover_of_meet b (related_words Same vs ws)
+    → cover_if_any b (filter p ws) ≡ cover_if_any b (related_words Same vs ws)
 unfolding related_words is_related
 kept_common b vs ws p are =
     cover_some-same b (filter p ws) (filter (λ x. list_any (λ y. eqb x y) ws) vs)
@@ -115,12 +115,12 @@ kept_common b vs ws p are =
     let e : z ≡ r.0 = eqb-true z r.0 r.2 in
     filter_has p z ws (subst (λ (y : ℕ). Among y ws) (sym e) r.1) ((are z).1 f.0))
 
-pub kept_range : (b : Limits) (vs : List ℕ) (lo last s : ℕ) → s ≤ 2 → cover_of_meet b (filter (in_span lo last s) vs) ≡ cover_of_meet b (related_words Same vs (range lo last s))
+pub kept_range : (b : Limits) (vs : List ℕ) (lo last s : ℕ) → s ≤ 2 → cover_if_any b (filter (is_in_span lo last s) vs) ≡ cover_if_any b (related_words Same vs (range lo last s))
 unfolding related_words is_related
 kept_range b vs lo last s small =
-    cover_some-same b (filter (in_span lo last s) vs) (filter (λ x. list_any (λ y. eqb x y) (range lo last s)) vs)
+    cover_some-same b (filter (is_in_span lo last s) vs) (filter (λ x. list_any (λ y. eqb x y) (range lo last s)) vs)
     (λ z k.
-    let f = among_filter (in_span lo last s) z vs k in
+    let f = among_filter (is_in_span lo last s) z vs k in
     let n = in_span_parts lo last s z f.1 in
     filter_has (λ x. list_any (λ y. eqb x y) (range lo last s)) z vs f.0 (among_any (λ y. eqb z y) z (range lo last s) (among_range z lo last s small n) (eq-eqb z z refl)))
     (λ z k.
@@ -128,7 +128,7 @@ kept_range b vs lo last s small =
     let r = any_among (λ y. eqb z y) (range lo last s) f.1 in
     let e : z ≡ r.0 = eqb-true z r.0 r.2 in
     let m = range_among z lo last s small (subst (λ (y : ℕ). Among y (range lo last s)) (sym e) r.1) in
-    filter_has (in_span lo last s) z vs f.0 (in_span_from lo last s z m.0 m.1 m.2))
+    filter_has (is_in_span lo last s) z vs f.0 (in_span_from lo last s z m.0 m.1 m.2))
 
 abbrev pub no_words : Interval
 no_words = record { lo = 1; last = 0 }

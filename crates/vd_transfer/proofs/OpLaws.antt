@@ -10,9 +10,9 @@ use Rattle.std.specs.Int.Bits.{xor_add_and}
 use Rattle.std.proofs.lemmas.Nat.{shl_below, shr_le, or_of_32, xor_of_32, and_le_l, and_le_r, le_or_l, le_or_r}
 use Rattle.value_domain.specs.declared.values.Val.{Val}
 use Rattle.value_domain.specs.declared.values.Val.TheVariants.{Set, Span}
-use Rattle.value_domain.specs.Sets.{Among, Within, Rising, IsExtent}
+use Rattle.value_domain.specs.Sets.{Among, Within, IsAscending, IsExtent}
 use Rattle.value_domain.specs.Limits.{Limits, AreLimits}
-use Rattle.value_domain.specs.Values.{IsMember, IsWell, IsValue, IsBelow, cover, members, range, count_in, first_in_span, low, high, step}
+use Rattle.value_domain.specs.Values.{IsMember, IsWellFormed, IsValue, IsBelow, cover, members, range, span_len, first_in_span, low, high, step}
 use Rattle.value_domain.proofs.SetLaws.{length_within}
 use Rattle.value_domain.proofs.CoverLaws.{cover-same, cover_holds, cover_mono, cover_own, cover_step, among_member, member_among, has_step, range_among, among_range, rising_multiples, unit_some, length-multiples}
 use Rattle.value_domain.specs.declared.lattice.Extent.{Extent}
@@ -23,24 +23,24 @@ use Rattle.value_domain.proofs.ExtentLaws.{cover-part, extent_only, extent_risin
 use Rattle.value_domain.proofs.RangeLaws.{words_more, members_below, some_members, span_count, set_value, cover-one}
 use Rattle.tc_isa.specs.declared.shapes.Op.{Op}
 use Rattle.tc_isa.specs.declared.shapes.Op.TheVariants.{Second, Add, Sub, And, Nand, Or, Nor, Xor, Xnor, Andn, Orn, Eq, Ne, Lt, LtU, Ge, GeU, Sh, Sha}
-use Rattle.tc_isa.specs.Arithmetic.{alu_of, shift_by, shifted_signed, complement, one_if, signed_order_place}
-use Rattle.vd_transfer.specs.Operations.{results, operation_row, pairs, gives_truth, value_of, HasMetResults}
-use Rattle.vd_transfer.specs.Intervals.{whole, whole_interval_words, interval_of_row, interval_bounds, by_count, IntervalShift, differences, sums, shifts, signed_shifts, range_of}
+use Rattle.tc_isa.specs.Arithmetic.{alu_of, logical_shift, arithmetic_shift, complement, one_if, signed_order_place}
+use Rattle.vd_transfer.specs.Operations.{results, results_by_extents, results_of_pairs, is_comparison, value_of, HasMembers}
+use Rattle.vd_transfer.specs.Intervals.{whole, whole_interval_words, result_interval, extent_of_value, shift_by_count, IntervalShift, differences, sums, shifts, signed_shifts, interval_words}
 use Rattle.vd_transfer.specs.OperationLaws.{OperationsAreMonotone, OperationsAreSound}
 use Rattle.vd_transfer.proofs.Rows.{Lies, sums_have, sums_grow, differences_have, differences_grow, ands_have, ands_grow, shifts_have, shifts_grow, shifts_below}
 
 -- ---- the bounds of a value
-pub rising_members : (v : Val) → IsWell v → Rising (members v)
+pub rising_members : (v : Val) → IsWellFormed v → IsAscending (members v)
 rising_members (Set ws) w = w.rising
-rising_members (Span lo last s) w = rising_multiples (count_in lo last s) (first_in_span lo s) (2 ^ s) (unit_some s)
+rising_members (Span lo last s) w = rising_multiples (span_len lo last s) (first_in_span lo s) (2 ^ s) (unit_some s)
 
-pub bounds_of : (v : Val) → IsWell v → IsExtent (members v) (low v) (high v) (step v)
+pub bounds_of : (v : Val) → IsWellFormed v → IsExtent (members v) (low v) (high v) (step v)
 bounds_of v w = extent_rising (members v) (rising_members v w) (some_members v w)
 
-pub high_below : (v : Val) → IsWell v → high v < 2 ^ 32
+pub high_below : (v : Val) → IsWellFormed v → high v < 2 ^ 32
 high_below v w = members_below v w (high v) (bounds_of v w).high_in
 
-pub lies : (v : Val) → IsWell v → (x : ℕ) → Among x (members v) → Lies x (low v) (high v) (step v)
+pub lies : (v : Val) → IsWellFormed v → (x : ℕ) → Among x (members v) → Lies x (low v) (high v) (step v)
 lies v w x i = let e = bounds_of v w in record { from = e.low x i; to = e.high x i; fits = e.fits x i }
 
 -- the bounds of a smaller value are inside
@@ -49,7 +49,7 @@ pub record Narrower (v v2 : Val) : Type 0 where
   pub high_in : high v ≤ high v2
   pub step_in : step v2 ≤ step v
 
-pub narrower : (v v2 : Val) → IsWell v → IsWell v2 → Within (members v) (members v2) → Narrower v v2
+pub narrower : (v v2 : Val) → IsWellFormed v → IsWellFormed v2 → Within (members v) (members v2) → Narrower v v2
 narrower v v2 w w2 there =
     let e = bounds_of v w in
     let f = bounds_of v2 w2 in
@@ -59,7 +59,7 @@ narrower v v2 w w2 there =
       step_in = e.full (step v2) f.small (λ z i. f.fits z (there z i));
     }
 
-pub low_high : (v : Val) → IsWell v → low v ≤ high v
+pub low_high : (v : Val) → IsWellFormed v → low v ≤ high v
 low_high v w = let e = bounds_of v w in e.low (high v) e.high_in
 
 -- ---- Sound
@@ -69,13 +69,13 @@ all_have x h = among_range x 0 (2 ^ 32 - 1) 0 (omega arith) (omega arith, omega 
 -- what is known of a kind of shifts: they hold the shifted words, grow with the bounds, and give
 -- words below 2 ^ 32
 pub record AreShifts (shift : IntervalShift) (by : ℕ → ℕ → ℕ) : Type 0 where
-  pub have : (x a b p n : ℕ) → p ≤ 2 → Lies x a b p → b < 2 ^ 32 → Among (by x n) (range_of (shift a b p n))
-  pub grow : (a b p n a2 b2 p2 : ℕ) → p ≤ 2 → b < 2 ^ 32 → a2 ≤ a → b ≤ b2 → p2 ≤ p → Within (range_of (shift a b p n)) (range_of (shift a2 b2 p2 n))
-  pub below : (a b p n z : ℕ) → p ≤ 2 → b < 2 ^ 32 → Among z (range_of (shift a b p n)) → z < 2 ^ 32
+  pub have : (x a b p n : ℕ) → p ≤ 2 → Lies x a b p → b < 2 ^ 32 → Among (by x n) (interval_words (shift a b p n))
+  pub grow : (a b p n a2 b2 p2 : ℕ) → p ≤ 2 → b < 2 ^ 32 → a2 ≤ a → b ≤ b2 → p2 ≤ p → Within (interval_words (shift a b p n)) (interval_words (shift a2 b2 p2 n))
+  pub below : (a b p n z : ℕ) → p ≤ 2 → b < 2 ^ 32 → Among z (interval_words (shift a b p n)) → z < 2 ^ 32
   pub word : (x n : ℕ) → x < 2 ^ 32 → by x n < 2 ^ 32
   pub small : (a b p n : ℕ) → (shift a b p n).step ≤ 2
 
-shifted_below : (x n : ℕ) → x < 2 ^ 32 → shift_by x n < 2 ^ 32
+shifted_below : (x n : ℕ) → x < 2 ^ 32 → logical_shift x n < 2 ^ 32
 shifted_below x n h =
     elim (cases_lt n 32) [
       | inl left ↦ rw (lt-ltb n 32 left) (omega arith)
@@ -90,7 +90,7 @@ shifts_step a b p n =
       | inr t ↦ rw t (omega arith)
     ]
 
-pub logical : AreShifts shifts shift_by
+pub logical : AreShifts shifts logical_shift
 logical = record {
   have = shifts_have;
   grow = λ a b p n a2 b2 p2 small bb la hb hp. shifts_grow a b p n a2 b2 p2 small la hb hp;
@@ -100,13 +100,13 @@ logical = record {
 }
 
 -- a shift to the left, and one of a word without the sign bit, is filled with zeros
-same_left : (x n : ℕ) → n < 32 → shifted_signed x n ≡ shift_by x n
+same_left : (x n : ℕ) → n < 32 → arithmetic_shift x n ≡ logical_shift x n
 same_left x n h = rw (lt-ltb n 32 h) refl
 
-same_right : (x n : ℕ) → 32 ≤ n → x < 2 ^ 31 → shifted_signed x n ≡ shift_by x n
+same_right : (x n : ℕ) → 32 ≤ n → x < 2 ^ 31 → arithmetic_shift x n ≡ logical_shift x n
 same_right x n h small = rw (le-ltb n 32 h, lt-ltb x (2 ^ 31) small) refl
 
-signed_word : (x n : ℕ) → x < 2 ^ 32 → shifted_signed x n < 2 ^ 32
+signed_word : (x n : ℕ) → x < 2 ^ 32 → arithmetic_shift x n < 2 ^ 32
 signed_word x n h =
     elim (cases_lt n 32) [
       | inl left ↦ rw (same_left x n left) (shifted_below x n h)
@@ -129,14 +129,14 @@ as_any : (a b p n : ℕ) → 32 ≤ n → 2 ^ 31 ≤ b → signed_shifts a b p n
 unfolding signed_shifts
 as_any a b p n right big = rw (le-ltb n 32 right, le-ltb b (2 ^ 31) big) refl
 
-pub arithmetic : AreShifts signed_shifts shifted_signed
+pub arithmetic : AreShifts signed_shifts arithmetic_shift
 arithmetic = record {
   have = λ x a b p n small l bb.
       elim (cases_lt n 32) [
         | inl left ↦ rw (as_logical a b p n (inl left), same_left x n left) (shifts_have x a b p n small l bb)
         | inr right ↦ elim (cases_lt b (2 ^ 31)) [
           | inl low ↦ rw (as_logical a b p n (inr low), same_right x n right (omega (arith, l.to))) (shifts_have x a b p n small l bb)
-          | inr big ↦ rw (as_any a b p n right big) (all_have (shifted_signed x n) (signed_word x n (omega (arith, l.to))))
+          | inr big ↦ rw (as_any a b p n right big) (all_have (arithmetic_shift x n) (signed_word x n (omega (arith, l.to))))
         ]
       ];
   grow = λ a b p n a2 b2 p2 small bb la hb hp.
@@ -159,7 +159,7 @@ arithmetic = record {
       ];
 }
   where
-    signed_below : (a b p n z : ℕ) → p ≤ 2 → b < 2 ^ 32 → Among z (range_of (signed_shifts a b p n)) → z < 2 ^ 32
+    signed_below : (a b p n z : ℕ) → p ≤ 2 → b < 2 ^ 32 → Among z (interval_words (signed_shifts a b p n)) → z < 2 ^ 32
     signed_below a b p n z small bb i =
         elim (cases_lt n 32) [
           | inl left ↦ shifts_below a b p n z small bb (rw (as_logical a b p n (inl left)) at i)
@@ -169,13 +169,13 @@ arithmetic = record {
           ]
         ]
 
-by_value : {shift : IntervalShift} {by : ℕ → ℕ → ℕ} (are : AreShifts shift by) (v w : Val) → IsWell v → IsWell w → (x y : ℕ) → Among x (members v) → Among y (members w)
-    → Among (by x (y % 64)) (range_of (by_count shift (low v) (high v) (step v) w))
+by_value : {shift : IntervalShift} {by : ℕ → ℕ → ℕ} (are : AreShifts shift by) (v w : Val) → IsWellFormed v → IsWellFormed w → (x y : ℕ) → Among x (members v) → Among y (members w)
+    → Among (by x (y % 64)) (interval_words (shift_by_count shift (low v) (high v) (step v) w))
 by_value are v (Set []) wv ww x y i j = absurd j
 by_value {shift} {by} are v (Set (w ∷ [])) wv ww x y i j =
     elim j [
       | inl e ↦
-          subst (λ (n : ℕ). Among (by x (n % 64)) (range_of (shift (low v) (high v) (step v) (w % 64)))) (sym e)
+          subst (λ (n : ℕ). Among (by x (n % 64)) (interval_words (shift (low v) (high v) (step v) (w % 64)))) (sym e)
           (are.have x (low v) (high v) (step v) (w % 64) (bounds_of v wv).small (lies v wv x i) (high_below v wv))
       | inr n ↦ absurd n
     ]
@@ -192,8 +192,8 @@ complement_below x = omega arith
 pub and_below : (x y : ℕ) → x < 2 ^ 32 → bit_and x y < 2 ^ 32
 and_below x y h = omega (arith, and_le_l x y)
 
-pub row_has : (op : Op) (v w : Val) → IsWell v → IsWell w → (x y : ℕ) → Among x (members v) → Among y (members w) → Among (alu_of op x y) (operation_row op v w)
-unfolding operation_row interval_of_row gives_truth alu_of
+pub row_has : (op : Op) (v w : Val) → IsWellFormed v → IsWellFormed w → (x y : ℕ) → Among x (members v) → Among y (members w) → Among (alu_of op x y) (results_by_extents op v w)
+unfolding results_by_extents result_interval is_comparison alu_of
 row_has Second v w wv ww x y i j = j
 row_has Add v w wv ww x y i j =
     let l = lies v wv x i in
@@ -241,25 +241,25 @@ map_among : (op : Op) (x z : ℕ) (ys : List ℕ) → Among z (map (alu_of op x)
 map_among op x z [] i = absurd i
 map_among op x z (y ∷ ys) i = elim i [ inl e ↦ (y, inl refl, e) | inr j ↦ let r = map_among op x z ys j in (r.0, inr r.1, r.2) ]
 
-pub pairs_have : (op : Op) (x y : ℕ) (xs ys : List ℕ) → Among x xs → Among y ys → Among (alu_of op x y) (pairs op xs ys)
-unfolding pairs
+pub pairs_have : (op : Op) (x y : ℕ) (xs ys : List ℕ) → Among x xs → Among y ys → Among (alu_of op x y) (results_of_pairs op xs ys)
+unfolding results_of_pairs
 pairs_have op x y [] ys i j = absurd i
 pairs_have op x y (w ∷ xs) ys i j =
     elim i [
-      | inl e ↦ append_left (alu_of op x y) (map (alu_of op w) ys) (pairs op xs ys) (subst (λ (v : ℕ). Among (alu_of op x y) (map (alu_of op v) ys)) e (among_map op x y ys j))
-      | inr k ↦ append_right (alu_of op x y) (map (alu_of op w) ys) (pairs op xs ys) (pairs_have op x y xs ys k j)
+      | inl e ↦ append_left (alu_of op x y) (map (alu_of op w) ys) (results_of_pairs op xs ys) (subst (λ (v : ℕ). Among (alu_of op x y) (map (alu_of op v) ys)) e (among_map op x y ys j))
+      | inr k ↦ append_right (alu_of op x y) (map (alu_of op w) ys) (results_of_pairs op xs ys) (pairs_have op x y xs ys k j)
     ]
 
-pub pairs_among : (op : Op) (z : ℕ) (xs ys : List ℕ) → Among z (pairs op xs ys) → (x : ℕ) × (y : ℕ) × Among x xs × Among y ys × (z ≡ alu_of op x y)
-unfolding pairs
+pub pairs_among : (op : Op) (z : ℕ) (xs ys : List ℕ) → Among z (results_of_pairs op xs ys) → (x : ℕ) × (y : ℕ) × Among x xs × Among y ys × (z ≡ alu_of op x y)
+unfolding results_of_pairs
 pairs_among op z [] ys i = absurd i
 pairs_among op z (w ∷ xs) ys i =
-    elim (among_append z (map (alu_of op w) ys) (pairs op xs ys) i) [
+    elim (among_append z (map (alu_of op w) ys) (results_of_pairs op xs ys) i) [
       | inl j ↦ let r = map_among op w z ys j in (w, r.0, inl refl, r.1, r.2)
       | inr j ↦ let r = pairs_among op z xs ys j in (r.0, r.1, inr r.2, r.3, r.4)
     ]
 
-pub results_have : (op : Op) (v w : Val) → IsWell v → IsWell w → (x y : ℕ) → Among x (members v) → Among y (members w) → Among (alu_of op x y) (results op v w)
+pub results_have : (op : Op) (v w : Val) → IsWellFormed v → IsWellFormed w → (x y : ℕ) → Among x (members v) → Among y (members w) → Among (alu_of op x y) (results op v w)
 unfolding results
 results_have op (Set xs) (Set ys) wv ww x y i j = pairs_have op x y xs ys i j
 results_have op (Set xs) (Span lo last s) wv ww x y i j = row_has op (Set xs) (Span lo last s) wv ww x y i j
@@ -283,7 +283,7 @@ span_not_below b lo last s ws vs vw below =
     length_within (range lo last s) ws (rising_members (Span lo last s) vs.well) vw.well.rising (λ z i. below z (range_among z lo last s vs.well.0 i))
     in
     let few : length ws ≤ b.most_words = (set_value b ws vw.well).1 vw in
-    absurd (omega (arith, span_count b lo last s vs, length-multiples (count_in lo last s) (first_in_span lo s) (2 ^ s)))
+    absurd (omega (arith, span_count b lo last s vs, length-multiples (span_len lo last s) (first_in_span lo s) (2 ^ s)))
 
 into_all : (xs : List ℕ) → ((z : ℕ) → Among z xs → z < 2 ^ 32) → Within xs (whole_interval_words 0)
 into_all xs below z i = all_have z (below z i)
@@ -291,13 +291,13 @@ into_all xs below z i = all_have z (below z i)
 all_below : (z s : ℕ) → s ≤ 2 → Among z (whole_interval_words s) → z < 2 ^ 32
 all_below z s small i = let m = range_among z 0 (2 ^ 32 - 1) s small i in omega (arith, m.1)
 
-pub by_below : {shift : IntervalShift} {by : ℕ → ℕ → ℕ} (are : AreShifts shift by) (v w : Val) → IsWell v → (z : ℕ) → Among z (range_of (by_count shift (low v) (high v) (step v) w)) → z < 2 ^ 32
+pub by_below : {shift : IntervalShift} {by : ℕ → ℕ → ℕ} (are : AreShifts shift by) (v w : Val) → IsWellFormed v → (z : ℕ) → Among z (interval_words (shift_by_count shift (low v) (high v) (step v) w)) → z < 2 ^ 32
 by_below are v (Set (y ∷ [])) wv z i = are.below (low v) (high v) (step v) (y % 64) z (bounds_of v wv).small (high_below v wv) i
 by_below are v _ wv z i = all_below z 0 (omega arith) i
 
 by_one : {shift : IntervalShift} {by : ℕ → ℕ → ℕ} (are : AreShifts shift by) (b : Limits) (v w v2 : Val) (y : ℕ) → IsValue b v → IsValue b w → IsValue b v2 → IsValue b (Set (y ∷ []))
     → Within (members v) (members v2) → Within (members w) (y ∷ [])
-    → Within (range_of (by_count shift (low v) (high v) (step v) w)) (range_of (by_count shift (low v2) (high v2) (step v2) (Set (y ∷ []))))
+    → Within (interval_words (shift_by_count shift (low v) (high v) (step v) w)) (interval_words (shift_by_count shift (low v2) (high v2) (step v2) (Set (y ∷ []))))
 by_one are b v (Set []) v2 y vv vw vv2 vy there here = absurd (omega (arith, vw.well.some))
 by_one are b v (Set (u ∷ [])) v2 y vv vw vv2 vy there here =
     let e : u ≡ y = elim (here u (inl refl)) [ inl e ↦ e | inr n ↦ absurd n ] in
@@ -313,15 +313,15 @@ by_one are b v (Span lo last s) v2 y vv vw vv2 vy there here =
 
 by_grows : {shift : IntervalShift} {by : ℕ → ℕ → ℕ} (are : AreShifts shift by) (b : Limits) (v w v2 w2 : Val) → IsValue b v → IsValue b w → IsValue b v2 → IsValue b w2
     → Within (members v) (members v2) → Within (members w) (members w2)
-    → Within (range_of (by_count shift (low v) (high v) (step v) w)) (range_of (by_count shift (low v2) (high v2) (step v2) w2))
+    → Within (interval_words (shift_by_count shift (low v) (high v) (step v) w)) (interval_words (shift_by_count shift (low v2) (high v2) (step v2) w2))
 by_grows are b v w v2 (Set []) vv vw vv2 vw2 there here = absurd (omega (arith, vw2.well.some))
 by_grows are b v w v2 (Set (y ∷ [])) vv vw vv2 vw2 there here = by_one are b v w v2 y vv vw vv2 vw2 there here
-by_grows {shift} are b v w v2 (Set (y ∷ u ∷ ys)) vv vw vv2 vw2 there here = into_all (range_of (by_count shift (low v) (high v) (step v) w)) (by_below are v w vv.well)
-by_grows {shift} are b v w v2 (Span lo last s) vv vw vv2 vw2 there here = into_all (range_of (by_count shift (low v) (high v) (step v) w)) (by_below are v w vv.well)
+by_grows {shift} are b v w v2 (Set (y ∷ u ∷ ys)) vv vw vv2 vw2 there here = into_all (interval_words (shift_by_count shift (low v) (high v) (step v) w)) (by_below are v w vv.well)
+by_grows {shift} are b v w v2 (Span lo last s) vv vw vv2 vw2 there here = into_all (interval_words (shift_by_count shift (low v) (high v) (step v) w)) (by_below are v w vv.well)
 
 pub row_grows : (b : Limits) (op : Op) (v w v2 w2 : Val) → IsValue b v → IsValue b w → IsValue b v2 → IsValue b w2 → Within (members v) (members v2) → Within (members w) (members w2)
-    → Within (operation_row op v w) (operation_row op v2 w2)
-unfolding operation_row interval_of_row gives_truth
+    → Within (results_by_extents op v w) (results_by_extents op v2 w2)
+unfolding results_by_extents result_interval is_comparison
 row_grows b Second v w v2 w2 vv vw vv2 vw2 there here = here
 row_grows b Add v w v2 w2 vv vw vv2 vw2 there here =
     let n = narrower v v2 vv.well vv2.well there in
@@ -344,7 +344,7 @@ row_grows b Sha v w v2 w2 vv vw vv2 vw2 there here = by_grows arithmetic b v w v
 row_grows b _ v w v2 w2 vv vw vv2 vw2 there here = λ z i. i
 
 -- the results aren't none
-pub some_results : (op : Op) (v w : Val) → IsWell v → IsWell w → 1 ≤ length (results op v w)
+pub some_results : (op : Op) (v w : Val) → IsWellFormed v → IsWellFormed w → 1 ≤ length (results op v w)
 some_results op v w wv ww =
     some_length (results op v w) (alu_of op (low v) (low w)) (results_have op v w wv ww (low v) (low w) (bounds_of v wv).low_in (bounds_of w ww).low_in)
 
@@ -356,7 +356,7 @@ sets_below : (b : Limits) (op : Op) (xs ys : List ℕ) (v2 w2 : Val) → IsValue
     → IsBelow (Set xs) v2 → IsBelow (Set ys) w2 → IsBelow (value_of b op (Set xs) (Set ys)) (value_of b op v2 w2)
 unfolding results
 sets_below b op xs ys v2 w2 vv vw vv2 vw2 there here =
-    cover_below b (pairs op xs ys) (results op v2 w2) (some_results op (Set xs) (Set ys) vv.well vw.well) (some_results op v2 w2 vv2.well vw2.well)
+    cover_below b (results_of_pairs op xs ys) (results op v2 w2) (some_results op (Set xs) (Set ys) vv.well vw.well) (some_results op v2 w2 vv2.well vw2.well)
     (λ z i.
     let r = pairs_among op z xs ys i in
     subst (λ (n : ℕ). IsMember n (cover b (results op v2 w2))) (sym r.4)
@@ -365,7 +365,7 @@ sets_below b op xs ys v2 w2 vv vw vv2 vw2 there here =
 
 -- if one is a Span, its larger value is one too
 rows_below : (b : Limits) (op : Op) (v w v2 w2 : Val) → IsValue b v → IsValue b w → IsValue b v2 → IsValue b w2 → IsBelow v v2 → IsBelow w w2
-    → results op v w ≡ operation_row op v w → results op v2 w2 ≡ operation_row op v2 w2 → IsBelow (value_of b op v w) (value_of b op v2 w2)
+    → results op v w ≡ results_by_extents op v w → results op v2 w2 ≡ results_by_extents op v2 w2 → IsBelow (value_of b op v w) (value_of b op v2 w2)
 rows_below b op v w v2 w2 vv vw vv2 vw2 there here e f =
     cover_mono b (results op v w) (results op v2 w2) (some_results op v w vv.well vw.well)
     (rw (e, f) (row_grows b op v w v2 w2 vv vw vv2 vw2 (within_members b v v2 vv vv2 there) (within_members b w w2 vw vw2 here)))
@@ -384,15 +384,15 @@ monotone b op (Span lo last s) w (Span lo2 last2 s2) w2 limits vv vw vv2 vw2 the
 
 -- ---- the Rust bodies
 -- the extents of values are their bounds
-pub same_bounds : (e : Extent) (v : Val) → IsWell v → IsExtent (members v) e.least e.greatest e.step → e ≡ interval_bounds v
+pub same_bounds : (e : Extent) (v : Val) → IsWellFormed v → IsExtent (members v) e.least e.greatest e.step → e ≡ extent_of_value v
 same_bounds e v w h =
     let only = extent_only (members v) h (bounds_of v w) in
     ap (λ n. record { least = n; greatest = e.greatest; step = e.step }) only.0
     ∙ ap (λ n. record { least = low v; greatest = n; step = e.step }) only.1
     ∙ ap (λ n. record { least = low v; greatest = high v; step = n }) only.2
 
-pub row_intervals : (op : Op) (v w : Val) (e f : Extent) → (op ≡ Second → ⊥) → gives_truth op ≡ false → e ≡ interval_bounds v → f ≡ interval_bounds w → range_of (interval_of_row op e f w) ≡ operation_row op v w
-unfolding operation_row gives_truth
+pub row_intervals : (op : Op) (v w : Val) (e f : Extent) → (op ≡ Second → ⊥) → is_comparison op ≡ false → e ≡ extent_of_value v → f ≡ extent_of_value w → interval_words (result_interval op e f w) ≡ results_by_extents op v w
+unfolding results_by_extents is_comparison
 row_intervals Second v w e f n t a c = absurd (n refl)
 row_intervals Eq v w e f n t a c = cc
 row_intervals Ne v w e f n t a c = cc
@@ -418,12 +418,12 @@ differences_step a b c d m =
       | inr f ↦ rw f (elim (cases_Bool (ltb b c)) [ inl t ↦ rw t refl | inr g ↦ rw g refl ])
     ]
 
-by_count_step : {shift : IntervalShift} {by : ℕ → ℕ → ℕ} (are : AreShifts shift by) (a b p : ℕ) (w : Val) → (by_count shift a b p w).step ≤ 2
+by_count_step : {shift : IntervalShift} {by : ℕ → ℕ → ℕ} (are : AreShifts shift by) (a b p : ℕ) (w : Val) → (shift_by_count shift a b p w).step ≤ 2
 by_count_step are a b p (Set (y ∷ [])) = are.small a b p (y % 64)
 by_count_step are a b p _ = omega arith
 
-pub interval_of_row_step : (op : Op) (e f : Extent) (w : Val) → e.step ≤ 2 → f.step ≤ 2 → (interval_of_row op e f w).step ≤ 2
-unfolding interval_of_row
+pub interval_of_row_step : (op : Op) (e f : Extent) (w : Val) → e.step ≤ 2 → f.step ≤ 2 → (result_interval op e f w).step ≤ 2
+unfolding result_interval
 interval_of_row_step Add e f w a b = omega (arith, sums_step e.least e.greatest f.least f.greatest (min e.step f.step))
 interval_of_row_step Sub e f w a b = omega (arith, differences_step e.least e.greatest f.least f.greatest (min e.step f.step))
 interval_of_row_step Sh e f w a b = by_count_step logical e.least e.greatest e.step w
@@ -431,18 +431,18 @@ interval_of_row_step Sha e f w a b = by_count_step arithmetic e.least e.greatest
 interval_of_row_step _ e f w a b = omega arith
 
 -- the interval that a row covers isn't empty
-pub interval_some : (r : StridedInterval) (op : Op) (v w : Val) → IsWell v → IsWell w → range_of r ≡ operation_row op v w → 1 ≤ count_in r.first r.last r.step
+pub interval_some : (r : StridedInterval) (op : Op) (v w : Val) → IsWellFormed v → IsWellFormed w → interval_words r ≡ results_by_extents op v w → 1 ≤ span_len r.first r.last r.step
 interval_some r op v w wv ww e =
     let i = row_has op v w wv ww (low v) (low w) (bounds_of v wv).low_in (bounds_of w ww).low_in in
-    let j : Among (alu_of op (low v) (low w)) (range_of r) = rw e i in
-    omega (arith, some_length (range_of r) (alu_of op (low v) (low w)) j, length-multiples (count_in r.first r.last r.step) (first_in_span r.first r.step) (2 ^ r.step))
+    let j : Among (alu_of op (low v) (low w)) (interval_words r) = rw e i in
+    omega (arith, some_length (interval_words r) (alu_of op (low v) (low w)) j, length-multiples (span_len r.first r.last r.step) (first_in_span r.first r.step) (2 ^ r.step))
 
-pub row-Second : (b : Limits) (v w : Val) → IsValue b w → w ≡ cover b (operation_row Second v w)
-unfolding operation_row
+pub row-Second : (b : Limits) (v w : Val) → IsValue b w → w ≡ cover b (results_by_extents Second v w)
+unfolding results_by_extents
 row-Second b v w value = sym value.own
 
-pub row-truth : (b : Limits) (op : Op) (v w : Val) → gives_truth op ≡ true → cover b (0 ∷ 1 ∷ []) ≡ cover b (operation_row op v w)
-unfolding operation_row gives_truth
+pub row-truth : (b : Limits) (op : Op) (v w : Val) → is_comparison op ≡ true → cover b (0 ∷ 1 ∷ []) ≡ cover b (results_by_extents op v w)
+unfolding results_by_extents is_comparison
 row-truth b Eq v w t = refl
 row-truth b Ne v w t = refl
 row-truth b Lt v w t = refl
@@ -476,7 +476,7 @@ row_whole op x i ys row h e len =
     sym (take_all i row (omega arith)) ∙ e ∙ take_all i (map (alu_of op x) ys) (omega (arith, map_length op x ys))
 
 -- the results of one word with many
-pub results_more : (b : Limits) (v out : Val) (op : Op) (x i : ℕ) (ys : List ℕ) → IsWell v → i < length ys
+pub results_more : (b : Limits) (v out : Val) (op : Op) (x i : ℕ) (ys : List ℕ) → IsWellFormed v → i < length ys
     → out ≡ cover b (members v ++ take i (map (alu_of op x) ys)) → cover b (alu_of op x (get_or ys i 0) ∷ members out) ≡ cover b (members v ++ take (i + 1) (map (alu_of op x) ys))
 results_more b v out op x i ys well h e =
     let at : get_or (map (alu_of op x) ys) i 0 ≡ alu_of op x (get_or ys i 0) = map_at op x i ys h in
@@ -485,10 +485,10 @@ results_more b v out op x i ys well h e =
 
 -- ---- words that were met lately
 -- what a value has stays when words are added to it
-stays : (b : Limits) (v : Val) (xs : List ℕ) (y : ℕ) → IsWell v → Within (members v) xs → IsMember y v → IsMember y (cover b xs)
+stays : (b : Limits) (v : Val) (xs : List ℕ) (y : ℕ) → IsWellFormed v → Within (members v) xs → IsMember y v → IsMember y (cover b xs)
 stays b v xs y well there m = cover_holds b xs y (there y (among_member v y (has_step v well) m))
 
-pub met_more : (b : Limits) (v : Val) (ms : List ℕ) (k z : ℕ) → IsWell v → k < length ms → HasMetResults v ms → HasMetResults (cover b (z ∷ members v)) (set ms k z)
+pub met_more : (b : Limits) (v : Val) (ms : List ℕ) (k z : ℕ) → IsWellFormed v → k < length ms → HasMembers v ms → HasMembers (cover b (z ∷ members v)) (set ms k z)
 met_more b v ms k z well h met i lt =
     elim (cases_eq i k) [
       | inl same ↦
@@ -499,10 +499,10 @@ met_more b v ms k z well h met i lt =
           rw there (stays b v (z ∷ members v) (get_or ms i 0) well (λ y j. inr j) (met i (simp length-set at lt)))
     ]
 
-pub met_kept : (b : Limits) (v : Val) (ms : List ℕ) (x : ℕ) → IsWell v → HasMetResults v ms → HasMetResults (cover b (x ∷ members v)) ms
+pub met_kept : (b : Limits) (v : Val) (ms : List ℕ) (x : ℕ) → IsWellFormed v → HasMembers v ms → HasMembers (cover b (x ∷ members v)) ms
 met_kept b v ms x well met i lt = stays b v (x ∷ members v) (get_or ms i 0) well (λ y j. inr j) (met i lt)
 
-pub met_one : (n x : ℕ) → HasMetResults (Set (x ∷ [])) (replicate n x)
+pub met_one : (n x : ℕ) → HasMembers (Set (x ∷ [])) (replicate n x)
 met_one n x i lt = inl (get_or-replicate n i x 0 (omega (arith, length-replicate n x)))
 
 -- if no bit differs, two words are equal
@@ -530,14 +530,14 @@ same_within ms ws k i n fits same z a =
     subst (λ (y : ℕ). Among y ms) (same p.0 lt ∙ sym at ∙ p.2) (among_get ms (k + p.0) (omega arith))
 
 -- some of the words after some of them
-pub words_next : (b : Limits) (v out : Val) (words : List ℕ) (i j n : ℕ) → IsWell v → j ≡ i + n → out ≡ cover b (members v ++ take i words)
+pub words_next : (b : Limits) (v out : Val) (words : List ℕ) (i j n : ℕ) → IsWellFormed v → j ≡ i + n → out ≡ cover b (members v ++ take i words)
     → cover b (members out ++ take n (drop i words)) ≡ cover b (members v ++ take j words)
 words_next b v out words i j n well e same =
     ap (λ (o : Val). cover b (members o ++ take n (drop i words))) same
     ∙ cover-part b (members v ++ take i words) (take n (drop i words)) (omega (arith, length-append (members v) (take i words), some_members v well))
     ∙ ap (cover b) (append_assoc (members v) (take i words) (take n (drop i words)) ∙ ap (λ (l : List ℕ). members v ++ l) (sym (take-add i n words) ∙ ap (λ (k : ℕ). take k words) (sym e)))
 
-pub met_all : (b : Limits) (v : Val) (ms ws : List ℕ) → IsValue b v → HasMetResults v ms → Within ws ms → v ≡ cover b (members v ++ ws)
+pub met_all : (b : Limits) (v : Val) (ms ws : List ℕ) → IsValue b v → HasMembers v ms → Within ws ms → v ≡ cover b (members v ++ ws)
 met_all b v ms ws value met within =
     sym value.own
     ∙ cover-same b (members v) (members v ++ ws)
@@ -550,65 +550,65 @@ met_all b v ms ws value met within =
     ])
 
 -- eight words that were met together add nothing
-pub met_eight : (b : Limits) (v out : Val) (ms ws : List ℕ) (k i : ℕ) → IsWell v → IsValue b out → HasMetResults out ms → k + 8 ≤ length ms
+pub met_eight : (b : Limits) (v out : Val) (ms ws : List ℕ) (k i : ℕ) → IsWellFormed v → IsValue b out → HasMembers out ms → k + 8 ≤ length ms
     → ((n : ℕ) → n < 8 → get_or ms (k + n) 0 ≡ get_or ws (i + n) 0) → out ≡ cover b (members v ++ take i ws) → out ≡ cover b (members v ++ take (i + 8) ws)
 met_eight b v out ms ws k i well value met fits same e =
     met_all b out ms (take 8 (drop i ws)) value met (same_within ms ws k i 8 fits same) ∙ words_next b v out ws i (i + 8) 8 well refl e
 
 -- the results of many words with many
-pairs-push : (op : Op) (x : ℕ) (xs ys : List ℕ) → pairs op (xs ++ x ∷ []) ys ≡ pairs op xs ys ++ map (alu_of op x) ys
-unfolding pairs
+pairs-push : (op : Op) (x : ℕ) (xs ys : List ℕ) → results_of_pairs op (xs ++ x ∷ []) ys ≡ results_of_pairs op xs ys ++ map (alu_of op x) ys
+unfolding results_of_pairs
 pairs-push op x [] ys = append-nil (map (alu_of op x) ys)
-pairs-push op x (w ∷ xs) ys = ap (λ (l : List ℕ). map (alu_of op w) ys ++ l) (pairs-push op x xs ys) ∙ sym (append_assoc (map (alu_of op w) ys) (pairs op xs ys) (map (alu_of op x) ys))
+pairs-push op x (w ∷ xs) ys = ap (λ (l : List ℕ). map (alu_of op w) ys ++ l) (pairs-push op x xs ys) ∙ sym (append_assoc (map (alu_of op w) ys) (results_of_pairs op xs ys) (map (alu_of op x) ys))
 
-pub pairs_more : (b : Limits) (out : Val) (op : Op) (first i : ℕ) (xs ys : List ℕ) → i < length xs → out ≡ cover b (first ∷ pairs op (take i xs) ys)
-    → cover b (members out ++ map (alu_of op (get_or xs i 0)) ys) ≡ cover b (first ∷ pairs op (take (i + 1) xs) ys)
+pub pairs_more : (b : Limits) (out : Val) (op : Op) (first i : ℕ) (xs ys : List ℕ) → i < length xs → out ≡ cover b (first ∷ results_of_pairs op (take i xs) ys)
+    → cover b (members out ++ map (alu_of op (get_or xs i 0)) ys) ≡ cover b (first ∷ results_of_pairs op (take (i + 1) xs) ys)
 pairs_more b out op first i xs ys h e =
     ap (λ (o : Val). cover b (members o ++ map (alu_of op (get_or xs i 0)) ys)) e
-    ∙ cover-part b (first ∷ pairs op (take i xs) ys) (map (alu_of op (get_or xs i 0)) ys) (omega arith)
-    ∙ ap (λ (l : List ℕ). cover b (first ∷ l)) (sym (pairs-push op (get_or xs i 0) (take i xs) ys) ∙ ap (λ (l : List ℕ). pairs op l ys) (sym (take_more xs i 0 h)))
+    ∙ cover-part b (first ∷ results_of_pairs op (take i xs) ys) (map (alu_of op (get_or xs i 0)) ys) (omega arith)
+    ∙ ap (λ (l : List ℕ). cover b (first ∷ l)) (sym (pairs-push op (get_or xs i 0) (take i xs) ys) ∙ ap (λ (l : List ℕ). results_of_pairs op l ys) (sym (take_more xs i 0 h)))
 
-pairs-append : (op : Op) (xs zs ys : List ℕ) → pairs op (xs ++ zs) ys ≡ pairs op xs ys ++ pairs op zs ys
-unfolding pairs
+pairs-append : (op : Op) (xs zs ys : List ℕ) → results_of_pairs op (xs ++ zs) ys ≡ results_of_pairs op xs ys ++ results_of_pairs op zs ys
+unfolding results_of_pairs
 pairs-append op [] zs ys = refl
 pairs-append op (x ∷ xs) zs ys =
-    ap (λ (l : List ℕ). map (alu_of op x) ys ++ l) (pairs-append op xs zs ys) ∙ sym (append_assoc (map (alu_of op x) ys) (pairs op xs ys) (pairs op zs ys))
+    ap (λ (l : List ℕ). map (alu_of op x) ys ++ l) (pairs-append op xs zs ys) ∙ sym (append_assoc (map (alu_of op x) ys) (results_of_pairs op xs ys) (results_of_pairs op zs ys))
 
-pub pairs_rest : (b : Limits) (out : Val) (op : Op) (first i : ℕ) (xs ys : List ℕ) → out ≡ cover b (first ∷ pairs op (take i xs) ys)
-    → cover b (members out ++ pairs op (take (length xs - i) (drop i xs)) ys) ≡ cover b (first ∷ pairs op xs ys)
+pub pairs_rest : (b : Limits) (out : Val) (op : Op) (first i : ℕ) (xs ys : List ℕ) → out ≡ cover b (first ∷ results_of_pairs op (take i xs) ys)
+    → cover b (members out ++ results_of_pairs op (take (length xs - i) (drop i xs)) ys) ≡ cover b (first ∷ results_of_pairs op xs ys)
 pairs_rest b out op first i xs ys e =
-    ap (λ (l : List ℕ). cover b (members out ++ pairs op l ys)) (take_all (length xs - i) (drop i xs) (omega (arith, length-drop i xs)))
-    ∙ ap (λ (o : Val). cover b (members o ++ pairs op (drop i xs) ys)) e
-    ∙ cover-part b (first ∷ pairs op (take i xs) ys) (pairs op (drop i xs) ys) (omega arith)
-    ∙ ap (λ (l : List ℕ). cover b (first ∷ l)) (sym (pairs-append op (take i xs) (drop i xs) ys) ∙ ap (λ (l : List ℕ). pairs op l ys) (take-append-drop i xs))
+    ap (λ (l : List ℕ). cover b (members out ++ results_of_pairs op l ys)) (take_all (length xs - i) (drop i xs) (omega (arith, length-drop i xs)))
+    ∙ ap (λ (o : Val). cover b (members o ++ results_of_pairs op (drop i xs) ys)) e
+    ∙ cover-part b (first ∷ results_of_pairs op (take i xs) ys) (results_of_pairs op (drop i xs) ys) (omega arith)
+    ∙ ap (λ (l : List ℕ). cover b (first ∷ l)) (sym (pairs-append op (take i xs) (drop i xs) ys) ∙ ap (λ (l : List ℕ). results_of_pairs op l ys) (take-append-drop i xs))
 
 -- the extent of a value and of results
-pub extent_no_pairs : {lo hi s : ℕ} (zs : List ℕ) (op : Op) (ys : List ℕ) → IsExtent zs lo hi s → IsExtent (zs ++ pairs op [] ys) lo hi s
-unfolding pairs
+pub extent_no_pairs : {lo hi s : ℕ} (zs : List ℕ) (op : Op) (ys : List ℕ) → IsExtent zs lo hi s → IsExtent (zs ++ results_of_pairs op [] ys) lo hi s
+unfolding results_of_pairs
 extent_no_pairs zs op ys e = rw (append-nil zs) e
 
 pub extent_pairs : {lo hi s : ℕ} (zs : List ℕ) (op : Op) (i : ℕ) (xs ys : List ℕ) → i < length xs
-    → IsExtent ((zs ++ pairs op (take i xs) ys) ++ map (alu_of op (get_or xs i 0)) ys) lo hi s → IsExtent (zs ++ pairs op (take (i + 1) xs) ys) lo hi s
+    → IsExtent ((zs ++ results_of_pairs op (take i xs) ys) ++ map (alu_of op (get_or xs i 0)) ys) lo hi s → IsExtent (zs ++ results_of_pairs op (take (i + 1) xs) ys) lo hi s
 extent_pairs {lo} {hi} {s} zs op i xs ys h e =
     subst (λ (l : List ℕ). IsExtent l lo hi s)
-    (append_assoc zs (pairs op (take i xs) ys) (map (alu_of op (get_or xs i 0)) ys)
-    ∙ ap (λ (l : List ℕ). zs ++ l) (sym (pairs-push op (get_or xs i 0) (take i xs) ys) ∙ ap (λ (l : List ℕ). pairs op l ys) (sym (take_more xs i 0 h))))
+    (append_assoc zs (results_of_pairs op (take i xs) ys) (map (alu_of op (get_or xs i 0)) ys)
+    ∙ ap (λ (l : List ℕ). zs ++ l) (sym (pairs-push op (get_or xs i 0) (take i xs) ys) ∙ ap (λ (l : List ℕ). results_of_pairs op l ys) (sym (take_more xs i 0 h))))
     e
 
 pub pairs_first : (b : Limits) (op : Op) (xs ys : List ℕ) → 1 ≤ length xs → 1 ≤ length ys
-    → cover b (alu_of op (get_or xs 0 0) (get_or ys 0 0) ∷ pairs op xs ys) ≡ cover b (pairs op xs ys)
+    → cover b (alu_of op (get_or xs 0 0) (get_or ys 0 0) ∷ results_of_pairs op xs ys) ≡ cover b (results_of_pairs op xs ys)
 pairs_first b op xs ys some_x some_y =
-    cover-same b (alu_of op (get_or xs 0 0) (get_or ys 0 0) ∷ pairs op xs ys) (pairs op xs ys)
+    cover-same b (alu_of op (get_or xs 0 0) (get_or ys 0 0) ∷ results_of_pairs op xs ys) (results_of_pairs op xs ys)
     (λ z i. elim i [
-      | inl e ↦ subst (λ (n : ℕ). Among n (pairs op xs ys)) (sym e) (pairs_have op (get_or xs 0 0) (get_or ys 0 0) xs ys (among_get xs 0 some_x) (among_get ys 0 some_y))
+      | inl e ↦ subst (λ (n : ℕ). Among n (results_of_pairs op xs ys)) (sym e) (pairs_have op (get_or xs 0 0) (get_or ys 0 0) xs ys (among_get xs 0 some_x) (among_get ys 0 some_y))
       | inr j ↦ j
     ])
     (λ z i. inr i)
 
 -- the value of a word and a word is the word that they give
 pub pair_one : (b : Limits) (op : Op) (xs ys : List ℕ) → AreLimits b → length xs ≡ 1 → length ys ≡ 1 → alu_of op (get_or xs 0 0) (get_or ys 0 0) < 2 ^ 32
-    → Set (alu_of op (get_or xs 0 0) (get_or ys 0 0) ∷ []) ≡ cover b (pairs op xs ys)
-unfolding pairs
+    → Set (alu_of op (get_or xs 0 0) (get_or ys 0 0) ∷ []) ≡ cover b (results_of_pairs op xs ys)
+unfolding results_of_pairs
 pair_one b op [] ys limits left right small = absurd (omega (arith, left))
 pair_one b op (x ∷ xs) [] limits left right small = absurd (omega (arith, right))
 pair_one b op (x ∷ []) (y ∷ []) limits left right small = cover-one b (alu_of op x y) limits small
@@ -616,11 +616,11 @@ pair_one b op (x ∷ []) (y ∷ z ∷ ys) limits left right small = absurd (omeg
 pair_one b op (x ∷ w ∷ xs) (y ∷ ys) limits left right small = absurd (omega (arith, left))
 
 pub words_result : (b : Limits) (op : Op) (x y : ℕ) → AreLimits b → alu_of op x y < 2 ^ 32 → Set (alu_of op x y ∷ []) ≡ value_of b op (Set (x ∷ [])) (Set (y ∷ []))
-unfolding results pairs
+unfolding results results_of_pairs
 words_result b op x y limits small = cover-one b (alu_of op x y) limits small
 
-pub pairs-none : (op : Op) (x : ℕ) (ys : List ℕ) → x ∷ [] ≡ x ∷ pairs op [] ys
-unfolding pairs
+pub pairs-none : (op : Op) (x : ℕ) (ys : List ℕ) → x ∷ [] ≡ x ∷ results_of_pairs op [] ys
+unfolding results_of_pairs
 pairs-none op x ys = refl
 
 pub shift_fits : (a b n : ℕ) → a ≤ b → b * 2 ^ n % 2 ^ 64 < 2 ^ 32 → b * 2 ^ n < 2 ^ 64 → a * 2 ^ n % 2 ^ 64 < 2 ^ 32

@@ -11,8 +11,8 @@ use Rattle.value_domain.specs.Limits.{Limits, AreLimits}
 use Rattle.value_domain.specs.Values.{IsValue, any_val, word_val}
 use Rattle.value_domain.specs.State.{AreValues, is_lower_slot}
 use Rattle.value_domain.proofs.RangeLaws.{one_value, any_value}
-use Rattle.vd_transfer.specs.EffectsOnStates.{forgotten_from}
-use Rattle.vd_transfer.specs.Registers.{slot, reg_of, register_value_at, fixed_of}
+use Rattle.vd_transfer.specs.EffectsOnStates.{with_lower_unknown_from}
+use Rattle.vd_transfer.specs.Registers.{slot, reg_of, register_value_at, fixed_value_of}
 
 -- the plan's words are words
 abbrev pub AreGlobals : PlanData → Type 0
@@ -26,7 +26,7 @@ word_at (w ∷ ws) (suc i) h = word_at ws i (and_parts (ltb w (2 ^ 32)) (list_al
 pub global_small : (p : PlanData) (r : ℕ) → AreGlobals p → global_of p r < 2 ^ 32
 global_small p r h = word_at p.globals _ h
 
-pub fixed_is_value : (b : Limits) (p : PlanData) (r : ℕ) → AreLimits b → AreGlobals p → IsValue b (fixed_of p r)
+pub fixed_is_value : (b : Limits) (p : PlanData) (r : ℕ) → AreLimits b → AreGlobals p → IsValue b (fixed_value_of p r)
 fixed_is_value b p r limits globals =
     elim (cases_Bool (eqb r 27)) [
       | inl t ↦ rw t (any_value b limits)
@@ -53,18 +53,18 @@ word_value b v None value h = h
 word_value b v (Some w) value h = subst (λ (u : Val). IsValue b u) h value
 
 -- ---- values that are forgotten
-pub length-forgotten : (k : ℕ) (vs : List Val) → length (forgotten_from k vs) ≡ length vs
-unfolding forgotten_from
+pub length-forgotten : (k : ℕ) (vs : List Val) → length (with_lower_unknown_from k vs) ≡ length vs
+unfolding with_lower_unknown_from
 length-forgotten k [] = refl
 length-forgotten k (v ∷ vs) = ap suc (length-forgotten (k + 1) vs)
 
-pub get_or-forgotten : (k : ℕ) (vs : List Val) (i : ℕ) (d : Val) → i < length vs → get_or (forgotten_from k vs) i d ≡ cond (is_lower_slot (k + i)) any_val (get_or vs i d)
-unfolding forgotten_from
+pub get_or-forgotten : (k : ℕ) (vs : List Val) (i : ℕ) (d : Val) → i < length vs → get_or (with_lower_unknown_from k vs) i d ≡ cond (is_lower_slot (k + i)) any_val (get_or vs i d)
+unfolding with_lower_unknown_from
 get_or-forgotten k [] i d h = absurd (omega arith)
 get_or-forgotten k (v ∷ vs) zero d h = let e : k ≡ k + zero = omega arith in ap (λ n. cond (is_lower_slot n) any_val v) e
 get_or-forgotten k (v ∷ vs) (suc i) d h = let e : k + 1 + i ≡ k + suc i = omega arith in get_or-forgotten (k + 1) vs i d (omega arith) ∙ ap (λ n. cond (is_lower_slot n) any_val (get_or vs i d)) e
 
-pub forgotten_values : (b : Limits) (vs : List Val) → AreLimits b → AreValues b vs → AreValues b (forgotten_from 0 vs)
+pub forgotten_values : (b : Limits) (vs : List Val) → AreLimits b → AreValues b vs → AreValues b (with_lower_unknown_from 0 vs)
 forgotten_values b vs limits values r h =
     let k : r < length vs = omega (arith, length-forgotten 0 vs) in
     rw (get_or-forgotten 0 vs r any_val k)

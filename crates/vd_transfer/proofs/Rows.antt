@@ -7,8 +7,8 @@ use Rattle.std.proofs.Math.Nat.{mul-le-mul_right}
 use Rattle.value_domain.specs.Sets.{Among, Within, alignment_log2}
 use Rattle.value_domain.specs.Values.{range}
 use Rattle.value_domain.proofs.CoverLaws.{range_among, among_range, from_units}
-use Rattle.tc_isa.specs.Arithmetic.{shift_by}
-use Rattle.vd_transfer.specs.Intervals.{sums, differences, shifts, range_of}
+use Rattle.tc_isa.specs.Arithmetic.{logical_shift}
+use Rattle.vd_transfer.specs.Intervals.{sums, differences, shifts, interval_words}
 use Rattle.vd_transfer.proofs.Steps.{twos_add, twos_sub, twos_mod, twos_and_both, twos_shift}
 
 -- a range inside another
@@ -24,7 +24,7 @@ pub record Lies (x a b p : ℕ) : Type 0 where
   pub fits : p ≤ alignment_log2 x
 
 -- ---- Add
-pub sums_have : (x y a b c d m : ℕ) → m ≤ 2 → Lies x a b m → Lies y c d m → b < 2 ^ 32 → d < 2 ^ 32 → Among ((x + y) % 2 ^ 32) (range_of (sums a b c d m))
+pub sums_have : (x y a b c d m : ℕ) → m ≤ 2 → Lies x a b m → Lies y c d m → b < 2 ^ 32 → d < 2 ^ 32 → Among ((x + y) % 2 ^ 32) (interval_words (sums a b c d m))
 unfolding sums
 sums_have x y a b c d m small lx ly bb dd =
     let f : m ≤ alignment_log2 ((x + y) % 2 ^ 32) = twos_mod m small (x + y) (twos_add m small x y lx.fits ly.fits) in
@@ -42,7 +42,7 @@ sums_have x y a b c d m small lx ly bb dd =
     ]
 
 pub sums_grow : (a b c d m a2 b2 c2 d2 m2 : ℕ) → m ≤ 2 → m2 ≤ m → a ≤ b → c ≤ d → a2 ≤ a → b ≤ b2 → c2 ≤ c → d ≤ d2 → b2 < 2 ^ 32 → d2 < 2 ^ 32
-    → Within (range_of (sums a b c d m)) (range_of (sums a2 b2 c2 d2 m2))
+    → Within (interval_words (sums a b c d m)) (interval_words (sums a2 b2 c2 d2 m2))
 unfolding sums
 sums_grow a b c d m a2 b2 c2 d2 m2 small step ab cd la hb lc hd bb dd =
     elim (cases_lt (b2 + d2) (2 ^ 32)) [
@@ -79,7 +79,7 @@ pub ands_grow : (b d p q b2 d2 p2 q2 : ℕ) → p ≤ 2 → q ≤ 2 → b ≤ b2
 ands_grow b d p q b2 d2 p2 q2 sp sq hb hd hp hq = range_inside 0 (min b d) (max p q) 0 (min b2 d2) (max p2 q2) (omega arith) (omega arith) (omega arith) (omega arith)
 
 -- ---- Sh by n
-pub shifts_have : (x a b p n : ℕ) → p ≤ 2 → Lies x a b p → b < 2 ^ 32 → Among (shift_by x n) (range_of (shifts a b p n))
+pub shifts_have : (x a b p n : ℕ) → p ≤ 2 → Lies x a b p → b < 2 ^ 32 → Among (logical_shift x n) (interval_words (shifts a b p n))
 unfolding shifts
 shifts_have x a b p n small l bb =
     elim (cases_lt n 32) [
@@ -103,7 +103,7 @@ shifts_have x a b p n small l bb =
           (shr_mono (64 - n) l.from, shr_mono (64 - n) l.to, omega arith))
     ]
 
-pub shifts_grow : (a b p n a2 b2 p2 : ℕ) → p ≤ 2 → a2 ≤ a → b ≤ b2 → p2 ≤ p → Within (range_of (shifts a b p n)) (range_of (shifts a2 b2 p2 n))
+pub shifts_grow : (a b p n a2 b2 p2 : ℕ) → p ≤ 2 → a2 ≤ a → b ≤ b2 → p2 ≤ p → Within (interval_words (shifts a b p n)) (interval_words (shifts a2 b2 p2 n))
 unfolding shifts
 shifts_grow a b p n a2 b2 p2 small la hb hp =
     let low : a2 * 2 ^ n ≤ a * 2 ^ n = mul-le-mul_right (2 ^ n) la in
@@ -128,7 +128,7 @@ shifts_grow a b p n a2 b2 p2 small la hb hp =
     ]
 
 -- a shift's set has words alone
-pub shifts_below : (a b p n z : ℕ) → p ≤ 2 → b < 2 ^ 32 → Among z (range_of (shifts a b p n)) → z < 2 ^ 32
+pub shifts_below : (a b p n z : ℕ) → p ≤ 2 → b < 2 ^ 32 → Among z (interval_words (shifts a b p n)) → z < 2 ^ 32
 unfolding shifts
 shifts_below a b p n z small bb i =
     elim (cases_lt n 32) [
@@ -148,7 +148,7 @@ shifts_below a b p n z small bb i =
     ]
 
 -- ---- Sub
-pub differences_have : (x y a b c d m : ℕ) → m ≤ 2 → Lies x a b m → Lies y c d m → b < 2 ^ 32 → d < 2 ^ 32 → Among ((x + 2 ^ 32 - y) % 2 ^ 32) (range_of (differences a b c d m))
+pub differences_have : (x y a b c d m : ℕ) → m ≤ 2 → Lies x a b m → Lies y c d m → b < 2 ^ 32 → d < 2 ^ 32 → Among ((x + 2 ^ 32 - y) % 2 ^ 32) (interval_words (differences a b c d m))
 unfolding differences
 differences_have x y a b c d m small lx ly bb dd =
     let lift : m ≤ alignment_log2 (x + 2 ^ 32) = twos_add m small x (2 ^ 32) lx.fits (le_trans_2 m small) in
@@ -169,7 +169,7 @@ differences_have x y a b c d m small lx ly bb dd =
     le_trans_2 m small = let t : 2 ≤ alignment_log2 (2 ^ 32) = from_units 2 (omega arith) (2 ^ 30) (2 ^ 32) refl in omega arith
 
 pub differences_grow : (a b c d m a2 b2 c2 d2 m2 : ℕ) → m ≤ 2 → m2 ≤ m → a ≤ b → c ≤ d → a2 ≤ a → b ≤ b2 → c2 ≤ c → d ≤ d2 → b2 < 2 ^ 32 → d2 < 2 ^ 32
-    → Within (range_of (differences a b c d m)) (range_of (differences a2 b2 c2 d2 m2))
+    → Within (interval_words (differences a b c d m)) (interval_words (differences a2 b2 c2 d2 m2))
 unfolding differences
 differences_grow a b c d m a2 b2 c2 d2 m2 small step ab cd la hb lc hd bb dd =
     elim (cases_lt a2 d2) [

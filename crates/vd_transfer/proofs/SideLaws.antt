@@ -14,9 +14,9 @@ use Rattle.value_domain.specs.Values.{cover, members, IsValue, any_val, word_val
 use Rattle.value_domain.proofs.ExtentLaws.{some_length}
 use Rattle.value_domain.proofs.Loops.{among_get}
 use Rattle.vd_transfer.specs.Registers.{slot, set_slot, set_reg, reg_of, arg_of, register_value_at, set_arg}
-use Rattle.vd_transfer.specs.Refinement.{refining_condition_holds, kept_left, kept_right, kept_both}
-use Rattle.value_domain.specs.Meets.{cover_of_meet}
-use Rattle.vd_transfer.specs.Branches.{self_holds, possible_side, side_with_register, side_with_operands}
+use Rattle.vd_transfer.specs.Refinement.{condition_goes_to_side, kept_left, kept_right, kept_against_itself}
+use Rattle.value_domain.specs.Meets.{cover_if_any}
+use Rattle.vd_transfer.specs.Branches.{goes_to_side_if_equal, state_if_possible, side_with_register, side_with_operands}
 use Rattle.value_domain.proofs.MeetLaws.{among_filter, filter_has, any_among, among_any}
 use Rattle.vd_transfer.proofs.RelationLaws.{both_all, both_none}
 
@@ -34,14 +34,14 @@ set_arg-own p s (Word w) = refl
 
 -- ---- one register twice
 pub self_side : (b : Limits) (cond : Cond) (side : Bool) (p : PlanData) (s : State) (x : ℕ) → IsValue b (reg_of p s x)
-    → possible_side (self_holds cond side) s ≡ side_with_register s x (cover_of_meet b (kept_both cond side (members (reg_of p s x))))
+    → state_if_possible (goes_to_side_if_equal cond side) s ≡ side_with_register s x (cover_if_any b (kept_against_itself cond side (members (reg_of p s x))))
 self_side b cond side p s x value =
-    elim (cases_Bool (self_holds cond side)) [
+    elim (cases_Bool (goes_to_side_if_equal cond side)) [
       | inl t ↦
-          ap (λ (h : Bool). possible_side h s) t
+          ap (λ (h : Bool). state_if_possible h s) t
           ∙ ap (λ (z : State). Some z) (sym (set_reg-own p s x))
           ∙ ap (λ (v : Option Val). side_with_register s x v) (both_all b cond side (reg_of p s x) value t)
-      | inr f ↦ ap (λ (h : Bool). possible_side h s) f ∙ ap (λ (v : Option Val). side_with_register s x v) (both_none b cond side (reg_of p s x) f)
+      | inr f ↦ ap (λ (h : Bool). state_if_possible h s) f ∙ ap (λ (v : Option Val). side_with_register s x v) (both_none b cond side (reg_of p s x) f)
     ]
 
 -- ---- a word against a word
@@ -55,37 +55,37 @@ any_one : (p : ℕ → Bool) (x : ℕ) (t : Bool) → p x ≡ t → list_any p (
 any_one p x true h = rw h refl
 any_one p x false h = rw h refl
 
-left_all : (cond : Cond) (side : Bool) (x y : ℕ) → refining_condition_holds cond side x y ≡ true → kept_left cond side (x ∷ []) (y ∷ []) ≡ x ∷ []
+left_all : (cond : Cond) (side : Bool) (x y : ℕ) → condition_goes_to_side cond side x y ≡ true → kept_left cond side (x ∷ []) (y ∷ []) ≡ x ∷ []
 unfolding kept_left
-left_all cond side x y h = filter_one (λ u. list_any (λ w. refining_condition_holds cond side u w) (y ∷ [])) x (any_one (λ w. refining_condition_holds cond side x w) y true h)
+left_all cond side x y h = filter_one (λ u. list_any (λ w. condition_goes_to_side cond side u w) (y ∷ [])) x (any_one (λ w. condition_goes_to_side cond side x w) y true h)
 
-left_none : (cond : Cond) (side : Bool) (x y : ℕ) → refining_condition_holds cond side x y ≡ false → kept_left cond side (x ∷ []) (y ∷ []) ≡ []
+left_none : (cond : Cond) (side : Bool) (x y : ℕ) → condition_goes_to_side cond side x y ≡ false → kept_left cond side (x ∷ []) (y ∷ []) ≡ []
 unfolding kept_left
-left_none cond side x y h = filter_not (λ u. list_any (λ w. refining_condition_holds cond side u w) (y ∷ [])) x (any_one (λ w. refining_condition_holds cond side x w) y false h)
+left_none cond side x y h = filter_not (λ u. list_any (λ w. condition_goes_to_side cond side u w) (y ∷ [])) x (any_one (λ w. condition_goes_to_side cond side x w) y false h)
 
-right_all : (cond : Cond) (side : Bool) (x y : ℕ) → refining_condition_holds cond side x y ≡ true → kept_right cond side (x ∷ []) (y ∷ []) ≡ y ∷ []
+right_all : (cond : Cond) (side : Bool) (x y : ℕ) → condition_goes_to_side cond side x y ≡ true → kept_right cond side (x ∷ []) (y ∷ []) ≡ y ∷ []
 unfolding kept_right
-right_all cond side x y h = filter_one (λ w. list_any (λ u. refining_condition_holds cond side u w) (x ∷ [])) y (any_one (λ u. refining_condition_holds cond side u y) x true h)
+right_all cond side x y h = filter_one (λ w. list_any (λ u. condition_goes_to_side cond side u w) (x ∷ [])) y (any_one (λ u. condition_goes_to_side cond side u y) x true h)
 
 pub words_side : (b : Limits) (cond : Cond) (side : Bool) (s : State) (x : ℕ) (y : Arg) (u w : ℕ) → IsValue b (word_val u) → IsValue b (word_val w) → set_reg s x (word_val u) ≡ s → set_arg s y (word_val w) ≡ s
-    → possible_side (refining_condition_holds cond side u w) s ≡ side_with_operands s x y (cover_of_meet b (kept_left cond side (u ∷ []) (w ∷ []))) (cover_of_meet b (kept_right cond side (u ∷ []) (w ∷ [])))
+    → state_if_possible (condition_goes_to_side cond side u w) s ≡ side_with_operands s x y (cover_if_any b (kept_left cond side (u ∷ []) (w ∷ []))) (cover_if_any b (kept_right cond side (u ∷ []) (w ∷ [])))
 words_side b cond side s x y u w value_u value_w own other =
-    elim (cases_Bool (refining_condition_holds cond side u w)) [
+    elim (cases_Bool (condition_goes_to_side cond side u w)) [
       | inl t ↦
-          ap (λ (h : Bool). possible_side h s) t
+          ap (λ (h : Bool). state_if_possible h s) t
           ∙ ap (λ (z : State). Some z) (sym other)
           ∙ ap (λ (z : State). Some (set_arg z y (word_val w))) (sym own)
           ∙ ap (λ (v : Val). Some (set_arg (set_reg s x v) y (word_val w))) (sym value_u.own)
           ∙ ap (λ (v : Val). Some (set_arg (set_reg s x (cover b (u ∷ []))) y v)) (sym value_w.own)
-          ∙ ap (λ (l : List ℕ). side_with_operands s x y (cover_of_meet b l) (cover_of_meet b (w ∷ []))) (sym (left_all cond side u w t))
-          ∙ ap (λ (l : List ℕ). side_with_operands s x y (cover_of_meet b (kept_left cond side (u ∷ []) (w ∷ []))) (cover_of_meet b l)) (sym (right_all cond side u w t))
+          ∙ ap (λ (l : List ℕ). side_with_operands s x y (cover_if_any b l) (cover_if_any b (w ∷ []))) (sym (left_all cond side u w t))
+          ∙ ap (λ (l : List ℕ). side_with_operands s x y (cover_if_any b (kept_left cond side (u ∷ []) (w ∷ []))) (cover_if_any b l)) (sym (right_all cond side u w t))
       | inr f ↦
-          ap (λ (h : Bool). possible_side h s) f
-          ∙ ap (λ (l : List ℕ). side_with_operands s x y (cover_of_meet b l) (cover_of_meet b (kept_right cond side (u ∷ []) (w ∷ [])))) (sym (left_none cond side u w f))
+          ap (λ (h : Bool). state_if_possible h s) f
+          ∙ ap (λ (l : List ℕ). side_with_operands s x y (cover_if_any b l) (cover_if_any b (kept_right cond side (u ∷ []) (w ∷ [])))) (sym (left_none cond side u w f))
     ]
 
 -- ---- comparison with a constant: if something is left of the register, something is left of it
-pick : (b : Limits) (s : State) (x z : ℕ) (ls rs : List ℕ) → (1 ≤ length ls → 1 ≤ length rs) → side_with_register s x (cover_of_meet b ls) ≡ side_with_operands s x (Word z) (cover_of_meet b ls) (cover_of_meet b rs)
+pick : (b : Limits) (s : State) (x z : ℕ) (ls rs : List ℕ) → (1 ≤ length ls → 1 ≤ length rs) → side_with_register s x (cover_if_any b ls) ≡ side_with_operands s x (Word z) (cover_if_any b ls) (cover_if_any b rs)
 pick b s x z [] rs h = refl
 pick b s x z (l ∷ ls) [] h = absurd (let n : 1 ≤ 0 = h (omega arith) in omega arith)
 pick b s x z (l ∷ ls) (r ∷ rs) h = refl
@@ -93,14 +93,14 @@ pick b s x z (l ∷ ls) (r ∷ rs) h = refl
 some_right : (cond : Cond) (side : Bool) (vs ws : List ℕ) → 1 ≤ length (kept_left cond side vs ws) → 1 ≤ length (kept_right cond side vs ws)
 unfolding kept_left kept_right
 some_right cond side vs ws some =
-    let u = get_or (filter (λ x. list_any (λ y. refining_condition_holds cond side x y) ws) vs) 0 0 in
-    let f = among_filter (λ x. list_any (λ y. refining_condition_holds cond side x y) ws) u vs (among_get (filter (λ x. list_any (λ y. refining_condition_holds cond side x y) ws) vs) 0 some) in
-    let r = any_among (λ y. refining_condition_holds cond side u y) ws f.1 in
-    some_length (filter (λ y. list_any (λ x. refining_condition_holds cond side x y) vs) ws) r.0
-    (filter_has (λ y. list_any (λ x. refining_condition_holds cond side x y) vs) r.0 ws r.1 (among_any (λ x. refining_condition_holds cond side x r.0) u vs f.0 r.2))
+    let u = get_or (filter (λ x. list_any (λ y. condition_goes_to_side cond side x y) ws) vs) 0 0 in
+    let f = among_filter (λ x. list_any (λ y. condition_goes_to_side cond side x y) ws) u vs (among_get (filter (λ x. list_any (λ y. condition_goes_to_side cond side x y) ws) vs) 0 some) in
+    let r = any_among (λ y. condition_goes_to_side cond side u y) ws f.1 in
+    some_length (filter (λ y. list_any (λ x. condition_goes_to_side cond side x y) vs) ws) r.0
+    (filter_has (λ y. list_any (λ x. condition_goes_to_side cond side x y) vs) r.0 ws r.1 (among_any (λ x. condition_goes_to_side cond side x r.0) u vs f.0 r.2))
 
 pub constant_side : (b : Limits) (cond : Cond) (side : Bool) (s : State) (x z : ℕ) (vs ws : List ℕ)
-    → side_with_register s x (cover_of_meet b (kept_left cond side vs ws)) ≡ side_with_operands s x (Word z) (cover_of_meet b (kept_left cond side vs ws)) (cover_of_meet b (kept_right cond side vs ws))
+    → side_with_register s x (cover_if_any b (kept_left cond side vs ws)) ≡ side_with_operands s x (Word z) (cover_if_any b (kept_left cond side vs ws)) (cover_if_any b (kept_right cond side vs ws))
 constant_side b cond side s x z vs ws = pick b s x z (kept_left cond side vs ws) (kept_right cond side vs ws) (some_right cond side vs ws)
 
 -- ---- both operands, one after the other

@@ -6,12 +6,12 @@ use Rattle.std.proofs.lemmas.List.{take_more}
 use Rattle.value_domain.specs.declared.values.Val.TheVariants.{Span}
 use Rattle.value_domain.specs.Sets.{Among, alignment_log2, IsExtent}
 use Rattle.value_domain.specs.Limits.{Limits}
-use Rattle.value_domain.specs.Values.{IsWell, range, in_span}
+use Rattle.value_domain.specs.Values.{IsWellFormed, range, is_in_span}
 use Rattle.value_domain.proofs.CoverLaws.{range_among, among_range, step_cases, from_units, in_units}
 use Rattle.value_domain.proofs.ExtentLaws.{among_append, append_left, append_right}
-use Rattle.value_domain.specs.Meets.{cover_of_meet}
+use Rattle.value_domain.specs.Meets.{cover_if_any}
 use Rattle.tc_isa.specs.Arithmetic.{signed_order_place}
-use Rattle.vd_transfer.specs.Relations.{is_related, Reaches}
+use Rattle.vd_transfer.specs.Relations.{is_related, MayBeRelated}
 use Rattle.vd_transfer.specs.Intervals.{IsInInterval}
 use Rattle.vd_transfer.specs.Signs.{IsSignedRange, signed_related_words}
 use Rattle.vd_transfer.specs.declared.refinement.Relation.{Relation}
@@ -56,7 +56,7 @@ before_half =
 unit_small : (s : ℕ) → s ≤ 2 → (2 ^ s ≤ 4) × (1 ≤ 2 ^ s)
 unit_small = step_cases (λ s. (2 ^ s ≤ 4) × (1 ≤ 2 ^ s)) (omega arith, omega arith) (omega arith, omega arith) (omega arith, omega arith)
 
-pub across : {least greatest t : ℕ} (lo last s : ℕ) → IsWell (Span lo last s) → IsExtent (range lo last s) least greatest t → least < 2 ^ 31 → 2 ^ 31 ≤ greatest
+pub across : {least greatest t : ℕ} (lo last s : ℕ) → IsWellFormed (Span lo last s) → IsExtent (range lo last s) least greatest t → least < 2 ^ 31 → 2 ^ 31 ≤ greatest
     → IsSignedRange (range lo last s) (2 ^ 31) (2 ^ 31 - 2 ^ s)
 across {least} {greatest} lo last s well e low high =
     let first = range_among least lo last s well.0 e.low_in in
@@ -75,7 +75,7 @@ across {least} {greatest} lo last s well e low high =
           ];
     }
 
-pub aside : {least greatest t : ℕ} (lo last s : ℕ) → IsWell (Span lo last s) → IsExtent (range lo last s) least greatest t → (greatest < 2 ^ 31) ⊎ (2 ^ 31 ≤ least)
+pub aside : {least greatest t : ℕ} (lo last s : ℕ) → IsWellFormed (Span lo last s) → IsExtent (range lo last s) least greatest t → (greatest < 2 ^ 31) ⊎ (2 ^ 31 ≤ least)
     → IsSignedRange (range lo last s) least greatest
 aside {least} {greatest} lo last s well e side = record {
   low_in = e.low_in;
@@ -92,9 +92,9 @@ aside {least} {greatest} lo last s well e side = record {
 
 -- ---- some word of a set in a relation
 pub reaches_signed : (rel : Relation) (x low high : ℕ) (ws : List ℕ) → (rel ≡ Same → ⊥) → IsSignedRange ws low high
-    → (list_any (λ y. is_related rel (signed_order_place x) (signed_order_place y)) ws ≡ true → Reaches rel (signed_order_place low) (signed_order_place high) (signed_order_place x))
-    × (Reaches rel (signed_order_place low) (signed_order_place high) (signed_order_place x) → list_any (λ y. is_related rel (signed_order_place x) (signed_order_place y)) ws ≡ true)
-unfolding is_related Reaches
+    → (list_any (λ y. is_related rel (signed_order_place x) (signed_order_place y)) ws ≡ true → MayBeRelated rel (signed_order_place low) (signed_order_place high) (signed_order_place x))
+    × (MayBeRelated rel (signed_order_place low) (signed_order_place high) (signed_order_place x) → list_any (λ y. is_related rel (signed_order_place x) (signed_order_place y)) ws ≡ true)
+unfolding is_related MayBeRelated
 reaches_signed Same x low high ws order e = absurd (order refl)
 reaches_signed Other x low high ws order e = (
   (λ t.
@@ -149,21 +149,21 @@ reaches_signed AtMost x low high ws order e = (
     le_twice a b c h k = omega arith
 
 abbrev pub part : Interval → List ℕ → List ℕ
-part i vs = filter (in_span i.lo i.last 0) vs
+part i vs = filter (is_in_span i.lo i.last 0) vs
 
 part_is : (i : Interval) (vs : List ℕ) (z : ℕ) → (Among z (part i vs) → Among z vs × IsInInterval i z) × (Among z vs → IsInInterval i z → Among z (part i vs))
 part_is i vs z = (
-  (λ k. let f = among_filter (in_span i.lo i.last 0) z vs k in let n = in_span_parts i.lo i.last 0 z f.1 in (f.0, (n.0, n.1))),
-  (λ k n. filter_has (in_span i.lo i.last 0) z vs k (in_span_from i.lo i.last 0 z n.0 n.1 (omega arith))),
+  (λ k. let f = among_filter (is_in_span i.lo i.last 0) z vs k in let n = in_span_parts i.lo i.last 0 z f.1 in (f.0, (n.0, n.1))),
+  (λ k n. filter_has (is_in_span i.lo i.last 0) z vs k (in_span_from i.lo i.last 0 z n.0 n.1 (omega arith))),
 )
 
 -- the members of four intervals
 pub kept_parts : (b : Limits) (rel : Relation) (vs ws : List ℕ) (i j i1 i2 j1 j2 : Interval) (low high : ℕ) → (rel ≡ Same → ⊥) → IsSignedRange ws low high
     → ((x : ℕ) → Among x vs → x < 2 ^ 32)
-    → ((x : ℕ) → x < 2 ^ 32 → (IsInInterval i x ⊎ IsInInterval j x → Reaches rel (signed_order_place low) (signed_order_place high) x) × (Reaches rel (signed_order_place low) (signed_order_place high) x → IsInInterval i x ⊎ IsInInterval j x))
+    → ((x : ℕ) → x < 2 ^ 32 → (IsInInterval i x ⊎ IsInInterval j x → MayBeRelated rel (signed_order_place low) (signed_order_place high) x) × (MayBeRelated rel (signed_order_place low) (signed_order_place high) x → IsInInterval i x ⊎ IsInInterval j x))
     → ((x : ℕ) → x < 2 ^ 32 → (IsInInterval i1 x ⊎ IsInInterval i2 x → IsInInterval i (signed_order_place x)) × (IsInInterval i (signed_order_place x) → IsInInterval i1 x ⊎ IsInInterval i2 x))
     → ((x : ℕ) → x < 2 ^ 32 → (IsInInterval j1 x ⊎ IsInInterval j2 x → IsInInterval j (signed_order_place x)) × (IsInInterval j (signed_order_place x) → IsInInterval j1 x ⊎ IsInInterval j2 x))
-    → cover_of_meet b ((part i1 vs ++ part i2 vs) ++ (part j1 vs ++ part j2 vs)) ≡ cover_of_meet b (signed_related_words rel vs ws)
+    → cover_if_any b ((part i1 vs ++ part i2 vs) ++ (part j1 vs ++ part j2 vs)) ≡ cover_if_any b (signed_related_words rel vs ws)
 unfolding signed_related_words
 kept_parts b rel vs ws i j i1 i2 j1 j2 low high order e small are first second =
     cover_some-same b ((part i1 vs ++ part i2 vs) ++ (part j1 vs ++ part j2 vs)) (filter (λ x. list_any (λ y. is_related rel (signed_order_place x) (signed_order_place y)) ws) vs)

@@ -9,13 +9,13 @@ use Rattle.value_domain.specs.declared.values.Val.{Val}
 use Rattle.value_domain.specs.declared.values.Val.TheVariants.{Set, Span}
 use Rattle.value_domain.specs.Sets.{Among}
 use Rattle.value_domain.specs.Limits.{Limits, AreLimits}
-use Rattle.value_domain.specs.Values.{IsWell, IsValue, cover, members, low, high, step}
+use Rattle.value_domain.specs.Values.{IsWellFormed, IsValue, cover, members, low, high, step}
 use Rattle.value_domain.proofs.CoverLaws.{range_among, cover_least}
 use Rattle.value_domain.proofs.ExtentLaws.{append_left, among_append}
 use Rattle.value_domain.proofs.RangeLaws.{members_below, cover_value}
 use Rattle.value_domain.proofs.WordLaws.{among_place}
-use Rattle.vd_transfer.specs.Operations.{results, pairs, operation_row, gives_truth, value_of}
-use Rattle.vd_transfer.specs.Intervals.{interval_of_row, interval_bounds, sums, differences, range_of, whole, interval}
+use Rattle.vd_transfer.specs.Operations.{results, results_of_pairs, results_by_extents, is_comparison, value_of}
+use Rattle.vd_transfer.specs.Intervals.{result_interval, extent_of_value, sums, differences, interval_words, whole, interval}
 use Rattle.vd_transfer.specs.declared.strided_interval.StridedInterval.{StridedInterval}
 use Rattle.vd_transfer.proofs.OpLaws.{logical, arithmetic, complement_below, and_below, pairs_among, some_results, interval_of_row_step, bounds_of, high_below, by_below}
 
@@ -68,27 +68,27 @@ differences_last a b c d m h =
     ]
 
 -- the words of an interval whose last is a word
-interval_below : (r : StridedInterval) (z : ℕ) → r.step ≤ 2 → r.last < 2 ^ 32 → Among z (range_of r) → z < 2 ^ 32
+interval_below : (r : StridedInterval) (z : ℕ) → r.step ≤ 2 → r.last < 2 ^ 32 → Among z (interval_words r) → z < 2 ^ 32
 interval_below r z small last i = let m = range_among z r.first r.last r.step small i in omega (arith, m.1)
 
-all_words : (z : ℕ) → Among z (range_of (whole 0)) → z < 2 ^ 32
+all_words : (z : ℕ) → Among z (interval_words (whole 0)) → z < 2 ^ 32
 all_words z i = interval_below (whole 0) z (omega arith) (omega arith) i
 
 bit_word : (z : ℕ) → Among z (0 ∷ 1 ∷ []) → z < 2 ^ 32
 bit_word z i = elim i [ inl e ↦ let f : z ≡ 0 = e in omega arith | inr j ↦ elim j [ inl e ↦ let f : z ≡ 1 = e in omega arith | inr n ↦ absurd n ] ]
 
 -- the words of a row are words
-row_below : (op : Op) (v w : Val) → IsWell v → IsWell w → (z : ℕ) → Among z (operation_row op v w) → z < 2 ^ 32
-unfolding operation_row interval_of_row gives_truth
+row_below : (op : Op) (v w : Val) → IsWellFormed v → IsWellFormed w → (z : ℕ) → Among z (results_by_extents op v w) → z < 2 ^ 32
+unfolding results_by_extents result_interval is_comparison
 row_below Second v w wv ww z i = members_below w ww z i
 row_below Add v w wv ww z i =
-    interval_below (sums (low v) (high v) (low w) (high w) (min (step v) (step w))) z (interval_of_row_step Add (interval_bounds v) (interval_bounds w) w (bounds_of v wv).small (bounds_of w ww).small)
+    interval_below (sums (low v) (high v) (low w) (high w) (min (step v) (step w))) z (interval_of_row_step Add (extent_of_value v) (extent_of_value w) w (bounds_of v wv).small (bounds_of w ww).small)
     (sums_last (low v) (high v) (low w) (high w) (min (step v) (step w)) (high_below v wv) (high_below w ww)) i
 row_below Sub v w wv ww z i =
-    interval_below (differences (low v) (high v) (low w) (high w) (min (step v) (step w))) z (interval_of_row_step Sub (interval_bounds v) (interval_bounds w) w (bounds_of v wv).small (bounds_of w ww).small)
+    interval_below (differences (low v) (high v) (low w) (high w) (min (step v) (step w))) z (interval_of_row_step Sub (extent_of_value v) (extent_of_value w) w (bounds_of v wv).small (bounds_of w ww).small)
     (differences_last (low v) (high v) (low w) (high w) (min (step v) (step w)) (high_below v wv)) i
 row_below And v w wv ww z i =
-    interval_below (interval 0 (min (high v) (high w)) (max (step v) (step w))) z (interval_of_row_step And (interval_bounds v) (interval_bounds w) w (bounds_of v wv).small (bounds_of w ww).small) (omega (arith, high_below v wv)) i
+    interval_below (interval 0 (min (high v) (high w)) (max (step v) (step w))) z (interval_of_row_step And (extent_of_value v) (extent_of_value w) w (bounds_of v wv).small (bounds_of w ww).small) (omega (arith, high_below v wv)) i
 row_below Eq v w wv ww z i = bit_word z i
 row_below Ne v w wv ww z i = bit_word z i
 row_below Lt v w wv ww z i = bit_word z i
@@ -99,7 +99,7 @@ row_below Sh v w wv ww z i = by_below logical v w wv z i
 row_below Sha v w wv ww z i = by_below arithmetic v w wv z i
 row_below _ v w wv ww z i = all_words z i
 
-pub results_below : (op : Op) (v w : Val) → IsWell v → IsWell w → (z : ℕ) → Among z (results op v w) → z < 2 ^ 32
+pub results_below : (op : Op) (v w : Val) → IsWellFormed v → IsWellFormed w → (z : ℕ) → Among z (results op v w) → z < 2 ^ 32
 unfolding results
 results_below op (Set xs) (Set ys) wv ww z i =
     let r = pairs_among op z xs ys i in subst (λ (n : ℕ). n < 2 ^ 32) (sym r.4) (alu_below op r.0 r.1 (wv.below r.0 r.2) (ww.below r.1 r.3))
@@ -116,10 +116,10 @@ word_among xs x below i = let p = among_place xs x i in subst (λ (n : ℕ). n <
 
 -- the value of a value's members and of the results of words
 pub pairs_value : (b : Limits) (v : Val) (op : Op) (xs ys : List ℕ) → AreLimits b → IsValue b v → ((k : ℕ) → get_or xs k 0 < 2 ^ 32) → ((k : ℕ) → get_or ys k 0 < 2 ^ 32)
-    → IsValue b (cover b (members v ++ pairs op xs ys))
+    → IsValue b (cover b (members v ++ results_of_pairs op xs ys))
 pairs_value b v op xs ys limits value left right =
-    cover_value b (members v ++ pairs op xs ys) (low v) limits (append_left (low v) (members v) (pairs op xs ys) (bounds_of v value.well).low_in)
-    (λ z i. elim (among_append z (members v) (pairs op xs ys) i) [
+    cover_value b (members v ++ results_of_pairs op xs ys) (low v) limits (append_left (low v) (members v) (results_of_pairs op xs ys) (bounds_of v value.well).low_in)
+    (λ z i. elim (among_append z (members v) (results_of_pairs op xs ys) i) [
       | inl j ↦ members_below v value.well z j
       | inr j ↦
           let r = pairs_among op z xs ys j in

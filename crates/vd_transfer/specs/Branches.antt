@@ -11,15 +11,15 @@ use Rattle.value_domain.specs.declared.states.State.{State}
 use Rattle.value_domain.specs.Values.{members, word_val}
 use Rattle.value_domain.specs.Limits.{Limits}
 use Rattle.vd_transfer.specs.Operations.{value_of}
-use Rattle.vd_transfer.specs.Refinement.{kept_left, kept_right, kept_both}
-use Rattle.value_domain.specs.Meets.{cover_of_meet}
+use Rattle.vd_transfer.specs.Refinement.{kept_left, kept_right, kept_against_itself}
+use Rattle.value_domain.specs.Meets.{cover_if_any}
 use Rattle.vd_transfer.specs.Registers.{reg_of, arg_of, set_reg, write_reg, set_arg, is_operand_register}
 use Rattle.tc_isa.specs.declared.shapes.Cond.TheVariants as cond
 
 -- a state, if the side is possible
-abbrev pub possible_side : Bool → State → Option State
-possible_side true s = Some s
-possible_side false s = None
+abbrev pub state_if_possible : Bool → State → Option State
+state_if_possible true s = Some s
+state_if_possible false s = None
 
 -- the register is narrowed to the members that are possible, if there are any
 abbrev pub side_with_register : State → ℕ → Option Val → Option State
@@ -36,26 +36,26 @@ side_with_operands s x y (Some v) (Some w) = Some (set_arg (set_reg s x v) y w)
 abbrev pub state_on_side : Limits → PlanData → Cond → ℕ → Arg → State → Bool → Option State
 state_on_side b p cond x y s side =
     if is_operand_register x y
-    then side_with_register s x (cover_of_meet b (kept_both cond side (members (reg_of p s x))))
+    then side_with_register s x (cover_if_any b (kept_against_itself cond side (members (reg_of p s x))))
     else side_with_operands s x y
-    (cover_of_meet b (kept_left cond side (members (reg_of p s x)) (members (arg_of p s y))))
-    (cover_of_meet b (kept_right cond side (members (reg_of p s x)) (members (arg_of p s y))))
+    (cover_if_any b (kept_left cond side (members (reg_of p s x)) (members (arg_of p s y))))
+    (cover_if_any b (kept_right cond side (members (reg_of p s x)) (members (arg_of p s y))))
 
 -- a loop decrements its register by 1, on both sides
-abbrev pub with_lowered_counter : Limits → PlanData → ℕ → Bool → Option State → Option State
-with_lowered_counter b p x lowers None = None
-with_lowered_counter b p x lowers (Some s) = Some (if lowers then write_reg s x (value_of b Sub (reg_of p s x) (word_val 1)) else s)
+abbrev pub with_decremented_counter : Limits → PlanData → ℕ → Bool → Option State → Option State
+with_decremented_counter b p x lowers None = None
+with_decremented_counter b p x lowers (Some s) = Some (if lowers then write_reg s x (value_of b Sub (reg_of p s x) (word_val 1)) else s)
 
 -- the state on a side of a branch, if the side is possible
 unfoldable pub refine_of : Limits → PlanData → Shape → State → Bool → Option State
-refine_of b p (Branch cond x y by lowers) s side = with_lowered_counter b p x lowers (state_on_side b p cond x y s side)
+refine_of b p (Branch cond x y by lowers) s side = with_decremented_counter b p x lowers (state_on_side b p cond x y s side)
 refine_of b p _ s side = None
 
 -- the condition goes to the side for a word and itself
-unfoldable pub self_holds : Cond → Bool → Bool
-self_holds cond.Eq side = side
-self_holds cond.Ne side = not side
-self_holds cond.Lt side = not side
-self_holds cond.LtU side = not side
-self_holds cond.Ge side = side
-self_holds cond.GeU side = side
+unfoldable pub goes_to_side_if_equal : Cond → Bool → Bool
+goes_to_side_if_equal cond.Eq side = side
+goes_to_side_if_equal cond.Ne side = not side
+goes_to_side_if_equal cond.Lt side = not side
+goes_to_side_if_equal cond.LtU side = not side
+goes_to_side_if_equal cond.Ge side = side
+goes_to_side_if_equal cond.GeU side = side

@@ -8,13 +8,13 @@ use Rattle.vd_transfer.specs.declared.change.Base.TheVariants.{Same, Forgotten, 
 use Rattle.vd_transfer.specs.declared.change.Put.{Put}
 use Rattle.vd_transfer.specs.declared.change.Change.{Change}
 use Rattle.vd_transfer.specs.Registers.{slot}
-use Rattle.vd_transfer.specs.EffectsOnStates.{forgotten_from}
+use Rattle.vd_transfer.specs.EffectsOnStates.{with_lower_unknown_from}
 
 -- the values that a change starts from: the state's own, those with the lower registers unknown, or
 -- unknown everywhere
 abbrev pub base_of : Base → List Val → List Val
 base_of Same regs = regs
-base_of Forgotten regs = forgotten_from 0 regs
+base_of Forgotten regs = with_lower_unknown_from 0 regs
 base_of Any regs = replicate 27 any_val
 
 -- the values with one at a place, if there is a place
@@ -23,13 +23,13 @@ values_changed_at vs v None = vs
 values_changed_at vs v (Some i) = slice_set vs i v
 
 -- the values with what is put at its place
-abbrev pub put_in : List Val → Put → List Val
-put_in vs put = values_changed_at vs put.value put.at
+abbrev pub with_put : List Val → Put → List Val
+with_put vs put = values_changed_at vs put.value put.at
 
 -- the state after a change
 abbrev pub state_after : State → Change → State
 state_after s c = record {
-  regs = put_in (put_in (put_in (base_of c.base s.regs) c.first) c.second) c.third;
+  regs = with_put (with_put (with_put (base_of c.base s.regs) c.first) c.second) c.third;
   ie = c.ie;
   ccpn = c.ccpn;
   lower = c.lower;
@@ -41,12 +41,12 @@ abbrev pub no_put : Put
 no_put = record { at = None; value = any_val }
 
 -- the put of a register's value, if a state has one for it
-abbrev pub reg_put : ℕ → Val → Put
-reg_put r v = record { at = slot r; value = v }
+abbrev pub put_of_register : ℕ → Val → Put
+put_of_register r v = record { at = slot r; value = v }
 
 -- the change that keeps the whole state
-abbrev pub kept_of : State → Change
-kept_of s = record {
+abbrev pub identity_change_of : State → Change
+identity_change_of s = record {
   base = Same;
   first = no_put;
   second = no_put;
@@ -58,5 +58,5 @@ kept_of s = record {
 }
 
 -- the change that keeps the whole state, with the values of another change at no place
-abbrev pub kept_in : Change → State → Change
-kept_in c s = record (kept_of s) { first = record c.first { at = None }; second = record c.second { at = None }; third = record c.third { at = None } }
+abbrev pub identity_change_over : Change → State → Change
+identity_change_over c s = record (identity_change_of s) { first = record c.first { at = None }; second = record c.second { at = None }; third = record c.third { at = None } }

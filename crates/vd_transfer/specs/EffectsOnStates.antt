@@ -15,9 +15,9 @@ use Rattle.vd_transfer.specs.Registers.{reg_of, arg_of, write_reg}
 use Rattle.value_domain.specs.State.{is_lower_slot}
 
 -- the base register is increased by the offset, if the access does that
-abbrev pub state_with_base : Limits → PlanData → State → Arg → ℕ → Bool → State
-state_with_base b p s (Reg r) offset after = if after then write_reg s r (value_of b Add (reg_of p s r) (word_val offset)) else s
-state_with_base b p s (Word w) offset after = s
+abbrev pub state_with_increased_base : Limits → PlanData → State → Arg → ℕ → Bool → State
+state_with_increased_base b p s (Reg r) offset after = if after then write_reg s r (value_of b Add (reg_of p s r) (word_val offset)) else s
+state_with_increased_base b p s (Word w) offset after = s
 
 -- the address of an access: the base, or base plus offset
 abbrev pub access_of : Limits → PlanData → State → Arg → ℕ → Bool → Val
@@ -25,20 +25,20 @@ access_of b p s base offset after = if after then arg_of p s base else value_of 
 
 -- a lower context is saved: the mark that the lower registers are those of the entry becomes a
 -- local
-abbrev pub state_saved_lower : State → State
-state_saved_lower s = record s { locals = record { items = s.locals.items ++ s.lower ∷ [] } }
+abbrev pub state_after_lower_save : State → State
+state_after_lower_save s = record s { locals = record { items = s.locals.items ++ s.lower ∷ [] } }
 
 -- the effect of a restored lower context on a state's values: those from place i on, with those of
 -- lower registers unknown
-unfoldable pub forgotten_from : ℕ → List Val → List Val
-forgotten_from i [] = []
-forgotten_from i (v ∷ vs) = (if is_lower_slot i then any_val else v) ∷ forgotten_from (i + 1) vs
+unfoldable pub with_lower_unknown_from : ℕ → List Val → List Val
+with_lower_unknown_from i [] = []
+with_lower_unknown_from i (v ∷ vs) = (if is_lower_slot i then any_val else v) ∷ with_lower_unknown_from (i + 1) vs
 
 -- the last lower context is restored: the lower registers are unknown, and they are those of the
 -- entry if its local says so
-abbrev pub state_restored_lower : State → State
-state_restored_lower s = record s {
-  regs = forgotten_from 0 s.regs;
+abbrev pub state_after_lower_restore : State → State
+state_after_lower_restore s = record s {
+  regs = with_lower_unknown_from 0 s.regs;
   lower = slice_index_or s.locals.items (length s.locals.items - 1) false;
   locals = record { items = take (length s.locals.items - 1) s.locals.items };
 }
@@ -48,16 +48,16 @@ state_restored_lower s = record s {
 unfoldable pub transfer_of : Limits → PlanData → Shape → State → Val → State
 transfer_of b p (Compute op dst x y) s loaded = write_reg s dst (value_of b op (arg_of p s x) (arg_of p s y))
 transfer_of b p (Scaled dst base index n) s loaded = write_reg s dst (value_of b Add (reg_of p s base) (value_of b Sh (reg_of p s index) (word_val n)))
-transfer_of b p (Load dst base offset size signed after) s loaded = write_reg (state_with_base b p s base offset after) dst loaded
-transfer_of b p (Store src base offset size after) s loaded = state_with_base b p s base offset after
+transfer_of b p (Load dst base offset size signed after) s loaded = write_reg (state_with_increased_base b p s base offset after) dst loaded
+transfer_of b p (Store src base offset size after) s loaded = state_with_increased_base b p s base offset after
 transfer_of b p (Branch cond x y by lowers) s loaded = s
 transfer_of b p (Jump to) s loaded = s
 transfer_of b p (Call to) s loaded = s
 transfer_of b p Ret s loaded = s
 transfer_of b p Rfe s loaded = s
-transfer_of b p Svlcx s loaded = state_saved_lower s
-transfer_of b p Rslcx s loaded = state_restored_lower s
-transfer_of b p (Bisr c) s loaded = record (state_saved_lower s) { ie = true; ccpn = c }
+transfer_of b p Svlcx s loaded = state_after_lower_save s
+transfer_of b p Rslcx s loaded = state_after_lower_restore s
+transfer_of b p (Bisr c) s loaded = record (state_after_lower_save s) { ie = true; ccpn = c }
 transfer_of b p Enable s loaded = record s { ie = true }
 transfer_of b p Disable s loaded = record s { ie = false }
 transfer_of b p (Syscall tin) s loaded = s

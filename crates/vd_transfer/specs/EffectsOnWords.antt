@@ -20,17 +20,17 @@ abbrev pub access_word : (ℕ → ℕ) → Arg → ℕ → Bool → ℕ
 access_word word base offset after = if after then word_of word base else (word_of word base + offset) % 2 ^ 32
 
 -- the base register increased by the offset
-abbrev pub with_base_word : (ℕ → ℕ) → Arg → ℕ → Bool → ℕ → ℕ
-with_base_word word (Reg r) offset after = if after then words_with_register word r ((word r + offset) % 2 ^ 32) else word
-with_base_word word (Word w) offset after = word
+abbrev pub words_with_increased_base : (ℕ → ℕ) → Arg → ℕ → Bool → ℕ → ℕ
+words_with_increased_base word (Reg r) offset after = if after then words_with_register word r ((word r + offset) % 2 ^ 32) else word
+words_with_increased_base word (Word w) offset after = word
 
 -- the words after an instruction that read this word from memory or a peripheral; saving and
 -- restoring contexts is defined elsewhere
 unfoldable pub words_after : Shape → ℕ → (ℕ → ℕ) → ℕ → ℕ
 words_after (Compute op dst x y) input word = words_with_register word dst (alu_of op (word_of word x) (word_of word y))
 words_after (Scaled dst base index n) input word = words_with_register word dst ((word base + word index * 2 ^ n) % 2 ^ 32)
-words_after (Load dst base offset size signed after) input word = words_with_register (with_base_word word base offset after) dst input
-words_after (Store src base offset size after) input word = with_base_word word base offset after
+words_after (Load dst base offset size signed after) input word = words_with_register (words_with_increased_base word base offset after) dst input
+words_after (Store src base offset size after) input word = words_with_increased_base word base offset after
 words_after (Branch cond x y by lowers) input word = if lowers then words_with_register word x ((word x + (2 ^ 32 - 1)) % 2 ^ 32) else word
 words_after (Mfcr dst number) input word = words_with_register word dst input
 words_after _ input word = word

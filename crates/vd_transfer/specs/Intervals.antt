@@ -11,8 +11,8 @@ use Rattle.vd_transfer.specs.declared.strided_interval.StridedInterval.{StridedI
 use Rattle.vd_transfer.specs.declared.refinement.Interval.{Interval}
 
 -- the words of a strided interval
-abbrev pub range_of : StridedInterval → List ℕ
-range_of r = range r.first r.last r.step
+abbrev pub interval_words : StridedInterval → List ℕ
+interval_words r = range r.first r.last r.step
 
 -- the multiples of 2 ^ step from the first word to the last
 abbrev pub interval : ℕ → ℕ → ℕ → StridedInterval
@@ -24,7 +24,7 @@ whole s = interval 0 (2 ^ 32 - 1) s
 
 -- the words that are multiples of 2 ^ s
 abbrev pub whole_interval_words : ℕ → List ℕ
-whole_interval_words s = range_of (whole s)
+whole_interval_words s = interval_words (whole s)
 
 -- sums of a..=b and c..=d of step m, modulo 2 ^ 32
 unfoldable pub sums : ℕ → ℕ → ℕ → ℕ → ℕ → StridedInterval
@@ -59,37 +59,37 @@ abbrev pub IntervalShift : Type 0
 IntervalShift = ℕ → ℕ → ℕ → ℕ → StridedInterval
 
 -- the interval of shifts by the count, if the count's value is one word; else all words
-abbrev pub by_count : IntervalShift → ℕ → ℕ → ℕ → Val → StridedInterval
-by_count shift a b p (Set (y ∷ [])) = shift a b p (y % 64)
-by_count shift a b p (Set []) = whole 0
-by_count shift a b p (Set (x ∷ y ∷ ys)) = whole 0
-by_count shift a b p (Span lo last s) = whole 0
+abbrev pub shift_by_count : IntervalShift → ℕ → ℕ → ℕ → Val → StridedInterval
+shift_by_count shift a b p (Set (y ∷ [])) = shift a b p (y % 64)
+shift_by_count shift a b p (Set []) = whole 0
+shift_by_count shift a b p (Set (x ∷ y ∷ ys)) = whole 0
+shift_by_count shift a b p (Span lo last s) = whole 0
 
 -- the interval that a row covers, by the bounds e and f of its operands
-unfoldable pub interval_of_row : Op → Extent → Extent → Val → StridedInterval
-interval_of_row Second e f w = whole 0
-interval_of_row Add e f w = sums e.least e.greatest f.least f.greatest (min e.step f.step)
-interval_of_row Sub e f w = differences e.least e.greatest f.least f.greatest (min e.step f.step)
-interval_of_row And e f w = interval 0 (min e.greatest f.greatest) (max e.step f.step)
-interval_of_row Nand e f w = whole 0
-interval_of_row Or e f w = whole 0
-interval_of_row Nor e f w = whole 0
-interval_of_row Xor e f w = whole 0
-interval_of_row Xnor e f w = whole 0
-interval_of_row Andn e f w = whole 0
-interval_of_row Orn e f w = whole 0
-interval_of_row Eq e f w = whole 0
-interval_of_row Ne e f w = whole 0
-interval_of_row Lt e f w = whole 0
-interval_of_row LtU e f w = whole 0
-interval_of_row Ge e f w = whole 0
-interval_of_row GeU e f w = whole 0
-interval_of_row Sh e f w = by_count shifts e.least e.greatest e.step w
-interval_of_row Sha e f w = by_count signed_shifts e.least e.greatest e.step w
+unfoldable pub result_interval : Op → Extent → Extent → Val → StridedInterval
+result_interval Second e f w = whole 0
+result_interval Add e f w = sums e.least e.greatest f.least f.greatest (min e.step f.step)
+result_interval Sub e f w = differences e.least e.greatest f.least f.greatest (min e.step f.step)
+result_interval And e f w = interval 0 (min e.greatest f.greatest) (max e.step f.step)
+result_interval Nand e f w = whole 0
+result_interval Or e f w = whole 0
+result_interval Nor e f w = whole 0
+result_interval Xor e f w = whole 0
+result_interval Xnor e f w = whole 0
+result_interval Andn e f w = whole 0
+result_interval Orn e f w = whole 0
+result_interval Eq e f w = whole 0
+result_interval Ne e f w = whole 0
+result_interval Lt e f w = whole 0
+result_interval LtU e f w = whole 0
+result_interval Ge e f w = whole 0
+result_interval GeU e f w = whole 0
+result_interval Sh e f w = shift_by_count shifts e.least e.greatest e.step w
+result_interval Sha e f w = shift_by_count signed_shifts e.least e.greatest e.step w
 
 -- the bounds of a value
-abbrev pub interval_bounds : Val → Extent
-interval_bounds v = record { least = low v; greatest = high v; step = step v }
+abbrev pub extent_of_value : Val → Extent
+extent_of_value v = record { least = low v; greatest = high v; step = step v }
 
 -- a word is in an interval that refinement by a condition keeps
 abbrev pub IsInInterval : Interval → ℕ → Type 0

@@ -9,55 +9,55 @@ use Rattle.value_domain.specs.declared.values.Val.{Val}
 use Rattle.value_domain.specs.declared.values.Val.TheVariants.{Set, Span}
 use Rattle.value_domain.specs.Limits.{Limits}
 use Rattle.value_domain.specs.Values.{IsMember, cover, members}
-use Rattle.vd_transfer.specs.Intervals.{interval_bounds, range_of, interval_of_row}
+use Rattle.vd_transfer.specs.Intervals.{extent_of_value, interval_words, result_interval}
 
 -- an operation on values has only the results 1 and 0, as comparisons have
-unfoldable pub gives_truth : Op → Bool
-gives_truth Second = false
-gives_truth Add = false
-gives_truth Sub = false
-gives_truth And = false
-gives_truth Nand = false
-gives_truth Or = false
-gives_truth Nor = false
-gives_truth Xor = false
-gives_truth Xnor = false
-gives_truth Andn = false
-gives_truth Orn = false
-gives_truth Eq = true
-gives_truth Ne = true
-gives_truth Lt = true
-gives_truth LtU = true
-gives_truth Ge = true
-gives_truth GeU = true
-gives_truth Sh = false
-gives_truth Sha = false
+unfoldable pub is_comparison : Op → Bool
+is_comparison Second = false
+is_comparison Add = false
+is_comparison Sub = false
+is_comparison And = false
+is_comparison Nand = false
+is_comparison Or = false
+is_comparison Nor = false
+is_comparison Xor = false
+is_comparison Xnor = false
+is_comparison Andn = false
+is_comparison Orn = false
+is_comparison Eq = true
+is_comparison Ne = true
+is_comparison Lt = true
+is_comparison LtU = true
+is_comparison Ge = true
+is_comparison GeU = true
+is_comparison Sh = false
+is_comparison Sha = false
 
 -- the set that a row covers: the second operand, a truth value, or an interval
-abbrev pub operation_row_of : Bool → Op → Val → Val → List ℕ
-operation_row_of true op v w = 0 ∷ 1 ∷ []
-operation_row_of false op v w = range_of (interval_of_row op (interval_bounds v) (interval_bounds w) w)
+abbrev pub results_by_extents_of : Bool → Op → Val → Val → List ℕ
+results_by_extents_of true op v w = 0 ∷ 1 ∷ []
+results_by_extents_of false op v w = interval_words (result_interval op (extent_of_value v) (extent_of_value w) w)
 
 -- the set that an operation's row gives, if an operand is a Span
-unfoldable pub operation_row : Op → Val → Val → List ℕ
-operation_row Second v w = members w
-operation_row op v w = operation_row_of (gives_truth op) op v w
+unfoldable pub results_by_extents : Op → Val → Val → List ℕ
+results_by_extents Second v w = members w
+results_by_extents op v w = results_by_extents_of (is_comparison op) op v w
 
 -- the results of all pairs
-unfoldable pub pairs : Op → List ℕ → List ℕ → List ℕ
-pairs op [] ys = []
-pairs op (x ∷ xs) ys = map (alu_of op x) ys ++ pairs op xs ys
+unfoldable pub results_of_pairs : Op → List ℕ → List ℕ → List ℕ
+results_of_pairs op [] ys = []
+results_of_pairs op (x ∷ xs) ys = map (alu_of op x) ys ++ results_of_pairs op xs ys
 
 -- the words that an operation's value covers
 unfoldable pub results : Op → Val → Val → List ℕ
-results op (Set xs) (Set ys) = pairs op xs ys
-results op (Set xs) (Span lo last s) = operation_row op (Set xs) (Span lo last s)
-results op (Span lo last s) w = operation_row op (Span lo last s) w
+results op (Set xs) (Set ys) = results_of_pairs op xs ys
+results op (Set xs) (Span lo last s) = results_by_extents op (Set xs) (Span lo last s)
+results op (Span lo last s) w = results_by_extents op (Span lo last s) w
 
 -- the value of an operation: the least one that holds its results
 abbrev pub value_of : Limits → Op → Val → Val → Val
 value_of b op v w = cover b (results op v w)
 
 -- each of the results of an operation that were met is a member of the operation's value
-abbrev pub HasMetResults : Val → List ℕ → Type 0
-HasMetResults v ms = (k : ℕ) → k < length ms → IsMember (slice_index ms k) v
+abbrev pub HasMembers : Val → List ℕ → Type 0
+HasMembers v ms = (k : ℕ) → k < length ms → IsMember (slice_index ms k) v

@@ -9,27 +9,27 @@ use Rattle.vd_transfer.specs.Relations.{is_related, related_words}
 use Rattle.vd_transfer.specs.Signs.{signed_related_words}
 
 -- the condition of a refinement goes to a side for two words
-abbrev pub refining_condition_holds : Cond → Bool → ℕ → ℕ → Bool
-refining_condition_holds cond side x y = if side then taken_of cond x y else not (taken_of cond x y)
+abbrev pub condition_goes_to_side : Cond → Bool → ℕ → ℕ → Bool
+condition_goes_to_side cond side x y = if side then taken_of cond x y else not (taken_of cond x y)
 
 -- what refinement keeps of the left one of two values: the words of vs for which some word of ws
 -- makes the condition go to the side
 unfoldable pub kept_left : Cond → Bool → List ℕ → List ℕ → List ℕ
-kept_left cond side vs ws = filter (λ x. list_any (λ y. refining_condition_holds cond side x y) ws) vs
+kept_left cond side vs ws = filter (λ x. list_any (λ y. condition_goes_to_side cond side x y) ws) vs
 
 -- what refinement keeps of the right one of two values: the words of ws for which some word of vs
 -- makes the condition go to the side
 unfoldable pub kept_right : Cond → Bool → List ℕ → List ℕ → List ℕ
-kept_right cond side vs ws = filter (λ y. list_any (λ x. refining_condition_holds cond side x y) vs) ws
+kept_right cond side vs ws = filter (λ y. list_any (λ x. condition_goes_to_side cond side x y) vs) ws
 
 -- what refinement keeps of a value compared with itself: the words that make the condition go to
 -- the side if compared with themselves
-unfoldable pub kept_both : Cond → Bool → List ℕ → List ℕ
-kept_both cond side zs = filter (λ z. refining_condition_holds cond side z z) zs
+unfoldable pub kept_against_itself : Cond → Bool → List ℕ → List ℕ
+kept_against_itself cond side zs = filter (λ z. condition_goes_to_side cond side z z) zs
 
 -- Refinement keeps each word for which the relation holds, and it grows with both sets: by the
 -- unsigned order of words, and by the signed one.
-pub record RefinesWell (rel : Relation) : Type 0 where
+pub record IsSoundAndMonotone (rel : Relation) : Type 0 where
   pub sound : (vs ws : List ℕ) (x y : ℕ) → Among x vs → Among y ws → is_related rel x y ≡ true → Among x (related_words rel vs ws)
   pub monotone : (vs ws vs2 ws2 : List ℕ) → Within vs vs2 → Within ws ws2 → Within (related_words rel vs ws) (related_words rel vs2 ws2)
   pub signed_sound :
@@ -38,5 +38,5 @@ pub record RefinesWell (rel : Relation) : Type 0 where
   pub signed_monotone : (vs ws vs2 ws2 : List ℕ) → Within vs vs2 → Within ws ws2 → Within (signed_related_words rel vs ws) (signed_related_words rel vs2 ws2)
 
 -- refinement by each relation keeps this law
-abbrev pub AreRefined : Type 0
-AreRefined = (rel : Relation) → RefinesWell rel
+abbrev pub RefinementIsSoundAndMonotone : Type 0
+RefinementIsSoundAndMonotone = (rel : Relation) → IsSoundAndMonotone rel

@@ -21,13 +21,13 @@ slot r =
     else None
 
 -- the value of a register that a state has no place for
-abbrev pub fixed_of : PlanData → ℕ → Val
-fixed_of p r = if r == 27 then any_val else word_val (global_of p r)
+abbrev pub fixed_value_of : PlanData → ℕ → Val
+fixed_value_of p r = if r == 27 then any_val else word_val (global_of p r)
 
 -- the value of a register by its place in a state, or its fixed value if it has no place
 abbrev pub register_value_at : PlanData → State → ℕ → Option ℕ → Val
 register_value_at p s r (Some i) = slice_index_or s.regs i any_val
-register_value_at p s r None = fixed_of p r
+register_value_at p s r None = fixed_value_of p r
 
 -- the value of a register
 abbrev pub reg_of : PlanData → State → ℕ → Val
@@ -71,17 +71,17 @@ arg_slot (Reg r) = slot r
 arg_slot (Word w) = None
 
 -- a base register that the access increases has a value in a state
-abbrev pub HasBaseValue : Arg → Bool → Type 0
-HasBaseValue (Reg r) after = IsTrue after → RegisterHasValue r
-HasBaseValue (Word w) after = Unit {0}
+abbrev pub IncreasesNoFixedRegister : Arg → Bool → Type 0
+IncreasesNoFixedRegister (Reg r) after = IsTrue after → RegisterHasValue r
+IncreasesNoFixedRegister (Word w) after = Unit {0}
 
 -- each register that the instruction names and writes has a value in a state, and the instruction
 -- isn't MTCR
 abbrev pub WritesNoFixedRegister : Shape → Type 0
 WritesNoFixedRegister (Compute op dst x y) = RegisterHasValue dst
 WritesNoFixedRegister (Scaled dst base index n) = RegisterHasValue dst
-WritesNoFixedRegister (Load dst base offset size signed after) = RegisterHasValue dst × HasBaseValue base after
-WritesNoFixedRegister (Store src base offset size after) = HasBaseValue base after
+WritesNoFixedRegister (Load dst base offset size signed after) = RegisterHasValue dst × IncreasesNoFixedRegister base after
+WritesNoFixedRegister (Store src base offset size after) = IncreasesNoFixedRegister base after
 WritesNoFixedRegister (Branch cond x y by lowers) = IsTrue lowers → RegisterHasValue x
 WritesNoFixedRegister (Mfcr dst number) = RegisterHasValue dst
 WritesNoFixedRegister (Mtcr src number) = ⊥

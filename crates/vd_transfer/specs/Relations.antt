@@ -38,10 +38,10 @@ unfoldable pub related_words : Relation → List ℕ → List ℕ → List ℕ
 related_words rel vs ws = filter (λ x. list_any (λ y. is_related rel x y) ws) vs
 
 -- x is in the relation to low or to high (equality needs more)
-unfoldable pub Reaches : Relation → ℕ → ℕ → ℕ → Type 0
-Reaches Same low high x = low ≤ x
-Reaches Other low high x = (x < high) ⊎ (low < x)
-Reaches Less low high x = x < high
-Reaches AtLeast low high x = low ≤ x
-Reaches More low high x = low < x
-Reaches AtMost low high x = x ≤ high
+unfoldable pub MayBeRelated : Relation → ℕ → ℕ → ℕ → Type 0
+MayBeRelated Same low high x = low ≤ x
+MayBeRelated Other low high x = (x < high) ⊎ (low < x)
+MayBeRelated Less low high x = x < high
+MayBeRelated AtLeast low high x = low ≤ x
+MayBeRelated More low high x = low < x
+MayBeRelated AtMost low high x = x ≤ high

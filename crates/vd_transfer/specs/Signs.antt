@@ -20,10 +20,10 @@ pub record IsSignedRange (ws : List ℕ) (low high : ℕ) : Type 0 where
   pub high_is : (z : ℕ) → Among z ws → signed_order_place z ≤ signed_order_place high
 
 -- the condition is of the signed order
-unfoldable pub is_signed : Cond → Bool
-is_signed cond.Eq = false
-is_signed cond.Ne = false
-is_signed cond.Lt = true
-is_signed cond.LtU = false
-is_signed cond.Ge = true
-is_signed cond.GeU = false
+unfoldable pub is_signed_condition : Cond → Bool
+is_signed_condition cond.Eq = false
+is_signed_condition cond.Ne = false
+is_signed_condition cond.Lt = true
+is_signed_condition cond.LtU = false
+is_signed_condition cond.Ge = true
+is_signed_condition cond.GeU = false

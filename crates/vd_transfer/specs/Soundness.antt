@@ -13,7 +13,7 @@ use Rattle.value_domain.specs.Limits.{Limits, AreLimits}
 use Rattle.value_domain.specs.Values.{IsMember}
 use Rattle.value_domain.specs.State.{AreValues}
 use Rattle.vd_transfer.specs.Registers.{is_lower_register, WritesNoFixedRegister}
-use Rattle.vd_transfer.specs.EffectsOnStates.{transfer_of, address_of, state_restored_lower}
+use Rattle.vd_transfer.specs.EffectsOnStates.{transfer_of, address_of, state_after_lower_restore}
 use Rattle.vd_transfer.specs.EffectsOnWords.{ie_after, word_of, access_word, words_after, ccpn_after}
 use Rattle.vd_transfer.specs.Branches.{refine_of}
 use Rattle.vd_transfer.specs.Holding.{Holds}
@@ -27,15 +27,15 @@ pub record IsSoundSetting (b : Limits) (p : PlanData) (s : State) : Type 0 where
 
 -- a premise of the law that effects are sound: the instruction stays in its frame, is followed by
 -- the next one, and restores nothing
-abbrev pub StaysPlain : Shape → Type 0
-StaysPlain (Branch cond x y by lowers) = ⊥
-StaysPlain (Jump to) = ⊥
-StaysPlain (Call to) = ⊥
-StaysPlain Ret = ⊥
-StaysPlain Rfe = ⊥
-StaysPlain (Syscall tin) = ⊥
-StaysPlain Rslcx = ⊥
-StaysPlain _ = Unit {0}
+abbrev pub IsStraightLine : Shape → Type 0
+IsStraightLine (Branch cond x y by lowers) = ⊥
+IsStraightLine (Jump to) = ⊥
+IsStraightLine (Call to) = ⊥
+IsStraightLine Ret = ⊥
+IsStraightLine Rfe = ⊥
+IsStraightLine (Syscall tin) = ⊥
+IsStraightLine Rslcx = ⊥
+IsStraightLine _ = Unit {0}
 
 -- a load reads a member of the value that was loaded
 abbrev pub ReadsSoundly : Shape → ℕ → Val → Type 0
@@ -46,14 +46,14 @@ ReadsSoundly _ input loaded = Unit {0}
 abbrev pub TransferIsSound : Type 0
 TransferIsSound =
     (b : Limits) (p : PlanData) (shape : Shape) (s : State) (loaded : Val) (word : ℕ → ℕ) (ie : Bool) (ccpn input : ℕ) → IsSoundSetting b p s
-    → IsShape shape → WritesNoFixedRegister shape → StaysPlain shape → input < 2 ^ 32 → ReadsSoundly shape input loaded → Holds p word ie ccpn s
+    → IsShape shape → WritesNoFixedRegister shape → IsStraightLine shape → input < 2 ^ 32 → ReadsSoundly shape input loaded → Holds p word ie ccpn s
     → Holds p (words_after shape input word) (ie_after shape ie) (ccpn_after shape ccpn) (transfer_of b p shape s loaded)
 
 -- after a lower context was restored, the changed state holds the words, whatever the context had
 abbrev pub RestoreIsSound : Type 0
 RestoreIsSound =
     (p : PlanData) (s : State) (word word2 : ℕ → ℕ) (ie : Bool) (ccpn : ℕ) → length s.regs ≡ 27 → ((r : ℕ) → r < 32 → word2 r < 2 ^ 32)
-    → ((r : ℕ) → r < 32 → is_lower_register r ≡ false → word2 r ≡ word r) → Holds p word ie ccpn s → Holds p word2 ie ccpn (state_restored_lower s)
+    → ((r : ℕ) → r < 32 → is_lower_register r ≡ false → word2 r ≡ word r) → Holds p word ie ccpn s → Holds p word2 ie ccpn (state_after_lower_restore s)
 
 -- the side that a branch takes is possible, and its state holds the words
 abbrev pub BranchIsSound : Type 0

@@ -5,10 +5,10 @@ ghost use Rattle.value_domain.specs.State.{AreValues};
 ghost use Rattle.tc_isa.specs.InBounds.{IsArg, IsShape};
 ghost use Rattle.tc_isa.specs.declared.shapes.Arg.TheVariants.{Word};
 ghost use Rattle.tc_isa.specs.declared.shapes.Op.TheVariants.{Sub};
-ghost use Rattle.vd_transfer.specs.Refinement.{refining_condition_holds, kept_left, kept_right};
-ghost use Rattle.value_domain.specs.Meets.{cover_of_meet};
+ghost use Rattle.vd_transfer.specs.Refinement.{condition_goes_to_side, kept_left, kept_right};
+ghost use Rattle.value_domain.specs.Meets.{cover_if_any};
 ghost use Rattle.vd_transfer.specs.Relations.{relation_of};
-ghost use Rattle.vd_transfer.specs.Branches.{self_holds, refine_of, possible_side, side_with_register, side_with_operands, state_on_side, with_lowered_counter};
+ghost use Rattle.vd_transfer.specs.Branches.{goes_to_side_if_equal, refine_of, state_if_possible, side_with_register, side_with_operands, state_on_side, with_decremented_counter};
 ghost use Rattle.vd_transfer.specs.Registers.{reg_of, arg_of, write_reg};
 ghost use Rattle.vd_transfer.specs.Operations.{value_of};
 ghost use Rattle.vd_transfer.specs.Changes.{state_after};
@@ -70,9 +70,9 @@ pub(crate) fn relation_on_side(cond: Cond, side: bool) -> Relation
 }
 
 /// Returns true if the condition of a branch goes to the side for a word and itself.
-#[tactic(auto, unfolding(crate::specs::Branches::self_holds))]
+#[tactic(auto, unfolding(crate::specs::Branches::goes_to_side_if_equal))]
 fn is_side_taken_by_equal_words(cond: Cond, side: bool) -> bool
-    ensures { result ≡ self_holds cond side }
+    ensures { result ≡ goes_to_side_if_equal cond side }
 {
     match cond {
         Cond::Eq | Cond::Ge | Cond::GeU => side,
@@ -82,7 +82,7 @@ fn is_side_taken_by_equal_words(cond: Cond, side: bool) -> bool
 
 /// Returns true if a condition goes to the side for two words.
 fn is_side_taken(cond: Cond, side: bool, x: u32, y: u32) -> bool
-    ensures { result ≡ refining_condition_holds cond side x y }
+    ensures { result ≡ condition_goes_to_side cond side x y }
 {
     if side {
         taken(cond, x, y)
@@ -106,9 +106,9 @@ pub(crate) fn narrow_side_register(
     requires values { AreValues b.now s.now.regs }
     requires left { IsValue b.now v.now }
     requires right { IsValue b.now w.now }
-    ensures one { possible_side result (state_after s.now c.new)
+    ensures one { state_if_possible result (state_after s.now c.new)
         ≡ side_with_register s.now test.x
-        (cover_of_meet b.now (kept_left test.cond test.side (members v.now) (members w.now))) }
+        (cover_if_any b.now (kept_left test.cond test.side (members v.now) (members w.now))) }
     ensures values { AreValues b.now (state_after s.now c.new).regs }
     ensures free { (c.new.second.at ≡ None) × (c.new.third.at ≡ None) }
 {
@@ -133,7 +133,7 @@ pub fn change_on(
 ) -> bool
     requires shape { IsShape shape }
     requires values { AreValues b.now s.now.regs }
-    ensures refine { possible_side result (state_after s.now c.new)
+    ensures refine { state_if_possible result (state_after s.now c.new)
         ≡ refine_of b.now plan.now shape s.now side }
     ensures values { AreValues b.now (state_after s.now c.new).regs }
 {
@@ -163,8 +163,8 @@ fn change_by_comparison(
 ) -> bool
     requires operands { (test.x < 32) × IsArg test.y }
     requires values { AreValues b.now s.now.regs }
-    ensures refine { possible_side result (state_after s.now c.new)
-        ≡ with_lowered_counter b.now plan.now test.x lowers
+    ensures refine { state_if_possible result (state_after s.now c.new)
+        ≡ with_decremented_counter b.now plan.now test.x lowers
         (state_on_side b.now plan.now test.cond test.x test.y s.now test.side) }
     ensures values { AreValues b.now (state_after s.now c.new).regs }
 {
@@ -180,7 +180,7 @@ fn change_by_comparison(
 fn narrow_on_side(b: &Bounds, plan: &Plan, test: Comparison, s: &State, c: &mut Change) -> bool
     requires operands { (test.x < 32) × IsArg test.y }
     requires values { AreValues b.now s.now.regs }
-    ensures refined { possible_side result (state_after s.now c.new)
+    ensures refined { state_if_possible result (state_after s.now c.new)
         ≡ state_on_side b.now plan.now test.cond test.x test.y s.now test.side }
     ensures values { AreValues b.now (state_after s.now c.new).regs }
     ensures free { c.new.third.at ≡ None }
@@ -209,7 +209,7 @@ fn decrement_loop_counter(b: &Bounds, plan: &Plan, x: u8, lowers: bool, s: &Stat
     requires values { AreValues b.now (state_after s.now c.old).regs }
     requires free { c.old.third.at ≡ None }
     ensures lowered { Some (state_after s.now c.new)
-        ≡ with_lowered_counter b.now plan.now x lowers (Some (state_after s.now c.old)) }
+        ≡ with_decremented_counter b.now plan.now x lowers (Some (state_after s.now c.old)) }
     ensures values { AreValues b.now (state_after s.now c.new).regs }
 {
     if lowers {
@@ -228,11 +228,11 @@ fn narrow_side_by_values(
 ) -> bool
     requires operands { (test.x < 32) × IsArg test.y }
     requires values { AreValues b.now s.now.regs }
-    ensures two { possible_side result (state_after s.now c.new)
+    ensures two { state_if_possible result (state_after s.now c.new)
         ≡ side_with_operands s.now test.x test.y
-        (cover_of_meet b.now (kept_left test.cond test.side (members (reg_of plan.now s.now test.x))
+        (cover_if_any b.now (kept_left test.cond test.side (members (reg_of plan.now s.now test.x))
         (members (arg_of plan.now s.now test.y))))
-        (cover_of_meet b.now (kept_right test.cond test.side
+        (cover_if_any b.now (kept_right test.cond test.side
         (members (reg_of plan.now s.now test.x))
         (members (arg_of plan.now s.now test.y)))) }
     ensures values { AreValues b.now (state_after s.now c.new).regs }
@@ -261,10 +261,10 @@ fn narrow_side_by_constant(
 ) -> bool
     requires values { AreValues b.now s.now.regs }
     requires left { IsValue b.now v.now }
-    ensures two { possible_side result (state_after s.now c.new)
+    ensures two { state_if_possible result (state_after s.now c.new)
         ≡ side_with_operands s.now test.x (Word z)
-        (cover_of_meet b.now (kept_left test.cond test.side (members v.now) (z ∷ [])))
-        (cover_of_meet b.now (kept_right test.cond test.side (members v.now) (z ∷ []))) }
+        (cover_if_any b.now (kept_left test.cond test.side (members v.now) (z ∷ [])))
+        (cover_if_any b.now (kept_right test.cond test.side (members v.now) (z ∷ []))) }
     ensures values { AreValues b.now (state_after s.now c.new).regs }
     ensures free { c.new.third.at ≡ None }
 {
@@ -289,11 +289,11 @@ fn narrow_side_of_built(
 ) -> bool
     requires operands { (test.x < 32) × IsArg test.y }
     requires values { AreValues b.now s.now.regs }
-    ensures two { possible_side result (state_after s.now c.new)
+    ensures two { state_if_possible result (state_after s.now c.new)
         ≡ side_with_operands s.now test.x test.y
-        (cover_of_meet b.now (kept_left test.cond test.side (members (reg_of plan.now s.now test.x))
+        (cover_if_any b.now (kept_left test.cond test.side (members (reg_of plan.now s.now test.x))
         (members (arg_of plan.now s.now test.y))))
-        (cover_of_meet b.now (kept_right test.cond test.side
+        (cover_if_any b.now (kept_right test.cond test.side
         (members (reg_of plan.now s.now test.x))
         (members (arg_of plan.now s.now test.y)))) }
     ensures values { AreValues b.now (state_after s.now c.new).regs }

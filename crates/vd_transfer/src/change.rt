@@ -3,7 +3,7 @@ ghost use Rattle.std.specs.Prelude.{◌≡◌, ◌&&◌, not, None};
 ghost use Rattle.value_domain.specs.Values.{IsValue};
 ghost use Rattle.value_domain.specs.State.{AreValues};
 ghost use Rattle.vd_transfer.specs.Registers.{slot, is_lower_register, write_reg};
-ghost use Rattle.vd_transfer.specs.Changes.{state_after, no_put, reg_put, kept_of};
+ghost use Rattle.vd_transfer.specs.Changes.{state_after, no_put, put_of_register, identity_change_of};
 
 use crate::registers::slot_of;
 use arrayvec::ArrayVec;
@@ -56,7 +56,7 @@ pub(crate) fn empty_put() -> Put
 /// register.
 #[inline(always)]
 pub fn put_register(r: u8, v: Val) -> Put
-    ensures { result ≡ reg_put r v }
+    ensures { result ≡ put_of_register r v }
 {
     Put {
         at: slot_of(r),
@@ -67,7 +67,7 @@ pub fn put_register(r: u8, v: Val) -> Put
 /// Returns the change that keeps the whole state.
 #[inline(always)]
 pub fn identity_change(s: &State) -> Change
-    ensures kept { result ≡ kept_of s.now }
+    ensures kept { result ≡ identity_change_of s.now }
     ensures same { state_after s.now result ≡ s.now }
 {
     Change {
@@ -84,11 +84,11 @@ pub fn identity_change(s: &State) -> Change
 
 impl Change {
     ghost use Rattle.std.specs.Prelude.{◌≡◌};
-    ghost use Rattle.vd_transfer.specs.Changes.{kept_in, state_after};
+    ghost use Rattle.vd_transfer.specs.Changes.{identity_change_over, state_after};
 
     /// Overwrites a change with the one that keeps the whole state.
     pub fn keep(&mut self, s: &State)
-        ensures kept { self.new ≡ kept_in self.old s.now }
+        ensures kept { self.new ≡ identity_change_over self.old s.now }
         ensures same { state_after s.now self.new ≡ s.now }
     {
         self.base = Base::Same;

@@ -6,7 +6,7 @@ ghost use Rattle.tc_isa.specs.InBounds.{IsArg, IsShape};
 ghost use Rattle.tc_isa.specs.declared.shapes.Op.TheVariants.{Add, Sh};
 ghost use Rattle.vd_transfer.specs.Operations.{value_of};
 ghost use Rattle.vd_transfer.specs.Registers.{reg_of, arg_of, write_reg};
-ghost use Rattle.vd_transfer.specs.EffectsOnStates.{state_with_base, state_saved_lower, state_restored_lower, EffectHasRoom, transfer_of, EffectLoadsValue};
+ghost use Rattle.vd_transfer.specs.EffectsOnStates.{state_with_increased_base, state_after_lower_save, state_after_lower_restore, EffectHasRoom, transfer_of, EffectLoadsValue};
 ghost use Rattle.vd_transfer.specs.Changes.{state_after};
 
 use crate::access::Addressing;
@@ -93,7 +93,7 @@ pub(crate) fn effect_on_base(b: &Bounds, plan: &Plan, s: &State, at: Addressing,
     requires base { IsArg at.base }
     requires values { AreValues b.now s.now.regs }
     ensures base { state_after s.now c.new
-        ≡ state_with_base b.now plan.now s.now at.base at.offset at.after }
+        ≡ state_with_increased_base b.now plan.now s.now at.base at.offset at.after }
     ensures values { AreValues b.now (state_after s.now c.new).regs }
     ensures third { c.new.third ≡ record c.old.third { at = None } }
 {
@@ -126,7 +126,7 @@ pub(crate) fn effect_of_load(
     requires values { AreValues b.now s.now.regs }
     requires loaded { IsValue b.now c.old.third.value }
     ensures write { state_after s.now c.new
-        ≡ write_reg (state_with_base b.now plan.now s.now at.base at.offset at.after) dst
+        ≡ write_reg (state_with_increased_base b.now plan.now s.now at.base at.offset at.after) dst
         c.old.third.value }
     ensures values { AreValues b.now (state_after s.now c.new).regs }
 {
@@ -149,7 +149,7 @@ pub(crate) fn effect_of_any_value(b: &Bounds, s: &State, dst: u8, c: &mut Change
 /// Saves a lower context: the mark that the lower registers are those of the entry becomes a local.
 pub(crate) fn effect_of_lower_save(s: &State, c: &mut Change)
     requires { length s.now.locals.items < 8 }
-    ensures { state_after s.now c.new ≡ state_saved_lower s.now }
+    ensures { state_after s.now c.new ≡ state_after_lower_save s.now }
 {
     c.keep(s);
     c.locals.push(s.lower);
@@ -159,7 +159,7 @@ pub(crate) fn effect_of_lower_save(s: &State, c: &mut Change)
 pub(crate) fn effect_of_bisr(s: &State, number: u8, c: &mut Change)
     requires { length s.now.locals.items < 8 }
     ensures { state_after s.now c.new
-        ≡ record (state_saved_lower s.now) { ie = true; ccpn = number } }
+        ≡ record (state_after_lower_save s.now) { ie = true; ccpn = number } }
 {
     effect_of_lower_save(s, c);
     c.ie = true;
@@ -170,7 +170,7 @@ pub(crate) fn effect_of_bisr(s: &State, number: u8, c: &mut Change)
 pub(crate) fn effect_of_lower_restore(b: &Bounds, s: &State, c: &mut Change)
     requires some { 1 ≤ length s.now.locals.items }
     requires values { AreValues b.now s.now.regs }
-    ensures restored { state_after s.now c.new ≡ state_restored_lower s.now }
+    ensures restored { state_after s.now c.new ≡ state_after_lower_restore s.now }
     ensures values { AreValues b.now (state_after s.now c.new).regs }
 {
     let _most_words = b.most_words();

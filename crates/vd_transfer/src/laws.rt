@@ -1,7 +1,7 @@
 // Laws of operations, refinement and effects.
 ghost use Rattle.vd_transfer.specs.Soundness.{AddressIsSound, BranchIsSound, RestoreIsSound, TransferIsSound};
 ghost use Rattle.vd_transfer.specs.OperationLaws.{OperationsAreSound, OperationsAreMonotone};
-ghost use Rattle.vd_transfer.specs.Refinement.{AreRefined};
+ghost use Rattle.vd_transfer.specs.Refinement.{RefinementIsSoundAndMonotone};
 
 /// The laws of operations: each result is a member of the operation's value, and smaller operands
 /// give a smaller value.
@@ -13,7 +13,7 @@ pub fn operation_laws()
 /// The laws of refinement, by unsigned and by signed comparisons: it keeps each word for which the
 /// relation holds, and it grows with both sets.
 pub fn refinement_laws()
-    ensures { AreRefined }
+    ensures { RefinementIsSoundAndMonotone }
 {}
 
 /// The laws of effects: if a state holds the words of registers, the changed state holds the words

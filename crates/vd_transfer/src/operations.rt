@@ -2,7 +2,7 @@
 ghost use Rattle.std.specs.Prelude.{◌≡◌, ◌≤◌, ◌<◌, ◌+◌, length, ◌++◌, ◌∷◌, map, IsNone};
 ghost use Rattle.value_domain.specs.Values.{IsValue, cover, members, words_of};
 ghost use Rattle.tc_isa.specs.Arithmetic.{alu_of};
-ghost use Rattle.vd_transfer.specs.Operations.{results, operation_row, pairs, HasMetResults, value_of, gives_truth};
+ghost use Rattle.vd_transfer.specs.Operations.{results, results_by_extents, results_of_pairs, HasMembers, value_of, is_comparison};
 ghost use Rattle.vd_transfer.specs.Registers.{arg_of};
 ghost use Rattle.value_domain.specs.State.{AreValues};
 ghost use Rattle.tc_isa.specs.InBounds.{IsArg};
@@ -53,9 +53,9 @@ pub(crate) fn operate(b: &Bounds, plan: &Plan, s: &State, of: Operation, out: &m
 }
 
 /// Returns true if an operation gives 1 or 0.
-#[tactic(auto, unfolding(crate::specs::Operations::gives_truth))]
+#[tactic(auto, unfolding(crate::specs::Operations::is_comparison))]
 pub(crate) fn is_comparison(op: Op) -> bool
-    ensures { result ≡ gives_truth op }
+    ensures { result ≡ is_comparison op }
 {
     match op {
         Op::Eq | Op::Ne | Op::Lt | Op::LtU | Op::Ge | Op::GeU => true,
@@ -69,7 +69,7 @@ fn write_results_of_pairs(b: &Bounds, op: Op, xs: &[u32], ys: &[u32], out: &mut 
     requires left { 1 ≤ length xs.now }
     requires right { 1 ≤ length ys.now }
     requires few { length ys.now ≤ 128 }
-    ensures cover { out.new ≡ cover b.now (pairs op xs.now ys.now) }
+    ensures cover { out.new ≡ cover b.now (results_of_pairs op xs.now ys.now) }
     ensures value { IsValue b.now out.new }
 {
     let _most_words = b.most_words();
@@ -88,7 +88,7 @@ fn write_results_of_pairs(b: &Bounds, op: Op, xs: &[u32], ys: &[u32], out: &mut 
 fn write_results_by_extents(b: &Bounds, op: Op, v: &Val, w: &Val, out: &mut Val)
     requires left { IsValue b.now v.now }
     requires right { IsValue b.now w.now }
-    ensures cover { out.new ≡ cover b.now (operation_row op v.now w.now) }
+    ensures cover { out.new ≡ cover b.now (results_by_extents op v.now w.now) }
     ensures value { IsValue b.now out.new }
 {
     let _most_words = b.most_words();
@@ -109,7 +109,7 @@ fn write_results_by_extents(b: &Bounds, op: Op, v: &Val, w: &Val, out: &mut Val)
 fn write_results_of_few_pairs(b: &Bounds, op: Op, xs: &[u32], ys: &[u32], out: &mut Val)
     requires left { 1 ≤ length xs.now }
     requires right { 1 ≤ length ys.now }
-    ensures cover { out.new ≡ cover b.now (pairs op xs.now ys.now) }
+    ensures cover { out.new ≡ cover b.now (results_of_pairs op xs.now ys.now) }
     ensures value { IsValue b.now out.new }
 {
     let _most_words = b.most_words();
@@ -126,7 +126,7 @@ fn write_results_of_many_pairs(b: &Bounds, op: Op, xs: &[u32], ys: &[u32], out: 
     requires left { 1 ≤ length xs.now }
     requires right { 1 ≤ length ys.now }
     requires few { length ys.now ≤ 128 }
-    ensures cover { out.new ≡ cover b.now (pairs op xs.now ys.now) }
+    ensures cover { out.new ≡ cover b.now (results_of_pairs op xs.now ys.now) }
     ensures value { IsValue b.now out.new }
 {
     let _most_words = b.most_words();
@@ -198,12 +198,12 @@ fn join_result_row(
     words: &[u32],
 )
     requires value { IsValue b.now v.old }
-    requires met { HasMetResults v.old met.old }
-    requires eights { HasMetResults v.old eights.old }
+    requires met { HasMembers v.old met.old }
+    requires eights { HasMembers v.old eights.old }
     ensures cover { v.new ≡ cover b.now (members v.old ++ words.now) }
     ensures value { IsValue b.now v.new }
-    ensures met { HasMetResults v.new met.new }
-    ensures eights { HasMetResults v.new eights.new }
+    ensures met { HasMembers v.new met.new }
+    ensures eights { HasMembers v.new eights.new }
 {
     for e in 0..words.len() / 8 {
         let at = 8 * e;
@@ -228,7 +228,7 @@ fn widen_by_results(b: &Bounds, v: &mut Val, op: Op, xs: &[u32], ys: &[u32], row
     requires span { IsNone (words_of v.old) }
     requires value { IsValue b.now v.old }
     requires room { length row.old ≡ length ys.now }
-    ensures cover { v.new ≡ cover b.now (members v.old ++ pairs op xs.now ys.now) }
+    ensures cover { v.new ≡ cover b.now (members v.old ++ results_of_pairs op xs.now ys.now) }
     ensures value { IsValue b.now v.new }
 {
     let _most_words = b.most_words();
@@ -271,14 +271,14 @@ fn join_eight_results(
     words: &[u32],
 )
     requires value { IsValue b.now v.old }
-    requires met { HasMetResults v.old met.old }
-    requires eights { HasMetResults v.old eights.old }
+    requires met { HasMembers v.old met.old }
+    requires eights { HasMembers v.old eights.old }
     requires place { k + 8 ≤ 2048 }
     requires eight { length words.now ≡ 8 }
     ensures cover { v.new ≡ cover b.now (members v.old ++ words.now) }
     ensures value { IsValue b.now v.new }
-    ensures met { HasMetResults v.new met.new }
-    ensures eights { HasMetResults v.new eights.new }
+    ensures met { HasMembers v.new met.new }
+    ensures eights { HasMembers v.new eights.new }
 {
     for j in 0..8 {
         join_result(b, v, met, words[j]);
@@ -290,10 +290,10 @@ fn join_eight_results(
 #[inline(always)]
 fn join_result(b: &Bounds, v: &mut Val, met: &mut [u32; 512], z: u32)
     requires value { IsValue b.now v.old }
-    requires met { HasMetResults v.old met.old }
+    requires met { HasMembers v.old met.old }
     ensures cover { v.new ≡ cover b.now (z ∷ members v.old) }
     ensures value { IsValue b.now v.new }
-    ensures met { HasMetResults v.new met.new }
+    ensures met { HasMembers v.new met.new }
 {
     let k = recent_result_slot(z);
     if met[k] == z {

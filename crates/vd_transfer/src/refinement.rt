@@ -1,15 +1,15 @@
 // Refinement: the members of two values for which a comparison holds.
 ghost use Rattle.std.specs.Prelude.{◌≡◌, ◌==◌, ◌<◌, ◌≤◌, ◌+◌, ◌-◌, ◌^◌, ◌++◌, filter, List, ℕ, IfSome, Some, ◌↔◌, ◌⊎◌, ◌≢◌, None};
-ghost use Rattle.value_domain.specs.Values.{IsValue, members, in_span};
+ghost use Rattle.value_domain.specs.Values.{IsValue, members, is_in_span};
 ghost use Rattle.value_domain.specs.declared.values.Val.TheVariants.{Set, Span};
-ghost use Rattle.value_domain.specs.Meets.{cover_of_meet, meet_if};
-ghost use Rattle.vd_transfer.specs.Relations.{Reaches, related_words, converse};
+ghost use Rattle.value_domain.specs.Meets.{cover_if_any, value_if_found};
+ghost use Rattle.vd_transfer.specs.Relations.{MayBeRelated, related_words, converse};
 ghost use Rattle.vd_transfer.specs.Refinement.{kept_left, kept_right};
 ghost use Rattle.vd_transfer.specs.Intervals.{IsInInterval};
 ghost use Rattle.vd_transfer.specs.declared.refinement.Relation.TheVariants.{Same};
 ghost use Rattle.value_domain.specs.State.{AreValues};
-ghost use Rattle.vd_transfer.specs.Signs.{is_signed};
-ghost use Rattle.vd_transfer.specs.Branches.{possible_side, side_with_operands};
+ghost use Rattle.vd_transfer.specs.Signs.{is_signed_condition};
+ghost use Rattle.vd_transfer.specs.Branches.{state_if_possible, side_with_operands};
 ghost use Rattle.vd_transfer.specs.Changes.{state_after};
 
 use crate::branch_sides::{Comparison, narrow_side_register, relation_on_side};
@@ -39,10 +39,10 @@ pub struct Interval {
 pub(crate) const NONE: Interval = Interval { lo: 1, last: 0 };
 
 /// Returns the words that are in a relation to some word from `low` to `high`, as two intervals.
-#[tactic(auto, unfolding(crate::specs::Relations::Reaches))]
+#[tactic(auto, unfolding(crate::specs::Relations::MayBeRelated))]
 pub(crate) fn related_intervals(rel: Relation, low: u32, high: u32) -> (Interval, Interval)
     ensures { (x : ℕ) → x < 2 ^ 32 → (IsInInterval result.0 x ⊎ IsInInterval result.1 x)
-        ↔ Reaches rel low high x }
+        ↔ MayBeRelated rel low high x }
 {
     match rel {
         Relation::Less => (words_below(high), NONE),
@@ -59,9 +59,9 @@ pub(crate) fn related_intervals(rel: Relation, low: u32, high: u32) -> (Interval
 pub fn refine_by_relation(b: &Bounds, rel: Relation, v: &Val, w: &Val, out: &mut Val) -> bool
     requires left { IsValue b.now v.now }
     requires right { IsValue b.now w.now }
-    ensures kept { meet_if result out.new
-        ≡ cover_of_meet b.now (related_words rel (members v.now) (members w.now)) }
-    ensures value { IfSome (meet_if result out.new) (IsValue b.now) }
+    ensures kept { value_if_found result out.new
+        ≡ cover_if_any b.now (related_words rel (members v.now) (members w.now)) }
+    ensures value { IfSome (value_if_found result out.new) (IsValue b.now) }
 {
     match rel {
         Relation::Same => refine_to_common(b, v, w, out),
@@ -79,11 +79,11 @@ pub(crate) fn join_members_in_interval(
     out: &mut Val,
 ) -> bool
     requires value { IsValue b.now v.now }
-    requires before { IfSome (meet_if found out.old) (IsValue b.now) }
-    ensures more { (xs : List ℕ) → meet_if found out.old ≡ cover_of_meet b.now xs
-        → meet_if result out.new
-        ≡ cover_of_meet b.now (xs ++ filter (in_span i.lo i.last 0) (members v.now)) }
-    ensures value { IfSome (meet_if result out.new) (IsValue b.now) }
+    requires before { IfSome (value_if_found found out.old) (IsValue b.now) }
+    ensures more { (xs : List ℕ) → value_if_found found out.old ≡ cover_if_any b.now xs
+        → value_if_found result out.new
+        ≡ cover_if_any b.now (xs ++ filter (is_in_span i.lo i.last 0) (members v.now)) }
+    ensures value { IfSome (value_if_found result out.new) (IsValue b.now) }
 {
     if i.last < i.lo {
         return found;
@@ -107,9 +107,9 @@ pub(crate) fn refine_left_operand(
 ) -> bool
     requires left { IsValue b.now v.now }
     requires right { IsValue b.now w.now }
-    ensures kept { meet_if result out.new
-        ≡ cover_of_meet b.now (kept_left test.cond test.side (members v.now) (members w.now)) }
-    ensures value { IfSome (meet_if result out.new) (IsValue b.now) }
+    ensures kept { value_if_found result out.new
+        ≡ cover_if_any b.now (kept_left test.cond test.side (members v.now) (members w.now)) }
+    ensures value { IfSome (value_if_found result out.new) (IsValue b.now) }
 {
     let rel = relation_on_side(test.cond, test.side);
     if is_signed_condition(test.cond) {
@@ -131,10 +131,10 @@ pub(crate) fn refine_both_operands(
     requires values { AreValues b.now s.now.regs }
     requires left { IsValue b.now v.now }
     requires right { IsValue b.now w.now }
-    ensures two { possible_side result (state_after s.now c.new)
+    ensures two { state_if_possible result (state_after s.now c.new)
         ≡ side_with_operands s.now test.x test.y
-        (cover_of_meet b.now (kept_left test.cond test.side (members v.now) (members w.now)))
-        (cover_of_meet b.now (kept_right test.cond test.side (members v.now) (members w.now))) }
+        (cover_if_any b.now (kept_left test.cond test.side (members v.now) (members w.now)))
+        (cover_if_any b.now (kept_right test.cond test.side (members v.now) (members w.now))) }
     ensures values { AreValues b.now (state_after s.now c.new).regs }
     ensures free { c.new.third.at ≡ None }
 {
@@ -190,9 +190,9 @@ fn words_past(low: u32) -> Interval
 fn refine_to_common(b: &Bounds, v: &Val, w: &Val, out: &mut Val) -> bool
     requires left { IsValue b.now v.now }
     requires right { IsValue b.now w.now }
-    ensures kept { meet_if result out.new
-        ≡ cover_of_meet b.now (related_words Same (members v.now) (members w.now)) }
-    ensures value { IfSome (meet_if result out.new) (IsValue b.now) }
+    ensures kept { value_if_found result out.new
+        ≡ cover_if_any b.now (related_words Same (members v.now) (members w.now)) }
+    ensures value { IfSome (value_if_found result out.new) (IsValue b.now) }
 {
     match w {
         Val::Set(words) => write_meet_with_words(b, words.as_slice(), v, out),
@@ -206,9 +206,9 @@ fn refine_by_intervals(b: &Bounds, rel: Relation, v: &Val, w: &Val, out: &mut Va
     requires left { IsValue b.now v.now }
     requires right { IsValue b.now w.now }
     requires order { rel ≢ Same }
-    ensures kept { meet_if result out.new
-        ≡ cover_of_meet b.now (related_words rel (members v.now) (members w.now)) }
-    ensures value { IfSome (meet_if result out.new) (IsValue b.now) }
+    ensures kept { value_if_found result out.new
+        ≡ cover_if_any b.now (related_words rel (members v.now) (members w.now)) }
+    ensures value { IfSome (value_if_found result out.new) (IsValue b.now) }
 {
     let e = extent_of(w);
     let (first, second) = related_intervals(rel, e.least, e.greatest);
@@ -222,9 +222,9 @@ fn refine_by_intervals(b: &Bounds, rel: Relation, v: &Val, w: &Val, out: &mut Va
 fn join_refined_members(b: &Bounds, v: &Val, i: Interval, out: &mut Val)
     requires value { IsValue b.now v.now }
     requires before { IsValue b.now out.old }
-    ensures more { (xs : List ℕ) → Some out.old ≡ cover_of_meet b.now xs
+    ensures more { (xs : List ℕ) → Some out.old ≡ cover_if_any b.now xs
         → Some out.new
-        ≡ cover_of_meet b.now (xs ++ filter (in_span i.lo i.last 0) (members v.now)) }
+        ≡ cover_if_any b.now (xs ++ filter (is_in_span i.lo i.last 0) (members v.now)) }
     ensures value { IsValue b.now out.new }
 {
     let mut others = Val::any();
@@ -239,9 +239,9 @@ fn join_refined_members(b: &Bounds, v: &Val, i: Interval, out: &mut Val)
 fn refine_right_operand(b: &Bounds, test: Comparison, v: &Val, w: &Val, out: &mut Val) -> bool
     requires left { IsValue b.now v.now }
     requires right { IsValue b.now w.now }
-    ensures kept { meet_if result out.new
-        ≡ cover_of_meet b.now (kept_right test.cond test.side (members v.now) (members w.now)) }
-    ensures value { IfSome (meet_if result out.new) (IsValue b.now) }
+    ensures kept { value_if_found result out.new
+        ≡ cover_if_any b.now (kept_right test.cond test.side (members v.now) (members w.now)) }
+    ensures value { IfSome (value_if_found result out.new) (IsValue b.now) }
 {
     let rel = converse(relation_on_side(test.cond, test.side));
     if is_signed_condition(test.cond) {

@@ -2,7 +2,7 @@
 ghost use Rattle.std.specs.Prelude.{◌≡◌, ◌<◌, IfSome};
 ghost use Rattle.value_domain.specs.Values.{IsValue, word_val};
 ghost use Rattle.value_domain.specs.State.{AreValues, is_lower_slot};
-ghost use Rattle.vd_transfer.specs.Registers.{slot, reg_of, fixed_of};
+ghost use Rattle.vd_transfer.specs.Registers.{slot, reg_of, fixed_value_of};
 
 use tcd_plan::Plan;
 use value_domain::{A10_SLOT, Bounds, State, Val};
@@ -64,7 +64,7 @@ pub fn reg(plan: &Plan, s: &State, r: u8) -> Val
 /// Returns the value of a register without a place in a state: the plan's, or any for A11.
 #[inline(always)]
 pub(crate) fn fixed_register_value(plan: &Plan, r: u8) -> Val
-    ensures { result ≡ fixed_of plan.now r }
+    ensures { result ≡ fixed_value_of plan.now r }
 {
     if r == 27 {
         return Val::any();

@@ -1,11 +1,11 @@
 // Refinement by signed comparisons.
 ghost use Rattle.std.specs.Prelude.{◌≡◌, ◌≢◌, ◌<◌, ◌≤◌, ◌+◌, ◌^◌, length, ℕ, IfSome, ◌↔◌, ◌⊎◌, ◌-◌};
-ghost use Rattle.value_domain.specs.Values.{IsValue, IsWell, members, range};
+ghost use Rattle.value_domain.specs.Values.{IsValue, IsWellFormed, members, range};
 ghost use Rattle.value_domain.specs.declared.values.Val.TheVariants.{Set, Span};
-ghost use Rattle.value_domain.specs.Meets.{cover_of_meet, meet_if};
+ghost use Rattle.value_domain.specs.Meets.{cover_if_any, value_if_found};
 ghost use Rattle.tc_isa.specs.Arithmetic.{signed_order_place};
 ghost use Rattle.vd_transfer.specs.Intervals.{IsInInterval};
-ghost use Rattle.vd_transfer.specs.Signs.{IsSignedRange, signed_related_words, is_signed};
+ghost use Rattle.vd_transfer.specs.Signs.{IsSignedRange, signed_related_words, is_signed_condition};
 ghost use Rattle.vd_transfer.specs.declared.refinement.Relation.TheVariants.{Same};
 
 use crate::refinement::{Interval, NONE, Relation, join_members_in_interval, related_intervals};
@@ -20,9 +20,9 @@ pub fn refine_by_signed_relation(b: &Bounds, rel: Relation, v: &Val, w: &Val, ou
     requires left { IsValue b.now v.now }
     requires right { IsValue b.now w.now }
     requires order { rel ≢ Same }
-    ensures kept { meet_if result out.new
-        ≡ cover_of_meet b.now (signed_related_words rel (members v.now) (members w.now)) }
-    ensures value { IfSome (meet_if result out.new) (IsValue b.now) }
+    ensures kept { value_if_found result out.new
+        ≡ cover_if_any b.now (signed_related_words rel (members v.now) (members w.now)) }
+    ensures value { IfSome (value_if_found result out.new) (IsValue b.now) }
 {
     let (low, high) = signed_range(w);
     let (i, j) = related_intervals(rel, place_in_signed_order(low), place_in_signed_order(high));
@@ -42,9 +42,9 @@ pub(crate) fn place_in_signed_order(x: u32) -> u32
 }
 
 /// Returns true if a condition is of the signed order.
-#[tactic(auto, unfolding(crate::specs::Signs::is_signed))]
+#[tactic(auto, unfolding(crate::specs::Signs::is_signed_condition))]
 pub(crate) fn is_signed_condition(cond: Cond) -> bool
-    ensures { result ≡ is_signed cond }
+    ensures { result ≡ is_signed_condition cond }
 {
     match cond {
         Cond::Lt | Cond::Ge => true,
@@ -54,7 +54,7 @@ pub(crate) fn is_signed_condition(cond: Cond) -> bool
 
 /// Returns the least and the greatest member in the signed order.
 fn signed_range(v: &Val) -> (u32, u32)
-    requires { IsWell v.now }
+    requires { IsWellFormed v.now }
     ensures { IsSignedRange (members v.now) result.0 result.1 }
 {
     match v {
@@ -103,7 +103,7 @@ fn signed_range_of_words(words: &[u32]) -> (u32, u32)
 
 /// Returns the least and the greatest member of a Span in the signed order.
 fn signed_range_of_span(lo: u32, last: u32, step: u8) -> (u32, u32)
-    requires { IsWell (Span lo last step) }
+    requires { IsWellFormed (Span lo last step) }
     ensures { IsSignedRange (range lo last step) result.0 result.1 }
 {
     let v = Val::Span { lo, last, step };

@@ -1,6 +1,6 @@
 // The sets that the rows of the table of operations cover: multiples of a power of two in a range.
 ghost use Rattle.std.specs.Prelude.{◌≡◌, ◌<◌, ◌≤◌, ◌||◌, min, max};
-ghost use Rattle.vd_transfer.specs.Intervals.{sums, differences, shifts, signed_shifts, interval_of_row};
+ghost use Rattle.vd_transfer.specs.Intervals.{sums, differences, shifts, signed_shifts, result_interval};
 
 use tc_isa::Op;
 use value_domain::{Extent, Val};
@@ -23,11 +23,11 @@ const ANY: StridedInterval = StridedInterval {
 };
 
 /// Returns the multiples that a row covers.
-#[tactic(auto, unfolding(crate::specs::Intervals::interval_of_row))]
+#[tactic(auto, unfolding(crate::specs::Intervals::result_interval))]
 pub(crate) fn result_interval(op: Op, e: &Extent, f: &Extent, w: &Val) -> StridedInterval
     requires left { e.now.least ≤ e.now.greatest }
     requires right { f.now.least ≤ f.now.greatest }
-    ensures { result ≡ interval_of_row op e.now f.now w.now }
+    ensures { result ≡ result_interval op e.now f.now w.now }
 {
     match op {
         Op::Add => sum_interval(e, f),

@@ -1,6 +1,6 @@
 // The least needs.
 ghost use Rattle.std.specs.Prelude.{Ok, IfOk, IfSome, IsTrue, Some, ℕ, ◌+◌, ◌<◌, ◌≤◌, ◌^◌, Contains, length, slice_index, MatchOption, EachIndex};
-ghost use Rattle.frame_places.specs.RowNeeds.{AreRowsWithin, AreNeedsLow, MeetsCapped, PassesRow, PassesRows, LeastNeeds};
+ghost use Rattle.frame_places.specs.RowNeeds.{AreRowsWithin, AreLowerBounds, MeetsRowUpToCap, RaisesNeedByRow, RaisesNeedsByRows, LeastNeeds};
 ghost use Rattle.frame_places.specs.declared.needs.row.NeedRow.{NeedRow};
 
 use crate::needs::row::{NeedRow, need_by_row};
@@ -14,7 +14,7 @@ fn raise_low_needs(needs: &mut [u32], rows: &[NeedRow], cap: u32) -> bool
     requires nodes { length needs.old < 2 ^ 16 }
     requires within { AreRowsWithin rows.now (length needs.old) }
     requires capped { (k : ℕ) → slice_index needs.old k ≤ cap + 1 }
-    ensures pass { PassesRows cap needs.old needs.new rows.now result }
+    ensures pass { RaisesNeedsByRows cap needs.old needs.new rows.now result }
 {
     let mut changed = false;
     for i in (0..rows.len()).rev() {
@@ -31,9 +31,9 @@ fn raise_needs_until_met(needs: &mut [u32], rows: &[NeedRow], cap: u32)
     requires nodes { length needs.old < 2 ^ 16 }
     requires within { AreRowsWithin rows.now (length needs.old) }
     requires capped { (k : ℕ) → slice_index needs.old k ≤ cap + 1 }
-    requires low { AreNeedsLow needs.old rows.now }
-    ensures low { AreNeedsLow needs.new rows.now }
-    ensures met { (row : NeedRow) → Contains rows.now row → MeetsCapped cap needs.new row }
+    requires low { AreLowerBounds needs.old rows.now }
+    ensures low { AreLowerBounds needs.new rows.now }
+    ensures met { (row : NeedRow) → Contains rows.now row → MeetsRowUpToCap cap needs.new row }
 {
     while raise_low_needs(needs, rows, cap) {}
 }
@@ -46,7 +46,7 @@ fn raise_need_by_row(needs: &mut [u32], row: &NeedRow, cap: u32) -> bool
     requires into { (t : ℕ) → Contains row.now.into.items t → t < length needs.old }
     requires held { row.now.held < 2 ^ 8 }
     requires capped { (k : ℕ) → slice_index needs.old k ≤ cap + 1 }
-    ensures pass { PassesRow cap needs.old needs.new row.now result }
+    ensures pass { RaisesNeedByRow cap needs.old needs.new row.now result }
 {
     let need = need_by_row(needs, row, cap);
     if needs[row.node] < need {
@@ -120,10 +120,10 @@ fn raise_needs_in_few_passes(needs: &mut [u32], rows: &[NeedRow], cap: u32) -> b
     requires nodes { length needs.old < 2 ^ 16 }
     requires within { AreRowsWithin rows.now (length needs.old) }
     requires capped { (k : ℕ) → slice_index needs.old k ≤ cap + 1 }
-    requires low { AreNeedsLow needs.old rows.now }
-    ensures low { AreNeedsLow needs.new rows.now }
+    requires low { AreLowerBounds needs.old rows.now }
+    ensures low { AreLowerBounds needs.new rows.now }
     ensures met { IsTrue result → (row : NeedRow) → Contains rows.now row
-        → MeetsCapped cap needs.new row }
+        → MeetsRowUpToCap cap needs.new row }
 {
     for _done in 0..FEW {
         if !raise_low_needs(needs, rows, cap) {

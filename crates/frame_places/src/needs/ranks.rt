@@ -1,6 +1,6 @@
 // Ranks of nodes: in their order one pass finds all needs, unless a node is reached from itself.
 ghost use Rattle.std.specs.Prelude.{◌≡◌, ℕ, IsTrue, slice_index};
-ghost use Rattle.frame_places.specs.NodeGraph.{IsRecurring};
+ghost use Rattle.frame_places.specs.NodeGraph.{IsRecursiveNode};
 
 use crate::needs::reach::{FrameEdge, predecessors};
 use indexmap::IndexMap;
@@ -52,7 +52,7 @@ pub fn number_or_zero(numbers: &[usize], node: usize) -> usize
 /// Returns true only if each edge goes to a node of a higher rank. Then no node is reached from one
 /// that it enters.
 pub(crate) fn are_ranks_rising(ranks: &[usize], edges: &[FrameEdge]) -> bool
-    ensures { IsTrue result → (k : ℕ) → IsRecurring edges.now k → ⊥ }
+    ensures { IsTrue result → (k : ℕ) → IsRecursiveNode edges.now k → ⊥ }
 {
     for edge in edges {
         if number_or_zero(ranks, edge.node) >= number_or_zero(ranks, edge.into) {

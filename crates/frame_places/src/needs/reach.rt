@@ -1,6 +1,6 @@
 // The graph of entries, by the numbers of its nodes: which nodes are reached from which.
 ghost use Rattle.std.specs.Prelude.{◌≡◌, ◌<◌, ◌↔◌, ℕ, IsTrue, IfOk, OnOk, length, slice_index_or, false, Contains, [], ◌∷◌, ◌+◌};
-ghost use Rattle.frame_places.specs.NodeGraph.{AddsEdges, AddsEdgeSource, AreEdgeSourcesBelow, AreEdgesBetween, AreEdges, AreReaching, AreReachingBy, AreEdgeSources, HasMarkedNext, IsFirstRecurringBefore, IsFirstRecurring, IsRecurring, MarksNodes, SettlesMarks, IsNodeMarked};
+ghost use Rattle.frame_places.specs.NodeGraph.{AddsEdges, AddsPredecessor, ArePredecessorsBelow, AreEdgesBetween, AreEdges, AreReachingMarks, AreReachingByPredecessors, ArePredecessors, HasMarkedSuccessor, IsFirstRecursiveNodeBefore, IsFirstRecursiveNode, IsRecursiveNode, MarksNodes, MarksAllReaching, IsNodeMarked};
 
 use crate::needs::ranks::are_ranks_rising;
 use crate::needs::row::NeedRow;
@@ -37,7 +37,7 @@ pub fn nodes_reaching(
 ) -> Result<Vec<bool>, AllocError>
     requires node { node < nodes }
     requires edges { AreEdgesBetween edges.now nodes }
-    ensures { IfOk result (λ marks. AreReaching edges.now nodes node marks.items) }
+    ensures { IfOk result (λ marks. AreReachingMarks edges.now nodes node marks.items) }
 {
     let sources = predecessors(alloc, edges)?;
     nodes_reaching_by_predecessors(alloc, nodes, &sources, node)
@@ -65,7 +65,7 @@ pub fn first_recursive_node(
     ranks: &[usize],
 ) -> Result<Option<usize>, AllocError>
     requires { AreEdgesBetween edges.now (length orders.now) }
-    ensures { IfOk result (IsFirstRecurring orders.now edges.now) }
+    ensures { IfOk result (IsFirstRecursiveNode orders.now edges.now) }
 {
     if are_ranks_rising(ranks, edges) {
         return Ok(None);
@@ -99,7 +99,7 @@ pub(crate) fn predecessors(
     alloc: Global,
     edges: &[FrameEdge],
 ) -> Result<IndexMap<usize, Vec<usize>>, AllocError>
-    ensures { IfOk result (λ sources. AreEdgeSources edges.now sources) }
+    ensures { IfOk result (λ sources. ArePredecessors edges.now sources) }
 {
     let mut sources = IndexMap::new(alloc);
     for edge in edges {
@@ -116,8 +116,8 @@ fn nodes_reaching_by_predecessors(
     node: usize,
 ) -> Result<Vec<bool>, AllocError>
     requires node { node < nodes }
-    requires sources { AreEdgeSourcesBelow sources.now nodes }
-    ensures { IfOk result (λ marks. AreReachingBy sources.now nodes node marks.items) }
+    requires sources { ArePredecessorsBelow sources.now nodes }
+    ensures { IfOk result (λ marks. AreReachingByPredecessors sources.now nodes node marks.items) }
 {
     let mut marks = vec![in alloc; false; nodes]?;
     marks[node] = true;
@@ -133,7 +133,7 @@ fn add_predecessor(
     sources: &mut IndexMap<usize, Vec<usize>>,
     edge: FrameEdge,
 ) -> Result<(), AllocError>
-    ensures { OnOk result (AddsEdgeSource sources.old sources.new edge.node edge.into) }
+    ensures { OnOk result (AddsPredecessor sources.old sources.new edge.node edge.into) }
 {
     if let Some(list) = sources.get_mut(&edge.into) {
         list.push(edge.node)?;
@@ -151,8 +151,8 @@ fn mark_all_reaching_nodes(
     work: &mut Vec<usize>,
     sources: &IndexMap<usize, Vec<usize>>,
 ) -> Result<(), AllocError>
-    requires { AreEdgeSourcesBelow sources.now (length marks.old) }
-    ensures { OnOk result (SettlesMarks sources.now marks.old marks.new work.old.items) }
+    requires { ArePredecessorsBelow sources.now (length marks.old) }
+    ensures { OnOk result (MarksAllReaching sources.now marks.old marks.new work.old.items) }
 {
     while let Some(node) = work.pop() {
         if let Some(list) = sources.get(&node) {
@@ -216,10 +216,10 @@ fn first_recursive_node_up_to(
     first: Option<usize>,
 ) -> Result<Option<usize>, AllocError>
     requires edges { AreEdgesBetween edges.now (length orders.now) }
-    requires sources { AreEdgeSources edges.now sources.now }
+    requires sources { ArePredecessors edges.now sources.now }
     requires node { node < length orders.now }
-    requires first { IsFirstRecurringBefore orders.now edges.now node first }
-    ensures { IfOk result (IsFirstRecurringBefore orders.now edges.now (node + 1)) }
+    requires first { IsFirstRecursiveNodeBefore orders.now edges.now node first }
+    ensures { IfOk result (IsFirstRecursiveNodeBefore orders.now edges.now (node + 1)) }
 {
     if let Some(other) = first {
         if orders[other] <= orders[node] {
@@ -243,8 +243,8 @@ fn is_recursive_node(
 ) -> Result<bool, AllocError>
     requires node { node < nodes }
     requires edges { AreEdgesBetween edges.now nodes }
-    requires sources { AreEdgeSources edges.now sources.now }
-    ensures { IfOk result (λ recurs. IsTrue recurs ↔ IsRecurring edges.now node) }
+    requires sources { ArePredecessors edges.now sources.now }
+    ensures { IfOk result (λ recurs. IsTrue recurs ↔ IsRecursiveNode edges.now node) }
 {
     let marks = nodes_reaching_by_predecessors(alloc, nodes, sources, node)?;
     Ok(has_marked_successor(marks.as_slice(), edges, node))
@@ -254,7 +254,7 @@ fn is_recursive_node(
 /// for is reached.
 fn has_marked_successor(marks: &[bool], edges: &[FrameEdge], node: usize) -> bool
     requires { AreEdgesBetween edges.now (length marks.now) }
-    ensures { IsTrue result ↔ HasMarkedNext marks.now edges.now node }
+    ensures { IsTrue result ↔ HasMarkedSuccessor marks.now edges.now node }
 {
     for edge in edges {
         if edge.node == node && marks[edge.into] {

@@ -21,85 +21,85 @@ use Rattle.task_chains.specs.Tasks.{TasksData, count}
 use Rattle.task_chains.specs.TaskListText as tasks
 use Rattle.tcd_base.specs.Files.{FileMap, HasFileOfName}
 use Rattle.tcd_reading.specs.Reports.{Report}
-use Rattle.tcd_reading.specs.Inputs.{FormSeen, HoldsInput, IsInputRefusal, Reading, each, ReadingSays, HoldsAsked, answer, input}
+use Rattle.tcd_reading.specs.Inputs.{FormSeen, HoldsInput, IsInputRejection, Reading, each, ReadingSays, HoldsNeededInputs, answer, input}
 use Rattle.tcd_forms.specs.Forms.{SourceData, elf_form, plan_form, cert_form, script_form, source_form, placed_source_form, layout_form, object_form}
-use Rattle.tcd_forms.specs.Lines.{long_elf_line, long_plan_line, long_cert_line, bad_cert_line, long_script_line, long_source_line, bad_source_line, long_layout_line, long_object_line, bad_object_line, long_cells_line, long_tasks_line, line_end_at_one, line_end_at_two}
+use Rattle.tcd_forms.specs.Lines.{too_long_elf_line, too_long_plan_line, too_long_cert_line, bad_cert_line, too_long_script_line, too_long_source_line, bad_source_line, too_long_layout_line, too_long_object_line, bad_object_line, too_long_cells_line, too_long_tasks_line, line_end_at_one, line_end_at_two}
 use Rattle.tcd_forms.proofs.FormLaws.{ok_err, elf_lawful, plan_lawful, cert_lawful, source_lawful, placed_source_lawful, layout_lawful, object_lawful}
 use Rattle.tcd_driver.specs.CellAndTaskForms.{cells_form, tasks_form}
 use Rattle.tcd_driver.specs.Headlines.{HoldsFile, IsBadFile, too_long, faulty, HoldsImage, HoldsPlan, HoldsCert, HoldEachFile, AreCheckFiles, AreFirmwareFiles}
 use Rattle.tcd_driver.specs.Headlines.Builds.{IsObjectText, HoldsLayout, IsSourceText}
-use Rattle.tcd_driver.specs.Headlines.Asks.{Ask, is_elf, is_plan, is_cert, is_layout, is_object, is_source, is_script, are_cells, are_tasks, are_linked, are_linked_sources, is_cert_per_task, ask_each, HoldsCells, HoldsTasks, IsGood, IsBadWith, IsThere, AreThere, IsFirstBad}
+use Rattle.tcd_driver.specs.Headlines.Asks.{InputRequirement, is_elf, is_plan, is_cert, is_layout, is_object, is_source, is_script, are_cells, are_tasks, are_linked, are_linked_sources, is_cert_per_task, require_each, HoldsCells, HoldsTasks, IsGoodInput, IsBadInputWith, IsInputPresent, AreInputsPresent, IsFirstBadInput}
 use Rattle.tcd_driver.proofs.CellsReports.{cells_lawful}
 use Rattle.tcd_driver.proofs.TasksReports.{tasks_lawful}
 use Rattle.tcd_driver.proofs.Headlines.{Tells, bad_file, Means, held_as, is_bad, is_done, is_refused}
 
 -- ---- what is asked of a file
 -- a file that is read in this form is good, bad or missing, as it is asked
-pub record IsAskedAs {A : Type 0} (form : FormSeen A) (m : FileMap) (name : List ℕ) (ask : Ask) : Type 0 where
-  pub good : (x : A) → HoldsInput form (Some m) name x → IsGood m ask
-  pub bad : (line : List ℕ) → IsInputRefusal form (Some m) name line → IsBadWith m ask line
-  pub there : IsThere m ask → HasFileOfName (Some m) name
+pub record IsAskedAs {A : Type 0} (form : FormSeen A) (m : FileMap) (name : List ℕ) (ask : InputRequirement) : Type 0 where
+  pub good : (x : A) → HoldsInput form (Some m) name x → IsGoodInput m ask
+  pub bad : (line : List ℕ) → IsInputRejection form (Some m) name line → IsBadInputWith m ask line
+  pub there : IsInputPresent m ask → HasFileOfName (Some m) name
 
 module _ (m : FileMap) (name : List ℕ) where
   pub elf_asked : IsAskedAs elf_form m name (is_elf name)
-  unfolding long_elf_line
+  unfolding too_long_elf_line
   elf_asked = record { good = λ x h. (x, held_as elf_form m name x h); bad = λ line h. bad_file elf_form m name line _ refl h; there = λ h. h }
 
   pub plan_asked : IsAskedAs plan_form m name (is_plan name)
-  unfolding long_plan_line
+  unfolding too_long_plan_line
   plan_asked = record { good = λ x h. (x, held_as plan_form m name x h); bad = λ line h. bad_file plan_form m name line _ refl h; there = λ h. h }
 
   pub cert_asked : IsAskedAs cert_form m name (is_cert name)
-  unfolding long_cert_line bad_cert_line line_end_at_one
+  unfolding too_long_cert_line bad_cert_line line_end_at_one
   cert_asked = record { good = λ x h. (x, held_as cert_form m name x h); bad = λ line h. bad_file cert_form m name line _ refl h; there = λ h. h }
 
   pub layout_asked : IsAskedAs layout_form m name (is_layout name)
-  unfolding long_layout_line
+  unfolding too_long_layout_line
   layout_asked = record { good = λ x h. (x, held_as layout_form m name x h); bad = λ line h. bad_file layout_form m name line _ refl h; there = λ h. h }
 
   pub object_asked : (place : ℕ) → IsAskedAs (object_form place) m name (is_object place name)
-  unfolding long_object_line bad_object_line line_end_at_one line_end_at_two
+  unfolding too_long_object_line bad_object_line line_end_at_one line_end_at_two
   object_asked place = record { good = λ x h. (x, held_as (object_form place) m name x h); bad = λ line h. bad_file (object_form place) m name line _ refl h; there = λ h. h }
 
   pub source_asked : IsAskedAs source_form m name (is_source 0 name)
-  unfolding long_source_line bad_source_line line_end_at_one line_end_at_two
+  unfolding too_long_source_line bad_source_line line_end_at_one line_end_at_two
   source_asked = record { good = λ x h. (x, held_as source_form m name x h); bad = λ line h. bad_file source_form m name line _ refl h; there = λ h. h }
 
   pub placed_source_asked : (place : ℕ) → IsAskedAs (placed_source_form place) m name (is_source place name)
-  unfolding long_source_line bad_source_line line_end_at_one line_end_at_two
+  unfolding too_long_source_line bad_source_line line_end_at_one line_end_at_two
   placed_source_asked place = record { good = λ x h. (x.object, record { bytes = h.0; held = h.1; short = h.2; form = (h.3).1 }); bad = λ line h. bad_file (placed_source_form place) m name line _ refl h; there = λ h. h }
 
   -- files of a plan
   module _ (plan_name : List ℕ) (p : PlanData) (plan : HoldsPlan m plan_name p) where
     pub script_asked : IsAskedAs (script_form p) m name (is_script plan_name name)
-    unfolding long_script_line
+    unfolding too_long_script_line
     script_asked = record { good = λ x h. (p, x, plan, held_as (script_form p) m name x h); bad = λ line h. (p, plan, bad_file (script_form p) m name line _ refl h); there = λ h. h }
 
     pub cells_asked : IsAskedAs (cells_form p) m name (are_cells plan_name name)
-    unfolding long_cells_line
+    unfolding too_long_cells_line
     cells_asked = record { good = λ x h. (p, x, plan, held_as (cells_form p) m name x h); bad = λ line h. (p, plan, bad_file (cells_form p) m name line _ refl h); there = λ h. h }
 
     pub tasks_asked : IsAskedAs (tasks_form p) m name (are_tasks plan_name name)
-    unfolding long_tasks_line
+    unfolding too_long_tasks_line
     tasks_asked = record { good = λ x h. (p, x, plan, held_as (tasks_form p) m name x h); bad = λ line h. (p, plan, bad_file (tasks_form p) m name line _ refl h); there = λ h. h }
 
 -- ---- one after another
 -- A reading follows what a command asks: so much its reports mean, and it needs no other files.
-pub record Follows (reading : Reading) (m : FileMap) (asks : List Ask) (IfDone IfRefused : FileMap → FileMap → List ℕ → Type 0) : Type 0 where
+pub record Follows (reading : Reading) (m : FileMap) (asks : List InputRequirement) (IfDone IfRefused : FileMap → FileMap → List ℕ → Type 0) : Type 0 where
   pub means : (r : Report) → ReadingSays reading (Some m) r → Means m asks IfDone IfRefused r
-  pub asked : AreThere m asks → HoldsAsked reading (Some m)
+  pub asked : AreInputsPresent m asks → HoldsNeededInputs reading (Some m)
 
 module _ {m : FileMap} {D R : FileMap → FileMap → List ℕ → Type 0} where
   -- what is asked before is good
-  pub behind : {ask : Ask} {asks : List Ask} {r : Report} → IsGood m ask → Means m asks D R r → Means m (ask ∷ asks) D R r
+  pub behind : {ask : InputRequirement} {asks : List InputRequirement} {r : Report} → IsGoodInput m ask → Means m asks D R r → Means m (ask ∷ asks) D R r
   behind good (is_done after e w h) = is_done after e w h
   behind good (is_refused e w h) = is_refused e w h
   behind good (is_bad e w h) = is_bad e w (inr (good, h))
 
-  pub then_answer : {P : Report → Type 0} {asks : List Ask} → ((r : Report) → P r → Means m asks D R r) → Follows (answer P) m asks D R
+  pub then_answer : {P : Report → Type 0} {asks : List InputRequirement} → ((r : Report) → P r → Means m asks D R r) → Follows (answer P) m asks D R
   then_answer means = record { means = means; asked = λ there. tt }
 
-  pub then_input : {A : Type 0} {form : FormSeen A} {name : List ℕ} {ask : Ask} {asks : List Ask} {next : A → Reading} → IsAskedAs form m name ask → ((x : A) → HoldsInput form (Some m) name x → Follows (next x) m asks D R) →
+  pub then_input : {A : Type 0} {form : FormSeen A} {name : List ℕ} {ask : InputRequirement} {asks : List InputRequirement} {next : A → Reading} → IsAskedAs form m name ask → ((x : A) → HoldsInput form (Some m) name x → Follows (next x) m asks D R) →
       Follows (input A form name next) m (ask ∷ asks) D R
   then_input {A} {form} {name} {ask} {asks} {next} is rest = record { means = by_input; asked = λ there. (is.there there.0, λ x h. (rest x h).asked there.1) }
     where
@@ -108,14 +108,14 @@ module _ {m : FileMap} {D R : FileMap → FileMap → List ℕ → Type 0} where
       by_input r (inr h) = behind (is.good h.0 h.1) ((rest h.0 h.1).means r h.2)
 
   -- files of a list
-  pub then_each : {A : Type 0} (form : ℕ → FormSeen A) (most : ℕ) (Is : List ℕ → A → Type 0) (ask : ℕ → List ℕ → Ask) (asks : List Ask) → Tells form most Is → ((place : ℕ) (name : List ℕ) → IsAskedAs (form place) m name (ask place name)) →
-      (place : ℕ) (names : List (List ℕ)) (next : List A → Reading) → ((xs : List A) → HoldEachFile m most Is names xs → Follows (next xs) m asks D R) → Follows (each A form place names next) m (ask_each ask place names asks) D R
+  pub then_each : {A : Type 0} (form : ℕ → FormSeen A) (most : ℕ) (Is : List ℕ → A → Type 0) (ask : ℕ → List ℕ → InputRequirement) (asks : List InputRequirement) → Tells form most Is → ((place : ℕ) (name : List ℕ) → IsAskedAs (form place) m name (ask place name)) →
+      (place : ℕ) (names : List (List ℕ)) (next : List A → Reading) → ((xs : List A) → HoldEachFile m most Is names xs → Follows (next xs) m asks D R) → Follows (each A form place names next) m (require_each ask place names asks) D R
   then_each form most Is ask asks tells is place [] next rest = rest [] tt
   then_each form most Is ask asks tells is place (name ∷ names) next rest =
       then_input (is place name) (λ x h. then_each form most Is ask asks tells is (place + 1) names (λ xs. next (x ∷ xs)) (λ xs held. rest (x ∷ xs) (tells place m name x h, held)))
 
   -- an executable and a plan, and a certificate
-  pub then_firmware : {elf plan : List ℕ} {asks : List Ask} {next : ImageData → PlanData → Reading} → ((i : ImageData) (p : PlanData) → AreFirmwareFiles m elf plan i p → Follows (next i p) m asks D R) →
+  pub then_firmware : {elf plan : List ℕ} {asks : List InputRequirement} {next : ImageData → PlanData → Reading} → ((i : ImageData) (p : PlanData) → AreFirmwareFiles m elf plan i p → Follows (next i p) m asks D R) →
       Follows (input ImageData elf_form elf (λ i. input PlanData plan_form plan (λ p. next i p))) m (is_elf elf ∷ is_plan plan ∷ asks) D R
   then_firmware {elf} {plan} rest =
       then_input (elf_asked m elf) (λ i i_is. then_input (plan_asked m plan) (λ p p_is. rest i p (record { elf_file = held_as elf_form m elf i i_is; plan_file = held_as plan_form m plan p p_is })))
@@ -157,10 +157,10 @@ module _ (m : FileMap) (name : List ℕ) where
   layout_one = value_one m name (2 ^ 24) (λ bytes layout. layout_of bytes ≡ Ok layout) layout_lawful.one
 
   pub cells_one : (p : PlanData) (x y : List Cell) → HoldsCells m name p x → HoldsCells m name p y → x ≡ y
-  cells_one p = value_one m name (2 ^ 24) (λ bytes list. cells.Reads p bytes (Ok list)) (cells_lawful p).one
+  cells_one p = value_one m name (2 ^ 24) (λ bytes list. cells.IsResultOfCellText p bytes (Ok list)) (cells_lawful p).one
 
   pub tasks_one : (p : PlanData) (x y : TasksData) → HoldsTasks m name p x → HoldsTasks m name p y → x ≡ y
-  tasks_one p = value_one m name (2 ^ 24) (λ bytes list. tasks.Reads p (text_lines bytes) (Ok list)) (tasks_lawful p).one
+  tasks_one p = value_one m name (2 ^ 24) (λ bytes list. tasks.IsResultOfTaskText p (text_lines bytes) (Ok list)) (tasks_lawful p).one
 
 module _ (m : FileMap) (names : List (List ℕ)) where
   pub certs_one : (xs ys : List CertData) → HoldEachFile m (2 ^ 30) (λ bytes cert. certificate_of bytes ≡ Ok cert) names xs → HoldEachFile m (2 ^ 30) (λ bytes cert. certificate_of bytes ≡ Ok cert) names ys → xs ≡ ys
@@ -180,7 +180,7 @@ file_apart m name most long Has HasFault line apart h (too_long bytes held above
     omega (arith, short, above)
 file_apart m name most long Has HasFault line apart h (faulty k) = apart k.bytes (subst Has (same_bytes (get m name) h.bytes k.bytes h.held k.held) h.form) k.form
 
-good_apart : (m : FileMap) (ask : Ask) (line : List ℕ) → IsGood m ask → IsBadWith m ask line → ⊥
+good_apart : (m : FileMap) (ask : InputRequirement) (line : List ℕ) → IsGoodInput m ask → IsBadInputWith m ask line → ⊥
 good_apart m (is_elf name) line good bad = file_apart m name (2 ^ 24) _ _ _ line (λ bytes h k. elf_lawful.apart bytes line good.0 h k) good.1 bad
 good_apart m (is_plan name) line good bad = file_apart m name (2 ^ 24) _ _ _ line (λ bytes h k. plan_lawful.apart bytes line good.0 h k) good.1 bad
 good_apart m (is_cert name) line good bad = file_apart m name (2 ^ 30) _ _ _ line (λ bytes h k. ok_err (certificate_of bytes) good.0 k.0 h k.1) good.1 bad
@@ -216,17 +216,17 @@ good_apart m (is_cert_per_task plan_name tasks_name names) line good bad =
 
 -- ---- all that is asked
 -- all that is asked is good
-abbrev pub AreGood : FileMap → List Ask → Type 0
+abbrev pub AreGood : FileMap → List InputRequirement → Type 0
 AreGood m [] = Unit {0}
-AreGood m (ask ∷ asks) = IsGood m ask × AreGood m asks
+AreGood m (ask ∷ asks) = IsGoodInput m ask × AreGood m asks
 
-pub never_bad : (m : FileMap) (asks : List Ask) (line : List ℕ) → AreGood m asks → IsFirstBad m asks line → ⊥
+pub never_bad : (m : FileMap) (asks : List InputRequirement) (line : List ℕ) → AreGood m asks → IsFirstBadInput m asks line → ⊥
 never_bad m [] line good bad = bad
 never_bad m (ask ∷ asks) line good (inl bad) = good_apart m ask line good.0 bad
 never_bad m (ask ∷ asks) line good (inr bad) = never_bad m asks line good.1 bad.1
 
-pub good_each : {A : Type 0} (m : FileMap) (most : ℕ) (Is : List ℕ → A → Type 0) (ask : ℕ → List ℕ → Ask) (asks : List Ask) → ((place : ℕ) (name : List ℕ) (x : A) → HoldsFile m name most (λ bytes. Is bytes x) → IsGood m (ask place name)) →
-    (place : ℕ) (names : List (List ℕ)) (xs : List A) → HoldEachFile m most Is names xs → AreGood m asks → AreGood m (ask_each ask place names asks)
+pub good_each : {A : Type 0} (m : FileMap) (most : ℕ) (Is : List ℕ → A → Type 0) (ask : ℕ → List ℕ → InputRequirement) (asks : List InputRequirement) → ((place : ℕ) (name : List ℕ) (x : A) → HoldsFile m name most (λ bytes. Is bytes x) → IsGoodInput m (ask place name)) →
+    (place : ℕ) (names : List (List ℕ)) (xs : List A) → HoldEachFile m most Is names xs → AreGood m asks → AreGood m (require_each ask place names asks)
 good_each m most Is ask asks is place [] [] h rest = rest
 good_each m most Is ask asks is place [] (x ∷ xs) h rest = absurd h
 good_each m most Is ask asks is place (name ∷ names) [] h rest = absurd h

@@ -12,11 +12,11 @@ use Rattle.tcd_base.specs.Files.{FileMap}
 use Rattle.tcd_reading.specs.Reports.{Report}
 use Rattle.tcd_forms.specs.Lines.{boots_line, generated_boot_line}
 use Rattle.tcd_driver.specs.Boot as boots
-use Rattle.tcd_driver.specs.Boot.{BootNames, IsBootVerdict, BootgenNames, WritesBoot}
+use Rattle.tcd_driver.specs.Boot.{BootNames, IsBootVerdict, BootgenNames, WritesBootSource}
 use Rattle.tcd_driver.specs.Headlines.Boots.{HeadlineOfBoot, RefusalByBoot, HeadlineOfBootgen}
 use Rattle.tcd_driver.proofs.Headlines.{refusal_by_check, is_written, accepted_of, Means, is_done, is_refused, means_as}
 use Rattle.tcd_driver.specs.Headlines.{AreCheckFiles, HoldsPlan}
-use Rattle.tcd_driver.specs.Tool.{Never}
+use Rattle.tcd_driver.specs.Tool.{NeverRefuses}
 
 -- ---- boot
 pub boot_means : (names : BootNames) (word : List ℕ) → hex_number_of word ≡ Some names.at → (m : FileMap) (i : ImageData) (p : PlanData) (c : CertData) (r : Report) → AreCheckFiles m names.elf names.plan names.cert i p c → IsBootVerdict i p c names.at r →
@@ -53,7 +53,7 @@ boot_means names word at_is m i p c r files (boots.boots accepted stands safe e)
 
 -- ---- bootgen
 pub bootgen_means : (names : BootgenNames) (entry_word at_word : List ℕ) → hex_number_of entry_word ≡ Some names.entry → hex_number_of at_word ≡ Some names.at → names.at + 224 ≤ 2 ^ 32
-    → (m : FileMap) (p : PlanData) (r : Report) → HoldsPlan m names.plan p → WritesBoot names.entry names.at names.source p r → Means m [] (HeadlineOfBootgen names.plan entry_word at_word names.source) Never r
+    → (m : FileMap) (p : PlanData) (r : Report) → HoldsPlan m names.plan p → WritesBootSource names.entry names.at names.source p r → Means m [] (HeadlineOfBootgen names.plan entry_word at_word names.source) NeverRefuses r
 unfolding generated_boot_line
 bootgen_means names entry_word at_word entry_is at_is room m p r plan e =
     let bytes = listing_of (boot_image_of p names.entry names.at) in

@@ -11,20 +11,20 @@ use Rattle.cfg_recover.specs.RulesHoldOrFail.{Accepts, IsFirstFault, certified_n
 use Rattle.cfg_recover.specs.CertRefusals.{IsRefusal}
 use Rattle.value_cells.specs.declared.cells.Cell.{Cell}
 use Rattle.value_cells.specs.Cells.{with_cells}
-use Rattle.value_cells.specs.Keeping.{IsFirstBreak}
+use Rattle.value_cells.specs.Keeping.{IsRule16Fault}
 use Rattle.tcd_base.specs.Files.{FileMap}
 use Rattle.tcd_reading.specs.Reports.{Report}
 use Rattle.tcd_forms.specs.Lines.{refused_line, certified_cells_line}
 use Rattle.tcd_driver.specs.Cells as keeping
 use Rattle.tcd_driver.specs.Cells.{CellsNames, IsCellsVerdict}
 use Rattle.tcd_driver.specs.Cellcert as making
-use Rattle.tcd_driver.specs.Cellcert.{CellcertNames, IsCertifyingCells}
+use Rattle.tcd_driver.specs.Cellcert.{CellcertNames, IsCellcertReport}
 use Rattle.depth_maker.specs.Answers.{NoneAccepted}
-use Rattle.tcd_driver.specs.Headlines.Cells.{AreCellFiles, cells_words, HeadlineOfCells, RefusalByCells, HeadlineOfCellcert, NoneKeepsCellBounds, RefusalByCellcert}
+use Rattle.tcd_driver.specs.Headlines.Cells.{AreCellFiles, certified_cells_line_text, HeadlineOfCells, RefusalByCells, HeadlineOfCellcert, NoneKeepsCellBounds, RefusalByCellcert}
 use Rattle.tcd_driver.proofs.Headlines.{is_written, accepted_of, least_of, Means, is_done, is_refused, means_as, refused_is}
 use Rattle.tcd_driver.specs.Headlines.{HoldsCert}
 
-cells_is : (need areas n : ℕ) → certified_cells_line need areas n ≡ cells_words need areas n
+cells_is : (need areas n : ℕ) → certified_cells_line need areas n ≡ certified_cells_line_text need areas n
 unfolding certified_cells_line
 cells_is need areas n = refl
 
@@ -32,7 +32,7 @@ cells_is need areas n = refl
 module _ (names : CellsNames) (m : FileMap) (i : ImageData) (p : PlanData) (cs : List Cell) (c : CertData) (files : AreCellFiles m names.elf names.plan names.cells i p cs) (cert : HoldsCert m names.cert c) where
   -- one of the two
   refusal_by_cells : (rule : ℕ) (key : Key) (addr : ℕ) →
-      IsFirstFault i (with_cells p cs) c rule key addr ⊎ ((rule ≡ 16) × Accepts i (with_cells p cs) c × IsFirstBreak i (with_cells p cs) cs c key addr)
+      IsFirstFault i (with_cells p cs) c rule key addr ⊎ ((rule ≡ 16) × Accepts i (with_cells p cs) c × IsRule16Fault i (with_cells p cs) cs c key addr)
       → RefusalByCells names.elf names.plan names.cells names.cert m m (refused_line rule key addr)
   refusal_by_cells rule key addr fails = record {
     image = i;
@@ -84,7 +84,7 @@ module _ (names : CellcertNames) (m : FileMap) (i : ImageData) (p : PlanData) (c
     stays = refl;
   }
 
-  pub cellcert_means : (r : Report) → IsCertifyingCells names.cert i p cs r → Means m [] (HeadlineOfCellcert names.elf names.plan names.cells names.cert) (RefusalByCellcert names.elf names.plan names.cells) r
+  pub cellcert_means : (r : Report) → IsCellcertReport names.cert i p cs r → Means m [] (HeadlineOfCellcert names.elf names.plan names.cells names.cert) (RefusalByCellcert names.elf names.plan names.cells) r
   cellcert_means r (making.refused rule key addr none why e) = means_as e (is_refused refl refl (refusal_by_cellcert rule key addr (inl (none, why))))
   cellcert_means r (making.broken c key addr none is made first e) =
       let least = least_of i (with_cells p cs) 2 c is made in

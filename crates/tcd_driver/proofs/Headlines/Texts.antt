@@ -12,14 +12,14 @@ use Rattle.tcd_forms.specs.Lines.{generated_line}
 use Rattle.tcd_driver.specs.Cfg as drawing
 use Rattle.tcd_driver.specs.Cfg.{CfgNames, IsCfgReport}
 use Rattle.tcd_driver.specs.Reporting as reporting
-use Rattle.tcd_driver.specs.Reporting.{ReportNames, IsReporting}
+use Rattle.tcd_driver.specs.Reporting.{ReportNames, IsReportOrRefusal}
 use Rattle.tcd_driver.specs.Gen as generating
 use Rattle.tcd_driver.specs.Gen.{IsGenReport, IsGenFunctionCount}
 use Rattle.tcd_driver.specs.Headlines.{RefusalByCheck, RefusalByCert, AreCheckFiles, AreFirmwareFiles, HoldsImage}
 use Rattle.tcd_driver.specs.Headlines.Reports.{HeadlineOfCfg, HeadlineOfReport, HeadlineOfDis, HeadlineOfGen, RefusalByGen}
 use Rattle.tcd_driver.proofs.Headlines.{accepted_of, least_of, best_of, refusal_by_check, refusal_by_cert, Means, is_done, is_refused, means_as, refused_is}
-use Rattle.tcd_driver.specs.Dis.{IsListing}
-use Rattle.tcd_driver.specs.Tool.{Never}
+use Rattle.tcd_driver.specs.Dis.{IsDisReport}
+use Rattle.tcd_driver.specs.Tool.{NeverRefuses}
 
 -- ---- cfg
 pub cfg_means : (names : CfgNames) (m : FileMap) (i : ImageData) (p : PlanData) (r : Report) → AreFirmwareFiles m names.elf names.plan i p → IsCfgReport i p r → Means m [] (HeadlineOfCfg names.elf names.plan) (RefusalByCert names.elf names.plan) r
@@ -39,7 +39,7 @@ cfg_means names m i p r files (drawing.drawn text is e) = means_as e (is_done m 
 }))
 
 -- ---- report
-pub report_means : (names : ReportNames) (m : FileMap) (i : ImageData) (p : PlanData) (c : CertData) (r : Report) → AreCheckFiles m names.elf names.plan names.cert i p c → IsReporting i p c r →
+pub report_means : (names : ReportNames) (m : FileMap) (i : ImageData) (p : PlanData) (c : CertData) (r : Report) → AreCheckFiles m names.elf names.plan names.cert i p c → IsReportOrRefusal i p c r →
     Means m [] (HeadlineOfReport names.elf names.plan names.cert) (RefusalByCheck names.elf names.plan names.cert) r
 report_means names m i p c r files (reporting.refused rule key addr first e) = means_as e (is_refused refl refl (refusal_by_check files rule key addr first))
 report_means names m i p c r files (reporting.reported text accepted safe is e) = means_as e (is_done m refl refl (record {
@@ -56,7 +56,7 @@ report_means names m i p c r files (reporting.reported text accepted safe is e) 
 }))
 
 -- ---- dis
-pub dis_means : (elf : List ℕ) (m : FileMap) (i : ImageData) (r : Report) → HoldsImage m elf i → IsListing i r → Means m [] (HeadlineOfDis elf) Never r
+pub dis_means : (elf : List ℕ) (m : FileMap) (i : ImageData) (r : Report) → HoldsImage m elf i → IsDisReport i r → Means m [] (HeadlineOfDis elf) NeverRefuses r
 dis_means elf m i r file e = means_as e (is_done m refl refl (record { image = i; elf_file = file; prints = refl; stays = refl }))
 
 -- ---- gen

@@ -27,24 +27,24 @@ use Rattle.tcd_driver.specs.Headlines.Builds.{IsObjectText, HoldsLayout, AreLink
 -- are linked by a layout; that there is a certificate for each task. A turn script, cells and tasks
 -- are of the plan that is named first. An object or a source has its place among those that are
 -- named.
-pub data Ask : Type 0 where
-  is_elf : (name : List ℕ) → Ask
-  is_plan : (name : List ℕ) → Ask
-  is_cert : (name : List ℕ) → Ask
-  is_layout : (name : List ℕ) → Ask
-  is_object : (place : ℕ) (name : List ℕ) → Ask
-  is_source : (place : ℕ) (name : List ℕ) → Ask
-  is_script : (plan_name name : List ℕ) → Ask
-  are_cells : (plan_name name : List ℕ) → Ask
-  are_tasks : (plan_name name : List ℕ) → Ask
-  are_linked : (layout_name : List ℕ) (names : List (List ℕ)) → Ask
-  are_linked_sources : (layout_name : List ℕ) (names : List (List ℕ)) → Ask
-  is_cert_per_task : (plan_name tasks_name : List ℕ) (names : List (List ℕ)) → Ask
+pub data InputRequirement : Type 0 where
+  is_elf : (name : List ℕ) → InputRequirement
+  is_plan : (name : List ℕ) → InputRequirement
+  is_cert : (name : List ℕ) → InputRequirement
+  is_layout : (name : List ℕ) → InputRequirement
+  is_object : (place : ℕ) (name : List ℕ) → InputRequirement
+  is_source : (place : ℕ) (name : List ℕ) → InputRequirement
+  is_script : (plan_name name : List ℕ) → InputRequirement
+  are_cells : (plan_name name : List ℕ) → InputRequirement
+  are_tasks : (plan_name name : List ℕ) → InputRequirement
+  are_linked : (layout_name : List ℕ) (names : List (List ℕ)) → InputRequirement
+  are_linked_sources : (layout_name : List ℕ) (names : List (List ℕ)) → InputRequirement
+  is_cert_per_task : (plan_name tasks_name : List ℕ) (names : List (List ℕ)) → InputRequirement
 
 -- this is asked of each of these files, which have places from this one on, and then the rest
-abbrev pub ask_each : (ℕ → List ℕ → Ask) → ℕ → List (List ℕ) → List Ask → List Ask
-ask_each ask place [] rest = rest
-ask_each ask place (name ∷ names) rest = ask place name ∷ ask_each ask (place + 1) names rest
+abbrev pub require_each : (ℕ → List ℕ → InputRequirement) → ℕ → List (List ℕ) → List InputRequirement → List InputRequirement
+require_each ask place [] rest = rest
+require_each ask place (name ∷ names) rest = ask place name ∷ require_each ask (place + 1) names rest
 
 -- the name holds this turn script for the plan
 abbrev pub HoldsScript : FileMap → List ℕ → PlanData → ScriptData → Type 0
@@ -52,86 +52,86 @@ HoldsScript m name plan script = HoldsFile m name (2 ^ 24) (λ bytes. script_of 
 
 -- the name holds these cells of the plan
 abbrev pub HoldsCells : FileMap → List ℕ → PlanData → List Cell → Type 0
-HoldsCells m name plan list = HoldsFile m name (2 ^ 24) (λ bytes. cells.Reads plan bytes (Ok list))
+HoldsCells m name plan list = HoldsFile m name (2 ^ 24) (λ bytes. cells.IsResultOfCellText plan bytes (Ok list))
 
 -- the name holds these tasks of the plan
 abbrev pub HoldsTasks : FileMap → List ℕ → PlanData → TasksData → Type 0
-HoldsTasks m name plan list = HoldsFile m name (2 ^ 24) (λ bytes. tasks.Reads plan (text_lines bytes) (Ok list))
+HoldsTasks m name plan list = HoldsFile m name (2 ^ 24) (λ bytes. tasks.IsResultOfTaskText plan (text_lines bytes) (Ok list))
 
 -- a layout and sources are held, and this is what their objects are linked to
-abbrev pub LinksSources : FileMap → List ℕ → List (List ℕ) → LayoutData → List SourceData → Type 0
-LinksSources m layout_name names layout sources = HoldsLayout m layout_name layout × HoldEachFile m (2 ^ 24) IsSourceText names sources
+abbrev pub HoldLayoutAndSources : FileMap → List ℕ → List (List ℕ) → LayoutData → List SourceData → Type 0
+HoldLayoutAndSources m layout_name names layout sources = HoldsLayout m layout_name layout × HoldEachFile m (2 ^ 24) IsSourceText names sources
 
 -- the input is as it is asked
-abbrev pub IsGood : FileMap → Ask → Type 0
-IsGood m (is_elf name) = (image : ImageData) × HoldsImage m name image
-IsGood m (is_plan name) = (plan : PlanData) × HoldsPlan m name plan
-IsGood m (is_cert name) = (cert : CertData) × HoldsCert m name cert
-IsGood m (is_layout name) = (layout : LayoutData) × HoldsLayout m name layout
-IsGood m (is_object place name) = (object : ObjectData) × HoldsFile m name (2 ^ 24) (λ bytes. IsObjectText bytes object)
-IsGood m (is_source place name) = (object : ObjectData) × HoldsFile m name (2 ^ 24) (λ bytes. IsSource bytes object)
-IsGood m (is_script plan_name name) = (plan : PlanData) × (script : ScriptData) × HoldsPlan m plan_name plan × HoldsScript m name plan script
-IsGood m (are_cells plan_name name) = (plan : PlanData) × (list : List Cell) × HoldsPlan m plan_name plan × HoldsCells m name plan list
-IsGood m (are_tasks plan_name name) = (plan : PlanData) × (list : TasksData) × HoldsPlan m plan_name plan × HoldsTasks m name plan list
-IsGood m (are_linked layout_name names) =
+abbrev pub IsGoodInput : FileMap → InputRequirement → Type 0
+IsGoodInput m (is_elf name) = (image : ImageData) × HoldsImage m name image
+IsGoodInput m (is_plan name) = (plan : PlanData) × HoldsPlan m name plan
+IsGoodInput m (is_cert name) = (cert : CertData) × HoldsCert m name cert
+IsGoodInput m (is_layout name) = (layout : LayoutData) × HoldsLayout m name layout
+IsGoodInput m (is_object place name) = (object : ObjectData) × HoldsFile m name (2 ^ 24) (λ bytes. IsObjectText bytes object)
+IsGoodInput m (is_source place name) = (object : ObjectData) × HoldsFile m name (2 ^ 24) (λ bytes. IsSource bytes object)
+IsGoodInput m (is_script plan_name name) = (plan : PlanData) × (script : ScriptData) × HoldsPlan m plan_name plan × HoldsScript m name plan script
+IsGoodInput m (are_cells plan_name name) = (plan : PlanData) × (list : List Cell) × HoldsPlan m plan_name plan × HoldsCells m name plan list
+IsGoodInput m (are_tasks plan_name name) = (plan : PlanData) × (list : TasksData) × HoldsPlan m plan_name plan × HoldsTasks m name plan list
+IsGoodInput m (are_linked layout_name names) =
     (layout : LayoutData) × (objects : List ObjectData) × (image : ImageData) × AreLinkFiles m layout_name names layout objects
     × (image_of_objects objects layout ≡ Ok image)
-IsGood m (are_linked_sources layout_name names) =
-    (layout : LayoutData) × (sources : List SourceData) × (image : ImageData) × LinksSources m layout_name names layout sources
+IsGoodInput m (are_linked_sources layout_name names) =
+    (layout : LayoutData) × (sources : List SourceData) × (image : ImageData) × HoldLayoutAndSources m layout_name names layout sources
     × (image_of_objects (map (λ source. source.object) sources) layout ≡ Ok image)
-IsGood m (is_cert_per_task plan_name tasks_name names) =
+IsGoodInput m (is_cert_per_task plan_name tasks_name names) =
     (plan : PlanData) × (list : TasksData) × HoldsPlan m plan_name plan × HoldsTasks m tasks_name plan list × (length names ≡ count list)
 
 -- the input is bad, and this line says why: the file has too many bytes, or a fault; the objects
 -- can't be linked; or there are fewer certificates than tasks, or more
-abbrev pub IsBadWith : FileMap → Ask → List ℕ → Type 0
-IsBadWith m (is_elf name) line = IsBadFile m name (2 ^ 24) (codes "bad elf 0" ++ 10 ∷ []) IsNoImage line
-IsBadWith m (is_plan name) line = IsBadFile m name (2 ^ 24) (codes "bad plan 0" ++ 10 ∷ []) IsNoPlan line
-IsBadWith m (is_cert name) line = IsBadFile m name (2 ^ 30) (codes "bad cert 0" ++ 10 ∷ []) IsNoCert line
-IsBadWith m (is_layout name) line = IsBadFile m name (2 ^ 24) (codes "bad layout 0" ++ 10 ∷ []) IsNoLayout line
-IsBadWith m (is_object place name) line = IsBadFile m name (2 ^ 24) (codes "bad object 0 at " ++ (decimal place ++ 10 ∷ [])) (IsNoObject place) line
-IsBadWith m (is_source place name) line = IsBadFile m name (2 ^ 24) (codes "bad source 0 at " ++ (decimal place ++ 10 ∷ [])) (SourceBreaksRule place) line
-IsBadWith m (is_script plan_name name) line =
+abbrev pub IsBadInputWith : FileMap → InputRequirement → List ℕ → Type 0
+IsBadInputWith m (is_elf name) line = IsBadFile m name (2 ^ 24) (codes "bad elf 0" ++ 10 ∷ []) IsNoImage line
+IsBadInputWith m (is_plan name) line = IsBadFile m name (2 ^ 24) (codes "bad plan 0" ++ 10 ∷ []) IsNoPlan line
+IsBadInputWith m (is_cert name) line = IsBadFile m name (2 ^ 30) (codes "bad cert 0" ++ 10 ∷ []) IsNoCert line
+IsBadInputWith m (is_layout name) line = IsBadFile m name (2 ^ 24) (codes "bad layout 0" ++ 10 ∷ []) IsNoLayout line
+IsBadInputWith m (is_object place name) line = IsBadFile m name (2 ^ 24) (codes "bad object 0 at " ++ (decimal place ++ 10 ∷ [])) (IsNoObject place) line
+IsBadInputWith m (is_source place name) line = IsBadFile m name (2 ^ 24) (codes "bad source 0 at " ++ (decimal place ++ 10 ∷ [])) (SourceBreaksRule place) line
+IsBadInputWith m (is_script plan_name name) line =
     (plan : PlanData) × HoldsPlan m plan_name plan × IsBadFile m name (2 ^ 24) (codes "bad script 0" ++ 10 ∷ []) (IsNoScript plan) line
-IsBadWith m (are_cells plan_name name) line =
+IsBadInputWith m (are_cells plan_name name) line =
     (plan : PlanData) × HoldsPlan m plan_name plan × IsBadFile m name (2 ^ 24) (codes "bad cells 0" ++ 10 ∷ []) (AreNoCells plan) line
-IsBadWith m (are_tasks plan_name name) line =
+IsBadInputWith m (are_tasks plan_name name) line =
     (plan : PlanData) × HoldsPlan m plan_name plan × IsBadFile m name (2 ^ 24) (codes "bad tasks 0" ++ 10 ∷ []) (AreNoTasks plan) line
-IsBadWith m (are_linked layout_name names) line =
+IsBadInputWith m (are_linked layout_name names) line =
     (layout : LayoutData) × (objects : List ObjectData) × (why : Refusal) × AreLinkFiles m layout_name names layout objects
     × (image_of_objects objects layout ≡ Err why) × (line ≡ bad_link_line why)
-IsBadWith m (are_linked_sources layout_name names) line =
-    (layout : LayoutData) × (sources : List SourceData) × (why : Refusal) × LinksSources m layout_name names layout sources
+IsBadInputWith m (are_linked_sources layout_name names) line =
+    (layout : LayoutData) × (sources : List SourceData) × (why : Refusal) × HoldLayoutAndSources m layout_name names layout sources
     × (image_of_objects (map (λ source. source.object) sources) layout ≡ Err why) × (line ≡ bad_link_line why)
-IsBadWith m (is_cert_per_task plan_name tasks_name names) line =
+IsBadInputWith m (is_cert_per_task plan_name tasks_name names) line =
     (plan : PlanData) × (list : TasksData) × HoldsPlan m plan_name plan × HoldsTasks m tasks_name plan list × (length names ≢ count list)
     × (line ≡ codes "bad tasks 7" ++ 10 ∷ [])
 
 -- the file of which something is asked is there
-abbrev pub IsThere : FileMap → Ask → Type 0
-IsThere m (is_elf name) = IsSome (get m name)
-IsThere m (is_plan name) = IsSome (get m name)
-IsThere m (is_cert name) = IsSome (get m name)
-IsThere m (is_layout name) = IsSome (get m name)
-IsThere m (is_object place name) = IsSome (get m name)
-IsThere m (is_source place name) = IsSome (get m name)
-IsThere m (is_script plan_name name) = IsSome (get m name)
-IsThere m (are_cells plan_name name) = IsSome (get m name)
-IsThere m (are_tasks plan_name name) = IsSome (get m name)
-IsThere m ask = Unit {0}
+abbrev pub IsInputPresent : FileMap → InputRequirement → Type 0
+IsInputPresent m (is_elf name) = IsSome (get m name)
+IsInputPresent m (is_plan name) = IsSome (get m name)
+IsInputPresent m (is_cert name) = IsSome (get m name)
+IsInputPresent m (is_layout name) = IsSome (get m name)
+IsInputPresent m (is_object place name) = IsSome (get m name)
+IsInputPresent m (is_source place name) = IsSome (get m name)
+IsInputPresent m (is_script plan_name name) = IsSome (get m name)
+IsInputPresent m (are_cells plan_name name) = IsSome (get m name)
+IsInputPresent m (are_tasks plan_name name) = IsSome (get m name)
+IsInputPresent m ask = Unit {0}
 
 -- each file of which something is asked is there
-abbrev pub AreThere : FileMap → List Ask → Type 0
-AreThere m [] = Unit {0}
-AreThere m (ask ∷ asks) = IsThere m ask × AreThere m asks
+abbrev pub AreInputsPresent : FileMap → List InputRequirement → Type 0
+AreInputsPresent m [] = Unit {0}
+AreInputsPresent m (ask ∷ asks) = IsInputPresent m ask × AreInputsPresent m asks
 
 -- one of these is bad, and this line says why; all before it are good
-abbrev pub IsFirstBad : FileMap → List Ask → List ℕ → Type 0
-IsFirstBad m [] line = ⊥
-IsFirstBad m (ask ∷ asks) line = IsBadWith m ask line ⊎ (IsGood m ask × IsFirstBad m asks line)
+abbrev pub IsFirstBadInput : FileMap → List InputRequirement → List ℕ → Type 0
+IsFirstBadInput m [] line = ⊥
+IsFirstBadInput m (ask ∷ asks) line = IsBadInputWith m ask line ⊎ (IsGoodInput m ask × IsFirstBadInput m asks line)
 
 -- A command finds its input bad: the line is on the first of what it asks that isn't so, and all
 -- that was held stays.
-pub record BadInputOf (asks : List Ask) (before after : FileMap) (printed : List ℕ) : Type 0 where
-  pub first : IsFirstBad before asks printed
+pub record BadInputOf (asks : List InputRequirement) (before after : FileMap) (printed : List ℕ) : Type 0 where
+  pub first : IsFirstBadInput before asks printed
   pub stays : after ≡ before

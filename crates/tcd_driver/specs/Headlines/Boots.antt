@@ -8,7 +8,7 @@ use Rattle.cfg_recover.specs.RulesHoldOrFail.{Accepts}
 use Rattle.tcd_text.specs.HexNumbers.{hex_number_of}
 use Rattle.tc_disasm.specs.Listing.{listing_of}
 use Rattle.tc_boot.specs.declared.judging.BootErr.{BootErr}
-use Rattle.tc_boot.specs.Judging.{JudgesBoot, HasBoot}
+use Rattle.tc_boot.specs.Judging.{IsResultOfBootTest, HasBoot}
 use Rattle.tc_boot.specs.Reset.{BootsSafely}
 use Rattle.tc_boot.specs.Sequence.{boot_image_of}
 use Rattle.tcd_base.specs.Files.{FileMap}
@@ -36,7 +36,7 @@ pub record HeadlineOfBoot (elf_name plan_name cert_name at_word : List ℕ) (bef
 
 -- the certificate is accepted, but the boot sequence isn't at the address, or may not run, for this
 -- reason
-pub record IsUnbooted (elf_name plan_name cert_name at_word : List ℕ) (before after : FileMap) (printed : List ℕ) : Type 0 where
+pub record IsBootSequenceRefused (elf_name plan_name cert_name at_word : List ℕ) (before after : FileMap) (printed : List ℕ) : Type 0 where
   pub image : ImageData
   pub plan : PlanData
   pub cert : CertData
@@ -45,14 +45,14 @@ pub record IsUnbooted (elf_name plan_name cert_name at_word : List ℕ) (before 
   pub files : AreCheckFiles before elf_name plan_name cert_name image plan cert
   pub at_is : hex_number_of at_word ≡ Some at
   pub accepted : Accepts image plan cert
-  pub judged : JudgesBoot image plan at (Err against)
+  pub judged : IsResultOfBootTest image plan at (Err against)
   pub prints : printed ≡ refused_boot_line against
   pub stays : after ≡ before
 
 -- `boot` refuses the certificate, as `check` does, or the boot sequence.
 abbrev pub RefusalByBoot : List ℕ → List ℕ → List ℕ → List ℕ → FileMap → FileMap → List ℕ → Type 0
 RefusalByBoot elf_name plan_name cert_name at_word before after printed =
-    RefusalByCheck elf_name plan_name cert_name before after printed ⊎ IsUnbooted elf_name plan_name cert_name at_word before after printed
+    RefusalByCheck elf_name plan_name cert_name before after printed ⊎ IsBootSequenceRefused elf_name plan_name cert_name at_word before after printed
 
 -- `bootgen` is done: SRC now holds the listing of the image whose only segment is the plan's boot
 -- sequence at the address. The sequence doesn't pass 2^32.

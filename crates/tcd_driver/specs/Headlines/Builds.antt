@@ -2,15 +2,15 @@
 use Rattle.std.specs.Prelude.{◌≡◌, ◌^◌, ℕ, List, ◌∷◌, ◌++◌, codes, length, Ok, ◌≢◌, ◌-◌, map, Some, []}
 use Rattle.std.specs.Fmt.{decimal}
 use Rattle.elf_image.specs.Images.{ImageData}
-use Rattle.elf_image.specs.WrittenElf.{file_of}
+use Rattle.elf_image.specs.WrittenElf.{elf_file}
 use Rattle.tc_object.specs.Objects.{ObjectData}
 use Rattle.tc_object.specs.Grammar.{object_of}
-use Rattle.tc_object.specs.Spelling.{bytes_of}
+use Rattle.tc_object.specs.Spelling.{bytes_of_object}
 use Rattle.tc_link.specs.Layouts.{LayoutData}
 use Rattle.tc_link.specs.Linked.{image_of_objects}
 use Rattle.tcd_base.specs.Files.{FileMap}
 use Rattle.tcd_forms.specs.Forms.{IsSource, SourceData}
-use Rattle.tcd_driver.specs.Headlines.{certified_words, HoldsFile, HoldEachFile, IsOnlyFileWritten, HoldsPlan, IsBestWithNeed, refused_words}
+use Rattle.tcd_driver.specs.Headlines.{certified_line_text, HoldsFile, HoldEachFile, IsOnlyFileWritten, HoldsPlan, IsBestWithNeed, refused_line_text}
 use Rattle.std.specs.FinMap.{get}
 use Rattle.elf_image.specs.ReadElf.{image_of_file}
 use Rattle.tcd_plan.specs.PlanData.{PlanData}
@@ -18,7 +18,7 @@ use Rattle.depth_cert.specs.declared.keys.Key.{Key}
 use Rattle.depth_cert.specs.Certs.{CertData}
 use Rattle.depth_cert.specs.Spelling as certs
 use Rattle.tc_program.specs.Placed.{Placed}
-use Rattle.tcd_driver.specs.BestCert.{NoneIsAccepted}
+use Rattle.tcd_driver.specs.BestCert.{NoCertIsAccepted}
 use Rattle.tc_link.specs.LayoutFaults.{layout_of}
 
 -- ---- asm
@@ -26,8 +26,8 @@ use Rattle.tc_link.specs.LayoutFaults.{layout_of}
 pub record HeadlineOfAsm (source_name object_name : List ℕ) (before after : FileMap) (printed : List ℕ) : Type 0 where
   pub object : ObjectData
   pub source_file : HoldsFile before source_name (2 ^ 24) (λ bytes. IsSource bytes object)
-  pub writes : IsOnlyFileWritten before after object_name (bytes_of object)
-  pub prints : printed ≡ codes "object " ++ (decimal (length (bytes_of object)) ++ (codes " bytes" ++ 10 ∷ []))
+  pub writes : IsOnlyFileWritten before after object_name (bytes_of_object object)
+  pub prints : printed ≡ codes "object " ++ (decimal (length (bytes_of_object object)) ++ (codes " bytes" ++ 10 ∷ []))
 
 -- ---- link
 -- the bytes are this object
@@ -51,8 +51,8 @@ pub record HeadlineOfLink (layout_name elf_name : List ℕ) (object_names : List
   pub image : ImageData
   pub files : AreLinkFiles before layout_name object_names layout objects
   pub linked : image_of_objects objects layout ≡ Ok image
-  pub writes : IsOnlyFileWritten before after elf_name (file_of image)
-  pub prints : printed ≡ codes "image " ++ (decimal (length (file_of image)) ++ (codes " bytes" ++ 10 ∷ []))
+  pub writes : IsOnlyFileWritten before after elf_name (elf_file image)
+  pub prints : printed ≡ codes "image " ++ (decimal (length (elf_file image)) ++ (codes " bytes" ++ 10 ∷ []))
 
 -- ---- ship
 
@@ -82,12 +82,12 @@ pub record HeadlineOfShip (plan_name layout_name elf_name cert_name : List ℕ) 
   pub need : ℕ
   pub apart : elf_name ≢ cert_name
   pub image_is : IsImageOfFiles before plan_name layout_name source_names plan image
-  pub image_reads : image_of_file (file_of image) ≡ Ok image
+  pub image_reads : image_of_file (elf_file image) ≡ Ok image
   pub best : IsBestWithNeed image plan cert need
-  pub elf_written : get after elf_name ≡ Some (file_of image)
+  pub elf_written : get after elf_name ≡ Some (elf_file image)
   pub cert_written : get after cert_name ≡ Some (certs.bytes_of_cert cert)
   pub others : (other : List ℕ) → other ≢ elf_name → other ≢ cert_name → get after other ≡ get before other
-  pub prints : printed ≡ certified_words need (plan.areas - plan.reserve)
+  pub prints : printed ≡ certified_line_text need (plan.areas - plan.reserve)
 
 -- `ship` refuses: no certificate is accepted for the image of the sources.
 pub record RefusalByShip (plan_name layout_name : List ℕ) (source_names : List (List ℕ)) (before after : FileMap) (printed : List ℕ) : Type 0 where
@@ -97,6 +97,6 @@ pub record RefusalByShip (plan_name layout_name : List ℕ) (source_names : List
   pub frame : Key
   pub address : ℕ
   pub image_is : IsImageOfFiles before plan_name layout_name source_names plan image
-  pub none : NoneIsAccepted image plan rule frame address
-  pub prints : printed ≡ refused_words rule frame address
+  pub none : NoCertIsAccepted image plan rule frame address
+  pub prints : printed ≡ refused_line_text rule frame address
   pub stays : after ≡ before

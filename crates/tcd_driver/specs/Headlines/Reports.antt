@@ -10,14 +10,14 @@ use Rattle.depth_cert.specs.Certs.{CertData}
 use Rattle.depth_cert.specs.Nodes.{count_points}
 use Rattle.cfg_recover.specs.RulesHoldOrFail.{certified_need}
 use Rattle.tcd_report.specs.Graphs.{AreGraphLines}
-use Rattle.tcd_report.specs.Graphs.EdgeLaws.{EdgesStand}
+use Rattle.tcd_report.specs.Graphs.EdgeLaws.{LinesHaveAllEdges}
 use Rattle.tcd_report.specs.Reports.{IsReport}
 use Rattle.tcd_report.specs.Generated.{generated_image}
 use Rattle.tcd_report.specs.Generated.Planned.{generated_plan}
 use Rattle.tcd_base.specs.Files.{FileMap}
-use Rattle.tcd_driver.specs.Headlines.{HoldsImage, AreFirmwareFiles, AreCheckFiles, IsAcceptedWithNeed, IsBestWithNeed, refused_words}
+use Rattle.tcd_driver.specs.Headlines.{HoldsImage, AreFirmwareFiles, AreCheckFiles, IsAcceptedWithNeed, IsBestWithNeed, refused_line_text}
 use Rattle.depth_maker.specs.Answers.{NoneAccepted}
-use Rattle.tcd_driver.specs.BestCert.{IsLeastOfItsVersion}
+use Rattle.tcd_driver.specs.BestCert.{IsLeastOfItsFormat}
 use Rattle.tcd_driver.specs.Gen.{IsGenFunctionCount}
 use Rattle.depth_cert.specs.declared.keys.Key.{Key}
 use Rattle.cfg_recover.specs.CertRefusals.{IsRefusal}
@@ -34,7 +34,7 @@ pub record HeadlineOfCfg (elf_name plan_name : List ℕ) (before after : FileMap
   pub files : AreFirmwareFiles before elf_name plan_name image plan
   pub best : IsBestWithNeed image plan cert need
   pub graph : AreGraphLines image plan cert lines
-  pub edges : EdgesStand image plan cert lines
+  pub edges : LinesHaveAllEdges image plan cert lines
   pub prints : printed ≡ flat_map (λ line. line) lines
   pub stays : after ≡ before
 
@@ -65,8 +65,8 @@ pub record HeadlineOfDis (elf_name : List ℕ) (before after : FileMap) (printed
 
 -- the line that `gen` reports in its headline: functions, nodes, points, the need, and the areas
 -- without the reserve
-abbrev pub gen_words : ℕ → ℕ → ℕ → ℕ → ℕ → List ℕ
-gen_words functions nodes points need areas =
+abbrev pub generated_line_text : ℕ → ℕ → ℕ → ℕ → ℕ → List ℕ
+generated_line_text functions nodes points need areas =
     codes "functions "
     ++ (decimal functions
     ++ (codes " nodes "
@@ -84,8 +84,8 @@ pub record HeadlineOfGen (word : List ℕ) (before after : FileMap) (printed : L
   pub accepted : IsAcceptedWithNeed (generated_image functions) generated_plan cert need
   pub safe : Safe (generated_image functions) generated_plan need
   pub version : cert.version ≡ 1
-  pub least : IsLeastOfItsVersion (generated_image functions) generated_plan cert
-  pub prints : printed ≡ gen_words functions (length cert.nodes) (count_points cert.nodes) need (generated_plan.areas - generated_plan.reserve)
+  pub least : IsLeastOfItsFormat (generated_image functions) generated_plan cert
+  pub prints : printed ≡ generated_line_text functions (length cert.nodes) (count_points cert.nodes) need (generated_plan.areas - generated_plan.reserve)
   pub stays : after ≡ before
 
 -- `gen`, which only reports, refuses: no certificate of format 1 is accepted for the generated
@@ -98,5 +98,5 @@ pub record RefusalByGen (word : List ℕ) (before after : FileMap) (printed : Li
   pub counted : IsGenFunctionCount word functions
   pub none : NoneAccepted (generated_image functions) generated_plan 1
   pub why : IsRefusal (generated_image functions) generated_plan 1 rule frame address
-  pub prints : printed ≡ refused_words rule frame address
+  pub prints : printed ≡ refused_line_text rule frame address
   pub stays : after ≡ before

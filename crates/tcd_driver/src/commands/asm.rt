@@ -1,6 +1,6 @@
 // The command `asm`.
 ghost use Rattle.tcd_driver.specs.Asm.{WritesObject, asm_reading};
-ghost use Rattle.tcd_reading.specs.Outcomes.{IsCommandOutcome, IsToldOutcome};
+ghost use Rattle.tcd_reading.specs.Outcomes.{IsCommandOutcome, IsReportOutcome};
 
 use std::alloc::Global;
 use tc_object::Object;
@@ -25,7 +25,7 @@ pub(crate) fn assemble_file<F: Files>(
 
 // The report with an object to write under this name.
 fn object_report(alloc: Global, name: &str, object: &Object) -> Outcome
-    ensures { IsToldOutcome (WritesObject name.now object.now) ⊥ result }
+    ensures { IsReportOutcome (WritesObject name.now object.now) ⊥ result }
 {
     match object.write(alloc) {
         Ok(bytes) => {

@@ -1,7 +1,7 @@
 // The command `bootgen`.
 ghost use Rattle.std.specs.Prelude.{◌≤◌, ◌+◌, ◌^◌};
-ghost use Rattle.tcd_driver.specs.Boot.{WritesBoot, bootgen_reading};
-ghost use Rattle.tcd_reading.specs.Outcomes.{IsCommandOutcome, IsToldOutcome};
+ghost use Rattle.tcd_driver.specs.Boot.{WritesBootSource, bootgen_reading};
+ghost use Rattle.tcd_reading.specs.Outcomes.{IsCommandOutcome, IsReportOutcome};
 
 use std::alloc::Global;
 use tc_boot::boot_source;
@@ -37,7 +37,7 @@ pub(crate) fn generate_boot_source<F: Files>(
 // The report with the source of a boot sequence to write under this name.
 fn bootgen_report(alloc: Global, plan: &Plan, entry: u32, at: u32, source: &str) -> Outcome
     requires { at + 224 ≤ 2 ^ 32 }
-    ensures { IsToldOutcome (WritesBoot entry at source.now plan.now) ⊥ result }
+    ensures { IsReportOutcome (WritesBootSource entry at source.now plan.now) ⊥ result }
 {
     let text = boot_source(alloc, plan, entry, at)?;
     let line = copy_printed_line(alloc, generated_boot_line())?;

@@ -1,6 +1,6 @@
 // The command `cert`.
-ghost use Rattle.tcd_driver.specs.Cert.{IsCertifying, cert_reading};
-ghost use Rattle.tcd_reading.specs.Outcomes.{IsCommandOutcome, IsToldOutcome};
+ghost use Rattle.tcd_driver.specs.Cert.{IsCertReport, cert_reading};
+ghost use Rattle.tcd_reading.specs.Outcomes.{IsCommandOutcome, IsReportOutcome};
 
 use crate::cert_making::{make_best_cert, report_no_cert};
 use elf_image::Image;
@@ -30,7 +30,7 @@ pub(crate) fn certify_executable<F: Files>(
 
 /// Makes the best certificate of an image, and reports it with its file to write.
 fn certify_image(alloc: Global, name: &str, image: &Image, plan: &Plan) -> Outcome
-    ensures { IsToldOutcome (IsCertifying name.now image.now plan.now) ⊥ result }
+    ensures { IsReportOutcome (IsCertReport name.now image.now plan.now) ⊥ result }
 {
     match make_best_cert(alloc, image, plan) {
         Ok((cert, need)) => {

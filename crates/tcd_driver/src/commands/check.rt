@@ -1,6 +1,6 @@
 // The command `check`.
 ghost use Rattle.tcd_driver.specs.Check.{IsCheckVerdict, check_reading};
-ghost use Rattle.tcd_reading.specs.Outcomes.{IsCommandOutcome, IsToldOutcome};
+ghost use Rattle.tcd_reading.specs.Outcomes.{IsCommandOutcome, IsReportOutcome};
 
 use depth_check::{Verdict, check};
 use elf_image::Image;
@@ -32,7 +32,7 @@ pub(crate) fn check_files<F: Files>(
 
 // Checks the certificate, and reports the verdict.
 fn check_verdict(alloc: Global, image: &Image, plan: &Plan, cert: &Cert) -> Outcome
-    ensures { IsToldOutcome (IsCheckVerdict image.now plan.now cert.now) ⊥ result }
+    ensures { IsReportOutcome (IsCheckVerdict image.now plan.now cert.now) ⊥ result }
 {
     match check(image, plan, cert) {
         Verdict::Yes(need) => {

@@ -1,6 +1,6 @@
 // The command `dis`.
-ghost use Rattle.tcd_driver.specs.Dis.{IsListing, dis_reading};
-ghost use Rattle.tcd_reading.specs.Outcomes.{IsCommandOutcome, IsToldOutcome};
+ghost use Rattle.tcd_driver.specs.Dis.{IsDisReport, dis_reading};
+ghost use Rattle.tcd_reading.specs.Outcomes.{IsCommandOutcome, IsReportOutcome};
 
 use elf_image::Image;
 use std::alloc::Global;
@@ -20,7 +20,7 @@ pub(crate) fn disassemble_file<F: Files>(alloc: Global, elf: &str, files: &mut F
 
 // The report with the listing of an image.
 fn listing_report(alloc: Global, image: &Image) -> Outcome
-    ensures { IsToldOutcome (IsListing image.now) ⊥ result }
+    ensures { IsReportOutcome (IsDisReport image.now) ⊥ result }
 {
     let text = listing(alloc, image)?;
     Ok(Report::of(alloc, Status::Done, text.into_bytes()))

@@ -4,7 +4,7 @@ ghost use Rattle.tcd_plan.specs.declared.plans.PlanErr.TheVariants as plan_error
 ghost use Rattle.tcd_report.specs.Generated.{generated_image};
 ghost use Rattle.tcd_report.specs.Generated.Planned.{generated_plan};
 ghost use Rattle.tcd_driver.specs.Gen.{IsGenReport};
-ghost use Rattle.tcd_reading.specs.Outcomes.{IsToldOutcome};
+ghost use Rattle.tcd_reading.specs.Outcomes.{IsReportOutcome};
 
 use crate::cert_making::{make_least_cert, report_no_cert};
 use elf_image::Image;
@@ -18,7 +18,7 @@ use tcd_report::{generated_plan_text, image_of_functions};
 #[inline(never)]
 pub(crate) fn certify_generated_image(alloc: Global, functions: u32) -> Outcome
     requires { (1 ≤ functions) × (functions ≤ 500) }
-    ensures { IsToldOutcome (IsGenReport functions (generated_image functions) generated_plan) ⊥
+    ensures { IsReportOutcome (IsGenReport functions (generated_image functions) generated_plan) ⊥
         result }
 {
     let image = image_of_functions(alloc, functions)?;
@@ -34,7 +34,7 @@ pub(crate) fn certify_generated_image(alloc: Global, functions: u32) -> Outcome
 /// Makes the least certificate of format 1 of a generated image, and reports the numbers of its
 /// nodes and points.
 fn report_generated_image(alloc: Global, functions: u32, image: &Image, plan: &Plan) -> Outcome
-    ensures { IsToldOutcome (IsGenReport functions image.now plan.now) ⊥ result }
+    ensures { IsReportOutcome (IsGenReport functions image.now plan.now) ⊥ result }
 {
     match make_least_cert(alloc, image, plan, 1) {
         Ok((cert, need)) => {

@@ -4,7 +4,7 @@ ghost use Rattle.tc_object.specs.Objects.{ObjectData};
 ghost use Rattle.tcd_forms.specs.Forms.{object_form};
 ghost use Rattle.tcd_reading.specs.Inputs.{each, answer};
 ghost use Rattle.tcd_driver.specs.Link.{IsLinkReport, WritesImage, link_reading};
-ghost use Rattle.tcd_reading.specs.Outcomes.{IsCommandOutcome, IsToldOutcome};
+ghost use Rattle.tcd_reading.specs.Outcomes.{IsCommandOutcome, IsReportOutcome};
 
 use bumpalo::Bump;
 use elf_image::Image;
@@ -70,7 +70,7 @@ fn link_object_files<F: Files>(
 // Links the objects, and reports the image or the rejection.
 fn link_and_report(alloc: Global, name: &str, layout: &Layout, objects: &[ObjectRef<'_>]) -> Outcome
     requires { length objects.now ≤ 65535 }
-    ensures { IsToldOutcome (IsLinkReport name.now layout.now objects.now) ⊥ result }
+    ensures { IsReportOutcome (IsLinkReport name.now layout.now objects.now) ⊥ result }
 {
     match link_borrowed(alloc, objects, layout) {
         Ok(image) => linked_image_report(alloc, name, &image),
@@ -80,7 +80,7 @@ fn link_and_report(alloc: Global, name: &str, layout: &Layout, objects: &[Object
 
 // The report with an image to write under this name.
 fn linked_image_report(alloc: Global, name: &str, image: &Image) -> Outcome
-    ensures { IsToldOutcome (WritesImage name.now image.now) ⊥ result }
+    ensures { IsReportOutcome (WritesImage name.now image.now) ⊥ result }
 {
     match image.write(alloc) {
         Ok(bytes) => {

@@ -2,8 +2,8 @@
 ghost use Rattle.std.specs.Prelude.{IfOk};
 ghost use Rattle.cfg_recover.specs.RulesHoldOrFail.{Accepts};
 ghost use Rattle.tcd_report.specs.Reports.{IsReport};
-ghost use Rattle.tcd_driver.specs.Reporting.{IsReporting, report_reading};
-ghost use Rattle.tcd_reading.specs.Outcomes.{IsCommandOutcome, IsToldOutcome};
+ghost use Rattle.tcd_driver.specs.Reporting.{IsReportOrRefusal, report_reading};
+ghost use Rattle.tcd_reading.specs.Outcomes.{IsCommandOutcome, IsReportOutcome};
 
 use depth_check::{Verdict, check};
 use elf_image::Image;
@@ -36,7 +36,7 @@ pub(crate) fn report_on_cert<F: Files>(
 
 // Checks the certificate, and makes its report.
 fn check_and_report(alloc: Global, image: &Image, plan: &Plan, cert: &Cert) -> Outcome
-    ensures { IsToldOutcome (IsReporting image.now plan.now cert.now) ⊥ result }
+    ensures { IsReportOutcome (IsReportOrRefusal image.now plan.now cert.now) ⊥ result }
 {
     match check(image, plan, cert) {
         Verdict::Yes(_) => {

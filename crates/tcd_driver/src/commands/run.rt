@@ -1,7 +1,7 @@
 // The command `run`.
 ghost use Rattle.tc_script.specs.ScriptsFitPlans.{FitsPlan};
 ghost use Rattle.tcd_driver.specs.Run.{IsRunReport, run_reading};
-ghost use Rattle.tcd_reading.specs.Outcomes.{IsCommandOutcome, IsToldOutcome};
+ghost use Rattle.tcd_reading.specs.Outcomes.{IsCommandOutcome, IsReportOutcome};
 
 use elf_image::Image;
 use std::alloc::Global;
@@ -35,7 +35,7 @@ pub(crate) fn run_script_file<F: Files>(
 // Starts the machine, runs it by the script, and reports how the run ended.
 fn run_script(alloc: Global, image: &Image, plan: &Plan, script: &Script) -> Outcome
     requires { FitsPlan plan.now script.now }
-    ensures { IsToldOutcome (IsRunReport image.now plan.now script.now) ⊥ result }
+    ensures { IsReportOutcome (IsRunReport image.now plan.now script.now) ⊥ result }
 {
     let mut machine = Machine::start(alloc, image, plan)?;
     let done = drive_by_script(&mut machine, plan, script);

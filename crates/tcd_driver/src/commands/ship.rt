@@ -2,8 +2,8 @@
 ghost use Rattle.std.specs.Prelude.{◌≡◌, ◌≤◌, IfOk, List, length, map, string_bytes};
 ghost use Rattle.tcd_forms.specs.Forms.{SourceData, placed_source_form};
 ghost use Rattle.tcd_reading.specs.Inputs.{each, answer};
-ghost use Rattle.tcd_reading.specs.Outcomes.{IsCommandOutcome, IsToldOutcome};
-ghost use Rattle.tcd_driver.specs.Ship.{AreSourcesOfObjects, IsShipping, shipped_by, ship_names, ship_reading};
+ghost use Rattle.tcd_reading.specs.Outcomes.{IsCommandOutcome, IsReportOutcome};
+ghost use Rattle.tcd_driver.specs.Ship.{AreSourcesOfObjects, IsImageShipReport, IsShipmentReport, ship_names, ship_reading};
 
 use crate::cert_making::{make_best_cert, report_no_cert};
 use elf_image::Image;
@@ -49,7 +49,7 @@ fn ship_sources<F: Files>(
     requires { length names.now.sources.now ≤ 65535 }
     ensures { IsCommandOutcome
         (each SourceData placed_source_form 0 (map string_bytes names.now.sources.now)
-        (λ ss. answer (shipped_by names.now plan.now layout.now ss)))
+        (λ ss. answer (IsShipmentReport names.now plan.now layout.now ss)))
         (F.seen files.old) (F.seen files.new) result }
 {
     let sources = names.sources;
@@ -75,7 +75,7 @@ fn ship_objects(
 ) -> Outcome
     requires { length objects.now ≤ 65535 }
     ensures { (ss : List SourceData) → AreSourcesOfObjects ss objects.now →
-        IsToldOutcome (shipped_by names.now plan.now layout.now ss) ⊥ result }
+        IsReportOutcome (IsShipmentReport names.now plan.now layout.now ss) ⊥ result }
 {
     let _entry = &layout.entry;
     match link(alloc, objects, layout) {
@@ -86,7 +86,7 @@ fn ship_objects(
 
 // Certifies the image, and reports both files to write.
 fn ship_image(alloc: Global, names: &Shipment<'_>, plan: &Plan, image: &Image) -> Outcome
-    ensures { IsToldOutcome (IsShipping names.now.elf.now names.now.cert.now plan.now image.now) ⊥
+    ensures { IsReportOutcome (IsImageShipReport names.now.elf.now names.now.cert.now plan.now image.now) ⊥
         result }
 {
     let bytes = match image.write(alloc) {

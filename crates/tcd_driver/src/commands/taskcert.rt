@@ -2,8 +2,8 @@
 ghost use Rattle.std.specs.Prelude.{◌≡◌, ◌<◌, ◌++◌, ◌∷◌, [], length, map, string_bytes, OnOk};
 ghost use Rattle.task_chains.specs.Tasks.{count};
 ghost use Rattle.task_chains.specs.Views.{FitPlan};
-ghost use Rattle.tcd_reading.specs.Outcomes.{IsCommandOutcome, IsToldOutcome};
-ghost use Rattle.tcd_driver.specs.Taskcert.{IsTaskcerting, MakesTaskViewCert, MakesTaskCert, MakesAllTaskCerts, taskcert_reading};
+ghost use Rattle.tcd_reading.specs.Outcomes.{IsCommandOutcome, IsReportOutcome};
+ghost use Rattle.tcd_driver.specs.Taskcert.{IsTaskcertReport, MakesTaskViewCert, MakesTaskCert, MakesAllTaskCerts, taskcert_reading};
 
 use crate::cell_and_task_files::TasksFile;
 use crate::cert_making::make_least_cert;
@@ -60,8 +60,8 @@ fn certify_all_tasks(
 ) -> Outcome
     requires fit { FitPlan plan.now tasks.now }
     requires many { length names.now ≡ count tasks.now }
-    ensures { IsToldOutcome
-        (IsTaskcerting (map string_bytes names.now) image.now plan.now tasks.now) ⊥ result }
+    ensures { IsReportOutcome
+        (IsTaskcertReport (map string_bytes names.now) image.now plan.now tasks.now) ⊥ result }
 {
     let areas = plan.areas - plan.reserve;
     let count = tasks.list.len();

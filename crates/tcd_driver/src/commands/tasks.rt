@@ -5,12 +5,12 @@ ghost use Rattle.task_chains.specs.Tasks.{count};
 ghost use Rattle.task_chains.specs.Views.{FitPlan};
 ghost use Rattle.tcd_forms.specs.Forms.{cert_form};
 ghost use Rattle.tcd_reading.specs.Inputs.{each, answer};
-ghost use Rattle.tcd_reading.specs.Outcomes.{IsCommandOutcome, IsToldOutcome};
+ghost use Rattle.tcd_reading.specs.Outcomes.{IsCommandOutcome, IsReportOutcome};
 ghost use Rattle.tcd_reading.specs.Reports.{says};
 ghost use Rattle.tcd_reading.specs.declared.status.Status.TheVariants.{BadInput};
 ghost use Rattle.task_chains.specs.declared.task_lists.TasksErr.TheVariants.{Count};
 ghost use Rattle.tcd_driver.specs.BadInputLines.{bad_tasks_line};
-ghost use Rattle.tcd_driver.specs.Tasks.{IsTasksVerdict, JudgesTask, Tallies, task_certs_reading, tasks_reading};
+ghost use Rattle.tcd_driver.specs.Tasks.{IsTasksVerdict, IsVerdictOnTask, IsTallyOfTasks, task_certs_reading, tasks_reading};
 
 use crate::cell_and_task_files::TasksFile;
 use crate::lines::bad_tasks_line;
@@ -77,7 +77,7 @@ pub(crate) fn task_need_to_count(u: usize, need: u32) -> u32
 
 /// The report that there aren't as many names of certificates as tasks.
 pub(crate) fn report_wrong_cert_count(alloc: Global) -> Outcome
-    ensures { IsToldOutcome (λ r. r ≡ says BadInput (bad_tasks_line Count)) ⊥ result }
+    ensures { IsReportOutcome (λ r. r ≡ says BadInput (bad_tasks_line Count)) ⊥ result }
 {
     let line = bad_tasks_line(alloc, TasksErr::Count)?;
     Ok(Report::of(alloc, Status::BadInput, line))
@@ -142,7 +142,7 @@ fn tasks_verdict(
 ) -> Outcome
     requires fit { FitPlan plan.now tasks.now }
     requires many { length certs.now ≡ count tasks.now }
-    ensures { IsToldOutcome (IsTasksVerdict image.now plan.now tasks.now certs.now) ⊥ result }
+    ensures { IsReportOutcome (IsTasksVerdict image.now plan.now tasks.now certs.now) ⊥ result }
 {
     let areas = plan.areas - plan.reserve;
     let count = tasks.list.len();
@@ -180,7 +180,7 @@ fn judge_tasks(
 ) -> Result<Tally, NoMemory>
     requires fit { FitPlan plan.now tasks.now }
     requires many { length certs.now ≡ count tasks.now }
-    ensures { IfOk result (Tallies image.now plan.now tasks.now certs.now) }
+    ensures { IfOk result (IsTallyOfTasks image.now plan.now tasks.now certs.now) }
 {
     // What holds of all tasks is known after they are read.
     let _switch = tasks.switch;
@@ -212,7 +212,7 @@ fn judge_task(
 ) -> Result<Verdict, NoMemory>
     requires task { u < count tasks.now }
     requires fit { FitPlan plan.now tasks.now }
-    ensures { IfOk result (JudgesTask image.now plan.now tasks.now cert.now u) }
+    ensures { IfOk result (IsVerdictOnTask image.now plan.now tasks.now cert.now u) }
 {
     // What holds of plans and tasks is known after they are read, and what holds of certificates
     // after their format is read.

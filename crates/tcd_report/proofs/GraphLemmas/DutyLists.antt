@@ -10,66 +10,66 @@ use Rattle.tc_isa.specs.declared.shapes.Shape.TheVariants.{Call, Syscall}
 use Rattle.tc_machine.specs.Instructions.{machine_address_ahead}
 use Rattle.value_domain.specs.declared.states.State.{State}
 use Rattle.value_domain.specs.Limits.{Limits}
-use Rattle.vd_transfer.specs.Branches.{possible_side}
+use Rattle.vd_transfer.specs.Branches.{state_if_possible}
 use Rattle.depth_cert.specs.declared.keys.Key.{Key}
 use Rattle.depth_cert.specs.Certs.{CertData}
 use Rattle.cfg_recover.specs.Entries.{call_key, irq_entry, irq_key, irqs_of, entered_key}
 use Rattle.tcd_report.specs.Graphs.KnownHandlers.{irq_entry_vectors}
 use Rattle.cfg_recover.specs.LocalRules.{targets_of}
-use Rattle.cfg_recover.specs.Duties.{Owed, owed, jump, enter, resume, jump_on, jumps_to, successors_of, entries_of, may_be_misaligned, misaligned_entry, misaligned_of, interrupts_of, leavings_of, duties_of, keys_entered_by_duty, entered_in}
+use Rattle.cfg_recover.specs.Duties.{Owed, owed, jump, enter, resume, jump_on, jumps_to, successor_duties_of, entry_duties_of, may_be_misaligned, misaligned_entry, misaligned_duties_of, interrupt_duties_of, exit_duties_of, duties_of, keys_entered_by_duty, entered_keys}
 use Rattle.cfg_recover.proofs.DutyLists.{flat_flat, flat_mapped, flat_each, flat_self, successors_none, calls_are, entries_none, misaligned_none, interrupts_none, leavings_none, parts}
-use Rattle.tcd_report.specs.Graphs.{jump_by, entry_by, entries_in, back_by, each_address_once, jumped_in, returned_in, called_of, entries_of_kind, backs_after}
-use Rattle.tcd_report.specs.Reports.Calls.{called_by}
+use Rattle.tcd_report.specs.Graphs.{jump_target_of_duty, entry_of_duty, entries_by_rule, return_address_of_duty, unique_addresses, jump_targets_of, return_addresses_of, call_targets_of, entries_of_kind, return_addresses_after}
+use Rattle.tcd_report.specs.Reports.Calls.{called_keys_of}
 
 -- ---- jumps
-pub possible_some : (r : Bool) (s : State) → is_some (possible_side r s) ≡ r
+pub possible_some : (r : Bool) (s : State) → is_some (state_if_possible r s) ≡ r
 possible_some true s = refl
 possible_some false s = refl
 
 -- one side of a branch
-pub side_there : (q : ℕ) (o : Option State) (r : Bool) → r ≡ is_some o → r ≡ true → jumped_in (jump_on q o) ≡ q ∷ []
+pub side_there : (q : ℕ) (o : Option State) (r : Bool) → r ≡ is_some o → r ≡ true → jump_targets_of (jump_on q o) ≡ q ∷ []
 side_there q None r e t = absurd (let no : false ≡ true = sym e ∙ t in cc)
 side_there q (Some s) r e t = refl
 
-pub side_missing : (q : ℕ) (o : Option State) (r : Bool) → r ≡ is_some o → r ≡ false → jumped_in (jump_on q o) ≡ []
+pub side_missing : (q : ℕ) (o : Option State) (r : Bool) → r ≡ is_some o → r ≡ false → jump_targets_of (jump_on q o) ≡ []
 side_missing q None r e t = refl
 side_missing q (Some s) r e t = absurd (let no : true ≡ false = sym e ∙ t in cc)
 
-pub jumps_are : (s : State) (ts : List ℕ) → jumped_in (jumps_to s ts) ≡ ts
-jumps_are s ts = flat_mapped (λ d. jump_by d.duty) (λ t. owed 4 (jump t s)) (λ t. t ∷ []) (λ t. refl) ts ∙ flat_self ts
+pub jumps_are : (s : State) (ts : List ℕ) → jump_targets_of (jumps_to s ts) ≡ ts
+jumps_are s ts = flat_mapped (λ d. jump_target_of_duty d.duty) (λ t. owed 4 (jump t s)) (λ t. t ∷ []) (λ t. refl) ts ∙ flat_self ts
 
 -- ---- entries
 entry_in : ℕ → Owed → List ℕ
-entry_in rule d = if d.rule == rule then entry_by d.duty else []
+entry_in rule d = if d.rule == rule then entry_of_duty d.duty else []
 
 key_in : Owed → List Key
 key_in d = if d.rule == 5 then keys_entered_by_duty d.duty else []
 
 -- other instructions don't call
-pub called_none : (plan : PlanData) (s : State) (p : ℕ) (shape : Shape) → ((to : Target) → shape ≡ Call to → ⊥) → called_of plan s p shape ≡ []
+pub called_none : (plan : PlanData) (s : State) (p : ℕ) (shape : Shape) → ((to : Target) → shape ≡ Call to → ⊥) → call_targets_of plan s p shape ≡ []
 called_none plan s p (Call to) call = absurd (call to refl)
 called_none plan s p shape call = refl
 
 -- the entries that K5 asks for are those of the called frames, and K12 asks for that of the handler
 -- of system calls
-kind_is : (kind : ℕ) (ds : List Owed) → entries_of_kind kind (entered_in ds) ≡ flat_map (λ d. entries_of_kind kind (keys_entered_by_duty d.duty)) ds
+kind_is : (kind : ℕ) (ds : List Owed) → entries_of_kind kind (entered_keys ds) ≡ flat_map (λ d. entries_of_kind kind (keys_entered_by_duty d.duty)) ds
 kind_is kind ds = flat_flat (λ k. if k.kind == kind then k.entry ∷ [] else []) (λ d. keys_entered_by_duty d.duty) _ (λ d. refl) ds
 
-calls_are_kept : (plan : PlanData) (key : Key) (p : ℕ) (s : State) (shape : Shape) (n : ℕ) → flat_map (entry_in 5) (entries_of plan key p s shape n) ≡ entries_of_kind 1 (entered_in (entries_of plan key p s shape n))
+calls_are_kept : (plan : PlanData) (key : Key) (p : ℕ) (s : State) (shape : Shape) (n : ℕ) → flat_map (entry_in 5) (entry_duties_of plan key p s shape n) ≡ entries_of_kind 1 (entered_keys (entry_duties_of plan key p s shape n))
 unfolding entry_in
 calls_are_kept plan key p s (Call to) n =
     calls_are (entry_in 5) (λ t. t ∷ []) plan key p s to n (λ t. refl)
-    ∙ sym (kind_is 1 (entries_of plan key p s (Call to) n) ∙ calls_are (λ d. entries_of_kind 1 (keys_entered_by_duty d.duty)) (λ t. t ∷ []) plan key p s to n (λ t. refl))
+    ∙ sym (kind_is 1 (entry_duties_of plan key p s (Call to) n) ∙ calls_are (λ d. entries_of_kind 1 (keys_entered_by_duty d.duty)) (λ t. t ∷ []) plan key p s to n (λ t. refl))
 calls_are_kept plan key p s shape n = refl
 
-systems_are_kept : (plan : PlanData) (key : Key) (p : ℕ) (s : State) (shape : Shape) (n : ℕ) → flat_map (entry_in 12) (entries_of plan key p s shape n) ≡ entries_of_kind 3 (entered_in (entries_of plan key p s shape n))
+systems_are_kept : (plan : PlanData) (key : Key) (p : ℕ) (s : State) (shape : Shape) (n : ℕ) → flat_map (entry_in 12) (entry_duties_of plan key p s shape n) ≡ entries_of_kind 3 (entered_keys (entry_duties_of plan key p s shape n))
 unfolding entry_in
 systems_are_kept plan key p s (Call to) n =
     calls_are (entry_in 12) (λ t. []) plan key p s to n (λ t. refl)
-    ∙ sym (kind_is 3 (entries_of plan key p s (Call to) n) ∙ calls_are (λ d. entries_of_kind 3 (keys_entered_by_duty d.duty)) (λ t. []) plan key p s to n (λ t. refl))
+    ∙ sym (kind_is 3 (entry_duties_of plan key p s (Call to) n) ∙ calls_are (λ d. entries_of_kind 3 (keys_entered_by_duty d.duty)) (λ t. []) plan key p s to n (λ t. refl))
 systems_are_kept plan key p s shape n = refl
 
-called_keys : (plan : PlanData) (key : Key) (p : ℕ) (s : State) (shape : Shape) (n : ℕ) → flat_map key_in (entries_of plan key p s shape n) ≡ map (entered_key key 1) (called_of plan s p shape)
+called_keys : (plan : PlanData) (key : Key) (p : ℕ) (s : State) (shape : Shape) (n : ℕ) → flat_map key_in (entry_duties_of plan key p s shape n) ≡ map (entered_key key 1) (call_targets_of plan s p shape)
 unfolding key_in
 called_keys plan key p s (Call to) n = calls_are key_in (λ t. entered_key key 1 t ∷ []) plan key p s to n (λ t. refl) ∙ flat_each (entered_key key 1) (unwrap_or (targets_of plan s p to) [])
 called_keys plan key p s (Syscall tin) n = refl
@@ -77,21 +77,21 @@ called_keys plan key p s shape n = refl
 
 -- ---- returns of entered frames
 returns_are : (cert : CertData) (plan : PlanData) (key : Key) (p : ℕ) (s : State) (shape : Shape) (n : ℕ)
-    → returned_in cert (entries_of plan key p s shape n) ≡ backs_after cert (machine_address_ahead p n) (entered_in (entries_of plan key p s shape n))
+    → return_addresses_of cert (entry_duties_of plan key p s shape n) ≡ return_addresses_after cert (machine_address_ahead p n) (entered_keys (entry_duties_of plan key p s shape n))
 returns_are cert plan key p s (Call to) n =
     let q = machine_address_ahead p n in
-    let g : ℕ → List ℕ = λ t. back_by cert (resume (call_key key t) q) in
-    calls_are (λ d. back_by cert d.duty) g plan key p s to n (λ t. append-nil (g t))
+    let g : ℕ → List ℕ = λ t. return_address_of_duty cert (resume (call_key key t) q) in
+    calls_are (λ d. return_address_of_duty cert d.duty) g plan key p s to n (λ t. append-nil (g t))
     ∙ sym (
-    flat_flat (λ k. back_by cert (resume k q)) (λ d. keys_entered_by_duty d.duty) (λ d. backs_after cert q (keys_entered_by_duty d.duty)) (λ d. refl) (entries_of plan key p s (Call to) n)
-    ∙ calls_are (λ d. backs_after cert q (keys_entered_by_duty d.duty)) g plan key p s to n (λ t. append-nil (g t ++ []) ∙ append-nil (g t))
+    flat_flat (λ k. return_address_of_duty cert (resume k q)) (λ d. keys_entered_by_duty d.duty) (λ d. return_addresses_after cert q (keys_entered_by_duty d.duty)) (λ d. refl) (entry_duties_of plan key p s (Call to) n)
+    ∙ calls_are (λ d. return_addresses_after cert q (keys_entered_by_duty d.duty)) g plan key p s to n (λ t. append-nil (g t ++ []) ∙ append-nil (g t))
     )
 returns_are cert plan key p s shape n = refl
 
 -- ---- lists of one entry at most
-pub misaligned_once : (b : Limits) (plan : PlanData) (key : Key) (s : State) (shape : Shape) → each_address_once (entries_in 10 (misaligned_of b plan key s shape)) ≡ entries_in 10 (misaligned_of b plan key s shape)
+pub misaligned_once : (b : Limits) (plan : PlanData) (key : Key) (s : State) (shape : Shape) → unique_addresses (entries_by_rule 10 (misaligned_duties_of b plan key s shape)) ≡ entries_by_rule 10 (misaligned_duties_of b plan key s shape)
 misaligned_once b plan key s shape =
-    elim (may_be_misaligned b plan s shape) as (λ t. each_address_once (entries_in 10 (if t then misaligned_entry plan key s ∷ [] else [])) ≡ entries_in 10 (if t then misaligned_entry plan key s ∷ [] else [])) [
+    elim (may_be_misaligned b plan s shape) as (λ t. unique_addresses (entries_by_rule 10 (if t then misaligned_entry plan key s ∷ [] else [])) ≡ entries_by_rule 10 (if t then misaligned_entry plan key s ∷ [] else [])) [
       | true ↦ refl
       | false ↦ refl
     ]
@@ -99,48 +99,48 @@ misaligned_once b plan key s shape =
 -- ---- all duties of a point
 module _ (b : Limits) (image : ImageData) (plan : PlanData) (cert : CertData) (key : Key) (p : ℕ) (s : State) (shape : Shape) (n : ℕ) where
   succ : List Owed
-  succ = successors_of b image plan p s shape n
+  succ = successor_duties_of b image plan p s shape n
 
   ent : List Owed
-  ent = entries_of plan key p s shape n
+  ent = entry_duties_of plan key p s shape n
 
   acc : List Owed
-  acc = misaligned_of b plan key s shape
+  acc = misaligned_duties_of b plan key s shape
 
   irqs : List Owed
-  irqs = interrupts_of plan key s
+  irqs = interrupt_duties_of plan key s
 
   left : List Owed
-  left = leavings_of key s shape
+  left = exit_duties_of key s shape
 
-  pub jumps_told : jumped_in (duties_of b image plan key p s shape n) ≡ jumped_in (successors_of b image plan p s shape n)
+  pub jumps_told : jump_targets_of (duties_of b image plan key p s shape n) ≡ jump_targets_of (successor_duties_of b image plan p s shape n)
   unfolding succ ent acc irqs left duties_of
   jumps_told =
-      let g : Owed → List ℕ = λ d. jump_by d.duty in
-      let v : List ℕ = jumped_in succ in
+      let g : Owed → List ℕ = λ d. jump_target_of_duty d.duty in
+      let v : List ℕ = jump_targets_of succ in
       parts g succ ent acc irqs left v [] [] [] [] refl (entries_none g (λ k t. refl) (λ k t. refl) (λ k q. refl) plan key p s shape n) (misaligned_none g (λ k t. refl) b plan key s shape)
       (interrupts_none g (λ k t. refl) plan key s) (leavings_none g (λ x. refl) (λ x. refl) key s shape)
       ∙ append-nil (v ++ [] ++ [] ++ []) ∙ append-nil (v ++ [] ++ []) ∙ append-nil (v ++ []) ∙ append-nil v
 
-  pub calls_told : entries_in 5 (duties_of b image plan key p s shape n) ≡ entries_of_kind 1 (entered_in (entries_of plan key p s shape n))
+  pub calls_told : entries_by_rule 5 (duties_of b image plan key p s shape n) ≡ entries_of_kind 1 (entered_keys (entry_duties_of plan key p s shape n))
   unfolding succ ent acc irqs left duties_of entry_in
   calls_told =
       let g : Owed → List ℕ = entry_in 5 in
-      let w : List ℕ = entries_of_kind 1 (entered_in ent) in
+      let w : List ℕ = entries_of_kind 1 (entered_keys ent) in
       parts g succ ent acc irqs left [] w [] [] [] (successors_none g (λ q t. refl) b image plan p s shape n) (calls_are_kept plan key p s shape n) (misaligned_none g (λ k t. refl) b plan key s shape)
       (interrupts_none g (λ k t. refl) plan key s) (leavings_none g (λ x. refl) (λ x. refl) key s shape)
       ∙ append-nil (w ++ [] ++ []) ∙ append-nil (w ++ []) ∙ append-nil w
 
-  pub systems_told : entries_in 12 (duties_of b image plan key p s shape n) ≡ entries_of_kind 3 (entered_in (entries_of plan key p s shape n))
+  pub systems_told : entries_by_rule 12 (duties_of b image plan key p s shape n) ≡ entries_of_kind 3 (entered_keys (entry_duties_of plan key p s shape n))
   unfolding succ ent acc irqs left duties_of entry_in
   systems_told =
       let g : Owed → List ℕ = entry_in 12 in
-      let w : List ℕ = entries_of_kind 3 (entered_in ent) in
+      let w : List ℕ = entries_of_kind 3 (entered_keys ent) in
       parts g succ ent acc irqs left [] w [] [] [] (successors_none g (λ q t. refl) b image plan p s shape n) (systems_are_kept plan key p s shape n) (misaligned_none g (λ k t. refl) b plan key s shape)
       (interrupts_none g (λ k t. refl) plan key s) (leavings_none g (λ x. refl) (λ x. refl) key s shape)
       ∙ append-nil (w ++ [] ++ []) ∙ append-nil (w ++ []) ∙ append-nil w
 
-  pub misaligned_told : entries_in 10 (duties_of b image plan key p s shape n) ≡ entries_in 10 (misaligned_of b plan key s shape)
+  pub misaligned_told : entries_by_rule 10 (duties_of b image plan key p s shape n) ≡ entries_by_rule 10 (misaligned_duties_of b plan key s shape)
   unfolding succ ent acc irqs left duties_of entry_in
   misaligned_told =
       let g : Owed → List ℕ = entry_in 10 in
@@ -149,7 +149,7 @@ module _ (b : Limits) (image : ImageData) (plan : PlanData) (cert : CertData) (k
       (interrupts_none g (λ k t. refl) plan key s) (leavings_none g (λ x. refl) (λ x. refl) key s shape)
       ∙ append-nil (x ++ []) ∙ append-nil x
 
-  pub interrupts_told : entries_in 11 (duties_of b image plan key p s shape n) ≡ irq_entry_vectors plan (irqs_of plan s)
+  pub interrupts_told : entries_by_rule 11 (duties_of b image plan key p s shape n) ≡ irq_entry_vectors plan (irqs_of plan s)
   unfolding succ ent acc irqs left duties_of entry_in
   interrupts_told =
       let g : Owed → List ℕ = entry_in 11 in
@@ -159,20 +159,20 @@ module _ (b : Limits) (image : ImageData) (plan : PlanData) (cert : CertData) (k
       (leavings_none g (λ x. refl) (λ x. refl) key s shape)
       ∙ append-nil y
 
-  pub returns_told : returned_in cert (duties_of b image plan key p s shape n) ≡ backs_after cert (machine_address_ahead p n) (entered_in (entries_of plan key p s shape n))
+  pub returns_told : return_addresses_of cert (duties_of b image plan key p s shape n) ≡ return_addresses_after cert (machine_address_ahead p n) (entered_keys (entry_duties_of plan key p s shape n))
   unfolding succ ent acc irqs left duties_of
   returns_told =
-      let g : Owed → List ℕ = λ d. back_by cert d.duty in
-      let w : List ℕ = backs_after cert (machine_address_ahead p n) (entered_in ent) in
+      let g : Owed → List ℕ = λ d. return_address_of_duty cert d.duty in
+      let w : List ℕ = return_addresses_after cert (machine_address_ahead p n) (entered_keys ent) in
       parts g succ ent acc irqs left [] w [] [] [] (successors_none g (λ q t. refl) b image plan p s shape n) (returns_are cert plan key p s shape n) (misaligned_none g (λ k t. refl) b plan key s shape)
       (interrupts_none g (λ k t. refl) plan key s) (leavings_none g (λ x. refl) (λ x. refl) key s shape)
       ∙ append-nil (w ++ [] ++ []) ∙ append-nil (w ++ []) ∙ append-nil w
 
-  pub keys_told : called_by (duties_of b image plan key p s shape n) ≡ map (entered_key key 1) (called_of plan s p shape)
+  pub keys_told : called_keys_of (duties_of b image plan key p s shape n) ≡ map (entered_key key 1) (call_targets_of plan s p shape)
   unfolding succ ent acc irqs left duties_of key_in
   keys_told =
       let g : Owed → List Key = key_in in
-      let w : List Key = map (entered_key key 1) (called_of plan s p shape) in
+      let w : List Key = map (entered_key key 1) (call_targets_of plan s p shape) in
       parts g succ ent acc irqs left [] w [] [] [] (successors_none g (λ q t. refl) b image plan p s shape n) (called_keys plan key p s shape n) (misaligned_none g (λ k t. refl) b plan key s shape)
       (interrupts_none g (λ k t. refl) plan key s) (leavings_none g (λ x. refl) (λ x. refl) key s shape)
       ∙ append-nil (w ++ [] ++ []) ∙ append-nil (w ++ []) ∙ append-nil w

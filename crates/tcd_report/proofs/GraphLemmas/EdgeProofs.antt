@@ -17,8 +17,8 @@ use Rattle.tc_machine.specs.declared.events.Event.{Event}
 use Rattle.tc_machine.specs.declared.state.Machine.{Machine}
 use Rattle.tc_machine.specs.Machine.{IsMachine}
 use Rattle.tc_machine.specs.Instructions.{machine_address_ahead, is_trapping_instruction}
-use Rattle.tc_machine.specs.Fetching.{mapped_bytes, fetched_shape, fetched, fetched_size}
-use Rattle.tc_machine.specs.Stepping.{is_taken, step, run}
+use Rattle.tc_machine.specs.Fetching.{mapped_bytes, fetched_shape, fetched_instruction, fetched_size}
+use Rattle.tc_machine.specs.Stepping.{is_interrupt_taken, step, run}
 use Rattle.tc_machine.specs.Safe.{AllFit, IsAtCode}
 use Rattle.tc_machine.proofs.Fetched.{mapped_bytes-front}
 use Rattle.tc_machine.proofs.Stays.{irq_lt, stays_step}
@@ -32,13 +32,13 @@ use Rattle.cfg_recover.specs.Code.{IsCode}
 use Rattle.cfg_recover.specs.Entries.{start_key, call_key, handler_key}
 use Rattle.cfg_recover.specs.Duties.{Owed, duties_of}
 use Rattle.cfg_recover.specs.RulesHoldOrFail.{limits_in}
-use Rattle.cfg_recover.specs.Frames.{Standing, frames_by, frames_after, frames_from, frames}
+use Rattle.cfg_recover.specs.Frames.{RunFrame, frames_after_edge, frames_after, frames_from, frames}
 use Rattle.cfg_recover.specs.EdgesAreOwed.{IsEdgeWayOwed, EdgeOwed}
 use Rattle.cfg_recover.specs.StepEdges.{EdgeWay, to, call, irq, sys, aln, ret, rfe, edge_way_of_shape, edge_way_by_trap, edge_way_in_fetch, edge_way_of_step}
 use Rattle.cfg_recover.proofs.CodeLaws.{IsCode-one}
 use Rattle.cfg_recover.proofs.Members.{contains_first, contains_map, contains_flat}
-use Rattle.tcd_report.specs.Graphs.{Arrow, goes, line_text, arrows_of, ArePointLines, AreLineParts, AreJoinedLines, AreNodeLines, AreGraphLines, leaves_by}
-use Rattle.tcd_report.specs.Graphs.EdgeLaws.{IsOnLine, EdgesStandOnLines}
+use Rattle.tcd_report.specs.Graphs.{Arrow, goes, graph_line, arrows_of, ArePointLines, AreLineParts, AreJoinedLines, AreNodeLines, AreGraphLines, return_arrow_of}
+use Rattle.tcd_report.specs.Graphs.EdgeLaws.{IsEdgeOnLine, LinesHaveAllEdgesLaw}
 use Rattle.tcd_report.proofs.GraphLemmas.Arrows.{to_there, call_there, irq_there, sys_there, aln_there, leaving_there}
 use Rattle.depth_cert.proofs.KeyLaws.{found_in, one_number}
 
@@ -58,24 +58,24 @@ shape_rfe (shape.Syscall tin) q e = absurd (let f : sys q ≡ rfe = e in cc)
 shape_rfe _ q e = absurd (let f : to q ≡ rfe = e in cc)
 
 -- without an interrupt and a misaligned trap, the way is that of the instruction
-way_ret : (m : Machine) (e : Event) (s : Shape) (n : ℕ) → fetched m ≡ Ok (s, n) → edge_way_of_step m e ≡ ret → s ≡ shape.Ret
+way_ret : (m : Machine) (e : Event) (s : Shape) (n : ℕ) → fetched_instruction m ≡ Ok (s, n) → edge_way_of_step m e ≡ ret → s ≡ shape.Ret
 way_ret m e s n f w =
-    elim (cases_Bool (is_taken m e)) [
-      | inl taken ↦ absurd (let g : irq (step m e).pc ≡ ret = sym (ap (λ b. if b then irq (step m e).pc else edge_way_in_fetch m e (fetched m) (step m e).pc) taken) ∙ w in cc)
+    elim (cases_Bool (is_interrupt_taken m e)) [
+      | inl taken ↦ absurd (let g : irq (step m e).pc ≡ ret = sym (ap (λ b. if b then irq (step m e).pc else edge_way_in_fetch m e (fetched_instruction m) (step m e).pc) taken) ∙ w in cc)
       | inr not_taken ↦
-          let by : edge_way_by_trap m e s (step m e).pc ≡ ret = sym (ap (λ b. if b then irq (step m e).pc else edge_way_in_fetch m e (fetched m) (step m e).pc) not_taken ∙ ap (λ r. edge_way_in_fetch m e r (step m e).pc) f) ∙ w in
+          let by : edge_way_by_trap m e s (step m e).pc ≡ ret = sym (ap (λ b. if b then irq (step m e).pc else edge_way_in_fetch m e (fetched_instruction m) (step m e).pc) not_taken ∙ ap (λ r. edge_way_in_fetch m e r (step m e).pc) f) ∙ w in
           elim (cases_Bool (is_trapping_instruction m e s)) [
             | inl trapped ↦ absurd (let g : aln (step m e).pc ≡ ret = sym (ap (λ b. if b then aln (step m e).pc else edge_way_of_shape s (step m e).pc) trapped) ∙ by in cc)
             | inr goes_on ↦ shape_ret s (step m e).pc (sym (ap (λ b. if b then aln (step m e).pc else edge_way_of_shape s (step m e).pc) goes_on) ∙ by)
           ]
     ]
 
-way_rfe : (m : Machine) (e : Event) (s : Shape) (n : ℕ) → fetched m ≡ Ok (s, n) → edge_way_of_step m e ≡ rfe → s ≡ shape.Rfe
+way_rfe : (m : Machine) (e : Event) (s : Shape) (n : ℕ) → fetched_instruction m ≡ Ok (s, n) → edge_way_of_step m e ≡ rfe → s ≡ shape.Rfe
 way_rfe m e s n f w =
-    elim (cases_Bool (is_taken m e)) [
-      | inl taken ↦ absurd (let g : irq (step m e).pc ≡ rfe = sym (ap (λ b. if b then irq (step m e).pc else edge_way_in_fetch m e (fetched m) (step m e).pc) taken) ∙ w in cc)
+    elim (cases_Bool (is_interrupt_taken m e)) [
+      | inl taken ↦ absurd (let g : irq (step m e).pc ≡ rfe = sym (ap (λ b. if b then irq (step m e).pc else edge_way_in_fetch m e (fetched_instruction m) (step m e).pc) taken) ∙ w in cc)
       | inr not_taken ↦
-          let by : edge_way_by_trap m e s (step m e).pc ≡ rfe = sym (ap (λ b. if b then irq (step m e).pc else edge_way_in_fetch m e (fetched m) (step m e).pc) not_taken ∙ ap (λ r. edge_way_in_fetch m e r (step m e).pc) f) ∙ w in
+          let by : edge_way_by_trap m e s (step m e).pc ≡ rfe = sym (ap (λ b. if b then irq (step m e).pc else edge_way_in_fetch m e (fetched_instruction m) (step m e).pc) not_taken ∙ ap (λ r. edge_way_in_fetch m e r (step m e).pc) f) ∙ w in
           elim (cases_Bool (is_trapping_instruction m e s)) [
             | inl trapped ↦ absurd (let g : aln (step m e).pc ≡ rfe = sym (ap (λ b. if b then aln (step m e).pc else edge_way_of_shape s (step m e).pc) trapped) ∙ by in cc)
             | inr goes_on ↦ shape_rfe s (step m e).pc (sym (ap (λ b. if b then aln (step m e).pc else edge_way_of_shape s (step m e).pc) goes_on) ∙ by)
@@ -83,7 +83,7 @@ way_rfe m e s n f w =
     ]
 
 -- ---- the keys of frames are valid keys
-AllKeys : List Standing → Type 0
+AllKeys : List RunFrame → Type 0
 AllKeys [] = Unit {0}
 AllKeys (f ∷ fs) = IsKey f.key × AllKeys fs
 
@@ -107,9 +107,9 @@ in_below m e (Err cause) q h = tt
 
 step_below : (m : Machine) (e : Event) → (step m e).pc < 2 ^ 32 → IsBelow (edge_way_of_step m e)
 unfolding IsBelow
-step_below m e h = elim (is_taken m e) as (λ b. IsBelow (if b then irq (step m e).pc else edge_way_in_fetch m e (fetched m) (step m e).pc)) [ true ↦ h | false ↦ in_below m e (fetched m) (step m e).pc h ]
+step_below m e h = elim (is_interrupt_taken m e) as (λ b. IsBelow (if b then irq (step m e).pc else edge_way_in_fetch m e (fetched_instruction m) (step m e).pc)) [ true ↦ h | false ↦ in_below m e (fetched_instruction m) (step m e).pc h ]
 
-keys_by : (p next prio : ℕ) (w : EdgeWay) (fs : List Standing) → prio < 2 ^ 8 → IsBelow w → AllKeys fs → AllKeys (frames_by p next prio w fs)
+keys_by : (p next prio : ℕ) (w : EdgeWay) (fs : List RunFrame) → prio < 2 ^ 8 → IsBelow w → AllKeys fs → AllKeys (frames_after_edge p next prio w fs)
 unfolding AllKeys IsBelow
 keys_by p next prio (to q) [] small h k = k
 keys_by p next prio (to q) (f ∷ fs) small h k = k
@@ -126,12 +126,12 @@ keys_by p next prio ret (f ∷ fs) small h k = k.1
 keys_by p next prio rfe [] small h k = k
 keys_by p next prio rfe (f ∷ fs) small h k = k.1
 
-keys_from : {plan : PlanData} → IsPlan plan → (m : Machine) (es : List Event) (fs : List Standing) → IsMachine m → AllFit plan m es → AllKeys fs → AllKeys (frames_from m es fs)
+keys_from : {plan : PlanData} → IsPlan plan → (m : Machine) (es : List Event) (fs : List RunFrame) → IsMachine m → AllFit plan m es → AllKeys fs → AllKeys (frames_from m es fs)
 keys_from ok m [] fs is fit k = k
 keys_from ok m (e ∷ es) fs is fit k =
     let small : e.irq < 2 ^ 8 = irq_lt ok m e fit.0 in
     let after : IsMachine (step m e) = stays_step m e is small fit.0.input fit.0.status in
-    keys_from ok (step m e) es (frames_after m e fs) after fit.1 (keys_by m.pc (machine_address_ahead m.pc (fetched_size (fetched m))) e.irq (edge_way_of_step m e) fs small (step_below m e after.pc) k)
+    keys_from ok (step m e) es (frames_after m e fs) after fit.1 (keys_by m.pc (machine_address_ahead m.pc (fetched_size (fetched_instruction m))) e.irq (edge_way_of_step m e) fs small (step_below m e after.pc) k)
 
 -- ---- the parts of joined lines
 part_at : {A : Type 0} (Has : A → List (List ℕ) → Type 0) (xs : List A) (ps : List (List (List ℕ))) (x : A) (k : ℕ) → AreLineParts Has xs ps → k < length xs → get_or xs k x ≡ x → (p : List (List ℕ)) × (Has x p × Contains ps p)
@@ -148,34 +148,34 @@ part_of Has xs lines x j c =
     (r.0, ((r.1).0, λ l at. subst (λ ls. Contains ls l) (sym j.are) (contains_flat (λ p. p) l r.0 j.parts (r.1).1 at)))
 
 -- ---- a point's lines
-arrow_there : (cert : CertData) (ds : List Owed) (s : Shape) (key : Key) (prio : ℕ) (fs : List Standing) (q : ℕ) (w : EdgeWay) → (w ≡ ret → s ≡ shape.Ret) → (w ≡ rfe → s ≡ shape.Rfe) → IsEdgeWayOwed ds key prio fs q w → Contains (arrows_of cert ds s) (goes w)
+arrow_there : (cert : CertData) (ds : List Owed) (s : Shape) (key : Key) (prio : ℕ) (fs : List RunFrame) (q : ℕ) (w : EdgeWay) → (w ≡ ret → s ≡ shape.Ret) → (w ≡ rfe → s ≡ shape.Rfe) → IsEdgeWayOwed ds key prio fs q w → Contains (arrows_of cert ds s) (goes w)
 arrow_there cert ds s key prio fs q (to x) r x_r o = to_there cert ds s x o
 arrow_there cert ds s key prio fs q (call x) r x_r o = call_there cert ds s (call_key key x) o
 arrow_there cert ds s key prio fs q (irq x) r x_r o = irq_there cert ds s (handler_key 2 x prio) o
 arrow_there cert ds s key prio fs q (sys x) r x_r o = sys_there cert ds s (handler_key 3 x key.prio) o
 arrow_there cert ds s key prio fs q (aln x) r x_r o = aln_there cert ds s (handler_key 4 x key.prio) o
-arrow_there cert ds s key prio fs q ret r x_r o = leaving_there cert ds s (goes ret) (subst (λ t. Contains (leaves_by t) (goes ret)) (sym (r refl)) (contains_first (goes ret) []))
-arrow_there cert ds s key prio fs q rfe r x_r o = leaving_there cert ds s (goes rfe) (subst (λ t. Contains (leaves_by t) (goes rfe)) (sym (x_r refl)) (contains_first (goes rfe) []))
+arrow_there cert ds s key prio fs q ret r x_r o = leaving_there cert ds s (goes ret) (subst (λ t. Contains (return_arrow_of t) (goes ret)) (sym (r refl)) (contains_first (goes ret) []))
+arrow_there cert ds s key prio fs q rfe r x_r o = leaving_there cert ds s (goes rfe) (subst (λ t. Contains (return_arrow_of t) (goes rfe)) (sym (x_r refl)) (contains_first (goes rfe) []))
 
 module _ (image : ImageData) (plan : PlanData) (cert : CertData) where
   lines_for : Key → ℕ → State → Shape → ℕ → List (List ℕ)
-  lines_for key p st s n = map (line_text key p) (arrows_of cert (duties_of (limits_in plan cert) image plan key p st s n) s)
+  lines_for key p st s n = map (graph_line key p) (arrows_of cert (duties_of (limits_in plan cert) image plan key p st s n) s)
 
   lines_same : (j k : Key) (x p : ℕ) (st : State) (t s : Shape) (l n : ℕ) → j ≡ k → x ≡ p → t ≡ s → l ≡ n → lines_for j x st t l ≡ lines_for k p st s n
   lines_same j k x p st t s l n a b c d =
       ap (λ y. lines_for y x st t l) a ∙ ap (λ y. lines_for k y st t l) b ∙ ap (λ y. lines_for k p st y l) c ∙ ap (λ y. lines_for k p st s y) d
 
   line_there : (node : NodeData) (point : Point) (lines : List (List ℕ)) (key : Key) (p : ℕ) (s : Shape) (n : ℕ) (a : Arrow) → ArePointLines image plan cert node.key point lines → node.key ≡ key → point.addr ≡ p → IsCode image plan p s n
-      → Contains (arrows_of cert (duties_of (limits_in plan cert) image plan key p point.state s n) s) a → Contains lines (line_text key p a)
+      → Contains (arrows_of cert (duties_of (limits_in plan cert) image plan key p point.state s n) s) a → Contains lines (graph_line key p a)
   unfolding lines_for
   line_there node point lines key p s n a h same at code there =
       let one = IsCode-one image plan p h.shape s h.size n (subst (λ x. IsCode image plan x h.shape h.size) at h.code) code in
       let all : lines ≡ lines_for key p point.state s n = h.are ∙ lines_same node.key key point.addr p point.state h.shape s h.size n same at one.0 one.1 in
-      subst (λ ls. Contains ls (line_text key p a)) (sym all) (contains_map (line_text key p) _ a there)
+      subst (λ ls. Contains ls (graph_line key p a)) (sym all) (contains_map (graph_line key p) _ a there)
 
   -- the machine fetches the instruction at its pc
-  fetched_there : IsPlan plan → (m : Machine) (at : IsAtCode image plan m) → m.pc % 2 ≡ 0 → fetched m ≡ Ok (shape_of at.inst, length at.bytes)
-  unfolding fetched
+  fetched_there : IsPlan plan → (m : Machine) (at : IsAtCode image plan m) → m.pc % 2 ≡ 0 → fetched_instruction m ≡ Ok (shape_of at.inst, length at.bytes)
+  unfolding fetched_instruction
   fetched_there ok m at even =
       let spelled = (at.spells).spelled in
       let short = (decode_laws.lengths (at.bytes ++ []) at.inst (length at.bytes) (decode_laws.spelled at.bytes [] at.inst spelled)).1 in
@@ -184,7 +184,7 @@ module _ (image : ImageData) (plan : PlanData) (cert : CertData) where
       ∙ ap (λ bs. fetched_shape (decoded_of bs)) front.1
       ∙ ap fetched_shape (decode_laws.spelled at.bytes front.0 at.inst spelled)
 
-  on_line : IsPlan plan → IsCert cert → (lines : List (List ℕ)) → AreGraphLines image plan cert lines → (m : Machine) (e : Event) → IsAtCode image plan m → (fs : List Standing) → AllKeys fs → EdgeOwed image plan cert m e fs → IsOnLine lines m e fs
+  on_line : IsPlan plan → IsCert cert → (lines : List (List ℕ)) → AreGraphLines image plan cert lines → (m : Machine) (e : Event) → IsAtCode image plan m → (fs : List RunFrame) → AllKeys fs → EdgeOwed image plan cert m e fs → IsEdgeOnLine lines m e fs
   unfolding AllKeys
   on_line ok is_cert lines joined m e at [] keys o = o
   on_line ok is_cert lines joined m e at (f ∷ fs) keys o =
@@ -204,7 +204,7 @@ module _ (image : ImageData) (plan : PlanData) (cert : CertData) where
       arrow_there cert ds o.shape f.key e.irq (f ∷ fs) (step m e).pc (edge_way_of_step m e) (λ w. sym one ∙ way_ret m e (shape_of at.inst) (length at.bytes) gets w) (λ w. sym one ∙ way_rfe m e (shape_of at.inst) (length at.bytes) gets w) o.owed in
       (nodes.1).1 _ ((points.1).1 _ (line_there o.node o.point points.0 f.key m.pc o.shape o.size (goes (edge_way_of_step m e)) (points.1).0 same here o.code arrow))
 
-pub edges_stand : EdgesStandOnLines
+pub edges_stand : LinesHaveAllEdgesLaw
 unfolding AllKeys
 edges_stand image plan cert lines ok is_cert entry safe owed joined m es e start fit fits =
     on_line image plan cert ok is_cert lines joined (run m es) e (safe m es e start fit fits).code_in_rom (frames image plan m es)

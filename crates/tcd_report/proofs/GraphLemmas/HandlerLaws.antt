@@ -6,18 +6,18 @@ use Rattle.value_domain.specs.declared.states.State.{State}
 use Rattle.cfg_recover.specs.Entries.{irqs_of}
 use Rattle.tcd_report.specs.Graphs.KnownHandlers.{irq_entry_vectors, HasHandlerLines, KnowsHandlers}
 use Rattle.tcd_report.specs.declared.graphs.handlers.Handlers.{Handlers}
-use Rattle.tcd_report.specs.Graphs.{each_address_once, lines_to}
+use Rattle.tcd_report.specs.Graphs.{unique_addresses, lines_to}
 
 same_irqs : (plan : PlanData) (s t : State) → s.ie ≡ t.ie → s.ccpn ≡ t.ccpn → irqs_of plan s ≡ irqs_of plan t
 same_irqs plan s t ie ccpn =
     ap (λ b. if b then filter (λ p. nat_lt s.ccpn p) plan.irqs else []) ie ∙ ap (λ n. if t.ie then filter (λ p. nat_lt n p) plan.irqs else []) ccpn
 
 -- the handlers of one state are those of each state with the same IE and CCPN
-pub known_by : (plan : PlanData) (known : Handlers) (s : State) → known.ie ≡ s.ie → known.ccpn ≡ s.ccpn → known.entries.items ≡ each_address_once (irq_entry_vectors plan (irqs_of plan s))
+pub known_by : (plan : PlanData) (known : Handlers) (s : State) → known.ie ≡ s.ie → known.ccpn ≡ s.ccpn → known.entries.items ≡ unique_addresses (irq_entry_vectors plan (irqs_of plan s))
     → HasHandlerLines known.front known.entries.items known.lines.items → KnowsHandlers plan known
 known_by plan known s ie ccpn are lines =
     record {
-      entries = λ t e p. are ∙ ap (λ irqs. each_address_once (irq_entry_vectors plan irqs)) (sym (same_irqs plan t s (e ∙ ie) (p ∙ ccpn)));
+      entries = λ t e p. are ∙ ap (λ irqs. unique_addresses (irq_entry_vectors plan irqs)) (sym (same_irqs plan t s (e ∙ ie) (p ∙ ccpn)));
       lines = lines;
     }
 
@@ -25,6 +25,6 @@ known_by plan known s ie ccpn are lines =
 pub none_known : (plan : PlanData) (known : Handlers) → known.ie ≡ false → known.front ≡ 0 → known.entries.items ≡ [] → known.lines.items ≡ [] → KnowsHandlers plan known
 none_known plan known off front entries lines =
     record {
-      entries = λ t e p. entries ∙ sym (ap (λ b. each_address_once (irq_entry_vectors plan (if b then filter (λ q. nat_lt t.ccpn q) plan.irqs else []))) (e ∙ off));
+      entries = λ t e p. entries ∙ sym (ap (λ b. unique_addresses (irq_entry_vectors plan (if b then filter (λ q. nat_lt t.ccpn q) plan.irqs else []))) (e ∙ off));
       lines = record { front = []; sized = sym front; are = lines ∙ sym (ap (lines_to [] (codes "irq ")) entries) };
     }

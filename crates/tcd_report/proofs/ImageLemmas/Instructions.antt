@@ -4,7 +4,7 @@ use Rattle.tcd_base.specs.Bytes.{bytes_of_word, four_bytes}
 use Rattle.tc_isa.specs.declared.table.Form.TheVariants.{B}
 use Rattle.tc_isa.specs.Forms.{fields}
 use Rattle.tc_isa.specs.Spelling.{word_by_form}
-use Rattle.tcd_report.specs.Generated.{generated_code, call_from, call_if_below, generated_function_at, function_code, generated_handler, generated_handler_at, main_code, system_code}
+use Rattle.tcd_report.specs.Generated.{generated_code, call_from, call_if_below, generated_function_address, generated_function_code, generated_handler, generated_handler_address, generated_main_code, generated_system_call_handler}
 
 -- ---- calls
 word_small : (k : ℕ) → k < 2 ^ 24 → word_by_form B 0x6d 0 (fields 0 0 0 0 k) < 2 ^ 32
@@ -28,8 +28,8 @@ call_bytes at to h =
     ap bytes_of_word (word_is ((to - at) / 2) h) ∙ ap (λ d. x % 256 ∷ x / 256 % 256 ∷ x / 65536 % 256 ∷ d ∷ []) p ∙ sym (call_is at to)
 
 -- ---- functions and handlers
-pub function_bytes : (n i : ℕ) → function_code n i ≡ 0x20 ∷ 0x08 ∷ 0x74 ∷ 0xaf ∷ (call_if_below n (generated_function_at i + 4) (2 * i + 1) ++ (call_if_below n (generated_function_at i + 8) (2 * i + 2) ++ 0x00 ∷ 0x90 ∷ []))
-unfolding function_code generated_code word_by_form
+pub function_bytes : (n i : ℕ) → generated_function_code n i ≡ 0x20 ∷ 0x08 ∷ 0x74 ∷ 0xaf ∷ (call_if_below n (generated_function_address i + 4) (2 * i + 1) ++ (call_if_below n (generated_function_address i + 8) (2 * i + 2) ++ 0x00 ∷ 0x90 ∷ []))
+unfolding generated_function_code generated_code word_by_form
 function_bytes n i = refl
 
 bisr_bytes : (p : ℕ) → generated_code (codes "bisr16") (fields 0 0 0 0 p) ≡ 0xe0 ∷ p ∷ []
@@ -44,18 +44,18 @@ rest_bytes : generated_code (codes "rslcx") (fields 0 0 0 0 0) ++ generated_code
 unfolding generated_code word_by_form
 rest_bytes = refl
 
-pub handler_bytes : (n p : ℕ) → generated_handler n p ≡ 0xe0 ∷ p ∷ (call_from (0x80002002 + 32 * p) (generated_function_at (n - 1)) ++ 0x0d ∷ 0x00 ∷ 0x40 ∷ 0x02 ∷ 0x00 ∷ 0x80 ∷ [])
+pub handler_bytes : (n p : ℕ) → generated_handler n p ≡ 0xe0 ∷ p ∷ (call_from (0x80002002 + 32 * p) (generated_function_address (n - 1)) ++ 0x0d ∷ 0x00 ∷ 0x40 ∷ 0x02 ∷ 0x00 ∷ 0x80 ∷ [])
 unfolding generated_handler
 handler_bytes n p =
-    ap (λ bs. bs ++ (call_from (generated_handler_at p + 2) (generated_function_at (n - 1)) ++ (generated_code (codes "rslcx") (fields 0 0 0 0 0) ++ generated_code (codes "rfe16") (fields 0 0 0 0 0)))) (bisr_bytes p)
-    ∙ ap (λ bs. 0xe0 ∷ p ∷ (call_from (generated_handler_at p + 2) (generated_function_at (n - 1)) ++ bs)) rest_bytes
-    ∙ ap (λ x. 0xe0 ∷ p ∷ (call_from x (generated_function_at (n - 1)) ++ 0x0d ∷ 0x00 ∷ 0x40 ∷ 0x02 ∷ 0x00 ∷ 0x80 ∷ [])) (omega arith)
+    ap (λ bs. bs ++ (call_from (generated_handler_address p + 2) (generated_function_address (n - 1)) ++ (generated_code (codes "rslcx") (fields 0 0 0 0 0) ++ generated_code (codes "rfe16") (fields 0 0 0 0 0)))) (bisr_bytes p)
+    ∙ ap (λ bs. 0xe0 ∷ p ∷ (call_from (generated_handler_address p + 2) (generated_function_address (n - 1)) ++ bs)) rest_bytes
+    ∙ ap (λ x. 0xe0 ∷ p ∷ (call_from x (generated_function_address (n - 1)) ++ 0x0d ∷ 0x00 ∷ 0x40 ∷ 0x02 ∷ 0x00 ∷ 0x80 ∷ [])) (omega arith)
 
 -- ---- the code that is the same for each n
-pub main_bytes : main_code ≡ 0x91 ∷ 0x00 ∷ 0x00 ∷ 0xff ∷ 0x19 ∷ 0xff ∷ 0x00 ∷ 0x00 ∷ 0x91 ∷ 0x00 ∷ 0x00 ∷ 0xe8 ∷ 0x01 ∷ 0xef ∷ 0x02 ∷ 0xe6 ∷ 0x99 ∷ 0xee ∷ 0x00 ∷ 0x40 ∷ 0x2d ∷ 0x0e ∷ 0x00 ∷ 0x00 ∷ 0xad ∷ 0x10 ∷ 0x80 ∷ 0x00 ∷ 0x1d ∷ 0xff ∷ 0xf2 ∷ 0xff ∷ []
-unfolding main_code generated_code word_by_form
+pub main_bytes : generated_main_code ≡ 0x91 ∷ 0x00 ∷ 0x00 ∷ 0xff ∷ 0x19 ∷ 0xff ∷ 0x00 ∷ 0x00 ∷ 0x91 ∷ 0x00 ∷ 0x00 ∷ 0xe8 ∷ 0x01 ∷ 0xef ∷ 0x02 ∷ 0xe6 ∷ 0x99 ∷ 0xee ∷ 0x00 ∷ 0x40 ∷ 0x2d ∷ 0x0e ∷ 0x00 ∷ 0x00 ∷ 0xad ∷ 0x10 ∷ 0x80 ∷ 0x00 ∷ 0x1d ∷ 0xff ∷ 0xf2 ∷ 0xff ∷ []
+unfolding generated_main_code generated_code word_by_form
 main_bytes = refl
 
-pub system_bytes : system_code ≡ 0x00 ∷ 0x80 ∷ []
-unfolding system_code generated_code word_by_form
+pub system_bytes : generated_system_call_handler ≡ 0x00 ∷ 0x80 ∷ []
+unfolding generated_system_call_handler generated_code word_by_form
 system_bytes = refl

@@ -3,7 +3,7 @@ use Rattle.std.proofs.Common.{◌≡◌, ◌+◌, ◌-◌, ◌*◌, ◌≤◌, �
 use Rattle.std.specs.Prelude.{if◌then◌else◌}
 use Rattle.std.specs.List.{flat_map, range_with_len}
 use Rattle.std.proofs.lemmas.List.{length-replicate}
-use Rattle.tcd_report.specs.Generated.{generated_code, call_from, call_if_below, generated_function_at, function_code, generated_functions, generated_handler, generated_table, generated_vectors, zero_padded_bytes}
+use Rattle.tcd_report.specs.Generated.{generated_code, call_from, call_if_below, generated_function_address, generated_function_code, generated_functions, generated_handler, generated_function_table, generated_vectors, zero_padded_bytes}
 use Rattle.tcd_report.proofs.ImageLemmas.Instructions.{function_bytes}
 use Rattle.tcd_report.proofs.ImageLemmas.Ranges.{length-pieces}
 
@@ -26,29 +26,29 @@ length-vectors n =
     omega (arith, all, length-handler n 160, length-append (flat_map (λ j. zero_padded_bytes 320 (generated_handler n (10 * j + 10))) (range_with_len 0 15)) (generated_handler n 160))
 
 -- ---- the table
-pub length-table : (n : ℕ) → length (generated_table n) ≡ 64
-unfolding generated_table
+pub length-table : (n : ℕ) → length (generated_function_table n) ≡ 64
+unfolding generated_function_table
 length-table n = refl
 
 -- ---- functions
 length-call : (n at i : ℕ) → length (call_if_below n at i) ≤ 4
 unfolding generated_code
-length-call n at i = elim (nat_lt i n) as (λ (b : Bool). length (if b then call_from at (generated_function_at i) else []) ≤ 4) [ true ↦ lit≤ tt | false ↦ lit≤ tt ]
+length-call n at i = elim (nat_lt i n) as (λ (b : Bool). length (if b then call_from at (generated_function_address i) else []) ≤ 4) [ true ↦ lit≤ tt | false ↦ lit≤ tt ]
 
-pub function_short : (n i : ℕ) → length (function_code n i) ≤ 32
+pub function_short : (n i : ℕ) → length (generated_function_code n i) ≤ 32
 function_short n i =
-    let a : List ℕ = call_if_below n (generated_function_at i + 4) (2 * i + 1) in
-    let b : List ℕ = call_if_below n (generated_function_at i + 8) (2 * i + 2) in
-    rw (function_bytes n i) (omega (arith, length-append a (b ++ 0x00 ∷ 0x90 ∷ []), length-append b (0x00 ∷ 0x90 ∷ []), length-call n (generated_function_at i + 4) (2 * i + 1), length-call n (generated_function_at i + 8) (2 * i + 2)))
+    let a : List ℕ = call_if_below n (generated_function_address i + 4) (2 * i + 1) in
+    let b : List ℕ = call_if_below n (generated_function_address i + 8) (2 * i + 2) in
+    rw (function_bytes n i) (omega (arith, length-append a (b ++ 0x00 ∷ 0x90 ∷ []), length-append b (0x00 ∷ 0x90 ∷ []), length-call n (generated_function_address i + 4) (2 * i + 1), length-call n (generated_function_address i + 8) (2 * i + 2)))
 
-function_some : (n i : ℕ) → 0 < length (function_code n i)
+function_some : (n i : ℕ) → 0 < length (generated_function_code n i)
 function_some n i = rw (function_bytes n i) (omega arith)
 
 -- at least one byte, and at most 32 for each function
 pub length-functions : (n : ℕ) → 1 ≤ n → (0 < length (generated_functions n)) × (length (generated_functions n) ≤ 32 * n)
 unfolding generated_functions
 length-functions n h =
-    let each : (i : ℕ) → length (zero_padded_bytes 32 (function_code n i)) ≡ 32 = λ i. length-filled 32 (function_code n i) (function_short n i) in
-    let all : length (flat_map (λ i. zero_padded_bytes 32 (function_code n i)) (range_with_len 0 (n - 1))) ≡ 32 * (n - 1) = length-pieces (λ i. zero_padded_bytes 32 (function_code n i)) 32 each 0 (n - 1) in
-    let whole = length-append (flat_map (λ i. zero_padded_bytes 32 (function_code n i)) (range_with_len 0 (n - 1))) (function_code n (n - 1)) in
+    let each : (i : ℕ) → length (zero_padded_bytes 32 (generated_function_code n i)) ≡ 32 = λ i. length-filled 32 (generated_function_code n i) (function_short n i) in
+    let all : length (flat_map (λ i. zero_padded_bytes 32 (generated_function_code n i)) (range_with_len 0 (n - 1))) ≡ 32 * (n - 1) = length-pieces (λ i. zero_padded_bytes 32 (generated_function_code n i)) 32 each 0 (n - 1) in
+    let whole = length-append (flat_map (λ i. zero_padded_bytes 32 (generated_function_code n i)) (range_with_len 0 (n - 1))) (generated_function_code n (n - 1)) in
     (omega (arith, whole, function_some n (n - 1)), omega (arith, whole, all, function_short n (n - 1)))

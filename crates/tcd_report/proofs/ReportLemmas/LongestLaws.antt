@@ -12,8 +12,8 @@ use Rattle.depth_cert.specs.declared.keys.Key.{Key}
 use Rattle.depth_cert.specs.Nodes.{NodeData}
 use Rattle.depth_cert.specs.Certs.{CertData, IsCert}
 use Rattle.cfg_recover.proofs.Members.{contains_first}
-use Rattle.tcd_report.specs.Reports.Longest.{prios_below, IsLongest, AtPrio, longest_with, row_of, rows_below, IsLongestIfAny}
-use Rattle.tcd_report.specs.Reports.Heights.{IsHeight, TellsHeights}
+use Rattle.tcd_report.specs.Reports.Longest.{priorities_below, IsLongestCallChain, IsHeightAtPriority, longest_with, longest_calls_of, longest_calls_below, IsLongestIfAny}
+use Rattle.tcd_report.specs.Reports.Heights.{IsHeight, AreNodeHeights}
 use Rattle.depth_cert.specs.Keys.{key_eq}
 use Rattle.tcd_report.specs.declared.reports.longest_by_priority.LongestCalls.{LongestCalls}
 use Rattle.tcd_report.proofs.ReportLemmas.NodeLaws.{one_node}
@@ -36,13 +36,13 @@ greatest_with P Q (Some n) h there new back g = (
 )
 
 module _ {S : Type 0} (heights : HashMap Key ℕ S) (nodes : List NodeData) (node : NodeData) (h : ℕ) (told : get key_eq heights node.key ≡ Some h) where
-  kept : (p m : ℕ) → AtPrio heights nodes p m → AtPrio heights (nodes ++ node ∷ []) p m
+  kept : (p m : ℕ) → IsHeightAtPriority heights nodes p m → IsHeightAtPriority heights (nodes ++ node ∷ []) p m
   kept p m a = (a.0, (Contains-append_left nodes (node ∷ []) a.0 (a.1).0, (a.1).1))
 
   -- another priority keeps its number
-  other_prio : (p : ℕ) (o : Option ℕ) → ((node.key).prio ≡ p → ⊥) → IsLongestIfAny (AtPrio heights nodes p) o → IsLongestIfAny (AtPrio heights (nodes ++ node ∷ []) p) o
+  other_prio : (p : ℕ) (o : Option ℕ) → ((node.key).prio ≡ p → ⊥) → IsLongestIfAny (IsHeightAtPriority heights nodes p) o → IsLongestIfAny (IsHeightAtPriority heights (nodes ++ node ∷ []) p) o
   other_prio p o ne g =
-      greatest_same (AtPrio heights nodes p) (AtPrio heights (nodes ++ node ∷ []) p) o (kept p)
+      greatest_same (IsHeightAtPriority heights nodes p) (IsHeightAtPriority heights (nodes ++ node ∷ []) p) o (kept p)
       (λ m a.
       elim (Contains-push_cases nodes node a.0 (a.1).0) [
         | inl before ↦ (a.0, (before, (a.1).1))
@@ -50,9 +50,9 @@ module _ {S : Type 0} (heights : HashMap Key ℕ S) (nodes : List NodeData) (nod
       ]) g
 
   -- the node's own priority gets the greater of both
-  own_prio : (o : Option ℕ) → IsLongestIfAny (AtPrio heights nodes (node.key).prio) o → IsLongestIfAny (AtPrio heights (nodes ++ node ∷ []) (node.key).prio) (Some (longest_with o h))
+  own_prio : (o : Option ℕ) → IsLongestIfAny (IsHeightAtPriority heights nodes (node.key).prio) o → IsLongestIfAny (IsHeightAtPriority heights (nodes ++ node ∷ []) (node.key).prio) (Some (longest_with o h))
   own_prio o g =
-      greatest_with (AtPrio heights nodes (node.key).prio) (AtPrio heights (nodes ++ node ∷ []) (node.key).prio) o h (kept (node.key).prio) (node, (Contains-push nodes node, (refl, told)))
+      greatest_with (IsHeightAtPriority heights nodes (node.key).prio) (IsHeightAtPriority heights (nodes ++ node ∷ []) (node.key).prio) o h (kept (node.key).prio) (node, (Contains-push nodes node, (refl, told)))
       (λ m a.
       elim (Contains-push_cases nodes node a.0 (a.1).0) [
         | inl before ↦ inl (a.0, (before, (a.1).1))
@@ -61,58 +61,58 @@ module _ {S : Type 0} (heights : HashMap Key ℕ S) (nodes : List NodeData) (nod
 
 pub longest_more : {S T : Type 0} (heights : HashMap Key ℕ S) (rows more : HashMap ℕ ℕ T) (nodes : List NodeData) (i : ℕ) (node : NodeData) (h n : ℕ) → i < length nodes → node ≡ get_or nodes i node → get key_eq heights node.key ≡ Some h
     → n ≡ longest_with (get nat_eq rows (node.key).prio) h → ((q : ℕ) → get nat_eq more q ≡ cond (nat_eq (node.key).prio q) (Some n) (get nat_eq rows q))
-    → ((p : ℕ) → IsLongestIfAny (AtPrio heights (take i nodes) p) (get nat_eq rows p)) → (p : ℕ) → IsLongestIfAny (AtPrio heights (take (i + 1) nodes) p) (get nat_eq more p)
+    → ((p : ℕ) → IsLongestIfAny (IsHeightAtPriority heights (take i nodes) p) (get nat_eq rows p)) → (p : ℕ) → IsLongestIfAny (IsHeightAtPriority heights (take (i + 1) nodes) p) (get nat_eq more p)
 longest_more heights rows more nodes i node h n lt at told is news before p =
-    subst (λ ns. IsLongestIfAny (AtPrio heights ns p) (get nat_eq more p)) (ap (λ y. take i nodes ++ y ∷ []) at ∙ sym (take_more nodes i node lt)) (
+    subst (λ ns. IsLongestIfAny (IsHeightAtPriority heights ns p) (get nat_eq more p)) (ap (λ y. take i nodes ++ y ∷ []) at ∙ sym (take_more nodes i node lt)) (
     elim (cases_Bool (nat_eq (node.key).prio p)) [
       | inl same ↦
           let e : (node.key).prio ≡ p = eqb-true (node.key).prio p same in
           let own = own_prio heights (take i nodes) node h told (get nat_eq rows (node.key).prio) (before (node.key).prio) in
           let there : Some (longest_with (get nat_eq rows (node.key).prio) h) ≡ get nat_eq more p = ap Some (sym is) ∙ sym (news p ∙ ap (λ b. cond b (Some n) (get nat_eq rows p)) same) in
-          subst (λ o. IsLongestIfAny (AtPrio heights (take i nodes ++ node ∷ []) p) o) there
-          (subst (λ q. IsLongestIfAny (AtPrio heights (take i nodes ++ node ∷ []) q) (Some (longest_with (get nat_eq rows (node.key).prio) h))) e own)
+          subst (λ o. IsLongestIfAny (IsHeightAtPriority heights (take i nodes ++ node ∷ []) p) o) there
+          (subst (λ q. IsLongestIfAny (IsHeightAtPriority heights (take i nodes ++ node ∷ []) q) (Some (longest_with (get nat_eq rows (node.key).prio) h))) e own)
       | inr other ↦
-          subst (λ o. IsLongestIfAny (AtPrio heights (take i nodes ++ node ∷ []) p) o) (sym (news p ∙ ap (λ b. cond b (Some n) (get nat_eq rows p)) other))
+          subst (λ o. IsLongestIfAny (IsHeightAtPriority heights (take i nodes ++ node ∷ []) p) o) (sym (news p ∙ ap (λ b. cond b (Some n) (get nat_eq rows p)) other))
           (other_prio heights (take i nodes) node h told p (get nat_eq rows p) (eqb-false (node.key).prio p other) (before p))
     ]
     )
 
 -- all nodes
-pub longest_all : {S T : Type 0} (heights : HashMap Key ℕ S) (rows : HashMap ℕ ℕ T) (nodes : List NodeData) (i : ℕ) → length nodes ≤ i → ((p : ℕ) → IsLongestIfAny (AtPrio heights (take i nodes) p) (get nat_eq rows p))
-    → (p : ℕ) → IsLongestIfAny (AtPrio heights nodes p) (get nat_eq rows p)
-longest_all heights rows nodes i ge h p = subst (λ ns. IsLongestIfAny (AtPrio heights ns p) (get nat_eq rows p)) (take_all i nodes ge) (h p)
+pub longest_all : {S T : Type 0} (heights : HashMap Key ℕ S) (rows : HashMap ℕ ℕ T) (nodes : List NodeData) (i : ℕ) → length nodes ≤ i → ((p : ℕ) → IsLongestIfAny (IsHeightAtPriority heights (take i nodes) p) (get nat_eq rows p))
+    → (p : ℕ) → IsLongestIfAny (IsHeightAtPriority heights nodes p) (get nat_eq rows p)
+longest_all heights rows nodes i ge h p = subst (λ ns. IsLongestIfAny (IsHeightAtPriority heights ns p) (get nat_eq rows p)) (take_all i nodes ge) (h p)
 
 -- ---- the longest chains in the report
 
-row_prio : (p : ℕ) (o : Option ℕ) (b : Bool) → b ≡ is_some o → map (λ (r : LongestCalls). r.prio) (row_of p o) ≡ cond b (p ∷ []) []
+row_prio : (p : ℕ) (o : Option ℕ) (b : Bool) → b ≡ is_some o → map (λ (r : LongestCalls). r.prio) (longest_calls_of p o) ≡ cond b (p ∷ []) []
 row_prio p None b e = sym (ap (λ c. cond c (p ∷ []) []) e)
 row_prio p (Some n) b e = sym (ap (λ c. cond c (p ∷ []) []) e)
 
-rows_prios : (row : ℕ → Option ℕ) (t : ℕ → Bool) → ((p : ℕ) → t p ≡ is_some (row p)) → (n : ℕ) → map (λ (r : LongestCalls). r.prio) (rows_below row n) ≡ filter t (range_with_len 0 n)
-unfolding rows_below
+rows_prios : (row : ℕ → Option ℕ) (t : ℕ → Bool) → ((p : ℕ) → t p ≡ is_some (row p)) → (n : ℕ) → map (λ (r : LongestCalls). r.prio) (longest_calls_below row n) ≡ filter t (range_with_len 0 n)
+unfolding longest_calls_below
 rows_prios row t h zero = refl
 rows_prios row t h (suc n) =
-    map-append (λ (r : LongestCalls). r.prio) (rows_below row n) (row_of n (row n))
-    ∙ ap (λ l. l ++ map (λ (r : LongestCalls). r.prio) (row_of n (row n))) (rows_prios row t h n)
+    map-append (λ (r : LongestCalls). r.prio) (longest_calls_below row n) (longest_calls_of n (row n))
+    ∙ ap (λ l. l ++ map (λ (r : LongestCalls). r.prio) (longest_calls_of n (row n))) (rows_prios row t h n)
     ∙ ap (λ l. filter t (range_with_len 0 n) ++ l) (row_prio n (row n) (t n) (h n))
     ∙ sym (ap (filter t) (range_more 0 n n (omega arith)) ∙ filter-append t (range_with_len 0 n) (n ∷ []))
 
-row_all : (P : LongestCalls → Type 0) (p : ℕ) (o : Option ℕ) → ((n : ℕ) → o ≡ Some n → P (record { longest = n; prio = p })) → All P (row_of p o)
+row_all : (P : LongestCalls → Type 0) (p : ℕ) (o : Option ℕ) → ((n : ℕ) → o ≡ Some n → P (record { longest = n; prio = p })) → All P (longest_calls_of p o)
 row_all P p None h = All-nil P
 row_all P p (Some n) h = All-cons P (record { longest = n; prio = p }) [] (h n refl) (All-nil P)
 
-rows_all : (P : LongestCalls → Type 0) (row : ℕ → Option ℕ) → ((p n : ℕ) → row p ≡ Some n → P (record { longest = n; prio = p })) → (n : ℕ) → All P (rows_below row n)
-unfolding rows_below
+rows_all : (P : LongestCalls → Type 0) (row : ℕ → Option ℕ) → ((p n : ℕ) → row p ≡ Some n → P (record { longest = n; prio = p })) → (n : ℕ) → All P (longest_calls_below row n)
+unfolding longest_calls_below
 rows_all P row h zero = All-nil P
-rows_all P row h (suc n) = All-append P (rows_below row n) (row_of n (row n)) (rows_all P row h n) (row_all P n (row n) (h n))
+rows_all P row h (suc n) = All-append P (longest_calls_below row n) (longest_calls_of n (row n)) (rows_all P row h n) (row_all P n (row n) (h n))
 
-pub rows_none : (row : ℕ → Option ℕ) → rows_below row 0 ≡ []
-unfolding rows_below
+pub rows_none : (row : ℕ → Option ℕ) → longest_calls_below row 0 ≡ []
+unfolding longest_calls_below
 rows_none row = refl
 
-pub rows_step : (row : ℕ → Option ℕ) (n m : ℕ) → m ≡ n + 1 → rows_below row m ≡ rows_below row n ++ row_of n (row n)
-unfolding rows_below
-rows_step row n m e = let f : m ≡ suc n = omega (arith, e) in ap (rows_below row) f
+pub rows_step : (row : ℕ → Option ℕ) (n m : ℕ) → m ≡ n + 1 → longest_calls_below row m ≡ longest_calls_below row n ++ longest_calls_of n (row n)
+unfolding longest_calls_below
+rows_step row n m e = let f : m ≡ suc n = omega (arith, e) in ap (longest_calls_below row) f
 
 any_there : (p : ℕ) (nodes : List NodeData) (n : NodeData) (k : ℕ) → k < length nodes → get_or nodes k n ≡ n → (n.key).prio ≡ p → list_any (λ (m : NodeData). (m.key).prio == p) nodes ≡ true
 any_there p [] n k lt at e = absurd (omega (arith, lt))
@@ -124,10 +124,10 @@ any_none p [] h = refl
 any_none p (m ∷ ms) h =
     or_from _ _ (ne_eqb (m.key).prio p (h m (contains_first m ms))) (any_none p ms (λ n c. h n (suc c.0, (let lt = c.1 in omega (arith, lt)), c.2)))
 
-module _ {S : Type 0} (image : ImageData) (plan : PlanData) (cert : CertData) (is : IsCert cert) (heights : HashMap Key ℕ S) (tells : TellsHeights image plan cert heights)
+module _ {S : Type 0} (image : ImageData) (plan : PlanData) (cert : CertData) (is : IsCert cert) (heights : HashMap Key ℕ S) (tells : AreNodeHeights image plan cert heights)
     (known : (n : NodeData) → Contains cert.nodes n → (h : ℕ) × (get key_eq heights n.key ≡ Some h)) where
   -- a priority is in the report if it has nodes
-  row_where : (p : ℕ) (o : Option ℕ) → IsLongestIfAny (AtPrio heights cert.nodes p) o → list_any (λ (m : NodeData). (m.key).prio == p) cert.nodes ≡ is_some o
+  row_where : (p : ℕ) (o : Option ℕ) → IsLongestIfAny (IsHeightAtPriority heights cert.nodes p) o → list_any (λ (m : NodeData). (m.key).prio == p) cert.nodes ≡ is_some o
   row_where p None g = any_none p cert.nodes (λ n c e. let h = known n c in g h.0 (n, (c, (e, h.1))))
   row_where p (Some n) g = let a = g.0 in any_there p cert.nodes a.0 ((a.1).0).0 ((a.1).0).1 ((a.1).0).2 ((a.1).1).0
 
@@ -137,7 +137,7 @@ module _ {S : Type 0} (image : ImageData) (plan : PlanData) (cert : CertData) (i
       subst (λ n. IsHeight image plan cert n h) (one_node cert is told.node node told.stands c told.key) told.height
 
   -- its number is the length of its longest chain
-  longest_is : (p n : ℕ) → IsLongestIfAny (AtPrio heights cert.nodes p) (Some n) → IsLongest image plan cert p n
+  longest_is : (p n : ℕ) → IsLongestIfAny (IsHeightAtPriority heights cert.nodes p) (Some n) → IsLongestCallChain image plan cert p n
   longest_is p n g =
       let a = g.0 in
       record {
@@ -150,10 +150,10 @@ module _ {S : Type 0} (image : ImageData) (plan : PlanData) (cert : CertData) (i
             omega (arith, (height_of other h.0 c h.1).most m row, g.1 h.0 (other, (c, (e, h.1))));
       }
 
-  pub prios_are : (row : ℕ → Option ℕ) → ((p : ℕ) → IsLongestIfAny (AtPrio heights cert.nodes p) (row p)) → (n : ℕ) → map (λ (r : LongestCalls). r.prio) (rows_below row n) ≡ prios_below cert.nodes n
-  unfolding prios_below
+  pub prios_are : (row : ℕ → Option ℕ) → ((p : ℕ) → IsLongestIfAny (IsHeightAtPriority heights cert.nodes p) (row p)) → (n : ℕ) → map (λ (r : LongestCalls). r.prio) (longest_calls_below row n) ≡ priorities_below cert.nodes n
+  unfolding priorities_below
   prios_are row all n = rows_prios row (λ p. list_any (λ (m : NodeData). (m.key).prio == p) cert.nodes) (λ p. row_where p (row p) (all p)) n
 
-  pub rows_longest : (row : ℕ → Option ℕ) → ((p : ℕ) → IsLongestIfAny (AtPrio heights cert.nodes p) (row p)) → (n : ℕ) → All (λ (r : LongestCalls). IsLongest image plan cert r.prio r.longest) (rows_below row n)
+  pub rows_longest : (row : ℕ → Option ℕ) → ((p : ℕ) → IsLongestIfAny (IsHeightAtPriority heights cert.nodes p) (row p)) → (n : ℕ) → All (λ (r : LongestCalls). IsLongestCallChain image plan cert r.prio r.longest) (longest_calls_below row n)
   rows_longest row all n =
-      rows_all (λ (r : LongestCalls). IsLongest image plan cert r.prio r.longest) row (λ p m e. longest_is p m (subst (λ o. IsLongestIfAny (AtPrio heights cert.nodes p) o) e (all p))) n
+      rows_all (λ (r : LongestCalls). IsLongestCallChain image plan cert r.prio r.longest) row (λ p m e. longest_is p m (subst (λ o. IsLongestIfAny (IsHeightAtPriority heights cert.nodes p) o) e (all p))) n

@@ -19,7 +19,7 @@ use Rattle.cfg_recover.specs.LocalFaults.{IsFaultless}
 use Rattle.cfg_recover.specs.Duties.{Duty, enter, Owed, owed, duties_of, keys_entered_by_duty}
 use Rattle.cfg_recover.specs.RulesHoldOrFail.{limits_in, RuleHolds, NeedRuleHolds, EntryNeedRuleHolds, Accepts}
 use Rattle.cfg_recover.proofs.Members.{contains_first}
-use Rattle.tcd_report.specs.Reports.Calls.{called_by, NodeCalls}
+use Rattle.tcd_report.specs.Reports.Calls.{called_keys_of, NodeCalls}
 use Rattle.tcd_report.proofs.JudgedPoints.{all_rules}
 
 -- ---- lists
@@ -55,7 +55,7 @@ duty_calls : (r : ℕ) (d : Duty) (k : Key) → r ≡ 5 → Contains (keys_enter
 duty_calls r (enter j t) k e c = (t, ap (λ x. owed x (enter j t)) e ∙ ap (λ x. owed 5 (enter x t)) (contains_one j k c))
 duty_calls r _ k e c = absurd (contains_nothing k c)
 
-called_duty : (ds : List Owed) (k : Key) → Contains (called_by ds) k → (t : State) × Contains ds (owed 5 (enter k t))
+called_duty : (ds : List Owed) (k : Key) → Contains (called_keys_of ds) k → (t : State) × Contains ds (owed 5 (enter k t))
 called_duty ds k c =
     let r = flat_contains (λ (d : Owed). if d.rule == 5 then keys_entered_by_duty d.duty else []) ds k c in
     let d : Owed = r.0 in

@@ -33,5 +33,5 @@ generated_plan = record {
 }
 
 -- the text of a file with this plan
-abbrev pub generated_text : List ℕ
-generated_text = codes "{\"rom\":[{\"at\":\"0x80000000\",\"len\":\"0x20000\"}],\"ram\":[{\"at\":\"0xD0010000\",\"len\":\"0x8000\"}],\"devices\":[{\"at\":\"0xF0000000\",\"len\":\"0x100\",\"lo\":0,\"hi\":15}],\"csa\":{\"at\":\"0xD0000000\",\"areas\":256,\"reserve\":16},\"sp\":\"0xD0018000\",\"isp\":\"0xD0014000\",\"biv\":\"0x80002000\",\"btv\":\"0x80004000\",\"irqs\":[10,20,30,40,50,60,70,80,90,100,110,120,130,140,150,160],\"traps\":[\"sys\"],\"start\":{\"ie\":1,\"ccpn\":0,\"is\":0},\"globals\":{\"a0\":0,\"a1\":0,\"a8\":0,\"a9\":0}}"
+abbrev pub generated_plan_text : List ℕ
+generated_plan_text = codes "{\"rom\":[{\"at\":\"0x80000000\",\"len\":\"0x20000\"}],\"ram\":[{\"at\":\"0xD0010000\",\"len\":\"0x8000\"}],\"devices\":[{\"at\":\"0xF0000000\",\"len\":\"0x100\",\"lo\":0,\"hi\":15}],\"csa\":{\"at\":\"0xD0000000\",\"areas\":256,\"reserve\":16},\"sp\":\"0xD0018000\",\"isp\":\"0xD0014000\",\"biv\":\"0x80002000\",\"btv\":\"0x80004000\",\"irqs\":[10,20,30,40,50,60,70,80,90,100,110,120,130,140,150,160],\"traps\":[\"sys\"],\"start\":{\"ie\":1,\"ccpn\":0,\"is\":0},\"globals\":{\"a0\":0,\"a1\":0,\"a8\":0,\"a9\":0}}"

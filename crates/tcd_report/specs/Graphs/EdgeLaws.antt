@@ -9,27 +9,27 @@ use Rattle.tc_machine.specs.Safe.{Fits, AllFit, Safe}
 use Rattle.tc_machine.specs.Starting.{Starts}
 use Rattle.depth_cert.specs.Certs.{CertData, IsCert}
 use Rattle.cfg_recover.specs.RulesHoldOrFail.{certified_need}
-use Rattle.cfg_recover.specs.Frames.{Standing, frames}
+use Rattle.cfg_recover.specs.Frames.{RunFrame, frames}
 use Rattle.cfg_recover.specs.EdgesAreOwed.{EdgesOwed}
 use Rattle.cfg_recover.specs.StepEdges.{edge_of_step}
-use Rattle.tcd_report.specs.Graphs.{AreGraphLines, goes, line_text}
+use Rattle.tcd_report.specs.Graphs.{AreGraphLines, goes, graph_line}
 
 -- the edge of a step of a run is on one of the graph's lines: the line has the key of the newest
 -- frame, the address of the step and the way of its edge
-abbrev pub IsOnLine : List (List ℕ) → Machine → Event → List Standing → Type 0
-IsOnLine lines m e [] = ⊥
-IsOnLine lines m e (f ∷ fs) = Contains lines (line_text f.key (edge_of_step m e).at (goes (edge_of_step m e).way))
+abbrev pub IsEdgeOnLine : List (List ℕ) → Machine → Event → List RunFrame → Type 0
+IsEdgeOnLine lines m e [] = ⊥
+IsEdgeOnLine lines m e (f ∷ fs) = Contains lines (graph_line f.key (edge_of_step m e).at (goes (edge_of_step m e).way))
 
 -- this holds for each step of every run from every start state
-abbrev pub EdgesStand : ImageData → PlanData → CertData → List (List ℕ) → Type 0
-EdgesStand image plan cert lines =
+abbrev pub LinesHaveAllEdges : ImageData → PlanData → CertData → List (List ℕ) → Type 0
+LinesHaveAllEdges image plan cert lines =
     (m : Machine) (es : List Event) (e : Event) → Starts image plan m → AllFit plan m es → Fits plan (run m es) e
-    → IsOnLine lines (run m es) e (frames image plan m es)
+    → IsEdgeOnLine lines (run m es) e (frames image plan m es)
 
 -- the law of a graph's edges: if each run is safe and each edge is owed, as for an accepted
 -- certificate, each edge is on a line of the graph
-abbrev pub EdgesStandOnLines : Type 0
-EdgesStandOnLines =
+abbrev pub LinesHaveAllEdgesLaw : Type 0
+LinesHaveAllEdgesLaw =
     (image : ImageData) (plan : PlanData) (cert : CertData) (lines : List (List ℕ)) → IsPlan plan → IsCert cert → image.entry < 2 ^ 32
     → Safe image plan (certified_need image plan cert) → EdgesOwed image plan cert → AreGraphLines image plan cert lines
-    → EdgesStand image plan cert lines
+    → LinesHaveAllEdges image plan cert lines

@@ -4,7 +4,7 @@ use Rattle.tcd_plan.specs.PlanData.{PlanData}
 use Rattle.value_domain.specs.declared.states.State.{State}
 use Rattle.cfg_recover.specs.Entries.{irqs_of, irq_key}
 use Rattle.tcd_report.specs.declared.graphs.handlers.Handlers.{Handlers}
-use Rattle.tcd_report.specs.Graphs.{each_address_once, lines_to}
+use Rattle.tcd_report.specs.Graphs.{unique_addresses, lines_to}
 
 -- these are the lines of handlers with these entries, all with the same front, of this length
 pub record HasHandlerLines (size : ℕ) (entries lines : List ℕ) : Type 0 where
@@ -20,7 +20,7 @@ irq_entry_vectors plan irqs = map (λ p. (irq_key plan p).entry) irqs
 -- known for the graph's lines: in each state with this IE and CCPN, the entries are those of the
 -- handlers of the interrupts that may come, each once, and the lines are theirs
 pub record KnowsHandlers (plan : PlanData) (known : Handlers) : Type 0 where
-  pub entries : (s : State) → s.ie ≡ known.ie → s.ccpn ≡ known.ccpn → known.entries.items ≡ each_address_once (irq_entry_vectors plan (irqs_of plan s))
+  pub entries : (s : State) → s.ie ≡ known.ie → s.ccpn ≡ known.ccpn → known.entries.items ≡ unique_addresses (irq_entry_vectors plan (irqs_of plan s))
   pub lines : HasHandlerLines known.front known.entries.items known.lines.items
 
 -- lines with a front written at a place

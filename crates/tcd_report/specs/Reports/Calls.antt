@@ -14,15 +14,15 @@ use Rattle.cfg_recover.specs.RulesHoldOrFail.{limits_in}
 use Rattle.tcd_report.specs.Graphs.{call_rule}
 
 -- the keys of the functions that an instruction calls: K5 asks for their entries
-abbrev pub called_by : List Owed → List Key
-called_by ds = flat_map (λ d. if d.rule == call_rule then keys_entered_by_duty d.duty else []) ds
+abbrev pub called_keys_of : List Owed → List Key
+called_keys_of ds = flat_map (λ d. if d.rule == call_rule then keys_entered_by_duty d.duty else []) ds
 
 -- the instruction at a point calls the function with this key
 pub record CallsAt (image : ImageData) (plan : PlanData) (cert : CertData) (caller : Key) (point : Point) (key : Key) : Type 0 where
   pub shape : Shape
   pub size : ℕ
   pub code : IsCode image plan point.addr shape size
-  pub called : Contains (called_by (duties_of (limits_in plan cert) image plan caller point.addr point.state shape size)) key
+  pub called : Contains (called_keys_of (duties_of (limits_in plan cert) image plan caller point.addr point.state shape size)) key
 
 -- the instruction at some point of a node calls the function with this key
 pub record NodeCalls (image : ImageData) (plan : PlanData) (cert : CertData) (caller : NodeData) (key : Key) : Type 0 where

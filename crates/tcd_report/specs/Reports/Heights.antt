@@ -45,13 +45,13 @@ pub record HasNodeHeight (image : ImageData) (plan : PlanData) (cert : CertData)
   pub height : IsHeight image plan cert node h
 
 -- the map has only heights of nodes
-abbrev pub TellsHeights : {S : Type 0} → ImageData → PlanData → CertData → HashMap Key ℕ S → Type 0
-TellsHeights image plan cert heights = (k : Key) (h : ℕ) → get key_eq heights k ≡ Some h → HasNodeHeight image plan cert k h
+abbrev pub AreNodeHeights : {S : Type 0} → ImageData → PlanData → CertData → HashMap Key ℕ S → Type 0
+AreNodeHeights image plan cert heights = (k : Key) (h : ℕ) → get key_eq heights k ≡ Some h → HasNodeHeight image plan cert k h
 
 -- the map has a height for each of these keys
 abbrev pub HasHeights : {S : Type 0} → HashMap Key ℕ S → List (ℕ × Key) → Type 0
 HasHeights heights ranks = (r : ℕ × Key) → Contains ranks r → (h : ℕ) × (get key_eq heights r.1 ≡ Some h)
 
 -- a node's need, and its key, by which the nodes are ordered to find their heights
-abbrev pub rank_of : NodeData → ℕ × Key
-rank_of n = (n.need, n.key)
+abbrev pub height_rank_of : NodeData → ℕ × Key
+height_rank_of n = (n.need, n.key)

@@ -12,8 +12,8 @@ use Rattle.tcd_report.specs.Reports.Calls.{HasCallChain}
 use Rattle.std.specs.List.{list_any, range_with_len}
 
 -- the number is the height of a node of this priority
-abbrev pub AtPrio : {S : Type 0} → HashMap Key ℕ S → List NodeData → ℕ → ℕ → Type 0
-AtPrio heights nodes p m = (n : NodeData) × (Contains nodes n × (((n.key).prio ≡ p) × (get key_eq heights n.key ≡ Some m)))
+abbrev pub IsHeightAtPriority : {S : Type 0} → HashMap Key ℕ S → List NodeData → ℕ → ℕ → Type 0
+IsHeightAtPriority heights nodes p m = (n : NodeData) × (Contains nodes n × (((n.key).prio ≡ p) × (get key_eq heights n.key ≡ Some m)))
 
 -- the greater of a number, if there is one, and another number
 abbrev pub longest_with : Option ℕ → ℕ → ℕ
@@ -21,18 +21,18 @@ longest_with None h = h
 longest_with (Some n) h = max h n
 
 -- the longest call chain of a priority, if it has nodes
-abbrev pub row_of : ℕ → Option ℕ → List LongestCalls
-row_of p None = []
-row_of p (Some n) = record { longest = n; prio = p } ∷ []
+abbrev pub longest_calls_of : ℕ → Option ℕ → List LongestCalls
+longest_calls_of p None = []
+longest_calls_of p (Some n) = record { longest = n; prio = p } ∷ []
 
 -- the longest call chains of the priorities below a number
-unfoldable pub rows_below : (ℕ → Option ℕ) → ℕ → List LongestCalls
-rows_below row zero = []
-rows_below row (suc n) = rows_below row n ++ row_of n (row n)
+unfoldable pub longest_calls_below : (ℕ → Option ℕ) → ℕ → List LongestCalls
+longest_calls_below row zero = []
+longest_calls_below row (suc n) = longest_calls_below row n ++ longest_calls_of n (row n)
 
 -- n is the length of the longest call chain that begins in a node of this priority (a callee has
 -- the priority of its caller)
-pub record IsLongest (image : ImageData) (plan : PlanData) (cert : CertData) (prio n : ℕ) : Type 0 where
+pub record IsLongestCallChain (image : ImageData) (plan : PlanData) (cert : CertData) (prio n : ℕ) : Type 0 where
   pub node : NodeData
   pub stands : Contains cert.nodes node
   pub at_prio : (node.key).prio ≡ prio
@@ -40,16 +40,16 @@ pub record IsLongest (image : ImageData) (plan : PlanData) (cert : CertData) (pr
   pub most : (other : NodeData) (m : ℕ) → Contains cert.nodes other → (other.key).prio ≡ prio → HasCallChain image plan cert other m → m ≤ n
 
 -- the priorities of the nodes that are below a number, ascending
-unfoldable pub prios_below : List NodeData → ℕ → List ℕ
-prios_below nodes n = filter (λ p. list_any (λ n. (n.key).prio == p) nodes) (range_with_len 0 n)
+unfoldable pub priorities_below : List NodeData → ℕ → List ℕ
+priorities_below nodes n = filter (λ p. list_any (λ n. (n.key).prio == p) nodes) (range_with_len 0 n)
 
 -- the number of priorities: an interrupt's priority is one byte
-unfoldable pub priorities : ℕ
-priorities = 256
+unfoldable pub priority_count : ℕ
+priority_count = 256
 
 -- the priorities of the nodes, ascending
-abbrev pub prios_of : List NodeData → List ℕ
-prios_of nodes = prios_below nodes priorities
+abbrev pub priorities_of : List NodeData → List ℕ
+priorities_of nodes = priorities_below nodes priority_count
 
 -- for the longest call chain of a priority: the greatest number with this property, if there is one
 abbrev pub IsLongestIfAny : (ℕ → Type 0) → Option ℕ → Type 0

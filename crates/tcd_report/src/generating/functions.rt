@@ -1,6 +1,6 @@
 // The functions of a generated image, its main program, and the handler of an interrupt.
 ghost use Rattle.std.specs.Prelude.{◌≡◌, ◌≤◌, ◌<◌, ◌+◌, ◌*◌, ◌++◌, OnOk, IfOk, ◌-◌};
-ghost use Rattle.tcd_report.specs.Generated.{generated_function_at, call_if_below, function_code, generated_functions, main_code, generated_handler};
+ghost use Rattle.tcd_report.specs.Generated.{generated_function_address, call_if_below, generated_function_code, generated_functions, generated_main_code, generated_handler};
 
 use crate::generating::appending::{append_call, append_segment_bytes, append_zeros};
 use std::alloc::Global;
@@ -26,7 +26,7 @@ pub(crate) fn generated_functions(alloc: Global, n: u32) -> Result<Vec<u8>, NoMe
 /// The address of function i.
 pub(crate) fn generated_function_address(i: u32) -> u32
     requires { i < 1024 }
-    ensures { result ≡ generated_function_at i }
+    ensures { result ≡ generated_function_address i }
 {
     0x8000_8000 + 32 * i
 }
@@ -34,7 +34,7 @@ pub(crate) fn generated_function_address(i: u32) -> u32
 /// The main program.
 #[tactic(auto, using(crate::proofs::ImageLemmas::Instructions::main_bytes))]
 pub(crate) fn generated_main_code() -> [u8; 32]
-    ensures { result ≡ main_code }
+    ensures { result ≡ generated_main_code }
 {
     [
         0x91, 0x00, 0x00, 0xff, // movh.a a15, 0xF000
@@ -70,7 +70,7 @@ pub(crate) fn append_handler(out: &mut Vec<u8>, n: u32, p: u8) -> Result<(), NoM
 fn append_function(out: &mut Vec<u8>, n: u32, i: u32) -> Result<(), NoMemory>
     requires few { n ≤ 500 }
     requires within { i < n }
-    ensures { OnOk result (out.new.items ≡ out.old.items ++ function_code n i) }
+    ensures { OnOk result (out.new.items ≡ out.old.items ++ generated_function_code n i) }
 {
     let at = generated_function_address(i);
     // sub16.a a10, 8; st16.w [a10], d15
@@ -85,7 +85,7 @@ fn append_function(out: &mut Vec<u8>, n: u32, i: u32) -> Result<(), NoMemory>
 fn append_call_if_below(out: &mut Vec<u8>, n: u32, at: u32, i: u32) -> Result<(), NoMemory>
     requires few { n ≤ 500 }
     requires low { 0x80008000 ≤ at }
-    requires forward { i < n → at ≤ generated_function_at i }
+    requires forward { i < n → at ≤ generated_function_address i }
     ensures { OnOk result (out.new.items ≡ out.old.items ++ call_if_below n at i) }
 {
     if i < n {

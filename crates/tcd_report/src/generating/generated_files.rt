@@ -1,10 +1,10 @@
 // The files of a generated image and of its plan.
 ghost use Rattle.std.specs.Prelude.{◌≡◌, ◌≤◌, ◌^◌, IfOk, Ok, length};
 ghost use Rattle.elf_image.specs.ReadElf.{image_of_file};
-ghost use Rattle.elf_image.specs.WrittenElf.{file_of};
+ghost use Rattle.elf_image.specs.WrittenElf.{elf_file};
 ghost use Rattle.tcd_plan.specs.PlanReader.{GivesPlan};
 ghost use Rattle.tcd_report.specs.Generated.{generated_image};
-ghost use Rattle.tcd_report.specs.Generated.Planned.{generated_plan, generated_text};
+ghost use Rattle.tcd_report.specs.Generated.Planned.{generated_plan, generated_plan_text};
 
 use crate::generating::functions::{generated_functions, generated_main_code};
 use crate::generating::program_segments::{generated_function_table, generated_vectors};
@@ -28,12 +28,12 @@ pub struct Generated {
 pub fn generate(alloc: Global, n: u32) -> Result<Generated, NoMemory>
     requires some { 1 ≤ n }
     requires few { n ≤ 500 }
-    ensures elf { IfOk result (λ g. g.elf.items ≡ file_of (generated_image n)) }
+    ensures elf { IfOk result (λ g. g.elf.items ≡ elf_file (generated_image n)) }
     ensures small { IfOk result (λ g. length g.elf.items ≤ 2 ^ 30) }
 
     // Reading the file gives the image.
     ensures image { IfOk result (λ g. image_of_file g.elf.items ≡ Ok (generated_image n)) }
-    ensures text { IfOk result (λ g. g.plan.items ≡ generated_text) }
+    ensures text { IfOk result (λ g. g.plan.items ≡ generated_plan_text) }
 
     // Reading the text gives the plan.
     ensures plan { IfOk result (λ g. GivesPlan g.plan.items (Ok generated_plan)) }
@@ -93,7 +93,7 @@ pub fn image_of_functions(alloc: Global, n: u32) -> Result<Image, NoMemory>
 
 /// The text of the plan, the same for each image.
 pub fn generated_plan_text() -> &'static str
-    ensures { result.now ≡ generated_text }
+    ensures { result.now ≡ generated_plan_text }
 {
     r#"{"rom":[{"at":"0x80000000","len":"0x20000"}],"ram":[{"at":"0xD0010000","len":"0x8000"}],"devices":[{"at":"0xF0000000","len":"0x100","lo":0,"hi":15}],"csa":{"at":"0xD0000000","areas":256,"reserve":16},"sp":"0xD0018000","isp":"0xD0014000","biv":"0x80002000","btv":"0x80004000","irqs":[10,20,30,40,50,60,70,80,90,100,110,120,130,140,150,160],"traps":["sys"],"start":{"ie":1,"ccpn":0,"is":0},"globals":{"a0":0,"a1":0,"a8":0,"a9":0}}"#
 }

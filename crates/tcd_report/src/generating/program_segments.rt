@@ -1,6 +1,6 @@
 // The table and the vectors of a generated image.
 ghost use Rattle.std.specs.Prelude.{◌≡◌, ◌≤◌, ◌<◌, ◌+◌, ◌*◌, IfOk};
-ghost use Rattle.tcd_report.specs.Generated.{generated_vectors, generated_function_at, generated_table};
+ghost use Rattle.tcd_report.specs.Generated.{generated_vectors, generated_function_address, generated_function_table};
 
 use crate::generating::appending::append_zeros;
 use crate::generating::functions::{append_handler, generated_function_address};
@@ -28,7 +28,7 @@ pub(crate) fn generated_vectors(alloc: Global, n: u32) -> Result<Vec<u8>, NoMemo
 pub(crate) fn generated_function_table(alloc: Global, n: u32) -> Result<Vec<u8>, NoMemory>
     requires some { 1 ≤ n }
     requires few { n ≤ 500 }
-    ensures { IfOk result (λ v. v.items ≡ generated_table n) }
+    ensures { IfOk result (λ v. v.items ≡ generated_function_table n) }
 {
     let mut out = Vec::new(alloc);
     for j in 0..16 {

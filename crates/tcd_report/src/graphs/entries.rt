@@ -2,8 +2,8 @@
 ghost use Rattle.std.specs.Prelude.{◌≡◌, OnOk};
 ghost use Rattle.tc_isa.specs.InBounds.{IsShape};
 ghost use Rattle.value_domain.specs.State.{AreValues};
-ghost use Rattle.cfg_recover.specs.Duties.{misaligned_of};
-ghost use Rattle.tcd_report.specs.Graphs.{entries_in, misaligned_rule, entries_of_kind};
+ghost use Rattle.cfg_recover.specs.Duties.{misaligned_duties_of};
+ghost use Rattle.tcd_report.specs.Graphs.{entries_by_rule, misaligned_rule, entries_of_kind};
 
 use crate::judged::Judged;
 use cfg_recover::{aln_key, may_be_misaligned};
@@ -37,7 +37,7 @@ pub(crate) fn set_misaligned_entry(
     requires values { AreValues judged.now.bounds.now s.now.regs }
     requires shape { IsShape shape }
     ensures { let j = judged.now in OnOk result (all.new.items
-        ≡ entries_in misaligned_rule (misaligned_of j.bounds.now j.plan.now key.now s.now shape)) }
+        ≡ entries_by_rule misaligned_rule (misaligned_duties_of j.bounds.now j.plan.now key.now s.now shape)) }
 {
     all.clear();
     if may_be_misaligned(judged.bounds, judged.plan, s, shape) {

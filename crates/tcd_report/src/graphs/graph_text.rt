@@ -6,8 +6,8 @@ ghost use Rattle.value_domain.specs.State.{AreValues};
 ghost use Rattle.cfg_recover.specs.LocalFaults.{IsFaultless};
 ghost use Rattle.tcd_report.specs.Graphs.{ArePointLines, AreNodeLines, key_front};
 ghost use Rattle.tcd_report.specs.Graphs.KnownHandlers.{KnowsHandlers};
-ghost use Rattle.tcd_report.specs.Judging.{IsJudged};
-ghost use Rattle.tcd_report.specs.Texts.{GrowsBy};
+ghost use Rattle.tcd_report.specs.Judging.{IsAcceptedWithLimits};
+ghost use Rattle.tcd_report.specs.Texts.{GrowsByLines};
 ghost use Rattle.depth_cert.specs.Points.{point_of};
 
 use crate::graphs::edges::{Edges, find_edges};
@@ -64,11 +64,11 @@ pub(crate) fn append_node_lines<'a>(
     node: &Node<'a>,
     walk: &mut PointWalk<'a>,
 ) -> Result<(), NoMemory>
-    requires judged { IsJudged judged.now }
+    requires judged { IsAcceptedWithLimits judged.now }
     requires stands { Contains judged.now.cert.now.nodes node.now }
     requires handlers { KnowsHandlers judged.now.plan.now graph.old.ways.irq }
     ensures lines { let j = judged.now in
-        OnOk result (GrowsBy (AreNodeLines j.image.now j.plan.now j.cert.now node.now)
+        OnOk result (GrowsByLines (AreNodeLines j.image.now j.plan.now j.cert.now node.now)
         (string_bytes graph.old.text) (string_bytes graph.new.text)) }
     ensures handlers { OnOk result (KnowsHandlers judged.now.plan.now graph.new.ways.irq) }
 {
@@ -89,7 +89,7 @@ fn append_point_lines(
     addr: u32,
     s: &State,
 ) -> Result<(), NoMemory>
-    requires judged { IsJudged judged.now }
+    requires judged { IsAcceptedWithLimits judged.now }
     requires values { AreValues judged.now.bounds.now s.now.regs }
     requires faultless { let j = judged.now in
         IsFaultless j.bounds.now j.image.now j.plan.now key.now addr s.now }
@@ -97,7 +97,7 @@ fn append_point_lines(
     requires ascii { IsAscii (key_front key.now) }
     requires handlers { KnowsHandlers judged.now.plan.now graph.old.ways.irq }
     ensures lines { let j = judged.now in
-        OnOk result (GrowsBy
+        OnOk result (GrowsByLines
         (ArePointLines j.image.now j.plan.now j.cert.now key.now (point_of addr s.now))
         (string_bytes graph.old.text) (string_bytes graph.new.text)) }
     ensures front { OnOk result (string_bytes graph.new.key_front ≡ key_front key.now) }

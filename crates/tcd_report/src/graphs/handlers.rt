@@ -2,7 +2,7 @@
 ghost use Rattle.std.specs.Prelude.{◌≡◌, ◌+◌, ◌≤◌, OnOk, codes, length, ◌<◌, ◌++◌, string_bytes, ◌^◌, ℕ, slice_index};
 ghost use Rattle.cfg_recover.specs.Entries.{irqs_of};
 ghost use Rattle.tcd_report.specs.Graphs.KnownHandlers.{irq_entry_vectors, HasHandlerLines, KnowsHandlers, with_handler_front};
-ghost use Rattle.tcd_report.specs.Graphs.{each_address_once, line_end_to, lines_to};
+ghost use Rattle.tcd_report.specs.Graphs.{unique_addresses, line_end_to, lines_to};
 ghost use Rattle.tcd_plan.specs.PlanData.{PlanData};
 ghost use Rattle.std.specs.Str.{IsAscii};
 ghost use Rattle.tcd_text.specs.HexNumbers.{hex_word};
@@ -55,7 +55,7 @@ pub(crate) fn find_handlers(
     requires { KnowsHandlers plan.now known.old }
     ensures entries { OnOk result
         (known.new.entries.items
-        ≡ each_address_once (irq_entry_vectors plan.now (irqs_of plan.now s.now))) }
+        ≡ unique_addresses (irq_entry_vectors plan.now (irqs_of plan.now s.now))) }
     ensures known { OnOk result (KnowsHandlers plan.now known.new) }
 {
     if known.ie == s.ie && known.ccpn == s.ccpn {

@@ -1,7 +1,7 @@
 // The lines of a point in the graph.
 ghost use Rattle.std.specs.Prelude.{◌≡◌, ◌<◌, ◌++◌, ◌∷◌, [], OnOk, codes, string_bytes};
 ghost use Rattle.tcd_text.specs.HexNumbers.{hex_word};
-ghost use Rattle.tcd_report.specs.Graphs.{key_front, lines_to, ways_text, leaving_text};
+ghost use Rattle.tcd_report.specs.Graphs.{key_front, lines_to, edge_lines_text, return_line_text};
 ghost use Rattle.std.specs.Str.{IsAscii};
 
 use crate::graphs::edges::Edges;
@@ -46,7 +46,7 @@ pub(crate) fn append_edges(text: &mut String, front: &str, ways: &Edges) -> Resu
     requires handlers { let irq = ways.now.irq in
         irq.lines.items ≡ lines_to front.now (codes "irq ") irq.entries.items }
     ensures { OnOk result (string_bytes text.new
-        ≡ string_bytes text.old ++ ways_text front.now ways.now) }
+        ≡ string_bytes text.old ++ edge_lines_text front.now ways.now) }
 {
     append_lines(text, front, "to ", &ways.to)?;
     append_lines(text, front, "call ", &ways.call)?;
@@ -60,7 +60,7 @@ pub(crate) fn append_edges(text: &mut String, front: &str, ways: &Edges) -> Resu
 /// instruction is a return.
 pub(crate) fn append_return(text: &mut String, front: &str, shape: Shape) -> Result<(), NoMemory>
     ensures { OnOk result (string_bytes text.new
-        ≡ string_bytes text.old ++ leaving_text front.now shape) }
+        ≡ string_bytes text.old ++ return_line_text front.now shape) }
 {
     match shape {
         Shape::Ret => {

@@ -5,7 +5,7 @@ ghost use Rattle.value_domain.specs.State.{AreValues};
 ghost use Rattle.vd_transfer.specs.Branches.{refine_of};
 ghost use Rattle.cfg_recover.specs.LocalRules.{targets_of};
 ghost use Rattle.cfg_recover.specs.Duties.{jump_on, resume};
-ghost use Rattle.tcd_report.specs.Graphs.{successors_at, jumped_in, back_by, backs_after};
+ghost use Rattle.tcd_report.specs.Graphs.{successors_at, jump_targets_of, return_address_of_duty, return_addresses_after};
 ghost use Rattle.depth_cert.specs.Points.{point_of};
 
 use crate::judged::Judged;
@@ -30,7 +30,7 @@ pub(crate) fn push_successors(
     requires shape { IsShape found.now.shape }
     requires values { AreValues judged.now.bounds.now s.now.regs }
     ensures { OnOk result (all.new.items ≡ all.old.items
-        ++ jumped_in (successors_at judged.now (point_of addr s.now) found.now)) }
+        ++ jump_targets_of (successors_at judged.now (point_of addr s.now) found.now)) }
 {
     let shape = found.shape;
     let next = addr.wrapping_add(found.size);
@@ -75,7 +75,7 @@ pub(crate) fn set_return_addresses(
     keys: &[Key],
     back: u32,
 ) -> Result<(), NoMemory>
-    ensures { OnOk result (all.new.items ≡ backs_after cert.now back keys.now) }
+    ensures { OnOk result (all.new.items ≡ return_addresses_after cert.now back keys.now) }
 {
     all.clear();
     for key in keys {
@@ -96,7 +96,7 @@ fn push_branch_successor(
     requires shape { IsShape shape }
     requires values { AreValues judged.now.bounds.now s.now.regs }
     ensures { let j = judged.now in OnOk result (all.new.items ≡ all.old.items
-        ++ jumped_in (jump_on to (refine_of j.bounds.now j.plan.now shape s.now taken))) }
+        ++ jump_targets_of (jump_on to (refine_of j.bounds.now j.plan.now shape s.now taken))) }
 {
     if is_branch_side_possible(judged, shape, s, taken) {
         all.push(to)?;
@@ -119,7 +119,7 @@ fn is_branch_side_possible(judged: &Judged, shape: Shape, s: &State, taken: bool
 // Appends an address, if the node of this key has an exit.
 fn push_return(all: &mut Vec<u32>, cert: &Cert, key: &Key, back: u32) -> Result<(), NoMemory>
     ensures { OnOk result
-        (all.new.items ≡ all.old.items ++ back_by cert.now (resume key.now back)) }
+        (all.new.items ≡ all.old.items ++ return_address_of_duty cert.now (resume key.now back)) }
 {
     if let Some(node) = cert.node(key) {
         if node.exit().is_some() {

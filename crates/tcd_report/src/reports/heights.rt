@@ -2,9 +2,9 @@
 ghost use Rattle.std.specs.Prelude.{◌≡◌, ℕ, [], Some, Contains, IfOk, map, unwrap_or};
 ghost use Rattle.std.specs.HashMap.{get};
 ghost use Rattle.depth_cert.specs.Nodes.{NodeData};
-ghost use Rattle.tcd_report.specs.Reports.Heights.{TellsHeights, IsGreatestHeight, IsGreatestHeightOf, HasCalleeHeight, HasCalleeHeightAt, AreHeightsLow, rank_of};
+ghost use Rattle.tcd_report.specs.Reports.Heights.{AreNodeHeights, IsGreatestHeight, IsGreatestHeightOf, HasCalleeHeight, HasCalleeHeightAt, AreHeightsLow, height_rank_of};
 ghost use Rattle.depth_cert.specs.Keys.{key_eq, call_kind};
-ghost use Rattle.tcd_report.specs.Judging.{IsJudged};
+ghost use Rattle.tcd_report.specs.Judging.{IsAcceptedWithLimits};
 ghost use Rattle.cfg_recover.specs.Entries as entries;
 ghost use Rattle.tc_isa.specs.InBounds.{IsTarget};
 ghost use Rattle.cfg_recover.specs.LocalRules.{targets_of};
@@ -25,9 +25,9 @@ use value_domain::State;
 /// The length of the longest call chain that begins in each node. Nodes are taken by ascending
 /// need: the need of a node is above that of each node that it calls.
 pub(crate) fn heights(alloc: Global, judged: &Judged) -> Result<HashMap<Key, u32>, NoMemory>
-    requires { IsJudged judged.now }
+    requires { IsAcceptedWithLimits judged.now }
     ensures tells { let j = judged.now in
-        IfOk result (λ m. TellsHeights j.image.now j.plan.now j.cert.now m) }
+        IfOk result (λ m. AreNodeHeights j.image.now j.plan.now j.cert.now m) }
     ensures all { IfOk result
         (λ m. (n : NodeData) → Contains judged.now.cert.now.nodes n
         → (h : ℕ) × (get key_eq m n.key ≡ Some h)) }
@@ -58,7 +58,7 @@ fn longest_chain_from<'a>(
     node: &Node<'a>,
     walk: &mut PointWalk<'a>,
 ) -> u32
-    requires judged { IsJudged judged.now }
+    requires judged { IsAcceptedWithLimits judged.now }
     requires low { AreHeightsLow heights.now }
     requires stands { Contains judged.now.cert.now.nodes node.now }
     ensures { let j = judged.now in
@@ -83,7 +83,7 @@ fn height_at_point(
     addr: u32,
     s: &State,
 ) -> u32
-    requires judged { IsJudged judged.now }
+    requires judged { IsAcceptedWithLimits judged.now }
     requires low { AreHeightsLow heights.now }
     requires faultless { let j = judged.now in
         IsFaultless j.bounds.now j.image.now j.plan.now key.now addr s.now }
@@ -102,7 +102,7 @@ fn height_at_point(
 
 // The needs and keys of the nodes.
 fn height_ranks(alloc: Global, cert: &Cert) -> Result<Vec<(u16, Key)>, NoMemory>
-    ensures { IfOk result (λ v. v.items ≡ map rank_of cert.now.nodes) }
+    ensures { IfOk result (λ v. v.items ≡ map height_rank_of cert.now.nodes) }
 {
     let mut ranks = Vec::new(alloc);
     for i in 0..cert.len() {

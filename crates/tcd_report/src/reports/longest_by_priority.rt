@@ -3,7 +3,7 @@ ghost use Rattle.std.specs.Prelude.{◌≡◌, ◌++◌, ℕ, Some, Contains, On
 ghost use Rattle.std.specs.HashMap.{get};
 ghost use Rattle.std.specs.Option.{option_copied};
 ghost use Rattle.depth_cert.specs.Nodes.{NodeData};
-ghost use Rattle.tcd_report.specs.Reports.Longest.{IsLongestIfAny, AtPrio, longest_with, row_of};
+ghost use Rattle.tcd_report.specs.Reports.Longest.{IsLongestIfAny, IsHeightAtPriority, longest_with, longest_calls_of};
 ghost use Rattle.depth_cert.specs.Keys.{key_eq};
 ghost use Rattle.tcd_report.specs.Reports.Longest as spec;
 
@@ -29,7 +29,7 @@ pub(crate) fn longest_by_priority(
     requires { (n : NodeData) → Contains cert.now.nodes n
         → (h : ℕ) × (get key_eq heights.now n.key ≡ Some h) }
     ensures { IfOk result
-        (λ rows. (p : ℕ) → IsLongestIfAny (AtPrio heights.now cert.now.nodes p)
+        (λ rows. (p : ℕ) → IsLongestIfAny (IsHeightAtPriority heights.now cert.now.nodes p)
         (get nat_eq rows p)) }
 {
     let mut rows = HashMap::new(alloc);
@@ -53,7 +53,7 @@ pub(crate) fn longest_calls_below(
     known: &HashMap<u16, u32>,
     count: u16,
 ) -> Result<Vec<LongestCalls>, NoMemory>
-    ensures { IfOk result (λ v. v.items ≡ spec.rows_below (get nat_eq known.now) count) }
+    ensures { IfOk result (λ v. v.items ≡ spec.longest_calls_below (get nat_eq known.now) count) }
 {
     let mut rows = Vec::new(alloc);
     for prio in 0..count {
@@ -75,7 +75,7 @@ fn longest_so_far(known: Option<&u32>, height: u32) -> u32
 // Appends the longest chain of a priority, if it has nodes.
 fn push_longest(rows: &mut Vec<LongestCalls>, prio: u16, row: Option<&u32>) -> Result<(), NoMemory>
     ensures { OnOk result
-        (rows.new.items ≡ rows.old.items ++ row_of prio (option_copied row.entry)) }
+        (rows.new.items ≡ rows.old.items ++ longest_calls_of prio (option_copied row.entry)) }
 {
     if let Some(longest) = row {
         rows.push(LongestCalls {

@@ -2,7 +2,7 @@
 ghost use Rattle.std.specs.Prelude.{◌≡◌, IfOk};
 ghost use Rattle.serde_json.specs.View.{view};
 ghost use Rattle.cfg_recover.specs.RulesHoldOrFail.{certified_need};
-ghost use Rattle.tcd_report.specs.Reports.{reported_node, nodes_data, rows_data, whole_data};
+ghost use Rattle.tcd_report.specs.Reports.{reported_node, nodes_data, all_longest_calls_data, report_object_data};
 
 use crate::reports::longest_by_priority::LongestCalls;
 use crate::texts::append_key_text;
@@ -34,7 +34,7 @@ pub(crate) fn report_value(
     nodes: Value,
 ) -> Result<Value, NoMemory>
     ensures { IfOk result (λ v. view v
-        ≡ whole_data plan.now.areas (view calls) certified (view nodes) plan.now.reserve) }
+        ≡ report_object_data plan.now.areas (view calls) certified (view nodes) plan.now.reserve) }
 {
     let mut members = Map::new(alloc);
     put(&mut members, alloc, "areas", Value::from(plan.areas))?;
@@ -62,7 +62,7 @@ pub(crate) fn nodes_value(alloc: Global, cert: &Cert) -> Result<Value, NoMemory>
 
 /// Returns the array of the longest call chains in the report's JSON, one object for each priority.
 pub(crate) fn longest_calls_value(alloc: Global, rows: &[LongestCalls]) -> Result<Value, NoMemory>
-    ensures { IfOk result (λ v. view v ≡ rows_data rows.now) }
+    ensures { IfOk result (λ v. view v ≡ all_longest_calls_data rows.now) }
 {
     let mut values = Vec::new(alloc);
     for row in rows {

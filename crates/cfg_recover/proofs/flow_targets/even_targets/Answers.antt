@@ -1,5 +1,5 @@
 use Rattle.std.proofs.Common.{ℕ, List, length, sym, ◌∙◌, ap, arith, subst, map, take, get_or, ◌<◌}
-use Rattle.value_domain.specs.Sets.{Among, Rising, sorted_insert}
+use Rattle.value_domain.specs.Sets.{Among, IsAscending, sorted_insert}
 use Rattle.value_domain.proofs.SetLaws.{rising_distinct}
 use Rattle.cfg_recover.proofs.FlowTargets.{length_evens, evens_before, evens-more, evens-none, even_of}
 use Rattle.cfg_recover.proofs.flow_targets.even_targets.Goals as goal
@@ -13,7 +13,7 @@ add_target_once-requires-clause-room c =
     omega (arith, ap (λ (l : List ℕ). length l) c.loop-word.invariant, length_evens c.args.words.now c.loop-word.word-index within)
 
 pub add_target_once-requires-clause-rising : goal.add_target_once-requires-clause-rising
-add_target_once-requires-clause-rising c = subst Rising (sym c.loop-word.invariant) (rising_distinct (map even_of (take c.loop-word.word-index c.args.words.now)))
+add_target_once-requires-clause-rising c = subst IsAscending (sym c.loop-word.invariant) (rising_distinct (map even_of (take c.loop-word.word-index c.args.words.now)))
 
 pub add_target_once-requires-clause-greatest : goal.add_target_once-requires-clause-greatest
 add_target_once-requires-clause-greatest c =

@@ -4,7 +4,7 @@ use Rattle.std.specs.List.{flat_map}
 use Rattle.value_domain.specs.declared.states.State.{State}
 use Rattle.cfg_recover.specs.Entries.{call_key, call_entry}
 use Rattle.cfg_recover.specs.LocalRules.{targets_of}
-use Rattle.cfg_recover.specs.Duties.{entered_and_back}
+use Rattle.cfg_recover.specs.Duties.{entry_and_return}
 use Rattle.depth_check.specs.LeastBroken.{FindsLeastBroken}
 use Rattle.depth_check.specs.DutiesHold.{DutiesHold}
 use Rattle.depth_check.specs.PointChecks.{point_check_data}
@@ -23,8 +23,8 @@ returns-in-Some c =
     let s = t.point.state in
     let one = (rw c.in-Some.is at c.direct_target.ensures.one) t.plan s in
     rw (← c.at.view_is)
-    (subst (λ (o : Option (List ℕ)). FindsLeastBroken (DutiesHold t.cert t.node s (flat_map (λ t2. entered_and_back 5 (call_key (t.node).key t2) (call_entry s) c.args.back) (unwrap_or o []))) c.rule_broken_by_calls.result) (sym one)
-    (subst (λ (u : State). FindsLeastBroken (DutiesHold t.cert t.node s (flat_map (λ t2. entered_and_back 5 (call_key (t.node).key t2) u c.args.back) (c.in-Some.target ∷ []))) c.rule_broken_by_calls.result)
+    (subst (λ (o : Option (List ℕ)). FindsLeastBroken (DutiesHold t.cert t.node s (flat_map (λ t2. entry_and_return 5 (call_key (t.node).key t2) (call_entry s) c.args.back) (unwrap_or o []))) c.rule_broken_by_calls.result) (sym one)
+    (subst (λ (u : State). FindsLeastBroken (DutiesHold t.cert t.node s (flat_map (λ t2. entry_and_return 5 (call_key (t.node).key t2) u c.args.back) (c.in-Some.target ∷ []))) c.rule_broken_by_calls.result)
     c.call_change-entry.ensures.entry (rw (← c.at.view_is) at c.rule_broken_by_calls.ensures)))
 
 pub returns-in-None : goal.returns-in-None
@@ -32,5 +32,5 @@ returns-in-None c =
     let t = point_check_data c.at.inside in
     let s = t.point.state in
     rw (← c.at.view_is)
-    (subst (λ (u : State). FindsLeastBroken (DutiesHold t.cert t.node s (flat_map (λ t2. entered_and_back 5 (call_key (t.node).key t2) u c.args.back) (unwrap_or (targets_of t.plan s t.point.addr c.args.to) []))) c.rule_broken_by_call_list.result)
+    (subst (λ (u : State). FindsLeastBroken (DutiesHold t.cert t.node s (flat_map (λ t2. entry_and_return 5 (call_key (t.node).key t2) u c.args.back) (unwrap_or (targets_of t.plan s t.point.addr c.args.to) []))) c.rule_broken_by_call_list.result)
     c.call_change-entry.ensures.entry (rw (← c.at.view_is) at c.rule_broken_by_call_list.ensures))

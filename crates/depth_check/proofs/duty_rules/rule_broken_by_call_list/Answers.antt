@@ -2,7 +2,7 @@ use Rattle.std.proofs.Common.{List, ℕ, ◌∙◌, subst}
 use Rattle.std.specs.List.{flat_map}
 use Rattle.vd_transfer.specs.Changes.{state_after}
 use Rattle.cfg_recover.specs.Entries.{call_key}
-use Rattle.cfg_recover.specs.Duties.{entered_and_back}
+use Rattle.cfg_recover.specs.Duties.{entry_and_return}
 use Rattle.depth_check.specs.LeastBroken.{FindsLeastBroken}
 use Rattle.depth_check.specs.DutiesHold.{DutiesHold}
 use Rattle.depth_check.specs.PointChecks.{point_check_data}
@@ -13,5 +13,5 @@ returns c =
     let t = point_check_data c.at.inside in
     let s = t.point.state in
     rw (← c.at.view_is)
-    (subst (λ (l : List ℕ). FindsLeastBroken (DutiesHold t.cert t.node s (flat_map (λ t2. entered_and_back 5 (call_key (t.node).key t2) (state_after s c.args.entry.now) c.args.back) l)) c.rule_broken_by_calls.result)
+    (subst (λ (l : List ℕ). FindsLeastBroken (DutiesHold t.cert t.node s (flat_map (λ t2. entry_and_return 5 (call_key (t.node).key t2) (state_after s c.args.entry.now) c.args.back) l)) c.rule_broken_by_calls.result)
     (c.as_slice.ensures.value ∙ c.targets-targets.ensures) (rw (← c.at.view_is) at c.rule_broken_by_calls.ensures))

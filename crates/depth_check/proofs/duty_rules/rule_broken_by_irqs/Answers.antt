@@ -1,5 +1,5 @@
 use Rattle.std.proofs.Common.{sym, subst, ap}
-use Rattle.value_domain.specs.State.{AreWell}
+use Rattle.value_domain.specs.State.{AreWellFormed}
 use Rattle.vd_transfer.specs.declared.change.Change.{Change}
 use Rattle.vd_transfer.specs.Changes.{state_after}
 use Rattle.depth_check.proofs.DutyLaws.{interrupts_more, interrupts_done}
@@ -7,7 +7,7 @@ use Rattle.depth_check.proofs.duty_rules.rule_broken_by_irqs.Goals as goal
 
 pub rule_broken_by_entry-one-requires-clause-entry : goal.rule_broken_by_entry-one-requires-clause-entry
 rule_broken_by_entry-one-requires-clause-entry c =
-    subst (λ (e : Change). AreWell (state_after c.args.at.now.point.state e).regs) (sym c.loop-p.invariant.same) c.requires
+    subst (λ (e : Change). AreWellFormed (state_after c.args.at.now.point.state e).regs) (sym c.loop-p.invariant.same) c.requires
 
 pub loop-p-preserved : goal.loop-p-preserved
 loop-p-preserved c = record {

@@ -3,7 +3,7 @@ use Rattle.value_domain.specs.declared.states.State.{State}
 use Rattle.depth_cert.specs.declared.keys.Key.{Key}
 use Rattle.depth_cert.specs.Nodes.{NodeData}
 use Rattle.cfg_recover.specs.Entries.{sys_key, sys_entry}
-use Rattle.cfg_recover.specs.Duties.{entered_and_back}
+use Rattle.cfg_recover.specs.Duties.{entry_and_return}
 use Rattle.depth_check.specs.LeastBroken.{FindsLeastBroken}
 use Rattle.depth_check.specs.DutiesHold.{DutiesHold}
 use Rattle.depth_check.specs.PointChecks.{point_check_data}
@@ -20,6 +20,6 @@ returns c =
     c.sys_key-key.ensures
     ∙ ap (λ (k : Key). sys_key t.plan k) (ap (λ (n : NodeData). n.key) c.node.view_is) in
     rw (← c.at.view_is)
-    (subst (λ (k : Key). FindsLeastBroken (DutiesHold t.cert t.node t.point.state (entered_and_back 12 k (sys_entry t.plan (t.node).key t.point.state c.args.tin) c.args.back)) c.rule_broken_by_entry.result) key
-    (subst (λ (u : State). FindsLeastBroken (DutiesHold t.cert t.node t.point.state (entered_and_back 12 c.sys_key-key.result u c.args.back)) c.rule_broken_by_entry.result) (c.system_change-entry.ensures.entry ∙ ap (λ (k : Key). sys_entry t.plan k t.point.state c.args.tin) (ap (λ (n : NodeData). n.key) c.node.view_is))
+    (subst (λ (k : Key). FindsLeastBroken (DutiesHold t.cert t.node t.point.state (entry_and_return 12 k (sys_entry t.plan (t.node).key t.point.state c.args.tin) c.args.back)) c.rule_broken_by_entry.result) key
+    (subst (λ (u : State). FindsLeastBroken (DutiesHold t.cert t.node t.point.state (entry_and_return 12 c.sys_key-key.result u c.args.back)) c.rule_broken_by_entry.result) (c.system_change-entry.ensures.entry ∙ ap (λ (k : Key). sys_entry t.plan k t.point.state c.args.tin) (ap (λ (n : NodeData). n.key) c.node.view_is))
     (rw (← c.at.view_is) at c.rule_broken_by_entry.ensures)))

@@ -4,7 +4,7 @@ use Rattle.depth_cert.specs.declared.keys.Key.{Key}
 use Rattle.depth_cert.specs.Nodes.{NodeData}
 use Rattle.cfg_recover.specs.Entries.{aln_key, aln_entry}
 use Rattle.cfg_recover.specs.Duties.{owed, enter}
-use Rattle.depth_check.specs.LeastBroken.{LeastBrokenByDuties}
+use Rattle.depth_check.specs.LeastBroken.{FindsLeastBrokenByDuties}
 use Rattle.depth_check.specs.PointChecks.{point_check_data}
 use Rattle.depth_check.proofs.RuleLaws.{values_well}
 use Rattle.depth_check.proofs.duty_rules.rule_broken_by_trap_entry.Goals as goal
@@ -18,6 +18,6 @@ returns c =
     let same = ap (λ (n : NodeData). n.key) c.node.view_is in
     let key : c.aln_key-key.result ≡ aln_key t.plan (t.node).key = c.aln_key-key.ensures ∙ ap (λ (k : Key). aln_key t.plan k) same in
     rw (← c.at.view_is)
-    (subst (λ (k : Key). LeastBrokenByDuties t (owed 10 (enter k (aln_entry t.plan (t.node).key t.point.state)) ∷ []) c.rule_broken_by_entry.result) key
-    (subst (λ (u : State). LeastBrokenByDuties t (owed 10 (enter c.aln_key-key.result u) ∷ []) c.rule_broken_by_entry.result) (c.misaligned_change-entry.ensures.entry ∙ ap (λ (k : Key). aln_entry t.plan k t.point.state) same)
+    (subst (λ (k : Key). FindsLeastBrokenByDuties t (owed 10 (enter k (aln_entry t.plan (t.node).key t.point.state)) ∷ []) c.rule_broken_by_entry.result) key
+    (subst (λ (u : State). FindsLeastBrokenByDuties t (owed 10 (enter c.aln_key-key.result u) ∷ []) c.rule_broken_by_entry.result) (c.misaligned_change-entry.ensures.entry ∙ ap (λ (k : Key). aln_entry t.plan k t.point.state) same)
     (rw (← c.at.view_is) at c.rule_broken_by_entry.ensures)))

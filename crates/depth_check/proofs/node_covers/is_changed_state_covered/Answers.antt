@@ -1,6 +1,6 @@
 use Rattle.std.proofs.Common.{subst, sym}
 use Rattle.value_domain.specs.declared.states.State.{State}
-use Rattle.value_domain.specs.State.{AreWell}
+use Rattle.value_domain.specs.State.{AreWellFormed}
 use Rattle.vd_transfer.specs.Changes.{state_after}
 use Rattle.cfg_recover.specs.RulesHoldOrFail.{HasCoveringPoint}
 use Rattle.depth_check.specs.PointChecks.{point_check_data}
@@ -11,12 +11,12 @@ use Rattle.depth_check.proofs.node_covers.is_changed_state_covered.Goals as goal
 pub covers_next-requires-clause-hand : goal.covers_next-requires-clause-hand
 covers_next-requires-clause-hand c =
     let ahead = c.at.invariant.facts.walk in
-    subst (λ (s : State). AreWell s.regs) (sym ahead.current) (values_well c.at.inside.bounds.now _ c.at.invariant.values)
+    subst (λ (s : State). AreWellFormed s.regs) (sym ahead.current) (values_well c.at.inside.bounds.now _ c.at.invariant.values)
 
 pub covers_next-requires-clause-changed : goal.covers_next-requires-clause-changed
 covers_next-requires-clause-changed c =
     let ahead = c.at.invariant.facts.walk in
-    subst (λ (s : State). AreWell (state_after s c.args.c.now).regs) (sym ahead.current) (rw (← c.at.view_is) at c.requires)
+    subst (λ (s : State). AreWellFormed (state_after s c.args.c.now).regs) (sym ahead.current) (rw (← c.at.view_is) at c.requires)
 
 pub returns-then-covers_next : goal.returns-then-covers_next
 returns-then-covers_next c =

@@ -1,6 +1,6 @@
 use Rattle.std.proofs.Common.{sym, ap, ◌∙◌, subst}
 use Rattle.value_domain.specs.declared.states.State.{State}
-use Rattle.value_domain.specs.State.{AreWell}
+use Rattle.value_domain.specs.State.{AreWellFormed}
 use Rattle.vd_transfer.specs.Changes.{state_after}
 use Rattle.cfg_recover.specs.RulesHoldOrFail.{HasCoveringPoint}
 use Rattle.cfg_recover.proofs.OperationLaws.{same_word}
@@ -18,13 +18,13 @@ returns-then-eq c =
 pub covers_next-requires-clause-hand : goal.covers_next-requires-clause-hand
 covers_next-requires-clause-hand c =
     let ahead = c.at.invariant.facts.walk in
-    subst (λ (s : State). AreWell s.regs) (sym ahead.current) (values_well c.at.inside.bounds.now _ c.at.invariant.values)
+    subst (λ (s : State). AreWellFormed s.regs) (sym ahead.current) (values_well c.at.inside.bounds.now _ c.at.invariant.values)
 
 pub covers_next-requires-clause-changed : goal.covers_next-requires-clause-changed
 covers_next-requires-clause-changed c =
     let ahead = c.at.invariant.facts.walk in
     let kept = ap (λ (s : State). state_after s c.keep.new.self) ahead.current ∙ c.keep.ensures.same in
-    subst (λ (s : State). AreWell s.regs) (sym kept) (values_well c.at.inside.bounds.now _ c.at.invariant.values)
+    subst (λ (s : State). AreWellFormed s.regs) (sym kept) (values_well c.at.inside.bounds.now _ c.at.invariant.values)
 
 pub returns-then-covers_next : goal.returns-then-covers_next
 returns-then-covers_next c =

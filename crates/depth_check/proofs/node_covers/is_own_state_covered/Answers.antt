@@ -1,7 +1,7 @@
 use Rattle.std.proofs.Common.{List, subst, sym}
 use Rattle.std.specs.Prelude.{IsTrue, IsSomeAnd, ◌↔◌}
 use Rattle.value_domain.specs.declared.states.State.{State}
-use Rattle.value_domain.specs.State.{AreWell, Covers}
+use Rattle.value_domain.specs.State.{AreWellFormed, Covers}
 use Rattle.depth_cert.specs.declared.points.Point.{Point}
 use Rattle.depth_cert.specs.Points.{find_point}
 use Rattle.cfg_recover.proofs.OperationLaws.{same_word}
@@ -19,7 +19,7 @@ returns-then-eq c =
 pub covers_at-requires : goal.covers_at-requires
 covers_at-requires c =
     let ahead = c.at.invariant.facts.walk in
-    subst (λ (s : State). AreWell s.regs) (sym ahead.current) (values_well c.at.inside.bounds.now _ c.at.invariant.values)
+    subst (λ (s : State). AreWellFormed s.regs) (sym ahead.current) (values_well c.at.inside.bounds.now _ c.at.invariant.values)
 
 pub returns : goal.returns
 returns c =

@@ -3,7 +3,7 @@ use Rattle.value_domain.specs.Limits.{Limits}
 use Rattle.value_domain.specs.State.{AreValues}
 use Rattle.depth_cert.specs.declared.keys.Key.{Key}
 use Rattle.depth_cert.specs.Nodes.{NodeData}
-use Rattle.cfg_recover.specs.LocalFaults.{StandsFaultless, IsLocalFault}
+use Rattle.cfg_recover.specs.LocalFaults.{IsFaultlessShape, IsLocalFault}
 use Rattle.cfg_recover.specs.Duties.{duties_of}
 use Rattle.depth_check.specs.LeastBroken.{FindsLeastBroken}
 use Rattle.depth_check.specs.DutiesHold.{DutiesHold}
@@ -24,7 +24,7 @@ rule_broken_by_duties-duties-requires-clause-found c =
     let t = point_check_data c.at.inside in
     let key : c.node.inside.key ≡ t.node.key = ap (λ (n : NodeData). n.key) c.node.view_is in
     rw (← c.at.view_is)
-    (subst (λ (k : Key). StandsFaultless t.bounds t.image t.plan k t.point.addr t.point.state c.in-Ok.found.now) key
+    (subst (λ (k : Key). IsFaultlessShape t.bounds t.image t.plan k t.point.addr t.point.state c.in-Ok.found.now) key
     (c.in-Ok.ensures.found t.image t.point.addr c.locate-located.ensures.code))
 
 pub returns-in-Ok-clause-found : goal.returns-in-Ok-clause-found
@@ -33,10 +33,10 @@ returns-in-Ok-clause-found c =
     let found = c.in-Ok.found.now in
     let key : c.node.inside.key ≡ t.node.key = ap (λ (n : NodeData). n.key) c.node.view_is in
     let here =
-    subst (λ (k : Key). StandsFaultless t.bounds t.image t.plan k t.point.addr t.point.state found) key
+    subst (λ (k : Key). IsFaultlessShape t.bounds t.image t.plan k t.point.addr t.point.state found) key
     (c.in-Ok.ensures.found t.image t.point.addr c.locate-located.ensures.code)
     in
-    let stands = subst (λ (b : Limits). StandsFaultless b t.image t.plan (t.node).key t.point.addr t.point.state found) c.at.invariant.limits here in
+    let stands = subst (λ (b : Limits). IsFaultlessShape b t.image t.plan (t.node).key t.point.addr t.point.state found) c.at.invariant.limits here in
     rw (c.lesser_broken_rule.ensures, c.rule_unless-need.ensures, ← c.at.view_is)
     (duties_found t.image t.plan t.cert t.node t.point found.shape found.size
     (subst (λ (b : Limits). AreValues b (t.point.state).regs) c.at.invariant.limits c.at.invariant.values)

@@ -1,9 +1,9 @@
 use Rattle.std.proofs.Common.{Option, None, Bool, ap, sym, subst, ◌∙◌}
 use Rattle.value_domain.specs.declared.states.State.{State}
 use Rattle.vd_transfer.specs.Changes.{state_after}
-use Rattle.vd_transfer.specs.Branches.{possible_side}
+use Rattle.vd_transfer.specs.Branches.{state_if_possible}
 use Rattle.cfg_recover.specs.Duties.{jump_on}
-use Rattle.depth_check.specs.LeastBroken.{broken_rule_unless, LeastBrokenByDuties}
+use Rattle.depth_check.specs.LeastBroken.{broken_rule_unless, FindsLeastBrokenByDuties}
 use Rattle.depth_check.specs.PointChecks.{point_check_data}
 use Rattle.depth_check.proofs.DutyLaws.{nothing_found, point_found}
 use Rattle.depth_check.proofs.RuleLaws.{values_well}
@@ -16,14 +16,14 @@ pub returns-then-not-change_on : goal.returns-then-not-change_on
 returns-then-not-change_on c =
     let t = point_check_data c.at.inside in
     let s = t.point.state in
-    let told = ap (λ (b : Bool). possible_side b (state_after s c.change_on.new.c)) (sym c.if-not-change_on.true) ∙ c.change_on.ensures.refine in
-    rw (← c.at.view_is) (subst (λ (o : Option State). LeastBrokenByDuties t (jump_on c.args.to o) None) told (nothing_found t.cert t.node s))
+    let told = ap (λ (b : Bool). state_if_possible b (state_after s c.change_on.new.c)) (sym c.if-not-change_on.true) ∙ c.change_on.ensures.refine in
+    rw (← c.at.view_is) (subst (λ (o : Option State). FindsLeastBrokenByDuties t (jump_on c.args.to o) None) told (nothing_found t.cert t.node s))
 
 pub returns : goal.returns
 returns c =
     let t = point_check_data c.at.inside in
     let s = t.point.state in
-    let told = ap (λ (b : Bool). possible_side b (state_after s c.change_on.new.c)) (sym c.if-not-change_on.false) ∙ c.change_on.ensures.refine in
+    let told = ap (λ (b : Bool). state_if_possible b (state_after s c.change_on.new.c)) (sym c.if-not-change_on.false) ∙ c.change_on.ensures.refine in
     rw (c.rule_unless.ensures, ← c.at.view_is)
-    (subst (λ (o : Option State). LeastBrokenByDuties t (jump_on c.args.to o) (broken_rule_unless c.is_changed_state_covered.result 4)) told
+    (subst (λ (o : Option State). FindsLeastBrokenByDuties t (jump_on c.args.to o) (broken_rule_unless c.is_changed_state_covered.result 4)) told
     (point_found t.cert t.node s (state_after s c.change_on.new.c) c.args.to c.is_changed_state_covered.result (rw (← c.at.view_is) at c.is_changed_state_covered.ensures)))

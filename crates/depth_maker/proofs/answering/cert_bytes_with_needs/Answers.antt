@@ -1,15 +1,15 @@
 use Rattle.std.proofs.Common.{subst, sym}
-use Rattle.depth_maker.specs.Needs.{NeedsOrRecursion, NeedsAre}
+use Rattle.depth_maker.specs.Needs.{LeastNeedsOrRecursion, AreLeastTableNeeds}
 use Rattle.depth_maker.proofs.MakeLemmas.{needs_are}
 use Rattle.depth_maker.proofs.answering.cert_bytes_with_needs.Goals as goal
 
 pub spelled_cert_bytes-requires-clause-needs : goal.spelled_cert_bytes-requires-clause-needs
 spelled_cert_bytes-requires-clause-needs c =
-    let found = subst (NeedsOrRecursion c.args.source.now) c.in-Ok.is c.in_ok-needs.ensures in
-    subst (NeedsAre c.args.source.now) (sym c.as_slice.ensures.value) (needs_are c.args.source.now c.in-Ok.needs found)
+    let found = subst (LeastNeedsOrRecursion c.args.source.now) c.in-Ok.is c.in_ok-needs.ensures in
+    subst (AreLeastTableNeeds c.args.source.now) (sym c.as_slice.ensures.value) (needs_are c.args.source.now c.in-Ok.needs found)
 
 pub need_refusal-requires-clause-none : goal.need_refusal-requires-clause-none
-need_refusal-requires-clause-none c = (subst (NeedsOrRecursion c.args.source.now) c.in-Err.is c.in_ok-needs.ensures).0
+need_refusal-requires-clause-none c = (subst (LeastNeedsOrRecursion c.args.source.now) c.in-Err.is c.in_ok-needs.ensures).0
 
 pub need_refusal-requires-clause-place : goal.need_refusal-requires-clause-place
-need_refusal-requires-clause-place c = (subst (NeedsOrRecursion c.args.source.now) c.in-Err.is c.in_ok-needs.ensures).1
+need_refusal-requires-clause-place c = (subst (LeastNeedsOrRecursion c.args.source.now) c.in-Err.is c.in_ok-needs.ensures).1

@@ -1,7 +1,7 @@
 use Rattle.std.proofs.Common.{◌≡◌, ◌∙◌, List, Contains, sym, ap, subst, Some}
 use Rattle.depth_cert.specs.Known.{Known, joined_known, state}
 use Rattle.depth_cert.specs.WellFormed.{IsWellFormedKnown}
-use Rattle.depth_maker.specs.TableView.{seen}
+use Rattle.depth_maker.specs.TableView.{view_of_table}
 use Rattle.depth_maker.specs.VisitDuties.{IsCoveredEntry}
 use Rattle.depth_maker.specs.declared.last_call.LastCall.{LastCall}
 use Rattle.depth_maker.proofs.Lawful.{lawful}
@@ -40,5 +40,5 @@ returns c =
     let g = v.ground.now in
     subst (IsCoveredEntry v c.args.table.now c.args.targets.now.items) (sym (c.in_ok-entry.ensures ∙ ap state c.requires.entry)) (
       entry_well_formed g.bounds.now g.image.now g.plan.now v.key v.addr v.state.now c.requires.visited.well_formed,
-      entry_covered g.bounds.now g.image.now g.plan.now v.key v.addr v.state.now (seen c.args.table.now) c.args.targets.now.items,
+      entry_covered g.bounds.now g.image.now g.plan.now v.key v.addr v.state.now (view_of_table c.args.table.now) c.args.targets.now.items,
     )

@@ -3,7 +3,7 @@ use Rattle.std.proofs.lemmas.List.{take_all}
 use Rattle.depth_cert.specs.declared.keys.Key.{Key}
 use Rattle.cfg_recover.specs.Entries.{call_key}
 use Rattle.cfg_recover.specs.Duties.{owed, resume}
-use Rattle.depth_maker.specs.VisitDuties.{resumes_by, JoinedBy, OwesDuty}
+use Rattle.depth_maker.specs.VisitDuties.{resume_duties, JoinedBy, OwesDuty}
 use Rattle.depth_maker.proofs.Lawful.{lawful}
 use Rattle.depth_maker.proofs.PartLemmas.{duties_more_map, duties_none, owes_at_map, visited_after}
 use Rattle.depth_maker.proofs.calls.join_call_returns.Goals as goal
@@ -32,4 +32,4 @@ loop-t-preserved c =
 pub returns-clause-ok : goal.returns-clause-ok
 returns-clause-ok c =
     let v = c.args.v.now in
-    subst (λ (l : List ℕ). JoinedBy v c.args.table.now c.loop-t.table (resumes_by v c.args.back l)) (take_all c.loop-t.t-index c.args.targets.now c.loop-t-test.false) c.loop-t.invariant
+    subst (λ (l : List ℕ). JoinedBy v c.args.table.now c.loop-t.table (resume_duties v c.args.back l)) (take_all c.loop-t.t-index c.args.targets.now c.loop-t-test.false) c.loop-t.invariant

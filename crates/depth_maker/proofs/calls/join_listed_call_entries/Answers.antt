@@ -1,5 +1,5 @@
 use Rattle.std.proofs.Common.{sym, subst, ℕ, List}
-use Rattle.depth_maker.specs.VisitDuties.{enters_by, JoinedBy, OwesAll}
+use Rattle.depth_maker.specs.VisitDuties.{enter_duties, JoinedBy, OwesDuties}
 use Rattle.depth_maker.proofs.PartLemmas.{visited_after}
 use Rattle.depth_maker.proofs.calls.join_listed_call_entries.Goals as goal
 
@@ -7,7 +7,7 @@ pub returns-then-is_call_covered-clause-ok : goal.returns-then-is_call_covered-c
 returns-then-is_call_covered-clause-ok c = c.is_call_covered.ensures c.if-is_call_covered.true
 
 pub join_call_entries-requires-clause-owes : goal.join_call_entries-requires-clause-owes
-join_call_entries-requires-clause-owes c = subst (λ (l : List ℕ). OwesAll c.args.v.now (enters_by c.args.v.now l)) (sym c.as_slice.ensures.value) c.requires.owes
+join_call_entries-requires-clause-owes c = subst (λ (l : List ℕ). OwesDuties c.args.v.now (enter_duties c.args.v.now l)) (sym c.as_slice.ensures.value) c.requires.owes
 
 pub store_last_call-requires-clause-visited : goal.store_last_call-requires-clause-visited
 store_last_call-requires-clause-visited c =
@@ -17,4 +17,4 @@ store_last_call-requires-clause-visited c =
 pub returns-clause-ok : goal.returns-clause-ok
 returns-clause-ok c =
     let v = c.args.v.now in
-    c.in_ok-store_last_call.ensures.ok c.args.table.now (subst (λ (l : List ℕ). JoinedBy v c.args.table.now c.join_call_entries.new.table (enters_by v l)) c.as_slice.ensures.value c.in_ok-join_call_entries.ensures.ok)
+    c.in_ok-store_last_call.ensures.ok c.args.table.now (subst (λ (l : List ℕ). JoinedBy v c.args.table.now c.join_call_entries.new.table (enter_duties v l)) c.as_slice.ensures.value c.in_ok-join_call_entries.ensures.ok)

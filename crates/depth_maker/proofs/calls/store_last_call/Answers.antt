@@ -1,7 +1,7 @@
 use Rattle.std.proofs.Common.{List, ◌∷◌, ap, subst, sym, ◌∙◌}
 use Rattle.depth_maker.specs.Covered.{AreLastCallsCovered}
 use Rattle.depth_maker.specs.declared.last_call.LastCall.{LastCall}
-use Rattle.depth_maker.specs.TableView.{seen}
+use Rattle.depth_maker.specs.TableView.{view_of_table}
 use Rattle.depth_maker.proofs.CoveredLaws.{call_new, calls_after}
 use Rattle.depth_maker.proofs.NotedCalls.{call_noted}
 use Rattle.depth_maker.proofs.calls.store_last_call.Goals as goal
@@ -15,7 +15,7 @@ returns-then-has_queued_mark-clause-ok c before paid = paid
 pub returns-clause-ok : goal.returns-clause-ok
 returns-clause-ok c before paid =
     let v = c.args.v.now in
-    let cells = (seen c.args.table.now).cells in
+    let cells = (view_of_table c.args.table.now).cells in
     call_noted _ _ _ v.key v.addr v.state.now before c.args.table.now _ c.args.targets.now.items (sym (c.has_queued_mark.ensures _ c.requires.visited.stands) ∙ c.if-has_queued_mark.false)
     (λ settled. subst (AreLastCallsCovered _ cells) (sym (c.in_ok-insert.ensures.items ∙ ap (λ (l : List LastCall). c.of.result ∷ l) c.truncate.ensures.items))
     (calls_after _ cells c.of.result 15 (c.args.table.now.covered).calls.items (call_new _ cells c.of.result v.key c.args.targets.now.items c.in_ok-entry.entry c.of.ensures c.in_ok-entry.ensures.0 (c.in_ok-entry.ensures.1 settled)) c.requires.visited.fine.covered.1))

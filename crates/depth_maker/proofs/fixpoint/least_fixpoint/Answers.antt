@@ -1,5 +1,5 @@
 use Rattle.frame_places.specs.Work.{all_work}
-use Rattle.depth_maker.specs.TableLevels.{level}
+use Rattle.depth_maker.specs.TableLevels.{level_of_table}
 use Rattle.depth_maker.proofs.Lawful.{lawful}
 use Rattle.depth_maker.proofs.LevelSteps.{level_falls, level_most, none_queued}
 use Rattle.depth_maker.proofs.JoinLemmas.{cells_well_formed}
@@ -10,7 +10,7 @@ pub loop-scratch-smaller : goal.loop-scratch-smaller
 loop-scratch-smaller c =
     let h = c.in_ok-visit_listed_places.ensures in
     let sound = c.args.ground.now.sound in
-    level_falls (level c.loop-scratch.table) (level c.visit_listed_places.new.table) (h.2 c.if-branch.true)
+    level_falls (level_of_table c.loop-scratch.table) (level_of_table c.visit_listed_places.new.table) (h.2 c.if-branch.true)
     (level_most _ c.visit_listed_places.new.table sound.limits (cells_well_formed _ _ _ (lawful _ _ _ sound) c.visit_listed_places.new.table h.0) h.0.counted)
 
 pub returns-clause-ok : goal.returns-clause-ok

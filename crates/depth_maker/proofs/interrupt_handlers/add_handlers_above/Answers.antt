@@ -1,6 +1,6 @@
 use Rattle.std.proofs.Common.{sym, ap, refl, ◌∙◌, ◌++◌, List, arith}
 use Rattle.std.proofs.lemmas.List.{append-nil, take_all}
-use Rattle.depth_maker.specs.InterruptHandlers.{nodes_above}
+use Rattle.depth_maker.specs.InterruptHandlers.{handler_nodes_above}
 use Rattle.depth_maker.specs.declared.interrupt_handlers.Handler.{Handler}
 use Rattle.depth_maker.proofs.HandlerLaws.{above_more}
 use Rattle.depth_maker.proofs.interrupt_handlers.add_handlers_above.Goals as goal
@@ -19,4 +19,4 @@ loop-h-preserved c = (
 )
 
 pub returns : goal.returns
-returns c = c.loop-h.invariant.0 ∙ ap (λ (l : List Handler). c.args.into.now.items ++ nodes_above c.args.ccpn l) (take_all c.loop-h.h-index c.args.handlers.now c.loop-h-test.false)
+returns c = c.loop-h.invariant.0 ∙ ap (λ (l : List Handler). c.args.into.now.items ++ handler_nodes_above c.args.ccpn l) (take_all c.loop-h.h-index c.args.handlers.now c.loop-h-test.false)

@@ -5,7 +5,7 @@ use Rattle.vd_transfer.specs.Changes.{state_after}
 use Rattle.depth_cert.specs.declared.keys.Key.{Key}
 use Rattle.cfg_recover.specs.Entries.{call_entry, call_key}
 use Rattle.cfg_recover.specs.Duties.{enter, owed}
-use Rattle.depth_maker.specs.VisitDuties.{enters_by, JoinedBy, OwesDuty}
+use Rattle.depth_maker.specs.VisitDuties.{enter_duties, JoinedBy, OwesDuty}
 use Rattle.depth_maker.proofs.Lawful.{lawful}
 use Rattle.depth_maker.proofs.PartLemmas.{duties_more_map, duties_none, owes_at_map, visited_after}
 use Rattle.depth_maker.proofs.join_entries.join_call_entries.Goals as goal
@@ -38,4 +38,4 @@ loop-t-preserved c =
 pub returns-clause-ok : goal.returns-clause-ok
 returns-clause-ok c =
     let v = c.args.v.now in
-    subst (λ (l : List ℕ). JoinedBy v c.args.table.now c.loop-t.table (enters_by v l)) (take_all c.loop-t.t-index c.args.targets.now c.loop-t-test.false) c.loop-t.invariant
+    subst (λ (l : List ℕ). JoinedBy v c.args.table.now c.loop-t.table (enter_duties v l)) (take_all c.loop-t.t-index c.args.targets.now c.loop-t-test.false) c.loop-t.invariant

@@ -2,13 +2,13 @@ use Rattle.std.proofs.Common.{sym, subst, List}
 use Rattle.std.specs.Prelude.{OnOk}
 use Rattle.cfg_recover.specs.Duties.{Owed}
 use Rattle.cfg_recover.proofs.FlowDuties.{duties_of_irqs-is}
-use Rattle.depth_maker.specs.VisitDuties.{OwesAll, JoinedBy}
+use Rattle.depth_maker.specs.VisitDuties.{OwesDuties, JoinedBy}
 use Rattle.depth_maker.proofs.join_entries.join_interrupt_entries.Goals as goal
 
 pub join_each_handler_entry-requires-clause-owes : goal.join_each_handler_entry-requires-clause-owes
 join_each_handler_entry-requires-clause-owes c =
     let v = c.args.v.now in
-    subst (λ (l : List Owed). OwesAll v l)
+    subst (λ (l : List Owed). OwesDuties v l)
     (sym (duties_of_irqs-is v.ground.now.plan.now v.key v.state.now _ _ c.handler_change-entry.ensures.entry c.requires.irqs)) c.requires.owes
 
 pub returns-clause-ok : goal.returns-clause-ok

@@ -5,7 +5,7 @@ use Rattle.vd_transfer.specs.Changes.{state_after}
 use Rattle.depth_cert.specs.declared.keys.Key.{Key}
 use Rattle.cfg_recover.specs.Entries as entries
 use Rattle.cfg_recover.specs.Duties.{owed, enter}
-use Rattle.depth_maker.specs.VisitDuties.{OwesDuty, JoinedBy, misaligned_by}
+use Rattle.depth_maker.specs.VisitDuties.{OwesDuty, JoinedBy, misaligned_duty}
 use Rattle.depth_maker.proofs.PartLemmas.{owes_one}
 use Rattle.depth_maker.proofs.join_entries.join_misaligned_entry.Goals as goal
 
@@ -13,7 +13,7 @@ pub join_entry-requires-clause-owes : goal.join_entry-requires-clause-owes
 join_entry-requires-clause-owes c =
     let v = c.args.v.now in
     let g = v.ground.now in
-    let one = owes_one _ _ _ v.key v.addr v.state.now (misaligned_by v) c.requires.owes in
+    let one = owes_one _ _ _ v.key v.addr v.state.now (misaligned_duty v) c.requires.owes in
     subst (λ (k : Key). OwesDuty v (enter k (state_after v.state.now c.misaligned_change-entry.result))) (sym c.aln_key.ensures)
     (subst (λ (s : State). OwesDuty v (enter (entries.aln_key g.plan.now v.key) s)) (sym c.misaligned_change-entry.ensures.entry) one)
 

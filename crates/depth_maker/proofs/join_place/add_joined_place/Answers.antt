@@ -6,7 +6,7 @@ use Rattle.depth_cert.specs.Known.{Known}
 use Rattle.frame_places.proofs.MarkLemmas.{same_number}
 use Rattle.frame_places.specs.Counting.{IsCountRefusal, counted_frames_after, counted_points_after}
 use Rattle.frame_places.specs.Work.{all_work}
-use Rattle.depth_maker.specs.TableView.{seen}
+use Rattle.depth_maker.specs.TableView.{view_of_table}
 use Rattle.depth_maker.proofs.CountedLemmas.{are_few, few_spots, limit_passed}
 use Rattle.depth_maker.proofs.Lawful.{lawful}
 use Rattle.depth_maker.proofs.PartLemmas.{registered_fine}
@@ -22,7 +22,7 @@ pub count_place-requires-clause-frames : goal.count_place-requires-clause-frames
 count_place-requires-clause-frames c = (few_spots _ _ c.requires.few).1
 
 pub returns-in_err-count_place-in-None : goal.returns-in_err-count_place-in-None
-unfolding seen
+unfolding view_of_table
 returns-in_err-count_place-in-None c = λ g fine asks.
     let s = c.args.table.now in
     let new = (rw c.in-None.is at c.in_ok-add_or_find_place.ensures).0 in

@@ -12,7 +12,7 @@ use Rattle.frame_places.specs.Marks.{value_for}
 use Rattle.frame_places.proofs.NearbyLemmas.{had_at, nowhere}
 use Rattle.small_states.specs.Incoming.{incoming_known}
 use Rattle.depth_maker.specs.SpotsAsPlaces.{place_of_spot}
-use Rattle.depth_maker.specs.TableView.{seen}
+use Rattle.depth_maker.specs.TableView.{view_of_table}
 use Rattle.depth_maker.proofs.Below.{asks_well_formed}
 use Rattle.depth_maker.proofs.Lawful.{lawful}
 use Rattle.depth_maker.proofs.SpotLemmas.{forth}
@@ -29,8 +29,8 @@ covers-requires-clause-known c =
 pub covers-requires-clause-incoming : goal.covers-requires-clause-incoming
 covers-requires-clause-incoming c =
     let laws = lawful _ _ _ c.args.v.now.ground.now.sound in
-    asks_well_formed _ _ _ laws (seen c.args.table.now).cells (place_of_spot c.args.y.now) (incoming_known c.args.incoming.now)
-    (derived_well_formed _ _ _ laws (seen c.args.table.now).cells (c.requires.fine.table).derived) c.requires.incoming
+    asks_well_formed _ _ _ laws (view_of_table c.args.table.now).cells (place_of_spot c.args.y.now) (incoming_known c.args.incoming.now)
+    (derived_well_formed _ _ _ laws (view_of_table c.args.table.now).cells (c.requires.fine.table).derived) c.requires.incoming
 
 pub join_from-requires-clause-known : goal.join_from-requires-clause-known
 join_from-requires-clause-known c =
@@ -41,11 +41,11 @@ join_from-requires-clause-known c =
 pub join_from-requires-clause-incoming : goal.join_from-requires-clause-incoming
 join_from-requires-clause-incoming c =
     let laws = lawful _ _ _ c.args.v.now.ground.now.sound in
-    asks_well_formed _ _ _ laws (seen c.args.table.now).cells (place_of_spot c.args.y.now) (incoming_known c.args.incoming.now)
-    (derived_well_formed _ _ _ laws (seen c.args.table.now).cells (c.requires.fine.table).derived) c.requires.incoming
+    asks_well_formed _ _ _ laws (view_of_table c.args.table.now).cells (place_of_spot c.args.y.now) (incoming_known c.args.incoming.now)
+    (derived_well_formed _ _ _ laws (view_of_table c.args.table.now).cells (c.requires.fine.table).derived) c.requires.incoming
 
 pub join_from-requires-clause-own : goal.join_from-requires-clause-own
-unfolding seen
+unfolding view_of_table
 join_from-requires-clause-own c =
     let t = c.args.table.now in
     let x = Point c.args.v.now.key c.args.v.now.addr in
@@ -57,7 +57,7 @@ pub put_place_value-requires : goal.put_place_value-requires
 put_place_value-requires c = record { listed = c.requires.fine.listed }
 
 pub returns-then-covers : goal.returns-then-covers
-unfolding seen
+unfolding view_of_table
 returns-then-covers c =
     let s = c.args.table.now in
     let at = ap (option_map (λ (m : Marked Known). m.value)) (had_at s.places c.args.number c.args.y.now _ c.in-Some.place.now (sym c.in-Some.ensures.entry) c.in-Some.ensures.value c.requires.there) in

@@ -9,13 +9,13 @@ use Rattle.frame_places.specs.declared.places.Spot.TheVariants.{Point}
 use Rattle.frame_places.proofs.MarkLemmas.{same_value}
 use Rattle.frame_places.proofs.NearbyLemmas.{had_at, index_there, nowhere}
 use Rattle.small_states.specs.Incoming.{incoming_known}
-use Rattle.depth_maker.specs.Joins.{AsksOn, JoinedAloneOn}
-use Rattle.depth_maker.specs.TableView.{seen}
+use Rattle.depth_maker.specs.Joins.{FlowsInto, IsJoinedAloneOn}
+use Rattle.depth_maker.specs.TableView.{view_of_table}
 use Rattle.depth_maker.proofs.PartLemmas.{asks_again, near_left, raises_again}
 use Rattle.depth_maker.proofs.join_place.join_without_readers.Goals as goal
 
 pub apply-requires : goal.apply-requires
-unfolding seen
+unfolding view_of_table
 apply-requires c =
     let t = c.args.table.now in
     let x = Point c.args.v.now.key c.args.v.now.addr in
@@ -32,43 +32,43 @@ add_joined_place-requires-clause-few c = (c.requires.fine.counted).few
 pub returns-in_err-add_joined_place : goal.returns-in_err-add_joined_place
 returns-in_err-add_joined_place c =
     let p = err_from_is_err_and c.from_residual-in_err-add_joined_place.result c.from_residual-in_err-add_joined_place.ensures.1 in
-    rw (p.1, p.2) (c.in_err-add_joined_place.ensures c.args.v.now.ground.now c.requires.fine (subst (AsksOn c.args.v.now.ground.now c.args.table.now c.args.y.now) (sym c.in_ok-value.ensures) c.requires.incoming))
+    rw (p.1, p.2) (c.in_err-add_joined_place.ensures c.args.v.now.ground.now c.requires.fine (subst (FlowsInto c.args.v.now.ground.now c.args.table.now c.args.y.now) (sym c.in_ok-value.ensures) c.requires.incoming))
 
 pub returns-in-None : goal.returns-in-None
 returns-in-None c =
-    let asks = subst (AsksOn c.args.v.now.ground.now c.args.table.now c.args.y.now) (sym c.in_ok-value.ensures) c.requires.incoming in
-    subst (JoinedAloneOn c.args.v.now.ground.now c.args.table.now c.add_joined_place.new.table c.args.y.now) c.in_ok-value.ensures (rw c.in-None.is at c.in_ok-add_joined_place.ensures c.args.v.now.ground.now c.requires.fine asks)
+    let asks = subst (FlowsInto c.args.v.now.ground.now c.args.table.now c.args.y.now) (sym c.in_ok-value.ensures) c.requires.incoming in
+    subst (IsJoinedAloneOn c.args.v.now.ground.now c.args.table.now c.add_joined_place.new.table c.args.y.now) c.in_ok-value.ensures (rw c.in-None.is at c.in_ok-add_joined_place.ensures c.args.v.now.ground.now c.requires.fine asks)
 
 pub join_known_place-requires-in-Some-2-clause-fine : goal.join_known_place-requires-in-Some-2-clause-fine
-join_known_place-requires-in-Some-2-clause-fine c = (let asks = subst (AsksOn c.args.v.now.ground.now c.args.table.now c.args.y.now) (sym c.in_ok-value.ensures) c.requires.incoming in
+join_known_place-requires-in-Some-2-clause-fine c = (let asks = subst (FlowsInto c.args.v.now.ground.now c.args.table.now c.args.y.now) (sym c.in_ok-value.ensures) c.requires.incoming in
     let h = rw c.in-Some-2.is at c.in_ok-add_joined_place.ensures c.args.v.now.ground.now c.requires.fine asks in h.1.fine)
 
 pub join_known_place-requires-in-Some-2-clause-there : goal.join_known_place-requires-in-Some-2-clause-there
-join_known_place-requires-in-Some-2-clause-there c = (let asks = subst (AsksOn c.args.v.now.ground.now c.args.table.now c.args.y.now) (sym c.in_ok-value.ensures) c.requires.incoming in
+join_known_place-requires-in-Some-2-clause-there c = (let asks = subst (FlowsInto c.args.v.now.ground.now c.args.table.now c.args.y.now) (sym c.in_ok-value.ensures) c.requires.incoming in
     let h = rw c.in-Some-2.is at c.in_ok-add_joined_place.ensures c.args.v.now.ground.now c.requires.fine asks in h.0)
 
 pub join_known_place-requires-in-Some-2-clause-near : goal.join_known_place-requires-in-Some-2-clause-near
 join_known_place-requires-in-Some-2-clause-near c =
-    let asks = subst (AsksOn c.args.v.now.ground.now c.args.table.now c.args.y.now) (sym c.in_ok-value.ensures) c.requires.incoming in
+    let asks = subst (FlowsInto c.args.v.now.ground.now c.args.table.now c.args.y.now) (sym c.in_ok-value.ensures) c.requires.incoming in
     let h = rw c.in-Some-2.is at c.in_ok-add_joined_place.ensures c.args.v.now.ground.now c.requires.fine asks in
     near_left c.args.v.now.ground.now c.args.table.now c.add_joined_place.new.table (Point c.args.v.now.key c.args.v.now.addr) h.1 c.requires.near
 
 pub join_known_place-requires-in-Some-2-clause-at : goal.join_known_place-requires-in-Some-2-clause-at
-unfolding seen
+unfolding view_of_table
 join_known_place-requires-in-Some-2-clause-at c =
-    let asks = subst (AsksOn c.args.v.now.ground.now c.args.table.now c.args.y.now) (sym c.in_ok-value.ensures) c.requires.incoming in
+    let asks = subst (FlowsInto c.args.v.now.ground.now c.args.table.now c.args.y.now) (sym c.in_ok-value.ensures) c.requires.incoming in
     let h = rw c.in-Some-2.is at c.in_ok-add_joined_place.ensures c.args.v.now.ground.now c.requires.fine asks in
     same_value c.args.table.now.places c.add_joined_place.new.table.places h.1.entries (Point c.args.v.now.key c.args.v.now.addr) ∙ c.requires.at
 
 pub join_known_place-requires-in-Some-2-clause-incoming : goal.join_known_place-requires-in-Some-2-clause-incoming
 join_known_place-requires-in-Some-2-clause-incoming c =
-    let asks = subst (AsksOn c.args.v.now.ground.now c.args.table.now c.args.y.now) (sym c.in_ok-value.ensures) c.requires.incoming in
+    let asks = subst (FlowsInto c.args.v.now.ground.now c.args.table.now c.args.y.now) (sym c.in_ok-value.ensures) c.requires.incoming in
     let h = rw c.in-Some-2.is at c.in_ok-add_joined_place.ensures c.args.v.now.ground.now c.requires.fine asks in
     asks_again _ _ _ c.args.table.now c.add_joined_place.new.table c.args.y.now (incoming_known c.args.incoming.now) h.1.entries c.requires.incoming
 
 pub returns-in-Some-2 : goal.returns-in-Some-2
 returns-in-Some-2 c =
-    let asks = subst (AsksOn c.args.v.now.ground.now c.args.table.now c.args.y.now) (sym c.in_ok-value.ensures) c.requires.incoming in
+    let asks = subst (FlowsInto c.args.v.now.ground.now c.args.table.now c.args.y.now) (sym c.in_ok-value.ensures) c.requires.incoming in
     let h = rw c.in-Some-2.is at c.in_ok-add_joined_place.ensures c.args.v.now.ground.now c.requires.fine asks in
     raises_again c.args.v.now.ground.now c.args.table.now c.add_joined_place.new.table c.join_known_place-in-Some-2.new.table c.args.y.now (incoming_known c.args.incoming.now) c.join_known_place-in-Some-2.result h.1 c.join_known_place-in-Some-2.ensures
 

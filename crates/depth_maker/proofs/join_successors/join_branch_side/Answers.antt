@@ -1,10 +1,10 @@
 use Rattle.std.proofs.Common.{◌≡◌, ◌∙◌, sym, ap, subst, Bool, Option, Some, None}
 use Rattle.std.specs.Prelude.{OnOk}
 use Rattle.value_domain.specs.declared.states.State.{State}
-use Rattle.vd_transfer.specs.Branches.{possible_side}
+use Rattle.vd_transfer.specs.Branches.{state_if_possible}
 use Rattle.vd_transfer.specs.Changes.{state_after}
 use Rattle.cfg_recover.specs.Duties.{owed, jump, jump_on}
-use Rattle.depth_maker.specs.VisitDuties.{OwesAll, JoinedBy, side_by}
+use Rattle.depth_maker.specs.VisitDuties.{OwesDuties, JoinedBy, side_state}
 use Rattle.depth_maker.proofs.PartLemmas.{owes_one, duties_none}
 use Rattle.depth_maker.proofs.join_successors.join_branch_side.Goals as goal
 
@@ -12,21 +12,21 @@ pub returns-then-not-change_on-clause-ok : goal.returns-then-not-change_on-claus
 returns-then-not-change_on-clause-ok c =
     let v = c.args.v.now in
     let side = c.args.side in
-    let e : None ≡ side_by v side.shape side.taken = sym (ap (λ (t : Bool). possible_side t (state_after v.state.now c.change_on.new.c)) c.if-not-change_on.true) ∙ c.change_on.ensures.refine in
+    let e : None ≡ side_state v side.shape side.taken = sym (ap (λ (t : Bool). state_if_possible t (state_after v.state.now c.change_on.new.c)) c.if-not-change_on.true) ∙ c.change_on.ensures.refine in
     subst (λ (o : Option State). JoinedBy v c.args.table.now c.args.table.now (jump_on side.to o)) e (duties_none _ _ _ v.key v.addr v.state.now c.args.table.now c.requires.visited.fine)
 
 pub join_jump-requires-clause-owes : goal.join_jump-requires-clause-owes
 join_jump-requires-clause-owes c =
     let v = c.args.v.now in
     let side = c.args.side in
-    let e : Some (state_after v.state.now c.change_on.new.c) ≡ side_by v side.shape side.taken =
-    sym (ap (λ (t : Bool). possible_side t (state_after v.state.now c.change_on.new.c)) c.if-not-change_on.false) ∙ c.change_on.ensures.refine in
-    owes_one _ _ _ v.key v.addr v.state.now (owed 4 (jump side.to (state_after v.state.now c.change_on.new.c))) (subst (λ (o : Option State). OwesAll v (jump_on side.to o)) (sym e) c.requires.owes)
+    let e : Some (state_after v.state.now c.change_on.new.c) ≡ side_state v side.shape side.taken =
+    sym (ap (λ (t : Bool). state_if_possible t (state_after v.state.now c.change_on.new.c)) c.if-not-change_on.false) ∙ c.change_on.ensures.refine in
+    owes_one _ _ _ v.key v.addr v.state.now (owed 4 (jump side.to (state_after v.state.now c.change_on.new.c))) (subst (λ (o : Option State). OwesDuties v (jump_on side.to o)) (sym e) c.requires.owes)
 
 pub returns-clause-ok : goal.returns-clause-ok
 returns-clause-ok c =
     let v = c.args.v.now in
     let side = c.args.side in
-    let e : Some (state_after v.state.now c.change_on.new.c) ≡ side_by v side.shape side.taken =
-    sym (ap (λ (t : Bool). possible_side t (state_after v.state.now c.change_on.new.c)) c.if-not-change_on.false) ∙ c.change_on.ensures.refine in
+    let e : Some (state_after v.state.now c.change_on.new.c) ≡ side_state v side.shape side.taken =
+    sym (ap (λ (t : Bool). state_if_possible t (state_after v.state.now c.change_on.new.c)) c.if-not-change_on.false) ∙ c.change_on.ensures.refine in
     subst (λ (o : Option State). OnOk c.join_jump.result (JoinedBy v c.args.table.now c.join_jump.new.table (jump_on side.to o))) e c.join_jump.ensures.ok

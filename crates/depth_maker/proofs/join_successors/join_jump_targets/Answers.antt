@@ -2,7 +2,7 @@ use Rattle.std.proofs.Common.{List, [], ◌∷◌, ℕ, Option, sym, subst}
 use Rattle.std.specs.Prelude.{OnOk, unwrap_or}
 use Rattle.value_domain.specs.declared.states.State.{State}
 use Rattle.cfg_recover.specs.Duties.{owed, jump, jumps_to}
-use Rattle.depth_maker.specs.VisitDuties.{OwesAll, OwesDuty, JoinedBy}
+use Rattle.depth_maker.specs.VisitDuties.{OwesDuties, OwesDuty, JoinedBy}
 use Rattle.depth_maker.proofs.PartLemmas.{owes_one}
 use Rattle.depth_maker.proofs.join_successors.join_jump_targets.Goals as goal
 
@@ -12,7 +12,7 @@ join_first_jump-requires-clause-owes c =
     let to = c.in-Some.target in
     let one = (rw c.in-Some.is at c.direct_target.ensures.one) v.ground.now.plan.now v.state.now in
     subst (λ (s : State). OwesDuty v (jump to s)) (sym c.keep.ensures.same)
-    (owes_one _ _ _ v.key v.addr v.state.now (owed 4 (jump to v.state.now)) (subst (λ (o : Option (List ℕ)). OwesAll v (jumps_to v.state.now (unwrap_or o []))) one c.requires.owes))
+    (owes_one _ _ _ v.key v.addr v.state.now (owed 4 (jump to v.state.now)) (subst (λ (o : Option (List ℕ)). OwesDuties v (jumps_to v.state.now (unwrap_or o []))) one c.requires.owes))
 
 pub returns-in-Some-clause-ok : goal.returns-in-Some-clause-ok
 returns-in-Some-clause-ok c =

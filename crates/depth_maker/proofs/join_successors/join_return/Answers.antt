@@ -5,7 +5,7 @@ use Rattle.frame_places.specs.Marks.{value_for}
 use Rattle.depth_cert.specs.Known.{Known, leaving, IsNoExit}
 use Rattle.cfg_recover.specs.Duties.{resume}
 use Rattle.frame_places.specs.declared.places.Spot.TheVariants as spots
-use Rattle.small_states.specs.CompactForms.{exit_in}
+use Rattle.small_states.specs.CompactForms.{whole_exit}
 use Rattle.depth_maker.proofs.VisitLemmas.{exit_known}
 use Rattle.depth_maker.proofs.PartLemmas.{has_duty, resume_asks, on_resume, duties_queued, duties_resume_none}
 use Rattle.depth_maker.proofs.join_successors.join_return.Goals as goal
@@ -31,7 +31,7 @@ join_at_place-requires-clause-near c = c.requires.visited.stands
 pub join_at_place-requires-clause-incoming : goal.join_at_place-requires-clause-incoming
 join_at_place-requires-clause-incoming c =
     let v = c.args.v.now in
-    let x = exit_in c.in_ok-copy.copy in
+    let x = whole_exit c.in_ok-copy.copy in
     let there : value_for c.args.table.now.places (spots.Exit c.args.key) ≡ Some (leaving x) =
     sym (ap (option_map (λ (m : Marked Known). m.value)) c.in-Some.ensures.value) ∙ ap (λ (w : Known). Some w) (c.in-Some-exit.ensures.some ∙ ap leaving (sym c.in_ok-copy.ensures)) in
     resume_asks _ _ _ v.key v.addr v.state.now c.args.table.now c.args.key c.args.back x there
@@ -43,7 +43,7 @@ join_at_place-requires-clause-at c = c.requires.visited.at (sym (c.has_queued_ma
 pub returns-clause-ok : goal.returns-clause-ok
 returns-clause-ok c =
     let v = c.args.v.now in
-    let x = exit_in c.in_ok-copy.copy in
+    let x = whole_exit c.in_ok-copy.copy in
     let there : value_for c.args.table.now.places (spots.Exit c.args.key) ≡ Some (leaving x) =
     sym (ap (option_map (λ (m : Marked Known). m.value)) c.in-Some.ensures.value) ∙ ap (λ (w : Known). Some w) (c.in-Some-exit.ensures.some ∙ ap leaving (sym c.in_ok-copy.ensures)) in
     on_resume _ _ _ v.key v.addr v.state.now c.args.table.now c.join_at_place.new.table 4 c.args.key c.args.back x c.join_at_place.result there c.requires.registered c.join_at_place.ensures.ok

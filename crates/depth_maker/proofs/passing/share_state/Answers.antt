@@ -2,8 +2,8 @@ use Rattle.std.proofs.Common.{sym, ◌∙◌, subst}
 use Rattle.std.proofs.lemmas.Result.{err_from_is_err_and}
 use Rattle.frame_places.specs.declared.places.Spot.TheVariants.{Point}
 use Rattle.frame_places.proofs.NearbyLemmas.{nowhere}
-use Rattle.depth_maker.specs.Joins.{AsksOn, JoinedAloneOn}
-use Rattle.depth_maker.specs.TableView.{seen}
+use Rattle.depth_maker.specs.Joins.{FlowsInto, IsJoinedAloneOn}
+use Rattle.depth_maker.specs.TableView.{view_of_table}
 use Rattle.depth_maker.proofs.Lawful.{lawful}
 use Rattle.depth_maker.proofs.PartLemmas.{all_left}
 use Rattle.depth_maker.proofs.PassingLaws.{passed_on, passing_asks}
@@ -27,35 +27,35 @@ pub add_joined_place-requires-clause-few : goal.add_joined_place-requires-clause
 add_joined_place-requires-clause-few c = (c.requires.fine.counted).few
 
 pub returns-in_err-add_joined_place : goal.returns-in_err-add_joined_place
-unfolding seen
+unfolding view_of_table
 returns-in_err-add_joined_place c =
     let v = c.args.site.now in
     let s = c.args.table.now in
     let e = own_state _ _ _ s v.key v.addr _ c.in-Some-get_index.own.now c.requires.fine (sym c.in-Some-get_index.ensures.entry) c.in-Some-get_index.ensures.value c.requires.near in
-    let asks = subst (AsksOn v.ground.now s (Point v.key c.in-Some.to)) (sym (c.in_ok-value.ensures ∙ e.1)) (passing_asks _ _ _ v.key v.addr e.0 s c.in-Some.to e.2 c.in-Some.ensures) in
+    let asks = subst (FlowsInto v.ground.now s (Point v.key c.in-Some.to)) (sym (c.in_ok-value.ensures ∙ e.1)) (passing_asks _ _ _ v.key v.addr e.0 s c.in-Some.to e.2 c.in-Some.ensures) in
     let p = err_from_is_err_and c.from_residual-in_err-add_joined_place.result c.from_residual-in_err-add_joined_place.ensures.1 in
     rw (p.1, p.2) (c.in_err-add_joined_place.ensures v.ground.now c.requires.fine asks)
 
 pub returns-in-None : goal.returns-in-None
-unfolding seen
+unfolding view_of_table
 returns-in-None c =
     let v = c.args.site.now in
     let s = c.args.table.now in
     let e = own_state _ _ _ s v.key v.addr _ c.in-Some-get_index.own.now c.requires.fine (sym c.in-Some-get_index.ensures.entry) c.in-Some-get_index.ensures.value c.requires.near in
-    let asks = subst (AsksOn v.ground.now s (Point v.key c.in-Some.to)) (sym (c.in_ok-value.ensures ∙ e.1)) (passing_asks _ _ _ v.key v.addr e.0 s c.in-Some.to e.2 c.in-Some.ensures) in
+    let asks = subst (FlowsInto v.ground.now s (Point v.key c.in-Some.to)) (sym (c.in_ok-value.ensures ∙ e.1)) (passing_asks _ _ _ v.key v.addr e.0 s c.in-Some.to e.2 c.in-Some.ensures) in
     let quiet = c.may_share_state.ensures c.if-not-may_share_state.false e.0 e.2 in
     let passes = c.in-Some.ensures in
     let laws = lawful _ _ _ v.ground.now.sound in (
       passed_on _ _ _ v.key v.addr e.0 s c.in-Some.to e.2 passes laws _ c.requires.fine (visited_at _ _ _ laws s v.key v.addr e.0 c.requires.fine c.requires.near e.2).well_formed quiet.0 quiet.1
-          (subst (JoinedAloneOn v.ground.now s c.add_joined_place.new.table (Point v.key c.in-Some.to)) (c.in_ok-value.ensures ∙ e.1) (rw c.in-None.is at c.in_ok-add_joined_place.ensures v.ground.now c.requires.fine asks)),
+          (subst (IsJoinedAloneOn v.ground.now s c.add_joined_place.new.table (Point v.key c.in-Some.to)) (c.in_ok-value.ensures ∙ e.1) (rw c.in-None.is at c.in_ok-add_joined_place.ensures v.ground.now c.requires.fine asks)),
       record { shape = passes.shape; size = passes.size; code = passes.code; shaped = passes.shaped; enters = passes.enters },
     )
 
 pub returns-in-Some-2 : goal.returns-in-Some-2
-unfolding seen
+unfolding view_of_table
 returns-in-Some-2 c =
     let v = c.args.site.now in
     let s = c.args.table.now in
     let e = own_state _ _ _ s v.key v.addr _ c.in-Some-get_index.own.now c.requires.fine (sym c.in-Some-get_index.ensures.entry) c.in-Some-get_index.ensures.value c.requires.near in
-    let asks = subst (AsksOn v.ground.now s (Point v.key c.in-Some.to)) (sym (c.in_ok-value.ensures ∙ e.1)) (passing_asks _ _ _ v.key v.addr e.0 s c.in-Some.to e.2 c.in-Some.ensures) in
+    let asks = subst (FlowsInto v.ground.now s (Point v.key c.in-Some.to)) (sym (c.in_ok-value.ensures ∙ e.1)) (passing_asks _ _ _ v.key v.addr e.0 s c.in-Some.to e.2 c.in-Some.ensures) in
     let h = rw c.in-Some-2.is at c.in_ok-add_joined_place.ensures v.ground.now c.requires.fine asks in h.1

@@ -2,7 +2,7 @@ use Rattle.std.proofs.Common.{◌≡◌, ℕ, Bool, true, false, List, Contains,
 use Rattle.std.specs.Prelude.{IsTrue}
 use Rattle.std.specs.Option.{option_map}
 use Rattle.frame_places.specs.NodeGraph.{IsNodeMarked}
-use Rattle.depth_maker.specs.TableView.{seen}
+use Rattle.depth_maker.specs.TableView.{view_of_table}
 use Rattle.depth_maker.proofs.RecursSteps.{none_marked, row_marked}
 use Rattle.depth_maker.proofs.RowSteps.{number_there}
 use Rattle.depth_maker.proofs.recursion.enters_marked_frame.Goals as goal
@@ -11,7 +11,7 @@ abbrev SaysMarked : List Bool → Bool → List ℕ → Type 0
 SaysMarked marks r l = (IsTrue r → (t : ℕ) × Contains l t × IsNodeMarked marks t) × (((t : ℕ) × Contains l t × IsNodeMarked marks t) → IsTrue r)
 
 pub returns-in_default : goal.returns-in_default
-unfolding seen
+unfolding view_of_table
 returns-in_default c = (
   (λ y. absurd (let f : false ≡ true = y in cc)),
   (λ e. absurd (none_marked c.args.source.now c.requires c.args.marks.now c.args.key c.args.addr (ap (option_map (λ m. m.value)) (sym c.in_default.ensures.value)) e)),

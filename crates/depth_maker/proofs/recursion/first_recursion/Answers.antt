@@ -3,8 +3,8 @@ use Rattle.std.specs.Prelude.{map}
 use Rattle.std.proofs.lemmas.List.{length-map}
 use Rattle.depth_cert.specs.declared.keys.Key.{Key}
 use Rattle.depth_cert.specs.Keys.{number_of_key}
-use Rattle.frame_places.specs.NodeGraph.{AreEdgesBetween, AreReaching, IsFirstRecurring}
-use Rattle.depth_maker.specs.Recursing.{IsFirstRecursive, recursion_orders_in}
+use Rattle.frame_places.specs.NodeGraph.{AreEdgesBetween, AreReachingMarks, IsFirstRecursiveNode}
+use Rattle.depth_maker.specs.Recursing.{IsFirstRecursiveAddress, recursion_orders_in}
 use Rattle.depth_maker.specs.declared.rows.Source.{Source}
 use Rattle.frame_places.specs.declared.needs.reach.FrameEdge.{FrameEdge}
 use Rattle.frame_places.specs.declared.places.Spot.{Spot}
@@ -12,9 +12,9 @@ use Rattle.depth_maker.proofs.RecursSteps.{edges_within, none_recurs, key_there,
 use Rattle.depth_maker.proofs.recursion.first_recursion.Goals as goal
 
 -- the orders of the frames are those of the table
-first_by : (s : Source) (edges : List FrameEdge) (frames : List Key) (orders : List ℕ) (node : ℕ) → orders ≡ map number_of_key frames → frames ≡ (s.table.now).frames.items → IsFirstRecurring orders edges (Some node)
-    → IsFirstRecurring (recursion_orders_in s) edges (Some node)
-first_by s edges frames orders node is same first = subst (λ (l : List ℕ). IsFirstRecurring l edges (Some node)) (is ∙ ap (λ (l : List Key). map number_of_key l) same) first
+first_by : (s : Source) (edges : List FrameEdge) (frames : List Key) (orders : List ℕ) (node : ℕ) → orders ≡ map number_of_key frames → frames ≡ (s.table.now).frames.items → IsFirstRecursiveNode orders edges (Some node)
+    → IsFirstRecursiveNode (recursion_orders_in s) edges (Some node)
+first_by s edges frames orders node is same first = subst (λ (l : List ℕ). IsFirstRecursiveNode l edges (Some node)) (is ∙ ap (λ (l : List Key). map number_of_key l) same) first
 
 pub first_recursive_node-requires : goal.first_recursive_node-requires
 first_recursive_node-requires c =
@@ -36,11 +36,11 @@ returns c =
     let key : Key = get_or c.args.frames.now node d in
     let first = first_by c.args.source.now c.args.edges.now c.args.frames.now _ node (c.as_slice.ensures.value ∙ c.in_ok-orders.ensures) c.requires.frames (rw c.in-Some.is at c.in_ok-node.ensures) in
     first_recurs c.args.source.now c.requires.source c.args.edges.now c.requires.edges (length c.args.frames.now) node key first c.as_slice-2.result.now
-    (subst (AreReaching c.args.edges.now (length c.args.frames.now) node) (sym c.as_slice-2.ensures.value) c.in_ok-marks.ensures)
+    (subst (AreReachingMarks c.args.edges.now (length c.args.frames.now) node) (sym c.as_slice-2.ensures.value) c.in_ok-marks.ensures)
     (key_there c.args.source.now c.requires.source c.args.edges.now c.requires.edges node first c.args.frames.now d c.requires.frames)
     c.in-Some-2.addr
-    (subst (λ (l : List Spot). IsFirstRecursive c.args.source.now c.as_slice-2.result.now key l (Some c.in-Some-2.addr)) c.as_slice-points.ensures.value
-    (subst (IsFirstRecursive c.args.source.now c.as_slice-2.result.now key c.as_slice-points.result.now) c.in-Some-2.is c.in_ok-addr.ensures))
+    (subst (λ (l : List Spot). IsFirstRecursiveAddress c.args.source.now c.as_slice-2.result.now key l (Some c.in-Some-2.addr)) c.as_slice-points.ensures.value
+    (subst (IsFirstRecursiveAddress c.args.source.now c.as_slice-2.result.now key c.as_slice-points.result.now) c.in-Some-2.is c.in_ok-addr.ensures))
 
 pub unreachable-requires : goal.unreachable-requires
 unreachable-requires c =
@@ -49,7 +49,7 @@ unreachable-requires c =
     let key : Key = get_or c.args.frames.now node d in
     let first = first_by c.args.source.now c.args.edges.now c.args.frames.now _ node (c.as_slice.ensures.value ∙ c.in_ok-orders.ensures) c.requires.frames (rw c.in-Some.is at c.in_ok-node.ensures) in
     one_stands c.args.source.now c.requires.source c.args.edges.now c.requires.edges (length c.args.frames.now) node key first c.as_slice-2.result.now
-    (subst (AreReaching c.args.edges.now (length c.args.frames.now) node) (sym c.as_slice-2.ensures.value) c.in_ok-marks.ensures)
+    (subst (AreReachingMarks c.args.edges.now (length c.args.frames.now) node) (sym c.as_slice-2.ensures.value) c.in_ok-marks.ensures)
     (key_there c.args.source.now c.requires.source c.args.edges.now c.requires.edges node first c.args.frames.now d c.requires.frames)
-    (subst (λ (l : List Spot). IsFirstRecursive c.args.source.now c.as_slice-2.result.now key l None) c.as_slice-points.ensures.value
-    (subst (IsFirstRecursive c.args.source.now c.as_slice-2.result.now key c.as_slice-points.result.now) c.in-None.is c.in_ok-addr.ensures))
+    (subst (λ (l : List Spot). IsFirstRecursiveAddress c.args.source.now c.as_slice-2.result.now key l None) c.as_slice-points.ensures.value
+    (subst (IsFirstRecursiveAddress c.args.source.now c.as_slice-2.result.now key c.as_slice-points.result.now) c.in-None.is c.in_ok-addr.ensures))

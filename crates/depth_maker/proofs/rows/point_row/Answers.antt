@@ -1,7 +1,7 @@
 use Rattle.std.proofs.Common.{subst, sym}
 use Rattle.depth_cert.specs.Known.{state, IsKnownState}
 use Rattle.frame_places.specs.declared.places.Spot.TheVariants.{Point}
-use Rattle.depth_maker.specs.TableView.{seen}
+use Rattle.depth_maker.specs.TableView.{view_of_table}
 use Rattle.depth_maker.proofs.RowSteps.{all_known, done_well_formed, known_there, read_there}
 use Rattle.depth_maker.proofs.rows.point_row.Goals as goal
 
@@ -28,7 +28,7 @@ visited_point_row-requires-clause-well_formed c =
     done_well_formed s.ground.now s.table.now done (Point at.key at.addr) (state c.state.result.now) there
 
 pub returns : goal.returns
-unfolding seen
+unfolding view_of_table
 returns c =
     let s = c.args.source.now in
     let at = c.args.at.now in
@@ -37,7 +37,7 @@ returns c =
     (c.state.result.now, there, c.in_ok-visited_point_row-in-Ok.ensures s.table.now.frames.items (record { all = source.numbers; taken = source.handlers }) (all_known _ s.table.now source.done there) (c.requires.at).node)
 
 pub unreachable-requires : goal.unreachable-requires
-unfolding seen
+unfolding view_of_table
 unreachable-requires c =
     let s = c.args.source.now in
     let at = c.args.at.now in

@@ -2,8 +2,8 @@ use Rattle.std.proofs.Common.{subst, sym, ap, ◌∙◌, arith, List, length}
 use Rattle.std.proofs.lemmas.List.{length-map}
 use Rattle.frame_places.specs.PointEntries.{place_at}
 use Rattle.frame_places.specs.declared.ordering.PointEntry.{PointEntry}
-use Rattle.depth_maker.specs.SpelledCert.{AreSpelledPointsOf}
-use Rattle.depth_maker.specs.SpotsAsPlaces.{spots_on}
+use Rattle.depth_maker.specs.SpelledCert.{AreTablePointEntries}
+use Rattle.depth_maker.specs.SpotsAsPlaces.{spots_of_entries}
 use Rattle.depth_maker.proofs.OutLemmas.{points_are, spots_are, few_of, writes_node}
 use Rattle.depth_maker.proofs.spelling.spell_table_node.Goals as goal
 
@@ -18,13 +18,13 @@ overflow_cast-points c =
 
 pub spell_table_points-requires-clause-points : goal.spell_table_points-requires-clause-points
 spell_table_points-requires-clause-points c =
-    subst (AreSpelledPointsOf c.args.ordered.now.source.now c.args.key) (sym c.sorted_frame_points-points.ensures) (points_are c.args.ordered.now c.requires.ordered c.args.key c.requires.key)
+    subst (AreTablePointEntries c.args.ordered.now.source.now c.args.key) (sym c.sorted_frame_points-points.ensures) (points_are c.args.ordered.now c.requires.ordered c.args.key c.requires.key)
 
 pub returns : goal.returns
 returns c =
     let o = c.args.ordered.now in
     let s = o.source.now in
     let xs = c.sorted_frame_points-points.result.now in
-    writes_node o c.args.key c.spelled_need.result (length xs) (spots_on s xs) c.args.out.now.items c.write_key.new.out.items c.put_u16.new.out.items c.spell_table_exit.new.out.items c.put_u32.new.out.items c.spell_table_points.new.out.items
-    (ap (spots_on s) c.sorted_frame_points-points.ensures ∙ spots_are o c.requires.ordered c.args.key c.requires.key) c.spelled_need.ensures (sym (length-map xs (place_at s.table.now.places)))
+    writes_node o c.args.key c.spelled_need.result (length xs) (spots_of_entries s xs) c.args.out.now.items c.write_key.new.out.items c.put_u16.new.out.items c.spell_table_exit.new.out.items c.put_u32.new.out.items c.spell_table_points.new.out.items
+    (ap (spots_of_entries s) c.sorted_frame_points-points.ensures ∙ spots_are o c.requires.ordered c.args.key c.requires.key) c.spelled_need.ensures (sym (length-map xs (place_at s.table.now.places)))
     c.in_ok-write_key.ensures c.in_ok-put_u16.ensures c.in_ok-spell_table_exit.ensures c.in_ok-put_u32.ensures.ok c.in_ok-spell_table_points.ensures

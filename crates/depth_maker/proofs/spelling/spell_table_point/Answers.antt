@@ -8,7 +8,7 @@ use Rattle.frame_places.specs.PointEntries.{place_at}
 use Rattle.frame_places.specs.Marks.{value_for}
 use Rattle.frame_places.specs.Spots.{spot_address}
 use Rattle.frame_places.specs.declared.places.Spot.TheVariants.{Point}
-use Rattle.depth_maker.specs.TableView.{seen}
+use Rattle.depth_maker.specs.TableView.{view_of_table}
 use Rattle.depth_maker.proofs.OutLemmas.{writes_point}
 use Rattle.depth_maker.proofs.PointEntries.{entry_place}
 use Rattle.depth_maker.proofs.RowSteps.{done_well_formed, done_state, read_there}
@@ -20,7 +20,7 @@ spell_state-requires c =
     done_well_formed s.ground.now s.table.now (c.requires.source).done c.in-Some.place.now _ (ap (option_map (λ m. m.value)) c.in-Some.ensures.value)
 
 pub returns : goal.returns
-unfolding seen
+unfolding view_of_table
 returns c =
     let s = c.args.source.now in
     let t = s.table.now in

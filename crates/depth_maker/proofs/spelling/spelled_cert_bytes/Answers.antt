@@ -4,7 +4,7 @@ use Rattle.std.proofs.lemmas.List.Sorted.{length_permutation}
 use Rattle.std.specs.List.Sorted.{IsPermutation, IsNonDecreasingBy}
 use Rattle.depth_cert.specs.declared.keys.Key.{Key}
 use Rattle.depth_cert.specs.Keys.{number_of_key}
-use Rattle.depth_maker.specs.SpelledCert.{IsSpelledInOrder}
+use Rattle.depth_maker.specs.SpelledCert.{IsOrderedCertSource}
 use Rattle.frame_places.specs.PointEntries.{AreEntries, places_at, points_in}
 use Rattle.frame_places.specs.declared.ordering.PointEntry.{PointEntry}
 use Rattle.depth_maker.specs.declared.spelling.Ordered.{Ordered}
@@ -23,7 +23,7 @@ pub returns : goal.returns
 returns c =
     let o : Ordered = record { source = c.args.source; needs = c.args.needs; points = c.as_slice-2.result } in
     let places = c.args.source.now.table.now.places in
-    let ordered : IsSpelledInOrder o = record {
+    let ordered : IsOrderedCertSource o = record {
       source = c.requires.source;
       needs = c.requires.needs;
       unique = c.points_in_order.ensures.unique;

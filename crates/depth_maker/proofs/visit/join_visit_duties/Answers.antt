@@ -1,6 +1,6 @@
 use Rattle.std.proofs.Common.{◌++◌}
-use Rattle.cfg_recover.specs.Duties.{duties_of, leavings_of}
-use Rattle.depth_maker.specs.VisitDuties.{access_by, entries_by, interrupts_by, successors_by}
+use Rattle.cfg_recover.specs.Duties.{duties_of, exit_duties_of}
+use Rattle.depth_maker.specs.VisitDuties.{access_duties, entry_duties, interrupt_duties, jump_duties}
 use Rattle.depth_maker.proofs.Lawful.{lawful}
 use Rattle.depth_maker.proofs.PartLemmas.{on_five, owes_back, owes_duties, owes_front, visited_after}
 use Rattle.depth_maker.proofs.visit.join_visit_duties.Goals as goal
@@ -11,7 +11,7 @@ returns-clause-ok c =
     let v = c.args.v.now in
     let f = c.args.found.now in
     on_five _ _ _ v.key v.addr v.state.now (lawful _ _ _ v.ground.now.sound) c.args.table.now c.join_successors.new.table c.join_entries.new.table c.join_access_entry.new.table c.join_interrupts.new.table c.join_exit_if_left.new.table
-    (successors_by v f) (entries_by v f.shape f.size) (access_by v f) (interrupts_by v) (leavings_of v.key v.state.now f.shape) c.join_exit_if_left.result c.requires.visited
+    (jump_duties v f) (entry_duties v f.shape f.size) (access_duties v f) (interrupt_duties v) (exit_duties_of v.key v.state.now f.shape) c.join_exit_if_left.result c.requires.visited
     (owes_duties _ _ _ v.key v.addr v.state.now f c.requires.found) c.in_ok-join_successors.ensures.ok c.in_ok-join_entries.ensures.ok c.in_ok-join_access_entry.ensures.ok c.in_ok-join_interrupts.ensures.ok c.join_exit_if_left.ensures.ok
 
 pub join_successors-requires-clause-owes : goal.join_successors-requires-clause-owes
@@ -19,7 +19,7 @@ unfolding duties_of
 join_successors-requires-clause-owes c =
     let v = c.args.v.now in
     let f = c.args.found.now in
-    let a = successors_by v f in let b = entries_by v f.shape f.size in let d = access_by v f in let e = interrupts_by v in let l = leavings_of v.key v.state.now f.shape in
+    let a = jump_duties v f in let b = entry_duties v f.shape f.size in let d = access_duties v f in let e = interrupt_duties v in let l = exit_duties_of v.key v.state.now f.shape in
     owes_front _ _ _ v.key v.addr v.state.now a b (owes_front _ _ _ v.key v.addr v.state.now (a ++ b) d (owes_front _ _ _ v.key v.addr v.state.now (a ++ b ++ d) e (owes_front _ _ _ v.key v.addr v.state.now (a ++ b ++ d ++ e) l (owes_duties _ _ _ v.key v.addr v.state.now f c.requires.found))))
 
 pub join_entries-requires-clause-owes : goal.join_entries-requires-clause-owes
@@ -27,7 +27,7 @@ unfolding duties_of
 join_entries-requires-clause-owes c =
     let v = c.args.v.now in
     let f = c.args.found.now in
-    let a = successors_by v f in let b = entries_by v f.shape f.size in let d = access_by v f in let e = interrupts_by v in let l = leavings_of v.key v.state.now f.shape in
+    let a = jump_duties v f in let b = entry_duties v f.shape f.size in let d = access_duties v f in let e = interrupt_duties v in let l = exit_duties_of v.key v.state.now f.shape in
     owes_back _ _ _ v.key v.addr v.state.now a b (owes_front _ _ _ v.key v.addr v.state.now (a ++ b) d (owes_front _ _ _ v.key v.addr v.state.now (a ++ b ++ d) e (owes_front _ _ _ v.key v.addr v.state.now (a ++ b ++ d ++ e) l (owes_duties _ _ _ v.key v.addr v.state.now f c.requires.found))))
 
 pub join_access_entry-requires-clause-owes : goal.join_access_entry-requires-clause-owes
@@ -35,7 +35,7 @@ unfolding duties_of
 join_access_entry-requires-clause-owes c =
     let v = c.args.v.now in
     let f = c.args.found.now in
-    let a = successors_by v f in let b = entries_by v f.shape f.size in let d = access_by v f in let e = interrupts_by v in let l = leavings_of v.key v.state.now f.shape in
+    let a = jump_duties v f in let b = entry_duties v f.shape f.size in let d = access_duties v f in let e = interrupt_duties v in let l = exit_duties_of v.key v.state.now f.shape in
     owes_back _ _ _ v.key v.addr v.state.now (a ++ b) d (owes_front _ _ _ v.key v.addr v.state.now (a ++ b ++ d) e (owes_front _ _ _ v.key v.addr v.state.now (a ++ b ++ d ++ e) l (owes_duties _ _ _ v.key v.addr v.state.now f c.requires.found)))
 
 pub join_interrupts-requires-clause-owes : goal.join_interrupts-requires-clause-owes
@@ -43,7 +43,7 @@ unfolding duties_of
 join_interrupts-requires-clause-owes c =
     let v = c.args.v.now in
     let f = c.args.found.now in
-    let a = successors_by v f in let b = entries_by v f.shape f.size in let d = access_by v f in let e = interrupts_by v in let l = leavings_of v.key v.state.now f.shape in
+    let a = jump_duties v f in let b = entry_duties v f.shape f.size in let d = access_duties v f in let e = interrupt_duties v in let l = exit_duties_of v.key v.state.now f.shape in
     owes_back _ _ _ v.key v.addr v.state.now (a ++ b ++ d) e (owes_front _ _ _ v.key v.addr v.state.now (a ++ b ++ d ++ e) l (owes_duties _ _ _ v.key v.addr v.state.now f c.requires.found))
 
 pub join_exit_if_left-requires-clause-owes : goal.join_exit_if_left-requires-clause-owes
@@ -51,7 +51,7 @@ unfolding duties_of
 join_exit_if_left-requires-clause-owes c =
     let v = c.args.v.now in
     let f = c.args.found.now in
-    let a = successors_by v f in let b = entries_by v f.shape f.size in let d = access_by v f in let e = interrupts_by v in let l = leavings_of v.key v.state.now f.shape in
+    let a = jump_duties v f in let b = entry_duties v f.shape f.size in let d = access_duties v f in let e = interrupt_duties v in let l = exit_duties_of v.key v.state.now f.shape in
     owes_back _ _ _ v.key v.addr v.state.now (a ++ b ++ d ++ e) l (owes_duties _ _ _ v.key v.addr v.state.now f c.requires.found)
 
 pub join_entries-requires-clause-visited : goal.join_entries-requires-clause-visited

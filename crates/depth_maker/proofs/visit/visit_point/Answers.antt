@@ -5,7 +5,7 @@ use Rattle.depth_cert.specs.Known.{Known}
 use Rattle.frame_places.specs.declared.places.Marked.{Marked}
 use Rattle.frame_places.specs.declared.places.Spot.TheVariants.{Point}
 use Rattle.frame_places.proofs.NearbyLemmas.{had_at, nowhere}
-use Rattle.depth_maker.specs.TableView.{seen}
+use Rattle.depth_maker.specs.TableView.{view_of_table}
 use Rattle.depth_maker.proofs.JoinLemmas.{cells_well_formed}
 use Rattle.depth_maker.proofs.Lawful.{lawful}
 use Rattle.depth_maker.proofs.PartLemmas.{duties_all}
@@ -35,7 +35,7 @@ join_visit_duties-requires-clause-visited c =
     c.requires.near c.read_state.ensures c.state.ensures).0
 
 pub join_visit_duties-requires-clause-at : goal.join_visit_duties-requires-clause-at
-unfolding seen
+unfolding view_of_table
 join_visit_duties-requires-clause-at c =
     (state_read _ _ _ (lawful _ _ _ c.args.site.now.ground.now.sound) c.args.table.now c.args.site.now.key c.args.site.now.addr _ c.in-Some.place.now _ c.state.result.now c.requires.fine (sym c.in-Some.ensures.entry) c.in-Some.ensures.value
     c.requires.near c.read_state.ensures c.state.ensures).1
@@ -44,7 +44,7 @@ pub join_visit_duties-requires-clause-found : goal.join_visit_duties-requires-cl
 join_visit_duties-requires-clause-found c = c.in-Ok.ensures.found c.args.site.now.ground.now.image.now c.args.site.now.addr c.requires.code
 
 pub returns-in_ok-join_visit_duties-in-Ok-clause-ok : goal.returns-in_ok-join_visit_duties-in-Ok-clause-ok
-unfolding seen
+unfolding view_of_table
 returns-in_ok-join_visit_duties-in-Ok-clause-ok c =
     let v = c.args.site.now in
     let r = state_read _ _ _ (lawful _ _ _ c.args.site.now.ground.now.sound) c.args.table.now c.args.site.now.key c.args.site.now.addr _ c.in-Some.place.now _ c.state.result.now c.requires.fine (sym c.in-Some.ensures.entry) c.in-Some.ensures.value
@@ -58,10 +58,10 @@ returns-in_ok-join_visit_duties-in-Ok-clause-plain c t =
     record { shape = c.in-Ok.found.now.shape; size = c.in-Ok.found.now.size; code = f.code; shaped = f.shape; enters = c.enters_no_frame.ensures t }
 
 pub returns-in-Err-clause-err : goal.returns-in-Err-clause-err
-unfolding seen
+unfolding view_of_table
 returns-in-Err-clause-err c =
     let v = c.args.site.now in
     let r = state_read _ _ _ (lawful _ _ _ c.args.site.now.ground.now.sound) c.args.table.now c.args.site.now.key c.args.site.now.addr _ c.in-Some.place.now _ c.state.result.now c.requires.fine (sym c.in-Some.ensures.entry) c.in-Some.ensures.value
     c.requires.near c.read_state.ensures c.state.ensures in
     let fault = own c.in-Err.rule v.key v.addr c.state.result.now r.1 (c.in-Err.ensures.fault v.ground.now.image.now v.addr c.requires.code) in
-    (v.key, v.addr, refl, derived (seen c.args.table.now).cells c.in-Err.rule v.key v.addr (c.requires.fine.table).derived fault)
+    (v.key, v.addr, refl, derived (view_of_table c.args.table.now).cells c.in-Err.rule v.key v.addr (c.requires.fine.table).derived fault)

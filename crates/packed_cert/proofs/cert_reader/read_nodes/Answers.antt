@@ -4,7 +4,7 @@ use Rattle.std.proofs.lemmas.List.Elements.{All-push}
 use Rattle.depth_cert.specs.Grammar.{node_after}
 use Rattle.tcd_base.proofs.ManyLaws.{many_more, many_end}
 use Rattle.depth_cert.proofs.ManyLaws.{many_fault}
-use Rattle.packed_cert.specs.NodesInBytes.{nodes_of, HasPlaces}
+use Rattle.packed_cert.specs.NodesInBytes.{nodes_of, AreNodePlaces}
 use Rattle.packed_cert.proofs.NodeReads.{nodes_push, count_push}
 use Rattle.packed_cert.proofs.cert_reader.read_nodes.Goals as goal
 
@@ -27,7 +27,7 @@ loop-i-preserved c =
           rw (c.in_ok-push.ensures.items, nodes_push version bytes ns n)
           (many_more (node_after version) c.args.count c.loop-i._i (nodes_of version bytes ns) c.args.c.now c.loop-i.c _ _ c.loop-i-test.true c.loop-i.invariant.read (rw c.deref.ensures.value at c.in_ok-node.ensures.ok));
       bytes = c.read_node.ensures.bytes ∙ c.loop-i.invariant.bytes;
-      places = rw c.in_ok-push.ensures.items (All-push (HasPlaces version bytes) ns n c.loop-i.invariant.places c.in_ok-node.ensures.places);
+      places = rw c.in_ok-push.ensures.items (All-push (AreNodePlaces version bytes) ns n c.loop-i.invariant.places c.in_ok-node.ensures.places);
       used =
           rw c.in_ok-push.ensures.items
           (let more = count_push version bytes ns n in

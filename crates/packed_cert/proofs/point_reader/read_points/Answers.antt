@@ -11,11 +11,11 @@ use Rattle.packed_cert.specs.declared.places.PointPlace.{PointPlace}
 use Rattle.value_domain.specs.declared.states.State.{State}
 use Rattle.std.specs.Prelude.{IsTrue}
 use Rattle.packed_cert.specs.declared.places.ReadState.{ReadState}
-use Rattle.packed_cert.specs.ChangedRows.{ChangesRow}
+use Rattle.packed_cert.specs.ChangedRows.{ChangesOnlyRow}
 use Rattle.packed_cert.specs.PointsInBytes.{state_in, points_in, HasState}
 use Rattle.packed_cert.specs.ValuesInBytes.{read_from_bytes_or}
 use Rattle.value_domain.specs.State.{no_state}
-use Rattle.packed_cert.specs.Moves.{StandsBefore, IsMoved}
+use Rattle.packed_cert.specs.Moves.{IsStateBefore, DiffersOnlyInRow}
 use Rattle.packed_cert.proofs.RowLaws.{moves_push, moved_next}
 use Rattle.packed_cert.proofs.PointPlaces.{addresses_in, point_more, points_push}
 use Rattle.packed_cert.proofs.point_reader.read_points.Goals as goal
@@ -58,10 +58,10 @@ loop-i-preserved c =
     let size = c.loop-i.invariant.count in
     let is_first : c.loop-i.i ≡ 0 → IsTrue (eqb c.loop-i.i 0) = λ z. ap (λ (n : ℕ). eqb n 0) z in
     let later : 1 ≤ c.loop-i.i → c.with_whole_row_if_first-kept.result ≡ c.in_ok-read.read = λ some. c.with_whole_row_if_first-kept.ensures.later (ne_eqb c.loop-i.i 0 (λ z. let e : c.loop-i.i ≡ 0 = z in omega (arith, some))) in
-    let one : (t : State) → StandsBefore version bytes ps (length ps) t → IsMoved version bytes t item = λ t b.
+    let one : (t : State) → IsStateBefore version bytes ps (length ps) t → DiffersOnlyInRow version bytes t item = λ t b.
     moved_next version bytes ps t c.loop-i.room.state c.read_or_skip_state.new.out item c.in_ok-read.read.at.values c.in_ok-read.read.at.end c.loop-i.i (λ k. (c.type_inv.bytes k).fits) is there stands.values.0 stands.values.1 (c.with_whole_row_if_first-kept.ensures.from bytes c.in_ok-read.ensures.from)
     (λ z. c.with_whole_row_if_first-kept.ensures.first (is_first z))
-    (λ some. subst (λ (r : ReadState). ChangesRow c.loop-i.room.state.regs c.read_or_skip_state.new.out.regs r.row) (sym (later some)) c.in_ok-read.ensures.row)
+    (λ some. subst (λ (r : ReadState). ChangesOnlyRow c.loop-i.room.state.regs c.read_or_skip_state.new.out.regs r.row) (sym (later some)) c.in_ok-read.ensures.row)
     (λ some y. c.in_ok-read.ensures.again (ap (λ (r : ReadState). r.same) (sym (later some)) ∙ y)) size c.loop-i.invariant.before b
     in
     record {

@@ -5,8 +5,8 @@ use Rattle.std.specs.List.Sorted.{IsStrictlyIncreasing}
 use Rattle.tcd_base.specs.FieldReaders.{many_fields_at}
 use Rattle.depth_cert.specs.Grammar.{last_number_read, point_after}
 use Rattle.packed_cert.specs.declared.places.PointPlace.{PointPlace}
-use Rattle.packed_cert.specs.PointsInBytes.{state_in, points_in, HasState, StateStandsAtPlaces}
-use Rattle.packed_cert.specs.Moves.{AreMoves}
+use Rattle.packed_cert.specs.PointsInBytes.{state_in, points_in, HasState, IsStateAtPlaces}
+use Rattle.packed_cert.specs.Moves.{AllDifferOnlyInRows}
 use Rattle.packed_cert.proofs.point_reader.read_points.Given as goal
 
 abbrev pub invariant-loop-i : goal.invariant-loop-i
@@ -19,7 +19,7 @@ invariant-loop-i l = record {
   last : l.last ≡ last_number_read (map (λ p. p.addr) l.points.items);
   used : l.room.used ≡ l.initial.room.used;
   exit : l.room.exit ≡ l.initial.room.exit;
-  state : IfSome l.room.last (StateStandsAtPlaces l.version l.bytes l.room.state);
+  state : IfSome l.room.last (IsStateAtPlaces l.version l.bytes l.room.state);
   before : (j : ℕ) (d : PointPlace) → j + 1 ≡ l.i → l.room.state ≡ state_in l.version l.bytes (get_or l.points.items j d).place;
-  moves : AreMoves l.version l.bytes l.points.items;
+  moves : AllDifferOnlyInRows l.version l.bytes l.points.items;
 }

@@ -2,7 +2,7 @@ use Rattle.std.proofs.Common.{◌≡◌, ◌≤◌, ◌∙◌, ◌+◌, ℕ, tru
 use Rattle.value_domain.specs.declared.values.Val.{Val}
 use Rattle.value_domain.specs.Values.{IsBelow, any_val}
 use Rattle.value_domain.proofs.RegLaws.{below_more}
-use Rattle.depth_cert.specs.Exits.{with_lower_from}
+use Rattle.depth_cert.specs.Exits.{values_with_lower_from}
 use Rattle.depth_cert.proofs.ExitValues.{with_lower_length}
 use Rattle.packed_cert.specs.ValuesInBytes.{place_after_value, value_in, values_in}
 use Rattle.packed_cert.proofs.ValueShapes.{left_first, length-values_in, stands_at}
@@ -52,7 +52,7 @@ returns-then-not-is_restored_below c =
 pub loop-i-preserved : goal.loop-i-preserved
 loop-i-preserved c =
     let vs = values_in c.args.high.version c.args.high.bytes.now c.args.high.place 27 in
-    let low = with_lower_from 0 (values_in c.args.lower.version c.args.lower.bytes.now c.args.lower.place 14) c.args.regs.now in
+    let low = values_with_lower_from 0 (values_in c.args.lower.version c.args.lower.bytes.now c.args.lower.place 14) c.args.regs.now in
     let l = left_first c.args.high.version c.args.high.bytes.now c.loop-i.at 27 c.loop-i.i (values_in c.args.high.version c.args.high.bytes.now c.args.high.place 27) (omega arith) (length-values_in c.args.high.version c.args.high.bytes.now c.args.high.place 27) c.loop-i.invariant.have c.loop-i.invariant.left in
     let step = lower_step c.args.lower.version c.args.lower.bytes.now c.args.lower.place c.loop-i.i c.loop-i.from c.args.regs.now (omega arith) (omega arith) c.loop-i.invariant.lower in
     let next : c.loop-i.at + c.value_length_by_tag-at.result ≡ place_after_value c.args.high.bytes.now c.loop-i.at = ap (λ (k : ℕ). c.loop-i.at + k) c.value_length_by_tag-at.ensures in

@@ -2,7 +2,7 @@ use Rattle.std.proofs.Common.{◌∙◌, sym, subst, arith}
 use Rattle.std.specs.Prelude.{IsTrue, ◌↔◌}
 use Rattle.std.proofs.lemmas.List.{get_or_default}
 use Rattle.value_domain.specs.declared.values.Val.{Val}
-use Rattle.value_domain.specs.Values.{IsBelow, IsWell, any_val}
+use Rattle.value_domain.specs.Values.{IsBelow, IsWellFormed, any_val}
 use Rattle.packed_cert.specs.ValuesInBytes.{value_in}
 use Rattle.packed_cert.proofs.ValueShapes.{stands_at}
 use Rattle.packed_cert.proofs.LowerLaws.{any_above}
@@ -26,7 +26,7 @@ returns-then-is_lower_slot c = rw (sym c.is_lower_slot.ensures ∙ c.if-is_lower
 pub is_below_value_at-requires-clause-well : goal.is_below_value_at-requires-clause-well
 is_below_value_at-requires-clause-well c =
     let e = get_or_default c.args.regs.now c.args.i c.index-regs-i.result any_val (omega arith) in
-    subst (λ (v : Val). IsWell v) (sym e) (c.requires.well c.args.i (omega arith))
+    subst (λ (v : Val). IsWellFormed v) (sym e) (c.requires.well c.args.i (omega arith))
 
 pub returns : goal.returns
 returns c =

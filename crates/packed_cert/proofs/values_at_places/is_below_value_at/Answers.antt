@@ -4,7 +4,7 @@ use Rattle.value_domain.specs.declared.values.Val.{Val}
 use Rattle.value_domain.specs.declared.values.Val.TheVariants.{Set}
 use Rattle.value_domain.specs.Values.{IsBelow, IsMember}
 use Rattle.value_domain.proofs.RangeLaws.{below_any}
-use Rattle.depth_cert.specs.Points.{IsWellCertValue}
+use Rattle.depth_cert.specs.Points.{IsWellFormedCertValue}
 use Rattle.packed_cert.specs.ValuesInBytes.{words_at}
 use Rattle.packed_cert.proofs.ValueShapes.{stands_at, long_set, set_rising}
 use Rattle.packed_cert.proofs.values_at_places.is_below_value_at.Goals as goal
@@ -36,7 +36,7 @@ are_words_covered_at-requires-clause-within c =
 pub are_words_covered_at-requires-clause-words : goal.are_words_covered_at-requires-clause-words
 are_words_covered_at-requires-clause-words c =
     let s = stands_at c.args.version c.args.bytes.now c.args.place (λ k. (c.type_inv.bytes k).fits) c.requires.stands in
-    set_rising c.args.version _ (subst (IsWellCertValue c.args.version) (s.shape.set (omega (arith, c.if-tag-eq0.false)) (omega (arith, c.if-tag-gt-MOST_WORDS.false))) s.well)
+    set_rising c.args.version _ (subst (IsWellFormedCertValue c.args.version) (s.shape.set (omega (arith, c.if-tag-eq0.false)) (omega (arith, c.if-tag-gt-MOST_WORDS.false))) s.well)
 
 pub returns-in-Set : goal.returns-in-Set
 returns-in-Set c =

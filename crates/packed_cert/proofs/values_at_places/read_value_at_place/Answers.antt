@@ -1,6 +1,6 @@
 use Rattle.std.proofs.Common.{◌∙◌, ◌∷◌, [], ℕ, get_or, sym, ap, subst, arith}
 use Rattle.value_domain.specs.declared.values.Val.TheVariants.{Set}
-use Rattle.depth_cert.specs.Points.{IsWellCertValue}
+use Rattle.depth_cert.specs.Points.{IsWellFormedCertValue}
 use Rattle.packed_cert.proofs.ValueShapes.{stands_at, one_inside, one_value, long_set, long_span, set_good}
 use Rattle.packed_cert.proofs.values_at_places.read_value_at_place.Goals as goal
 
@@ -58,7 +58,7 @@ make_set_at_place-requires-clause-within c =
 pub make_set_at_place-requires-clause-words : goal.make_set_at_place-requires-clause-words
 make_set_at_place-requires-clause-words c =
     let s = stands_at c.args.version c.args.bytes.now c.args.place (λ k. (c.type_inv.bytes k).fits) c.requires in
-    set_good c.args.version _ (subst (IsWellCertValue c.args.version) (s.shape.set (omega (arith, c.if-tag-eq0.false)) (omega (arith, c.if-tag-gt-MOST_WORDS.false))) s.well)
+    set_good c.args.version _ (subst (IsWellFormedCertValue c.args.version) (s.shape.set (omega (arith, c.if-tag-eq0.false)) (omega (arith, c.if-tag-gt-MOST_WORDS.false))) s.well)
 
 pub make_set_at_place-requires-else-tag-le8-clause-within : goal.make_set_at_place-requires-else-tag-le8-clause-within
 make_set_at_place-requires-else-tag-le8-clause-within c =
@@ -68,7 +68,7 @@ make_set_at_place-requires-else-tag-le8-clause-within c =
 pub make_set_at_place-requires-else-tag-le8-clause-words : goal.make_set_at_place-requires-else-tag-le8-clause-words
 make_set_at_place-requires-else-tag-le8-clause-words c =
     let s = stands_at c.args.version c.args.bytes.now c.args.place (λ k. (c.type_inv.bytes k).fits) c.requires in
-    set_good c.args.version _ (subst (IsWellCertValue c.args.version) (s.shape.set (omega (arith, c.if-tag-eq0.false)) (omega (arith, c.if-tag-gt-MOST_WORDS.false))) s.well)
+    set_good c.args.version _ (subst (IsWellFormedCertValue c.args.version) (s.shape.set (omega (arith, c.if-tag-eq0.false)) (omega (arith, c.if-tag-gt-MOST_WORDS.false))) s.well)
 
 pub returns-then-tag-le8 : goal.returns-then-tag-le8
 returns-then-tag-le8 c =

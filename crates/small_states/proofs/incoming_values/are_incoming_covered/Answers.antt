@@ -1,6 +1,6 @@
 use Rattle.std.proofs.Common.{◌≡◌, ◌∙◌, ◌+◌, List, length, true, false, refl, subst, ap, sym, arith}
 use Rattle.std.proofs.lemmas.List.{take_all}
-use Rattle.value_domain.specs.Values.{IsWell}
+use Rattle.value_domain.specs.Values.{IsWellFormed}
 use Rattle.small_states.specs.Incoming.{incoming_values}
 use Rattle.small_states.specs.declared.values.SpacedValue.{SpacedValue}
 use Rattle.small_states.specs.CompactForms.{compact_front}
@@ -45,7 +45,7 @@ covers_incoming-requires-clause-own c =
     let lt = rw v at c.loop-n-test.true in
     let is = rw v at c.index-known-n.is in
     let within = place_within known rest ws c.requires.long c.requires.incoming c.loop-n.n here lt is c.loop-n.at c.loop-n.invariant.0 in
-    subst IsWell (place_there known rest ws c.requires.long c.requires.incoming c.loop-n.n here lt is c.loop-n.at c.loop-n.invariant.0)
+    subst IsWellFormed (place_there known rest ws c.requires.long c.requires.incoming c.loop-n.n here lt is c.loop-n.at c.loop-n.invariant.0)
     (c.requires.upper (c.loop-n.at + here.anys) (omega (arith, c.requires.long, within)))
 
 pub covers_incoming-requires-clause-value : goal.covers_incoming-requires-clause-value

@@ -1,7 +1,7 @@
 use Rattle.std.proofs.Common.{◌≡◌, ◌↔◌, ℕ, List, IsTrue, false, true, length, nat_eq, refl, subst, sym}
 use Rattle.value_domain.specs.declared.values.Val.{Val}
 use Rattle.value_domain.specs.declared.values.Val.TheVariants.{Set}
-use Rattle.value_domain.specs.Values.{IsBelow, IsMember, IsWell}
+use Rattle.value_domain.specs.Values.{IsBelow, IsMember, IsWellFormed}
 use Rattle.value_domain.specs.Sets.{Among}
 use Rattle.value_domain.proofs.ExtentLaws.{append_left}
 use Rattle.small_states.proofs.HeldWords.{held_all, past_greatest, set_of}
@@ -12,7 +12,7 @@ returns-then-words-end c =
     let ve = set_of c.args.v.now c.in-Some.words.now c.in-Some.ensures in
     let oe = set_of c.args.own.now c.in-Some-words.held.now c.in-Some-words.ensures in (
       (λ t. absurd (let f : false ≡ true = t in cc)),
-      (λ below. absurd (past_greatest c.in-Some-words.held.now c.in-Some.words.now (subst IsWell oe c.requires.own).rising (subst IsWell ve c.requires.value).some c.if-words-end.true
+      (λ below. absurd (past_greatest c.in-Some-words.held.now c.in-Some.words.now (subst IsWellFormed oe c.requires.own).rising (subst IsWellFormed ve c.requires.value).some c.if-words-end.true
           (subst (λ (u : Val). IsBelow (Set c.in-Some.words.now) u) oe (subst (λ (u : Val). IsBelow u c.args.own.now) ve below)))),
     )
 

@@ -3,7 +3,7 @@ use Rattle.std.proofs.lemmas.List.{append-nil}
 use Rattle.std.proofs.lemmas.Result.{on_ok_weaker}
 use Rattle.value_domain.specs.declared.values.Val.{Val}
 use Rattle.value_domain.specs.declared.values.Val.TheVariants.{Set, Span}
-use Rattle.value_domain.specs.Values.{IsWell}
+use Rattle.value_domain.specs.Values.{IsWellFormed}
 use Rattle.depth_cert.specs.Spelling.{bytes_of_value}
 use Rattle.small_states.specs.SmallValues.{small_value_of}
 use Rattle.small_states.proofs.HeldWords.{set_of}
@@ -12,7 +12,7 @@ use Rattle.small_states.proofs.spelling.spell_spaced_value.Goals as goal
 pub put_set-requires : goal.put_set-requires
 put_set-requires c =
     let value = sym c.v.view_is ∙ ap small_value_of c.in-Many.is ∙ sym c.as_ref.ensures ∙ set_of c.as_ref.result.now c.in-Some.words.now c.in-Some.ensures in
-    (subst IsWell value c.requires).few
+    (subst IsWellFormed value c.requires).few
 
 pub returns-in-Some : goal.returns-in-Some
 returns-in-Some c =
@@ -26,7 +26,7 @@ returns-in-Some c =
 pub put_range-requires : goal.put_range-requires
 put_range-requires c =
     let value = sym c.v.view_is ∙ ap small_value_of c.in-Range.is in
-    (subst IsWell value c.requires).0
+    (subst IsWellFormed value c.requires).0
 
 pub returns-in-Range : goal.returns-in-Range
 returns-in-Range c =

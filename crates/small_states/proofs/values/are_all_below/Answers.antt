@@ -1,7 +1,7 @@
 use Rattle.std.proofs.Common.{◌≡◌, ◌∙◌, ◌+◌, ◌<◌, ℕ, List, length, get_or, take, refl, subst, sym, ap, arith}
 use Rattle.std.proofs.lemmas.List.{take_all}
 use Rattle.value_domain.specs.declared.values.Val.{Val}
-use Rattle.value_domain.specs.Values.{IsBelow, IsWell, any_val}
+use Rattle.value_domain.specs.Values.{IsBelow, IsWellFormed, any_val}
 use Rattle.small_states.specs.declared.values.SpacedValue.{SpacedValue}
 use Rattle.small_states.specs.CompactForms.{all_values, compact_front}
 use Rattle.small_states.proofs.SparseLemmas.{covered_all, covered_more, is_within, length-front, value_there}
@@ -19,7 +19,7 @@ covers_small-requires-clause-own c =
     let count = ap (λ (l : List SpacedValue). length l) v in
     let lt : c.loop-n.n < length known = omega (arith, c.loop-n-test.true, c.if-lows-highs.false, count) in
     let is = rw v at c.index-highs-n.is in
-    subst IsWell (value_there known rest c.loop-n.n here lt is) (c.requires.high _ (is_within known rest c.loop-n.n here lt is))
+    subst IsWellFormed (value_there known rest c.loop-n.n here lt is) (c.requires.high _ (is_within known rest c.loop-n.n here lt is))
 
 pub covers_small-requires-clause-value : goal.covers_small-requires-clause-value
 covers_small-requires-clause-value c =
@@ -29,7 +29,7 @@ covers_small-requires-clause-value c =
     let here = c.index-lows-n.result in
     let lt = rw v at c.loop-n-test.true in
     let is = rw v at c.index-lows-n.is in
-    subst IsWell (value_there known rest c.loop-n.n here lt is) (c.requires.low _ (is_within known rest c.loop-n.n here lt is))
+    subst IsWellFormed (value_there known rest c.loop-n.n here lt is) (c.requires.low _ (is_within known rest c.loop-n.n here lt is))
 
 pub loop-n-preserved : goal.loop-n-preserved
 loop-n-preserved c =

@@ -1,11 +1,11 @@
 use Rattle.std.proofs.Common.{◌≡◌, ◌+◌, ◌-◌, refl, sym, ap, ◌∙◌, arith}
 use Rattle.elf_image.specs.Images.{image_byte}
-use Rattle.store_ranges.specs.Loads.{held_number}
+use Rattle.store_ranges.specs.Loads.{number_in_image}
 use Rattle.store_ranges.proofs.RomLaws.{held_more, held_none, number_lt, number_fits}
 use Rattle.store_ranges.proofs.rom.number_in_image.Goals as goal
 
 pub loop-k-init : goal.loop-k-init
-unfolding held_number
+unfolding number_in_image
 loop-k-init c = (refl, omega arith)
 
 pub returns-in_err-byte-clause-value : goal.returns-in_err-byte-clause-value

@@ -6,7 +6,7 @@ use Rattle.value_domain.specs.State.{AreValues}
 use Rattle.value_domain.specs.VersionLimits.{limits_for}
 use Rattle.depth_cert.specs.declared.points.Point.{Point}
 use Rattle.depth_cert.specs.Nodes.{NodeData}
-use Rattle.task_chains.specs.Rule17.{HoldsApart, IsTaskFault, HoldsApartIn, IsNodeFault}
+use Rattle.task_chains.specs.Rule17.{KeepsRule17AtCertPoint, IsRule17Fault, KeepsRule17AtPoint, IsRule17NodeFault}
 use Rattle.cfg_recover.proofs.FirstFault.{all_more, accepted_values}
 use Rattle.task_chains.proofs.FaultLaws.{all_apart, first_fails}
 use Rattle.packed_cert.proofs.WalkedPoints.{never_none, got}
@@ -31,10 +31,10 @@ returns-in-Some-node_task_fault-clause-some c =
     let node : NodeData = c.in-Some.node in
     let addr = c.in-Some-node_task_fault.addr in
     let limits = c.of-bounds.ensures ∙ ap (limits_for plan) c.version.ensures.version in
-    let found = subst (λ (b : Limits). IsNodeFault b view plan tasks node addr) limits c.in-Some-node_task_fault.ensures.some in
+    let found = subst (λ (b : Limits). IsRule17NodeFault b view plan tasks node addr) limits c.in-Some-node_task_fault.ensures.some in
     let here = got cert.nodes c.loop-i.i node c.in-Some.ensures in
     let first = first_fails view plan tasks cert c.version.ensures.limits cert.nodes refl c.loop-i.i node addr here.0 here.1 c.loop-i.invariant found in
-    subst (λ (n : NodeData). IsTaskFault view plan tasks cert n.key addr) (sym c.node.view_is) first
+    subst (λ (n : NodeData). IsRule17Fault view plan tasks cert n.key addr) (sym c.node.view_is) first
 
 pub loop-i-preserved : goal.loop-i-preserved
 loop-i-preserved c =
@@ -44,9 +44,9 @@ loop-i-preserved c =
     let cert = c.args.cert.now in
     let node : NodeData = c.in-Some.node in
     let limits = c.of-bounds.ensures ∙ ap (limits_for plan) c.version.ensures.version in
-    let found = subst (λ (b : Limits). All (HoldsApartIn b view plan tasks node.key) node.points) limits c.in_default-node_task_fault.ensures.none in
+    let found = subst (λ (b : Limits). All (KeepsRule17AtPoint b view plan tasks node.key) node.points) limits c.in_default-node_task_fault.ensures.none in
     let here = got cert.nodes c.loop-i.i node c.in-Some.ensures in
-    all_more (λ (n : NodeData). All (λ p. HoldsApart view plan tasks cert n p) n.points) cert.nodes c.loop-i.i node here.0 here.1 c.loop-i.invariant found
+    all_more (λ (n : NodeData). All (λ p. KeepsRule17AtCertPoint view plan tasks cert n p) n.points) cert.nodes c.loop-i.i node here.0 here.1 c.loop-i.invariant found
 
 pub returns-clause-none : goal.returns-clause-none
 returns-clause-none c =

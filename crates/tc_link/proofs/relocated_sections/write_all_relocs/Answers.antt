@@ -4,7 +4,7 @@ use Rattle.std.proofs.lemmas.List.{take_all}
 use Rattle.tc_object.specs.declared.relocs.Reloc.{Reloc}
 use Rattle.tc_object.specs.Objects.{ObjectData, IsObject}
 use Rattle.tc_link.specs.Placing.{PlacedData}
-use Rattle.tc_link.specs.Relocated.{with_reloc, relocated_sections}
+use Rattle.tc_link.specs.Relocated.{sections_with_reloc, relocated_sections}
 use Rattle.tc_link.specs.Shapes.{section_shape}
 use Rattle.tc_link.specs.Refusals.{reloc, first_refusal_from, refusal_at}
 use Rattle.tc_link.proofs.FirstLaws.{more_item, found_item}
@@ -82,4 +82,4 @@ returns-clause-sections c = λ all same.
     let relocs : c.deref-reloc-items.result.now ≡ o.relocs = c.deref-reloc-items.ensures.value ∙ ap (λ (x : ObjectData). x.relocs) (c.object.view_is ∙ ap (λ (p : PlacedData). p.object) c.placed.view_is) in
     let i : ℕ = c.loop-reloc.reloc-index in
     let past = subst (λ (l : List Reloc). length l ≤ i) relocs c.loop-reloc-test.false in
-    c.loop-reloc.invariant.sections all same ∙ ap (fold (with_reloc all c.args.placed.now) o.sections) (take_all i o.relocs past)
+    c.loop-reloc.invariant.sections all same ∙ ap (fold (sections_with_reloc all c.args.placed.now) o.sections) (take_all i o.relocs past)

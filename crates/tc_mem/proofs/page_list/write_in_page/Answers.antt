@@ -1,6 +1,6 @@
 use Rattle.std.proofs.Common.{◌+◌, ◌%◌, ◌≤◌, length, set, get_or, subst, sym, ◌∙◌, arith}
 use Rattle.std.proofs.lemmas.List.Elements.{All-get_or, All-set}
-use Rattle.tc_mem.specs.Pages.{memory_of, page_bytes_with, IsMem}
+use Rattle.tc_mem.specs.Pages.{memory_of, page_bytes_with, AreMemoryPages}
 use Rattle.tc_mem.specs.Written.{IsMemoryWritten}
 use Rattle.tc_mem.specs.declared.page.Page.{Page}
 use Rattle.tc_mem.proofs.Search.{no_page}
@@ -26,7 +26,7 @@ returns-clause-pages c =
     let fits : c.args.addr % 4096 + length c.args.bytes.now ≤ length p.bytes = omega (arith, size, c.requires.within) in
     let new = page_bytes_with p.bytes (c.args.addr % 4096) c.args.bytes.now in
     let old = All-get_or IsSmall c.args.pages.now c.in-Some.i no_page c.in-Some.ensures.within c.requires.pages.small in
-    subst (λ (q : Page). IsMem (set c.args.pages.now c.in-Some.i q)) (sym c.put_bytes.ensures.written) (record {
+    subst (λ (q : Page). AreMemoryPages (set c.args.pages.now c.in-Some.i q)) (sym c.put_bytes.ensures.written) (record {
       pages = ArePages-changed c.args.pages.now c.in-Some.i new c.requires.pages.pages c.in-Some.ensures.within (put_size p.bytes (c.args.addr % 4096) c.args.bytes.now fits ∙ size);
       small = All-set IsSmall c.args.pages.now c.in-Some.i (with_bytes p new) (put_small p.bytes (c.args.addr % 4096) c.args.bytes.now fits old c.put_bytes.ensures.small) c.requires.pages.small;
     })

@@ -9,7 +9,7 @@ use Rattle.depth_cert.specs.Nodes.{NodeData}
 use Rattle.cfg_recover.specs.RulesHoldOrFail.{limits_in, Accepts}
 use Rattle.value_cells.specs.declared.cells.Cell.{Cell}
 use Rattle.value_cells.specs.Cells.{with_cells}
-use Rattle.value_cells.specs.Keeping.{KeepsCells, IsFirstBreak, IsNodeBreak, KeepsCellsAtPoint}
+use Rattle.value_cells.specs.Keeping.{KeepsCells, IsRule16Fault, IsRule16NodeFault, KeepsCellsAtPoint}
 use Rattle.cfg_recover.proofs.FirstFault.{all_more, accepted_values}
 use Rattle.value_cells.proofs.FaultLaws.{all_keep, first_breaks, cells_fit}
 use Rattle.packed_cert.proofs.WalkedPoints.{never_none, got}
@@ -39,11 +39,11 @@ returns-in-Some-node_cells_fault-clause-some c =
     let node : NodeData = c.in-Some.node in
     let addr = c.in-Some-node_cells_fault.addr in
     let limits = c.of-bounds.ensures ∙ ap (limits_for other) c.version.ensures.version in
-    let found = subst (λ (b : Limits). IsNodeBreak b image other c.list.result.now node addr) limits c.in-Some-node_cells_fault.ensures.some in
-    let breaks = subst (λ (l : List Cell). IsNodeBreak (limits_in other cert) image other l node addr) c.list.ensures found in
+    let found = subst (λ (b : Limits). IsRule16NodeFault b image other c.list.result.now node addr) limits c.in-Some-node_cells_fault.ensures.some in
+    let breaks = subst (λ (l : List Cell). IsRule16NodeFault (limits_in other cert) image other l node addr) c.list.ensures found in
     let here = got cert.nodes c.loop-i.i node c.in-Some.ensures in
     let first = first_breaks image other cells cert c.version.ensures.limits cert.nodes refl c.loop-i.i node addr here.0 here.1 c.loop-i.invariant breaks in
-    subst (λ (n : NodeData). IsFirstBreak image (with_cells c.args.plan.now cells) cells cert n.key addr) (sym c.node.view_is) (subst (λ (p : PlanData). IsFirstBreak image p cells cert node.key addr) c.with_cells-other.ensures first)
+    subst (λ (n : NodeData). IsRule16Fault image (with_cells c.args.plan.now cells) cells cert n.key addr) (sym c.node.view_is) (subst (λ (p : PlanData). IsRule16Fault image p cells cert node.key addr) c.with_cells-other.ensures first)
 
 pub loop-i-preserved : goal.loop-i-preserved
 loop-i-preserved c =

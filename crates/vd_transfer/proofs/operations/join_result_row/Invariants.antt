@@ -1,14 +1,14 @@
 use Rattle.std.proofs.Common.{◌≡◌, ◌≤◌, ◌<◌, ◌+◌, ◌*◌, ◌++◌, ◌-◌, ℕ, take, length, get_or}
 use Rattle.value_domain.specs.Values.{cover, members, IsValue}
-use Rattle.vd_transfer.specs.Operations.{HasMetResults}
+use Rattle.vd_transfer.specs.Operations.{HasMembers}
 use Rattle.vd_transfer.proofs.operations.join_result_row.Given as goal
 
 abbrev pub invariant-loop-e : goal.invariant-loop-e
 invariant-loop-e l = record {
   cover : l.v ≡ cover l.b (members l.initial.v ++ take (8 * l.e) l.words);
   value : IsValue l.b l.v;
-  met : HasMetResults l.v l.met;
-  eights : HasMetResults l.v l.eights;
+  met : HasMembers l.v l.met;
+  eights : HasMembers l.v l.eights;
 }
 
 abbrev pub invariant-loop-j : goal.invariant-loop-j
@@ -19,8 +19,8 @@ invariant-loop-i l = record {
   within : l.i ≤ length l.words;
   cover : l.v ≡ cover l.b (members l.fn.v ++ take l.i l.words);
   value : IsValue l.b l.v;
-  met : HasMetResults l.v l.met;
-  eights : HasMetResults l.v l.eights;
+  met : HasMembers l.v l.met;
+  eights : HasMembers l.v l.eights;
 }
 
 abbrev pub decreases-loop-i : goal.decreases-loop-i

@@ -4,16 +4,16 @@ use Rattle.tc_isa.specs.declared.shapes.Op.TheVariants.{Second}
 use Rattle.value_domain.specs.declared.values.Val.{Val}
 use Rattle.value_domain.specs.declared.lattice.Extent.{Extent}
 use Rattle.vd_transfer.specs.declared.strided_interval.StridedInterval.{StridedInterval}
-use Rattle.value_domain.specs.Values.{cover, members, IsWell}
+use Rattle.value_domain.specs.Values.{cover, members, IsWellFormed}
 use Rattle.value_domain.specs.Sets.{IsExtent}
-use Rattle.vd_transfer.specs.Operations.{operation_row, gives_truth}
-use Rattle.vd_transfer.specs.Intervals.{range_of, interval_of_row}
+use Rattle.vd_transfer.specs.Operations.{results_by_extents, is_comparison}
+use Rattle.vd_transfer.specs.Intervals.{interval_words, result_interval}
 use Rattle.vd_transfer.proofs.OpLaws.{row-Second, same_bounds, row_intervals, interval_of_row_step, interval_some, row-truth}
 use Rattle.vd_transfer.proofs.operations.write_results_by_extents.Goals as goal
 
-covered : (op : Op) (v w : Val) (e f : Extent) (run : StridedInterval) → IsWell v → IsWell w → (op ≡ Second → ⊥) → gives_truth op ≡ false → IsExtent (members v) e.least e.greatest e.step
-    → IsExtent (members w) f.least f.greatest f.step → run ≡ interval_of_row op e f w → range_of run ≡ operation_row op v w
-covered op v w e f run well_v well_w other truth left right is = ap range_of is ∙ row_intervals op v w e f other truth (same_bounds e v well_v left) (same_bounds f w well_w right)
+covered : (op : Op) (v w : Val) (e f : Extent) (run : StridedInterval) → IsWellFormed v → IsWellFormed w → (op ≡ Second → ⊥) → is_comparison op ≡ false → IsExtent (members v) e.least e.greatest e.step
+    → IsExtent (members w) f.least f.greatest f.step → run ≡ result_interval op e f w → interval_words run ≡ results_by_extents op v w
+covered op v w e f run well_v well_w other truth left right is = ap interval_words is ∙ row_intervals op v w e f other truth (same_bounds e v well_v left) (same_bounds f w well_w right)
 
 pub result_interval-run-requires : goal.result_interval-run-requires
 result_interval-run-requires c = record { left = c.extent_of.ensures.low _ c.extent_of.ensures.high_in; right = c.extent_of-in_default.ensures.low _ c.extent_of-in_default.ensures.high_in }

@@ -1,6 +1,6 @@
 use Rattle.std.proofs.Common.{◌∙◌}
 use Rattle.std.specs.List.{filter}
-use Rattle.value_domain.specs.Values.{members, in_span}
+use Rattle.value_domain.specs.Values.{members, is_in_span}
 use Rattle.vd_transfer.proofs.Meets.{past_empty, none_before}
 use Rattle.vd_transfer.proofs.refinement.join_members_in_interval.Goals as goal
 
@@ -12,7 +12,7 @@ returns-then-found-clause-more c = λ xs e. c.join_refined_members.ensures.more 
 
 pub returns-else-found-clause-more : goal.returns-else-found-clause-more
 returns-else-found-clause-more c = λ xs e.
-    none_before c.args.b.now xs (filter (in_span c.args.i.lo c.args.i.last 0) (members c.args.v.now)) _ (rw c.if-found.false at e) c.write_meet.ensures.meet
+    none_before c.args.b.now xs (filter (is_in_span c.args.i.lo c.args.i.last 0) (members c.args.v.now)) _ (rw c.if-found.false at e) c.write_meet.ensures.meet
 
 pub join_refined_members-requires-clause-before : goal.join_refined_members-requires-clause-before
 join_refined_members-requires-clause-before c = rw c.if-found.true at c.requires.before

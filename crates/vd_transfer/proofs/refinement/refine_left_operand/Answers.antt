@@ -1,6 +1,6 @@
 use Rattle.std.proofs.Common.{◌∙◌, ap, sym}
 use Rattle.value_domain.specs.Values.{members}
-use Rattle.value_domain.specs.Meets.{cover_of_meet}
+use Rattle.value_domain.specs.Meets.{cover_if_any}
 use Rattle.vd_transfer.proofs.RelationLaws.{signed_order, left_plain, left_signed}
 use Rattle.vd_transfer.proofs.refinement.refine_left_operand.Goals as goal
 
@@ -10,9 +10,9 @@ refine_by_signed_relation-requires-clause-order c = rw c.relation_on_side-rel.en
 pub returns-then-is_signed_condition-clause-kept : goal.returns-then-is_signed_condition-clause-kept
 returns-then-is_signed_condition-clause-kept c =
     rw c.relation_on_side-rel.ensures at c.refine_by_signed_relation.ensures.kept
-    ∙ ap (cover_of_meet c.args.b.now) (left_signed c.args.test.cond c.args.test.side (members c.args.v.now) (members c.args.w.now) (sym c.is_signed_condition.ensures ∙ c.if-is_signed_condition.true))
+    ∙ ap (cover_if_any c.args.b.now) (left_signed c.args.test.cond c.args.test.side (members c.args.v.now) (members c.args.w.now) (sym c.is_signed_condition.ensures ∙ c.if-is_signed_condition.true))
 
 pub returns-else-is_signed_condition-clause-kept : goal.returns-else-is_signed_condition-clause-kept
 returns-else-is_signed_condition-clause-kept c =
     rw c.relation_on_side-rel.ensures at c.refine_by_relation.ensures.kept
-    ∙ ap (cover_of_meet c.args.b.now) (left_plain c.args.test.cond c.args.test.side (members c.args.v.now) (members c.args.w.now) (sym c.is_signed_condition.ensures ∙ c.if-is_signed_condition.false))
+    ∙ ap (cover_if_any c.args.b.now) (left_plain c.args.test.cond c.args.test.side (members c.args.v.now) (members c.args.w.now) (sym c.is_signed_condition.ensures ∙ c.if-is_signed_condition.false))

@@ -1,5 +1,5 @@
 use Rattle.std.proofs.Common.{◌∙◌, ◌++◌, ap, append_assoc}
-use Rattle.value_domain.specs.Meets.{cover_of_meet}
+use Rattle.value_domain.specs.Meets.{cover_if_any}
 use Rattle.value_domain.specs.Values.{members}
 use Rattle.value_domain.proofs.RangeLaws.{members_below}
 use Rattle.vd_transfer.proofs.SignLaws.{kept_parts, part}
@@ -15,6 +15,6 @@ returns-clause-kept c =
     let reached = rw (c.place_in_signed_order.ensures, c.place_in_signed_order-2.ensures) at c.related_intervals.ensures in
     c.join_members_in_interval.ensures.more ((part i1 vs ++ part i2 vs) ++ part j1 vs)
     (c.join_members_in_interval-three.ensures.more (part i1 vs ++ part i2 vs) (c.join_members_in_interval-two.ensures.more (part i1 vs) c.write_meet-one.ensures.meet))
-    ∙ ap (cover_of_meet c.args.b.now) (append_assoc (part i1 vs ++ part i2 vs) (part j1 vs) (part j2 vs))
+    ∙ ap (cover_if_any c.args.b.now) (append_assoc (part i1 vs ++ part i2 vs) (part j1 vs) (part j2 vs))
     ∙ kept_parts c.args.b.now c.args.rel vs (members c.args.w.now) c.related_intervals.result.0 c.related_intervals.result.1 i1 i2 j1 j2 c.signed_range-low.result.0 c.signed_range-low.result.1
     c.requires.order c.signed_range-low.ensures (members_below c.args.v.now c.requires.left.well) reached c.signed_interval_parts.ensures c.signed_interval_parts-2.ensures

@@ -1,5 +1,5 @@
 use Rattle.std.proofs.Common.{◌∙◌, List, Bool, subst, sym, ap, length}
-use Rattle.frame_places.specs.NodeGraph.{AreEdgesBetween, AreReaching}
+use Rattle.frame_places.specs.NodeGraph.{AreEdgesBetween, AreReachingMarks}
 use Rattle.frame_places.proofs.ReachLemmas.{recurring_marks, sources_below}
 use Rattle.frame_places.proofs.needs.reach.is_recursive_node.Goals as goal
 
@@ -14,4 +14,4 @@ has_marked_successor-requires c =
 pub returns : goal.returns
 returns c =
     recurring_marks c.args.edges.now c.args.nodes c.args.node c.as_slice.result.now c.has_marked_successor.result
-    (subst (AreReaching c.args.edges.now c.args.nodes c.args.node) (sym c.as_slice.ensures.value) (c.in_ok-marks.ensures c.args.edges.now c.requires.sources)) c.has_marked_successor.ensures
+    (subst (AreReachingMarks c.args.edges.now c.args.nodes c.args.node) (sym c.as_slice.ensures.value) (c.in_ok-marks.ensures c.args.edges.now c.requires.sources)) c.has_marked_successor.ensures

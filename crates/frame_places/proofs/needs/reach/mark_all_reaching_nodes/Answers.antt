@@ -1,13 +1,13 @@
 use Rattle.std.proofs.Common.{◌≡◌, ◌∙◌, ℕ, ◌-◌, List, [], ◌++◌, take, length, Option, subst, sym, ap, arith, Contains}
 use Rattle.std.specs.declared.vec.Vec.{Vec}
 use Rattle.std.specs.declared.alloc.Global.{Global}
-use Rattle.frame_places.specs.NodeGraph.{HasEdgeSource, IsMarking, MarksNodes}
+use Rattle.frame_places.specs.NodeGraph.{HasPredecessor, IsMarking, MarksNodes}
 use Rattle.frame_places.proofs.ReachLemmas.{marking_more, marking_past}
 use Rattle.frame_places.proofs.needs.reach.mark_all_reaching_nodes.Goals as goal
 
 pub mark_reaching_nodes-requires : goal.mark_reaching_nodes-requires
 mark_reaching_nodes-requires c k i =
-    let h = c.requires k c.in-Some.node (subst (λ (o : Option (Vec ℕ Global)). HasEdgeSource o k) c.in-Some-get.ensures.value (subst (λ (l : List ℕ). Contains l k) c.as_slice.ensures.value i)) in
+    let h = c.requires k c.in-Some.node (subst (λ (o : Option (Vec ℕ Global)). HasPredecessor o k) c.in-Some-get.ensures.value (subst (λ (l : List ℕ). Contains l k) c.as_slice.ensures.value i)) in
     omega (arith, h, c.loop-node.auto.marks)
 
 pub loop-node-preserved-in-Continue-1 : goal.loop-node-preserved-in-Continue-1

@@ -1,7 +1,7 @@
 use Rattle.std.proofs.Common.{◌≡◌, ◌∙◌, ℕ, Bool, true, false, List, [], ◌∷◌, ◌++◌, length, take, drop, set, subst, sym, ap, arith}
 use Rattle.std.specs.Prelude.{replicate}
 use Rattle.std.proofs.lemmas.List.{length-replicate}
-use Rattle.frame_places.specs.NodeGraph.{AreReaching, IsMarking}
+use Rattle.frame_places.specs.NodeGraph.{AreReachingMarks, IsMarking}
 use Rattle.frame_places.proofs.ReachLemmas.{marking_begins, marking_done, take_front}
 use Rattle.frame_places.proofs.needs.reach.nodes_reaching_by_predecessors.Goals as goal
 
@@ -22,5 +22,5 @@ returns c edges are =
     (subst (IsMarking edges c.args.nodes c.args.node (set (replicate c.args.nodes false) c.args.node true)) (sym work)
     (marking_begins edges c.args.nodes c.args.node c.requires.node (length-replicate c.args.nodes false))))
     in
-    subst (AreReaching edges c.args.nodes c.args.node) (sym e)
+    subst (AreReachingMarks edges c.args.nodes c.args.node) (sym e)
     (marking_done edges c.args.nodes c.args.node S (subst (λ (k : ℕ). IsMarking edges k c.args.node S []) l (c.in_ok-mark_all_reaching_nodes.ensures edges c.args.node are begun)))

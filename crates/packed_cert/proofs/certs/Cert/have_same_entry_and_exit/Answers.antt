@@ -4,7 +4,7 @@ use Rattle.depth_cert.specs.Nodes.{NodeData}
 use Rattle.depth_cert.specs.Certs.{CertData}
 use Rattle.packed_cert.specs.declared.places.NodePlaces.{NodePlaces}
 use Rattle.packed_cert.specs.NodesInBytes.{nodes_of}
-use Rattle.packed_cert.specs.EnteredAlike.{AreEnteredAlike}
+use Rattle.packed_cert.specs.EnteredAlike.{HaveSameEntryAndExit}
 use Rattle.packed_cert.proofs.NodeReads.{keys_in}
 use Rattle.packed_cert.proofs.CertFinds.{entered_alike, same_place}
 use Rattle.packed_cert.proofs.certs.Cert.have_same_entry_and_exit.Goals as goal
@@ -26,7 +26,7 @@ returns-then-one-two c same =
     let version = c.self.inside.version in
     let bytes = c.as_slice-bytes.result.now in
     let ns = c.as_slice-nodes.result.now in
-    subst (λ (l : List NodeData). AreEnteredAlike l c.args.a.now c.args.b.now)
+    subst (λ (l : List NodeData). HaveSameEntryAndExit l c.args.a.now c.args.b.now)
     (ap (λ (l : List ℕ). nodes_of version l ns) c.as_slice-bytes.ensures.value ∙ ap (nodes_of version c.self.inside.bytes.items) c.as_slice-nodes.ensures.value ∙ ap (λ (d : CertData). d.nodes) c.self.view_is)
     (entered_alike version bytes ns c.args.a.now c.args.b.now c.in-Some.one.0 c.in-Some-entry_places.two.0 c.in-Some.one.1 c.in-Some-entry_places.two.1 c.in-Some.ensures c.in-Some-entry_places.ensures c.if-one-two.true
     (same_place c.in-Some.one.1 c.in-Some-entry_places.two.1 c.eq.result c.eq.ensures same))

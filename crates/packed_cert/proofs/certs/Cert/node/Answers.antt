@@ -5,7 +5,7 @@ use Rattle.std.proofs.lemmas.List.{get_or_default}
 use Rattle.depth_cert.specs.Nodes.{NodeData, find_node}
 use Rattle.depth_cert.specs.Certs.{CertData}
 use Rattle.packed_cert.specs.declared.places.NodePlaces.{NodePlaces}
-use Rattle.packed_cert.specs.NodesInBytes.{node_of, nodes_of, HasPlaces}
+use Rattle.packed_cert.specs.NodesInBytes.{node_of, nodes_of, AreNodePlaces}
 use Rattle.packed_cert.proofs.NodeReads.{keys_in}
 use Rattle.packed_cert.proofs.CertFinds.{Parts, node_found, node_missing, node_past}
 use Rattle.packed_cert.proofs.certs.Cert.node.Goals as goal
@@ -23,7 +23,7 @@ returns-then-nodes-at c =
     let bytes = c.self.inside.bytes.items in
     let ns = c.as_slice-nodes.result.now in
     let m = c.index-nodes-at-then-nodes-at.result in
-    let all = subst (All (HasPlaces version bytes)) (sym c.as_slice-nodes.ensures.value) c.self.invariant.nodes in
+    let all = subst (All (AreNodePlaces version bytes)) (sym c.as_slice-nodes.ensures.value) c.self.invariant.nodes in
     let parts = subst (λ (k : ℕ). Parts k ns c.count_nodes_below-at.result) c.key_number-number.ensures c.count_nodes_below-at.ensures in
     let e = ap (λ (d : NodePlaces). d.number) (get_or_default ns c.count_nodes_below-at.result m _ c.if-at-nodes.true) ∙ c.if-nodes-at.true ∙ c.key_number-number.ensures in
     let made : c.at.result ≡ node_of version bytes m = c.at.ensures ∙ ap (λ (l : List ℕ). node_of version l m) c.as_slice.ensures.value in
@@ -38,7 +38,7 @@ returns c =
     let bytes = c.self.inside.bytes.items in
     let key = c.args.key.now in
     let ns = c.as_slice-nodes.result.now in
-    let all = subst (All (HasPlaces version bytes)) (sym c.as_slice-nodes.ensures.value) c.self.invariant.nodes in
+    let all = subst (All (AreNodePlaces version bytes)) (sym c.as_slice-nodes.ensures.value) c.self.invariant.nodes in
     let parts = subst (λ (k : ℕ). Parts k ns c.count_nodes_below-at.result) c.key_number-number.ensures c.count_nodes_below-at.ensures in
     let rising =
     subst IsStrictlyIncreasing

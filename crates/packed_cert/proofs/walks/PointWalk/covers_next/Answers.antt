@@ -1,5 +1,5 @@
 use Rattle.std.proofs.Common.{false, sym, subst}
-use Rattle.value_domain.specs.State.{AreWell}
+use Rattle.value_domain.specs.State.{AreWellFormed}
 use Rattle.vd_transfer.specs.Changes.{state_after}
 use Rattle.packed_cert.specs.declared.places.PointPlace.{PointPlace}
 use Rattle.packed_cert.specs.Walks.{WalkData, CoversNext}
@@ -7,10 +7,10 @@ use Rattle.packed_cert.proofs.WalkSteps.{covers_at}
 use Rattle.packed_cert.proofs.walks.PointWalk.covers_next.Goals as goal
 
 pub does_next_point_cover-requires-clause-hand : goal.does_next_point_cover-requires-clause-hand
-does_next_point_cover-requires-clause-hand c = subst (λ (w : WalkData). AreWell w.current.regs) (sym c.self.view_is) c.requires.hand
+does_next_point_cover-requires-clause-hand c = subst (λ (w : WalkData). AreWellFormed w.current.regs) (sym c.self.view_is) c.requires.hand
 
 pub does_next_point_cover-requires-clause-well : goal.does_next_point_cover-requires-clause-well
-does_next_point_cover-requires-clause-well c = subst (λ (w : WalkData). AreWell (state_after w.current c.args.c.now).regs) (sym c.self.view_is) c.requires.changed
+does_next_point_cover-requires-clause-well c = subst (λ (w : WalkData). AreWellFormed (state_after w.current c.args.c.now).regs) (sym c.self.view_is) c.requires.changed
 
 pub does_next_point_cover-requires-clause-moved : goal.does_next_point_cover-requires-clause-moved
 does_next_point_cover-requires-clause-moved c = c.self.invariant.moves c.self.inside.next _ c.self.inside.state c.if-self.false c.self.invariant.here

@@ -1,7 +1,7 @@
 use Rattle.std.proofs.Common.{◌-◌, ◌+◌, ◌∙◌, take, drop, sym, ap, subst}
 use Rattle.value_domain.specs.declared.states.State.{State}
 use Rattle.packed_cert.specs.PointsInBytes.{points_in}
-use Rattle.packed_cert.specs.Walks.{WalkData, KeepsOthers}
+use Rattle.packed_cert.specs.Walks.{WalkData, KeepsOtherValues}
 use Rattle.packed_cert.proofs.WalkSteps.{first_left, keeps_others}
 use Rattle.packed_cert.proofs.walks.PointWalk.step.Goals as goal
 
@@ -12,7 +12,7 @@ returns c =
     let row = c.walk_to_point-self-inside.result in
     let left = points_in own.version own.bytes.now (drop (own.next + 1) own.points.now) in (
       ap (λ (w : WalkData). w.left) (sym c.self.view_is) ∙ first_left own.version own.bytes.now own.points.now own.next _ s c.if-self.false c.walk_to_point-self-inside.ensures.state,
-      subst (λ (u : State). KeepsOthers u (record { points = points_in own.version own.bytes.now own.points.now; current = s; anew = take (row.behind - row.first) (drop row.first s.regs); left = left })) (ap (λ (w : WalkData). w.current) c.self.view_is)
+      subst (λ (u : State). KeepsOtherValues u (record { points = points_in own.version own.bytes.now own.points.now; current = s; anew = take (row.behind - row.first) (drop row.first s.regs); left = left })) (ap (λ (w : WalkData). w.current) c.self.view_is)
           (keeps_others own.state s row left (points_in own.version own.bytes.now own.points.now) c.walk_to_point-self-inside.ensures.row),
       ap (λ (w : WalkData). w.points) c.self.view_is,
     )

@@ -1,6 +1,6 @@
 use Rattle.std.proofs.Common.{◌∙◌, ap, sym}
 use Rattle.std.specs.Prelude.{unwrap_or}
-use Rattle.tc_asm.specs.Symbols.{put_entry, unseen}
+use Rattle.tc_asm.specs.Symbols.{put_entry, undefined_entry}
 use Rattle.tc_asm.proofs.SymbolLaws.{labelled_new, labelled_known}
 use Rattle.tc_asm.proofs.symbols.Symbols.define.Goals as goal
 
@@ -10,7 +10,7 @@ returns-in-None-clause-symbols c =
     c.in_ok-put.ensures.put
 
 pub returns-in-None-clause-before : goal.returns-in-None-clause-before
-returns-in-None-clause-before c = ap (λ o. (unwrap_or o unseen).place) (sym c.in-None.is ∙ c.in_ok-put.ensures.old)
+returns-in-None-clause-before c = ap (λ o. (unwrap_or o undefined_entry).place) (sym c.in-None.is ∙ c.in_ok-put.ensures.old)
 
 pub returns-in_ok-put-in-Some-clause-symbols : goal.returns-in_ok-put-in-Some-clause-symbols
 returns-in_ok-put-in-Some-clause-symbols c =
@@ -19,4 +19,4 @@ returns-in_ok-put-in-Some-clause-symbols c =
     (c.in_ok-put-in-Some.ensures.put ∙ ap (put_entry c.put.new.self c.args.name.now) c.entry_with_label.ensures)
 
 pub returns-in_ok-put-in-Some-clause-before : goal.returns-in_ok-put-in-Some-clause-before
-returns-in_ok-put-in-Some-clause-before c = ap (λ o. (unwrap_or o unseen).place) (sym c.in-Some.is ∙ c.in_ok-put.ensures.old)
+returns-in_ok-put-in-Some-clause-before c = ap (λ o. (unwrap_or o undefined_entry).place) (sym c.in-Some.is ∙ c.in_ok-put.ensures.old)

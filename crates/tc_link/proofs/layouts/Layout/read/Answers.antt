@@ -5,7 +5,7 @@ use Rattle.std.proofs.lemmas.Result.{err_from_is_err_and}
 use Rattle.tc_link.specs.declared.layout_errors.LayoutErr.{LayoutErr}
 use Rattle.tc_link.specs.Layouts.{LayoutData}
 use Rattle.tcd_text.specs.Lines.{text_lines}
-use Rattle.tc_link.specs.LayoutFaults.{IsFaultOf}
+use Rattle.tc_link.specs.LayoutFaults.{IsLayoutFaultOf}
 use Rattle.tc_link.specs.LayoutDrafts.{LayoutDraftData}
 use Rattle.tc_link.proofs.ReadLaws.{reached_none, reached_more, reached_fault, reached_end}
 use Rattle.tc_link.proofs.layouts.Layout.read.Goals as goal
@@ -41,4 +41,4 @@ pub returns-clause-err : goal.returns-clause-err
 returns-clause-err c =
     let none : length c.lines.rest.now ≡ 0 = grind (arith, nat_tests) in
     let end = reached_end (text_lines c.args.bytes.now) c.lines.number c.lines.rest.now c.lines.draft c.lines.invariant.reached none in
-    subst (λ (r : Result LayoutData LayoutErr). IfErr c.finish.result (IsFaultOf r)) (sym end) c.finish.ensures.err
+    subst (λ (r : Result LayoutData LayoutErr). IfErr c.finish.result (IsLayoutFaultOf r)) (sym end) c.finish.ensures.err

@@ -1,7 +1,7 @@
 use Rattle.std.proofs.Common.{◌∙◌, ap, arith}
 use Rattle.std.proofs.lemmas.Grind.{common_steps}
 use Rattle.tc_object.specs.Grammar.{object_of}
-use Rattle.tc_object.specs.Spelling.{bytes_of, bytes_of_header}
+use Rattle.tc_object.specs.Spelling.{bytes_of_object, bytes_of_header}
 use Rattle.tc_object.proofs.BackLaws.{object_of-bytes_of}
 use Rattle.tc_object.proofs.TurnLaws.{section_names_short, sections_small, symbol_names_short}
 use Rattle.tc_object.proofs.objects.Object.write.Goals as goal
@@ -16,7 +16,7 @@ pub write_symbols-requires : goal.write_symbols-requires
 write_symbols-requires c = rw c.deref-2.ensures.value (symbol_names_short _ _ c.self.invariant.symbols)
 
 pub returns-clause-bytes : goal.returns-clause-bytes
-unfolding bytes_of bytes_of_header
+unfolding bytes_of_object bytes_of_header
 returns-clause-bytes c = grind (arith, common_steps)
 
 pub returns-clause-again : goal.returns-clause-again

@@ -1,13 +1,13 @@
 use Rattle.std.proofs.Common.{List, length, ap, subst, ◌∙◌}
 use Rattle.tcd_plan.specs.PlanData.{PlanData, plan_data}
 use Rattle.cfg_recover.specs.RulesHoldOrFail.{Accepts}
-use Rattle.depth_maker.specs.Answers.{IsRefused}
+use Rattle.depth_maker.specs.Answers.{IsRightMakeErr}
 use Rattle.value_cells.specs.declared.cells.Cell.{Cell}
 use Rattle.value_cells.specs.Cells.{with_cells}
-use Rattle.tcd_reading.specs.Reports.{says, writes_file}
+use Rattle.tcd_reading.specs.Reports.{says, report_with_file}
 use Rattle.tcd_reading.specs.declared.status.Status.TheVariants.{Refused}
 use Rattle.tcd_driver.specs.BestCert.{IsLeastWithNeed}
-use Rattle.tcd_driver.specs.Cellcert.{IsCertifyingCells, refused}
+use Rattle.tcd_driver.specs.Cellcert.{IsCellcertReport, refused}
 use Rattle.tcd_driver.proofs.CellcertReports.{broken_report, kept_report}
 use Rattle.tcd_driver.proofs.MakingLaws.{unmade}
 use Rattle.tcd_driver.proofs.commands.cellcert.make_cells_cert.Goals as goal
@@ -26,10 +26,10 @@ returns-in_ok-report_with_file-in-None c =
     kept_report c.args.name.now c.args.image.now (plan_data c.plan.inside) c.args.plan.now c.args.cells.now _ c.in-Ok.need c.plan.view_is c.plan.invariant c.requires
     (subst (λ (q : PlanData). IsLeastWithNeed c.args.image.now q 2 c.in-Ok.cert c.in-Ok.need) c.with_cells.ensures c.in-Ok.ensures) c.into_bytes.result.items _ _ c.into_bytes.ensures c.in-None.ensures.none
     (ap (λ (l : List Cell). length l) c.list-count.ensures)
-    (c.in_ok-report_with_file-in-None.ensures ∙ ap (λ t. writes_file c.args.name.now c.into_bytes.result.items t) c.in_ok-line-in-None.ensures)
+    (c.in_ok-report_with_file-in-None.ensures ∙ ap (λ t. report_with_file c.args.name.now c.into_bytes.result.items t) c.in_ok-line-in-None.ensures)
 
 pub returns-in-Err : goal.returns-in-Err
 returns-in-Err c =
-    unmade (IsCertifyingCells c.args.name.now c.args.image.now c.args.plan.now c.args.cells.now) (IsRefused c.args.image.now (with_cells c.args.plan.now c.args.cells.now) 2) c.in-Err.e _
-    (subst (λ (q : PlanData). IsRefused c.args.image.now q 2 c.in-Err.e) c.with_cells.ensures c.in-Err.ensures) c.report_no_cert.ensures
+    unmade (IsCellcertReport c.args.name.now c.args.image.now c.args.plan.now c.args.cells.now) (IsRightMakeErr c.args.image.now (with_cells c.args.plan.now c.args.cells.now) 2) c.in-Err.e _
+    (subst (λ (q : PlanData). IsRightMakeErr c.args.image.now q 2 c.in-Err.e) c.with_cells.ensures c.in-Err.ensures) c.report_no_cert.ensures
     (λ rule key addr r why e. refused rule key addr why.1 why.0 e)

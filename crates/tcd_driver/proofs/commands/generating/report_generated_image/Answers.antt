@@ -1,6 +1,6 @@
 use Rattle.std.proofs.Common.{ap, ◌∙◌}
 use Rattle.tcd_plan.specs.PlanData.{plan_data}
-use Rattle.depth_maker.specs.Answers.{IsRefused}
+use Rattle.depth_maker.specs.Answers.{IsRightMakeErr}
 use Rattle.tcd_reading.specs.Reports.{says}
 use Rattle.tcd_driver.specs.Gen.{IsGenReport, refused}
 use Rattle.tcd_reading.specs.declared.status.Status.TheVariants.{Done}
@@ -15,5 +15,5 @@ returns-in_ok-line-in-Ok c =
 
 pub returns-in-Err : goal.returns-in-Err
 returns-in-Err c =
-    unmade (IsGenReport c.args.functions c.args.image.now c.args.plan.now) (IsRefused c.args.image.now c.args.plan.now 1) c.in-Err.e _ c.in-Err.ensures c.report_no_cert.ensures
+    unmade (IsGenReport c.args.functions c.args.image.now c.args.plan.now) (IsRightMakeErr c.args.image.now c.args.plan.now 1) c.in-Err.e _ c.in-Err.ensures c.report_no_cert.ensures
     (λ rule key addr r why e. refused rule key addr why.1 why.0 e)

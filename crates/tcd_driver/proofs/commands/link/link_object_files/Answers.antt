@@ -4,7 +4,7 @@ use Rattle.std.proofs.lemmas.List.{length-map}
 use Rattle.tc_object.specs.Objects.{ObjectData}
 use Rattle.tcd_forms.specs.Forms.{object_form}
 use Rattle.tcd_driver.specs.Link.{IsLinkReport}
-use Rattle.tcd_reading.specs.Outcomes.{IsToldOutcome}
+use Rattle.tcd_reading.specs.Outcomes.{IsReportOutcome}
 use Rattle.tcd_reading.proofs.EachReads.{none_read, next_read, next_stops, next_memory, all_read, name_here}
 use Rattle.tcd_driver.proofs.commands.link.link_object_files.Goals as goal
 
@@ -29,4 +29,4 @@ loop-i-preserved g c =
 pub returns : goal.returns
 returns g c =
     all_read ObjectData object_form (map string_bytes c.args.objects.now) (IsLinkReport c.args.name.now c.args.layout.now) _ c.loop-i.i c.loop-i.parts.items _ _ c.link_and_report.result
-    (let e = length-map c.args.objects.now string_bytes in omega arith) c.loop-i.invariant.leads (subst (λ os. IsToldOutcome (IsLinkReport c.args.name.now c.args.layout.now os) ⊥ c.link_and_report.result) c.deref.ensures.value c.link_and_report.ensures)
+    (let e = length-map c.args.objects.now string_bytes in omega arith) c.loop-i.invariant.leads (subst (λ os. IsReportOutcome (IsLinkReport c.args.name.now c.args.layout.now os) ⊥ c.link_and_report.result) c.deref.ensures.value c.link_and_report.ensures)

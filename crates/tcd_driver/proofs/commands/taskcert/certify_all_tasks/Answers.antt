@@ -2,7 +2,7 @@ use Rattle.std.proofs.Common.{arith, length, ap, ◌∙◌}
 use Rattle.std.specs.Prelude.{map, string_bytes}
 use Rattle.tcd_plan.specs.PlanData.{plan_data}
 use Rattle.task_chains.specs.Tasks.{TasksData}
-use Rattle.tcd_reading.specs.Reports.{says, writes_files}
+use Rattle.tcd_reading.specs.Reports.{says, report_with_files}
 use Rattle.tcd_driver.specs.Taskcert.{no_switch, refused}
 use Rattle.tcd_reading.specs.declared.status.Status.TheVariants.{Refused}
 use Rattle.tcd_driver.proofs.TaskcertReports.{written_tasks, above_made}
@@ -18,7 +18,7 @@ returns-in_ok-line-in-Ok c =
     c.plan.view_is c.plan.invariant c.tasks.view_is c.tasks.invariant c.requires.fit c.in_default.ensures.none c.in-Ok.ensures
     (let le = c.if-sum-from.true in let is = c.from.ensures in omega arith)
     (c.len-count.ensures.value ∙ ap (λ (t : TasksData). length t.list) c.tasks.view_is)
-    (ap (λ t. writes_files c.in-Ok.writes.items t) c.in_ok-line-in-Ok.ensures)
+    (ap (λ t. report_with_files c.in-Ok.writes.items t) c.in_ok-line-in-Ok.ensures)
 
 pub returns-in_ok-refused_sum_line-in-Ok : goal.returns-in_ok-refused_sum_line-in-Ok
 returns-in_ok-refused_sum_line-in-Ok c =

@@ -3,7 +3,7 @@ use Rattle.std.specs.Prelude.{map, string_bytes}
 use Rattle.std.proofs.lemmas.List.{length-map}
 use Rattle.task_chains.specs.Tasks.{TasksData}
 use Rattle.tcd_reading.proofs.Told.{comes_stopped, leads_read}
-use Rattle.tcd_driver.specs.Taskcert.{IsTaskcerting}
+use Rattle.tcd_driver.specs.Taskcert.{IsTaskcertReport}
 use Rattle.tcd_driver.proofs.TaskcertReports.{comes_counted, comes_miscounted}
 use Rattle.tcd_driver.proofs.Words.{leads_firmware}
 use Rattle.tcd_driver.proofs.commands.taskcert.certify_tasks.Goals as goal
@@ -26,7 +26,7 @@ returns-then-certs-len g c =
     (leads_firmware _ _ _ _ _ _ _ _ c.in_ok-image.ensures.leaves c.in_ok-image.ensures.later c.in_ok-image.ensures.found c.in_ok-board.ensures.leaves c.in_ok-board.ensures.later c.in_ok-board.ensures.found).comes _ _
     ((leads_read _ _ _ _ _ _ _ c.in_ok-list.ensures.leaves c.in_ok-list.ensures.later c.in_ok-list.ensures.found).comes _ _
     (comes_counted (map string_bytes c.args.certs.now) c.in_ok-list.list
-    (IsTaskcerting (map string_bytes c.args.certs.now) c.in_ok-image.image c.in_ok-board.board c.in_ok-list.list) (g.F.Files.seen c.read_input-3.new.files) c.certify_all_tasks.result
+    (IsTaskcertReport (map string_bytes c.args.certs.now) c.in_ok-image.image c.in_ok-board.board c.in_ok-list.list) (g.F.Files.seen c.read_input-3.new.files) c.certify_all_tasks.result
     (length-map c.args.certs.now string_bytes ∙ c.if-certs-len.true ∙ c.len.ensures.value ∙ ap (λ (t : TasksData). length t.list) c.list.view_is) c.certify_all_tasks.ensures))
 
 pub returns : goal.returns
@@ -34,5 +34,5 @@ returns g c =
     (leads_firmware _ _ _ _ _ _ _ _ c.in_ok-image.ensures.leaves c.in_ok-image.ensures.later c.in_ok-image.ensures.found c.in_ok-board.ensures.leaves c.in_ok-board.ensures.later c.in_ok-board.ensures.found).comes _ _
     ((leads_read _ _ _ _ _ _ _ c.in_ok-list.ensures.leaves c.in_ok-list.ensures.later c.in_ok-list.ensures.found).comes _ _
     (comes_miscounted (map string_bytes c.args.certs.now) c.in_ok-list.list
-    (IsTaskcerting (map string_bytes c.args.certs.now) c.in_ok-image.image c.in_ok-board.board c.in_ok-list.list) (g.F.Files.seen c.read_input-3.new.files) c.report_wrong_cert_count.result
+    (IsTaskcertReport (map string_bytes c.args.certs.now) c.in_ok-image.image c.in_ok-board.board c.in_ok-list.list) (g.F.Files.seen c.read_input-3.new.files) c.report_wrong_cert_count.result
     (λ same. c.if-certs-len.false (sym (length-map c.args.certs.now string_bytes) ∙ same ∙ sym (c.len.ensures.value ∙ ap (λ (t : TasksData). length t.list) c.list.view_is))) c.report_wrong_cert_count.ensures))

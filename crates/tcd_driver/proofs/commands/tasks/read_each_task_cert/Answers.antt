@@ -4,7 +4,7 @@ use Rattle.std.proofs.lemmas.List.{length-map}
 use Rattle.depth_cert.specs.Certs.{CertData}
 use Rattle.tcd_forms.specs.Forms.{cert_form}
 use Rattle.tcd_driver.specs.Tasks.{IsTasksVerdict}
-use Rattle.tcd_reading.specs.Outcomes.{IsToldOutcome}
+use Rattle.tcd_reading.specs.Outcomes.{IsReportOutcome}
 use Rattle.tcd_reading.proofs.EachReads.{none_read, next_read, next_stops, next_memory, all_read, name_here}
 use Rattle.tcd_driver.proofs.commands.tasks.read_each_task_cert.Goals as goal
 
@@ -29,4 +29,4 @@ loop-i-preserved g c =
 pub returns : goal.returns
 returns g c =
     all_read CertData (λ _. cert_form) (map string_bytes c.args.names.now) (IsTasksVerdict c.args.image.now c.args.plan.now c.args.tasks.now) _ c.loop-i.i c.loop-i.certs.items _ _ c.tasks_verdict.result
-    (let e = length-map c.args.names.now string_bytes in omega arith) c.loop-i.invariant.leads (subst (λ cs. IsToldOutcome (IsTasksVerdict c.args.image.now c.args.plan.now c.args.tasks.now cs) ⊥ c.tasks_verdict.result) c.deref.ensures.value c.tasks_verdict.ensures)
+    (let e = length-map c.args.names.now string_bytes in omega arith) c.loop-i.invariant.leads (subst (λ cs. IsReportOutcome (IsTasksVerdict c.args.image.now c.args.plan.now c.args.tasks.now cs) ⊥ c.tasks_verdict.result) c.deref.ensures.value c.tasks_verdict.ensures)

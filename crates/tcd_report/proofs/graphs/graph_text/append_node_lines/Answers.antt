@@ -6,7 +6,7 @@ use Rattle.depth_cert.specs.declared.points.Point.{Point}
 use Rattle.depth_cert.specs.Nodes.{NodeData}
 use Rattle.cfg_recover.specs.LocalFaults.{IsFaultless}
 use Rattle.tcd_report.specs.Graphs.{ArePointLines, AreJoinedLines, key_front}
-use Rattle.tcd_report.specs.Texts.{GrowsBy}
+use Rattle.tcd_report.specs.Texts.{GrowsByLines}
 use Rattle.depth_cert.specs.Points.{point_of}
 use Rattle.tcd_report.proofs.GraphLemmas.Joining.{grown_push}
 use Rattle.tcd_report.proofs.JudgedPoints.{point_values, point_faultless}
@@ -36,8 +36,8 @@ loop-addr-preserved c =
     let inv = c.loop-addr.invariant in
     let p : Point = point_of c.in-Some.addr c.step.new.self.current in
     let grows =
-    subst (λ (s : State). GrowsBy (ArePointLines j.image.now j.plan.now j.cert.now (c.args.node.now).key (point_of c.in-Some.addr s)) (string_bytes c.loop-addr.graph.text) (string_bytes c.append_point_lines.new.graph.text)) c.state.ensures
-    (subst (λ (k : Key). GrowsBy (ArePointLines j.image.now j.plan.now j.cert.now k (point_of c.in-Some.addr c.state.result.now)) (string_bytes c.loop-addr.graph.text) (string_bytes c.append_point_lines.new.graph.text)) (ap (λ (n : NodeData). n.key) c.node.view_is)
+    subst (λ (s : State). GrowsByLines (ArePointLines j.image.now j.plan.now j.cert.now (c.args.node.now).key (point_of c.in-Some.addr s)) (string_bytes c.loop-addr.graph.text) (string_bytes c.append_point_lines.new.graph.text)) c.state.ensures
+    (subst (λ (k : Key). GrowsByLines (ArePointLines j.image.now j.plan.now j.cert.now k (point_of c.in-Some.addr c.state.result.now)) (string_bytes c.loop-addr.graph.text) (string_bytes c.append_point_lines.new.graph.text)) (ap (λ (n : NodeData). n.key) c.node.view_is)
     c.in_ok-append_point_lines.ensures.lines) in
     record {
       done = inv.done ++ p ∷ [];
@@ -51,5 +51,5 @@ pub returns-clause-lines : goal.returns-clause-lines
 returns-clause-lines c =
     let j = c.args.judged.now in
     let inv = c.loop-addr.invariant in
-    subst (λ (l : List Point). GrowsBy (AreJoinedLines (ArePointLines j.image.now j.plan.now j.cert.now (c.args.node.now).key) l) (string_bytes c.args.graph.now.text) (string_bytes c.loop-addr.graph.text))
+    subst (λ (l : List Point). GrowsByLines (AreJoinedLines (ArePointLines j.image.now j.plan.now j.cert.now (c.args.node.now).key) l) (string_bytes c.args.graph.now.text) (string_bytes c.loop-addr.graph.text))
     (sym (walked_all (c.args.node.now).points inv.done (c.loop-addr.walk).left inv.split c.in_default.ensures.0)) inv.grown

@@ -5,7 +5,7 @@ use Rattle.std.specs.Str.{IsAscii}
 use Rattle.tcd_text.specs.HexNumbers.{hex_word}
 use Rattle.std.specs.Prelude.{codes}
 use Rattle.tcd_report.specs.declared.graphs.edges.Edges.{Edges}
-use Rattle.tcd_report.specs.Graphs.{AreEdges, line_front, lines_to, ways_text, leaving_text}
+use Rattle.tcd_report.specs.Graphs.{AreEdges, line_front, lines_to, edge_lines_text, return_line_text}
 use Rattle.tcd_report.specs.Judging.{duties_at}
 use Rattle.tcd_report.proofs.GraphLemmas.KeyTexts.{line_front_ascii}
 use Rattle.tcd_report.proofs.GraphLemmas.GraphTexts.{point_lines}
@@ -37,8 +37,8 @@ returns-clause-lines c =
     (λ whole.
     point_lines j.image.now j.plan.now j.cert.now key (point_of c.args.addr c.args.s.now) c.in-Some.found.shape c.in-Some.found.size j.bounds.now ways before text (string_bytes c.append_return.new.text)
     c.requires.judged.limits c.in-Some.ensures.code are
-    (c.in_ok-append_edges.ensures ∙ ap (λ l. before ++ ways_text l ways) (c.as_str-3.ensures.value ∙ front_is))
-    (whole ∙ ap (λ l. text ++ leaving_text l c.in-Some.found.shape) (c.as_str-4.ensures.value ∙ front_is)))
+    (c.in_ok-append_edges.ensures ∙ ap (λ l. before ++ edge_lines_text l ways) (c.as_str-3.ensures.value ∙ front_is))
+    (whole ∙ ap (λ l. text ++ return_line_text l c.in-Some.found.shape) (c.as_str-4.ensures.value ∙ front_is)))
     c.append_return.ensures
 
 pub returns-clause-front : goal.returns-clause-front

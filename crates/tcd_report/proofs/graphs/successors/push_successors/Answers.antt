@@ -1,7 +1,7 @@
 use Rattle.std.proofs.Common.{◌≡◌, ◌∙◌, ◌++◌, ap, subst, sym}
 use Rattle.std.specs.Prelude.{OnOk}
 use Rattle.cfg_recover.proofs.NextLaws.{next_alone}
-use Rattle.tcd_report.specs.Graphs.{jumped_in}
+use Rattle.tcd_report.specs.Graphs.{jump_targets_of}
 use Rattle.tcd_report.proofs.GraphLemmas.DutyLists.{jumps_are}
 use Rattle.tcd_report.proofs.graphs.successors.push_successors.Goals as goal
 
@@ -16,5 +16,5 @@ returns-in_ok-push-in_default c =
     let d = c.in_default in
     c.in_ok-push-in_default.ensures.items
     ∙ ap (λ l. c.args.all.now.items ++ l)
-    (sym (ap jumped_in (next_alone j.bounds.now j.image.now j.plan.now c.args.addr c.args.s.now c.args.found.now.shape c.args.found.now.size
+    (sym (ap jump_targets_of (next_alone j.bounds.now j.image.now j.plan.now c.args.addr c.args.s.now c.args.found.now.shape c.args.found.now.size
     d.not-Branch d.not-Jump d.not-Call d.not-Ret d.not-Rfe d.not-Syscall d.not-Mtcr)))
