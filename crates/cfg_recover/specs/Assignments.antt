@@ -49,13 +49,13 @@ frame_of_place (exit k) = k
 abbrev pub known_in : CertData → Assignment
 known_in cert y = option_and_then (known_at y) (find (λ n. is_same_key n.key (frame_of_place y)) cert.nodes)
 
--- what the assignment has at this place covers this
+-- the assignment has something at this place, and that covers v
 pub record CoversAt (a : Assignment) (y : Place) (v : Known) : Type 0 where
   pub known : Known
   pub at : a y ≡ Some known
   pub covers : CoversKnown known v
 
--- the upper assignment covers everything that this one has
+-- the upper assignment covers everything that this assignment has, place by place
 abbrev pub IsBelowAt : Assignment → Assignment → Type 0
 IsBelowAt a upper = (y : Place) (v : Known) → a y ≡ Some v → CoversAt upper y v
 
@@ -91,7 +91,7 @@ pub record HasDuty (b : Limits) (image : ImageData) (plan : PlanData) (a : Assig
   pub listed : Contains (duties_of b image plan key p s shape size) owed
   pub is : owed.duty ≡ d
 
--- some point of the assignment asks for this at the place y
+-- some point of the assignment has a duty that asks for v at the place y
 pub record AsksFor (b : Limits) (image : ImageData) (plan : PlanData) (a : Assignment) (y : Place) (v : Known) : Type 0 where
   pub key : Key
   pub addr : ℕ

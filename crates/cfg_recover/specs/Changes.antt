@@ -30,6 +30,7 @@ handler_change sp ccpn = record {
   locals = record { items = [] };
 }
 
--- the handler of misaligned accesses does, too, with the trap's number 4 in D15
+-- the handler of misaligned accesses begins with unknown values, except A10 and the trap's number 4
+-- in D15
 abbrev pub misaligned_change : Val → ℕ → Change
 misaligned_change sp ccpn = record (handler_change sp ccpn) { second = put_of_register 15 (word_val 4) }

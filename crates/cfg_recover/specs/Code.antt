@@ -20,23 +20,26 @@ pub record IsCode (image : ImageData) (plan : PlanData) (p : ℕ) (shape : Shape
   pub shaped : shape_of inst ≡ shape
   pub sized : length bytes ≡ n
 
--- there is an instruction at p
+-- there is an instruction at the address p of the image
 pub record HasCode (image : ImageData) (plan : PlanData) (p : ℕ) : Type 0 where
   pub shape : Shape
   pub size : ℕ
   pub code : IsCode image plan p shape size
 
--- the instruction that bytes begin with, and its length, or none
+-- the answer is the instruction that bytes of code begin with, and its length; none only if they
+-- begin with none
 abbrev pub FindsCodeInBytes : List ℕ → Option (InstData × ℕ) → Type 0
 FindsCodeInBytes bytes (Some (inst, n)) = decoded_of bytes ≡ Ok (inst, n)
 FindsCodeInBytes bytes None = (inst : InstData) (n : ℕ) → decoded_of bytes ≡ Ok (inst, n) → ⊥
 
--- the instruction at an address, and its length, or none
+-- the answer is the instruction at an address of the image, and its length; none only if there is
+-- none
 abbrev pub FindsCode : ImageData → PlanData → ℕ → Option (InstData × ℕ) → Type 0
 FindsCode image plan p (Some (inst, n)) = IsCode image plan p (shape_of inst) n
 FindsCode image plan p None = HasCode image plan p → ⊥
 
--- the shape and the size of the instruction at an address, or none
+-- the answer is the shape and the size of the instruction at an address of the image; none only if
+-- there is none
 abbrev pub LocatesCode : ImageData → PlanData → ℕ → Option Located → Type 0
 LocatesCode image plan p (Some found) = IsCode image plan p found.shape found.size
 LocatesCode image plan p None = HasCode image plan p → ⊥

@@ -39,21 +39,21 @@ pub record Owed : Type 0 where
   pub rule : ℕ
   pub duty : Duty
 
--- a duty that this rule asks for
+-- a duty of a point, with the rule that asks for this duty
 abbrev pub owed : ℕ → Duty → Owed
 owed rule duty = record { rule = rule; duty = duty }
 
--- what a load loads; other instructions don't use it
+-- the value that a load gets in this state of a point; any word for other instructions
 abbrev pub loaded_for_duties : Limits → ImageData → PlanData → State → Shape → Val
 loaded_for_duties b image plan s (Load dst base offset size signed after) =
     load_value_of b image plan (address_of b plan (Load dst base offset size signed after) s) size signed
 loaded_for_duties b image plan s _ = any_val
 
--- a jump to each of these addresses with this state
+-- the duties of a point to jump to each of these addresses with this state (K4)
 abbrev pub jumps_to : State → List ℕ → List Owed
 jumps_to s targets = map (λ t. owed 4 (jump t s)) targets
 
--- a jump on a side of a branch, if that side is possible
+-- the duty of a point to jump on a side of its branch (K4), if that side is possible
 abbrev pub jump_on : ℕ → Option State → List Owed
 jump_on q None = []
 jump_on q (Some s) = owed 4 (jump q s) ∷ []
@@ -63,7 +63,8 @@ jump_on q (Some s) = owed 4 (jump q s) ∷ []
 abbrev pub next_duty_of : Limits → ImageData → PlanData → ℕ → State → Shape → ℕ → List Owed
 next_duty_of b image plan p s shape n = owed 4 (jump (machine_address_ahead p n) (transfer_of b plan shape s (loaded_for_duties b image plan s shape))) ∷ []
 
--- the successors in the same frame (K4), without the one after a call or a system call
+-- the duties of a point to jump to its successors in the same frame (K4), without the one after a
+-- call or a system call
 abbrev pub successor_duties_of : Limits → ImageData → PlanData → ℕ → State → Shape → ℕ → List Owed
 successor_duties_of b image plan p s (Branch cond x y by lowers) n =
     jump_on (machine_address_ahead p n) (refine_of b plan (Branch cond x y by lowers) s false) ++ jump_on (machine_address_ahead p by) (refine_of b plan (Branch cond x y by lowers) s true)

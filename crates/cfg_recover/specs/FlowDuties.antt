@@ -20,27 +20,28 @@ use Rattle.depth_cert.specs.Exits.{exit_of}
 use Rattle.cfg_recover.specs.LocalFaults.{IsFaultless}
 use Rattle.cfg_recover.specs.Duties.{Owed, owed, enter, resume, leave, jumps_to, duties_of}
 
--- the duties of a jump
+-- the duties of a jump in a Flow: one for each target
 abbrev pub duties_of_jump : Option Jump → List Owed
 duties_of_jump None = []
 duties_of_jump (Some j) = jumps_to j.state j.targets.items
 
--- the duties of jumps
+-- the duties of all jumps in a Flow
 abbrev pub duties_of_jumps : List (Option Jump) → List Owed
 duties_of_jumps jumps = flat_map duties_of_jump jumps
 
--- where an entered frame returns to, if it returns
+-- the duty to go on at q after an entered frame's return, if that may return
 abbrev pub duties_of_flow_return : Key → Option ℕ → List Owed
 duties_of_flow_return key None = []
 duties_of_flow_return key (Some q) = owed 4 (resume key q) ∷ []
 
--- an entry at each target, and the return from it; this rule asks for the entry
+-- the duties of an entry in a Flow: this rule asks for the entry at each target, K4 for going on
+-- after the return
 abbrev pub duties_of_entry : ℕ → Key → Option Enter → List Owed
 duties_of_entry rule key None = []
 duties_of_entry rule key (Some e) =
     flat_map (λ t. owed rule (enter (entered_key key e.kind t) e.state) ∷ duties_of_flow_return (entered_key key e.kind t) e.resume) e.targets.items
 
--- K5 asks for the entries of calls, K12 for that of a system call
+-- the rule that asks for an entry in a Flow: K5 for calls, K12 for a system call
 abbrev pub rule_of_entry : Option Enter → ℕ
 rule_of_entry None = 5
 rule_of_entry (Some e) = if e.kind == call_kind then 5 else 12

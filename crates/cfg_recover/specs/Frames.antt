@@ -22,7 +22,7 @@ pub record RunFrame : Type 0 where
   pub key : Key
   pub at : ℕ
 
--- the newest frame goes on at an address
+-- the frames of a run, the newest of which goes on at an address
 abbrev pub frames_at : ℕ → List RunFrame → List RunFrame
 frames_at q [] = []
 frames_at q (f ∷ fs) = record { key = f.key; at = q } ∷ fs
@@ -33,7 +33,7 @@ abbrev pub frames_entered : (Key → Key) → ℕ → ℕ → List RunFrame → 
 frames_entered key back q [] = []
 frames_entered key back q (f ∷ fs) = record { key = key f.key; at = q } ∷ record { key = f.key; at = back } ∷ fs
 
--- the newest frame ends
+-- the frames of a run after the newest one ended
 abbrev pub frames_left : List RunFrame → List RunFrame
 frames_left [] = []
 frames_left (f ∷ fs) = fs
@@ -49,7 +49,7 @@ frames_after_edge p next prio (aln q) fs = frames_entered (λ k. handler_key 4 q
 frames_after_edge p next prio ret fs = frames_left fs
 frames_after_edge p next prio rfe fs = frames_left fs
 
--- the frames after one step of the machine
+-- the frames of a run after one step of the machine
 abbrev pub frames_after : Machine → Event → List RunFrame → List RunFrame
 frames_after m e fs = frames_after_edge m.pc (machine_address_ahead m.pc (fetched_size (fetched_instruction m))) e.irq (edge_way_of_step m e) fs
 
@@ -87,11 +87,11 @@ HoldFrames plan cert m (f ∷ fs) = AreFramesHeld plan cert m f fs
 abbrev pub entered_frame_at : ℕ → ℕ → ℕ → Bool → RunFrame
 entered_frame_at kind at prio is = record { key = record { kind = kind; entry = at; prio = prio; is = is }; at = at }
 
--- a frame that goes on at an address
+-- this frame of a run, going on at an address
 abbrev pub frame_going_on : RunFrame → ℕ → RunFrame
 frame_going_on f at = record { key = f.key; at = at }
 
--- the frame before the newest one goes on at an address
+-- a return to q: the frame before the newest one goes on at this address
 abbrev pub IsReturn : ℕ → List RunFrame → Type 0
 IsReturn q [] = ⊥
 IsReturn q (f ∷ []) = ⊥

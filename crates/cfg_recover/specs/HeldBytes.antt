@@ -5,7 +5,7 @@ use Rattle.elf_image.specs.Images.{ImageData, SegmentData, image_byte}
 use Rattle.tcd_plan.specs.PlanData.{PlanData}
 use Rattle.tcd_base.specs.Ranges.{IsInOneRange}
 
--- the n bytes from x on, if segments hold them all
+-- the image's n bytes from x on, if segments hold them all
 abbrev pub held_bytes : ImageData → ℕ → ℕ → Option (List ℕ)
 held_bytes image x zero = Some []
 held_bytes image x (suc n) = option_and_then (λ b. option_map (λ bs. b ∷ bs) (held_bytes image (x + 1) n)) (image_byte image x)
@@ -16,7 +16,8 @@ abbrev pub SegmentHoldsBytes : SegmentData → ℕ → List ℕ → Type 0
 SegmentHoldsBytes s x [] = Unit {0}
 SegmentHoldsBytes s x (b ∷ bs) = (s.at ≤ x) × (slice_get s.bytes (x - s.at) ≡ Some b) × SegmentHoldsBytes s (x + 1) bs
 
--- n bytes in one rom range and in segments, or none
+-- the answer is the image's n bytes at x, if one rom range has them and segments hold them; else
+-- none
 abbrev pub FindsHeldBytes : ImageData → PlanData → ℕ → ℕ → Option (List ℕ) → Type 0
 FindsHeldBytes image plan x n (Some bytes) = IsInOneRange x n plan.rom × (held_bytes image x n ≡ Some bytes)
 FindsHeldBytes image plan x n None = IsInOneRange x n plan.rom → held_bytes image x n ≡ None

@@ -19,16 +19,16 @@ abbrev pub IsLeastLocalFault : Limits → PlanData → Key → ℕ → State →
 IsLeastLocalFault b plan key p s shape (Some r) = (LocalRule b plan key p s shape r → ⊥) × ((q : ℕ) → q < r → LocalRule b plan key p s shape q)
 IsLeastLocalFault b plan key p s shape None = (r : ℕ) → LocalRule b plan key p s shape r
 
--- r is the least rule whose own part fails there
+-- r is the least rule whose own part fails at the point p
 pub record IsLocalFault (b : Limits) (image : ImageData) (plan : PlanData) (key : Key) (p : ℕ) (s : State) (r : ℕ) : Type 0 where
   pub fails : LocalHolds b image plan key p s r → ⊥
   pub least : (q : ℕ) → q < r → LocalHolds b image plan key p s q
 
--- no rule's own part fails there
+-- no rule's own part fails at the point p with this state
 abbrev pub IsFaultless : Limits → ImageData → PlanData → Key → ℕ → State → Type 0
 IsFaultless b image plan key p s = (r : ℕ) → LocalHolds b image plan key p s r
 
--- this instruction of so many bytes is at p, and no rule's own part fails there
+-- this instruction of so many bytes is at the point p, and no rule's own part fails there
 pub record IsFaultlessInst (b : Limits) (image : ImageData) (plan : PlanData) (key : Key) (p : ℕ) (s : State) (found : InstData × ℕ) : Type 0 where
   pub faultless : IsFaultless b image plan key p s
   pub code : IsCode image plan p (shape_of found.0) found.1

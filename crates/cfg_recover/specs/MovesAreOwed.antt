@@ -27,8 +27,7 @@ use Rattle.cfg_recover.specs.Duties.{owed, jump, enter, resume, duties_of}
 use Rattle.tc_mem.specs.PlanMemory.{HoldsRom, IsPlanMemory}
 use Rattle.tc_isa.specs.declared.shapes.Target.{Target}
 
--- where a machine's move from a point begins or ends: the state there holds the machine's
--- registers, IE and CCPN
+-- the state holds the machine: its registers, IE and CCPN
 abbrev pub IsInState : PlanData → Machine → State → Type 0
 IsInState plan m s = Holds plan (reg m) m.ie m.ccpn s
 
@@ -88,7 +87,8 @@ StaysInFrame (Syscall tin) = ⊥
 StaysInFrame (Mtcr src number) = ⊥
 StaysInFrame _ = Unit {0}
 
--- at every point: a step that stays in its frame, without an interrupt or a trap
+-- a law of moves: each step inside a frame, without an interrupt or a trap, is a jump that the
+-- point owes
 abbrev pub JumpsAreOwed : Type 0
 JumpsAreOwed =
     (b : Limits) (image : ImageData) (plan : PlanData) (key : Key) (m : Machine) (e : Event) (s : State) (shape : Shape) (n : ℕ)
@@ -122,7 +122,7 @@ pub record IsSystemCallOwed (b : Limits) (image : ImageData) (plan : PlanData) (
   pub lower : state.lower ≡ false
   pub locals : state.locals.items ≡ []
 
--- if an interrupt is taken, the point owes the entry of its handler
+-- a law of moves: each point where an interrupt is taken owes the entry of its handler
 abbrev pub InterruptsAreOwed : Type 0
 InterruptsAreOwed =
     (b : Limits) (image : ImageData) (plan : PlanData) (key : Key) (m : Machine) (e : Event) (s : State) (shape : Shape) (n : ℕ)
@@ -135,7 +135,8 @@ PointStoresAreInRange =
     (b : Limits) (image : ImageData) (plan : PlanData) (key : Key) (m : Machine) (e : Event) (s : State) (shape : Shape) (n : ℕ)
     → IsAtPoint b image plan key m s shape n → IfSome (stored m e) (IsStoreInRange plan)
 
--- the point owes the entry that a call goes to, and the return from it
+-- a law of moves at one call: the point owes the entry of the called function (K5), and the return
+-- (K4)
 pub record IsCallOwed (b : Limits) (image : ImageData) (plan : PlanData) (key : Key) (m : Machine) (s : State) (to : Target) (n : ℕ) : Type 0 where
   pub entered : Contains (duties_of b image plan key m.pc s (Call to) n) (owed 5 (enter (call_key key (target_of m to)) (call_entry s)))
   pub back : Contains (duties_of b image plan key m.pc s (Call to) n) (owed 4 (resume (call_key key (target_of m to)) (machine_address_ahead m.pc n)))

@@ -60,7 +60,7 @@ pub record IsLocallyFaultless (image : ImageData) (plan : PlanData) (cert : Cert
   pub faultless : IsFaultless (limits_in plan cert) image plan node.key point.addr point.state
   pub code : IsCode image plan point.addr shape n
 
--- what a point owes by its instruction
+-- the duties of a certificate's point, by its instruction
 abbrev pub owed_at : ImageData → PlanData → CertData → NodeData → Point → Shape → ℕ → List Owed
 owed_at image plan cert node point shape n = duties_of (limits_in plan cert) image plan node.key point.addr point.state shape n
 

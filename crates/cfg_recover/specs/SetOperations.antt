@@ -41,11 +41,11 @@ pub record GivesCachedResult (b : Limits) (k : CachedOperation) (op : Op) : Type
   pub gives : k.result ≡ value_of b op k.x k.y
   pub value : IsValue b k.result
 
--- an entry is empty, or has the result of its operation
+-- an entry of the cache of operations is empty, or has the result of its operation
 abbrev pub HoldsCachedResult : Limits → CachedOperation → Type 0
 HoldsCachedResult b k = IfSome k.op (GivesCachedResult b k)
 
--- each entry is empty, or has the result of its operation
+-- each entry of the cache of operations is empty, or has the result of its operation
 pub record HoldsCachedResults (b : Limits) (cache : OperationCache) : Type 0 where
   pub zero : HoldsCachedResult b cache.zero
   pub one : HoldsCachedResult b cache.one

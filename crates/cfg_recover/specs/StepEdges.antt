@@ -25,7 +25,7 @@ pub record Edge : Type 0 where
   pub at : ℕ
   pub way : EdgeWay
 
--- by the instruction, and the address where the step goes
+-- how a step of an instruction of this shape goes on, at the address q, if there is no trap
 abbrev pub edge_way_of_shape : Shape → ℕ → EdgeWay
 edge_way_of_shape (Call x) q = call q
 edge_way_of_shape Ret q = ret
@@ -33,19 +33,20 @@ edge_way_of_shape Rfe q = rfe
 edge_way_of_shape (Syscall tin) q = sys q
 edge_way_of_shape _ q = to q
 
--- by the instruction, or by its misaligned access if that traps
+-- how a step of an instruction of this shape goes on, at the address q: into the handler if its
+-- access traps
 abbrev pub edge_way_by_trap : Machine → Event → Shape → ℕ → EdgeWay
 edge_way_by_trap m e shape q = if is_trapping_instruction m e shape then aln q else edge_way_of_shape shape q
 
--- by what was fetched; if nothing is, the machine stays
+-- how a step without an interrupt goes on, by what was fetched; if nothing is, the machine stays
 abbrev pub edge_way_in_fetch : Machine → Event → Result (Shape × ℕ) Cause → ℕ → EdgeWay
 edge_way_in_fetch m e (Ok found) q = edge_way_by_trap m e found.0 q
 edge_way_in_fetch m e (Err cause) q = to q
 
--- by an interrupt if one is taken, else by what was fetched
+-- how a step goes on: into an interrupt's handler if one is taken, else by what was fetched
 abbrev pub edge_way_of_step : Machine → Event → EdgeWay
 edge_way_of_step m e = if is_interrupt_taken m e then irq (step m e).pc else edge_way_in_fetch m e (fetched_instruction m) (step m e).pc
 
--- the edge of a step
+-- the edge of a machine's step: from pc, and how the step goes on
 abbrev pub edge_of_step : Machine → Event → Edge
 edge_of_step m e = record { at = m.pc; way = edge_way_of_step m e }

@@ -7,8 +7,8 @@ ghost use Rattle.depth_cert.specs.Exits.{state_after_exit, values_with_lower_fro
 use depth_cert::{CALL, Exit};
 use value_domain::{State, Val, copy_locals};
 
-/// Returns the state of a frame after a return to it by `exit` from a call (`kind` is CALL) or a
-/// system call (SYS): lower registers are the exit's, all others stay; `kind` settles IE and CCPN.
+/// Returns the abstract state of a caller after a return by `exit` from a call (`kind` is CALL) or
+/// a system call (SYS). Lower registers are the exit's; `kind` settles IE and CCPN.
 pub fn after(s: &State, exit: &Exit, kind: u8) -> State
     ensures { result ≡ state_after_exit s.now exit.now kind }
 {
@@ -21,7 +21,7 @@ pub fn after(s: &State, exit: &Exit, kind: u8) -> State
     }
 }
 
-/// Returns the register values after a frame's return: those of the lower registers are the exit's,
+/// Returns a caller's register values after a return: those of the lower registers are the exit's,
 /// all others stay.
 fn regs_after_return(regs: &[Val; 27], lower: &[Val; 14]) -> [Val; 27]
     ensures { result ≡ values_with_lower_from 0 lower.now regs.now }
@@ -33,23 +33,23 @@ fn regs_after_return(regs: &[Val; 27], lower: &[Val; 14]) -> [Val; 27]
     out
 }
 
-/// Returns the IE that a frame has after a return to it: the exit's after a call, the caller's
-/// after a system call.
+/// Returns a caller's IE after a return: the exit's after a call, the caller's own after a system
+/// call.
 fn ie_after_return(s: &State, exit: &Exit, kind: u8) -> bool
     ensures { result ≡ (if kind == 1 then exit.now.ie else s.now.ie) }
 {
     if kind == CALL { exit.ie } else { s.ie }
 }
 
-/// Returns the CCPN that a frame has after a return to it: the exit's after a call, the caller's
-/// after a system call.
+/// Returns a caller's CCPN after a return: the exit's after a call, the caller's own after a system
+/// call.
 fn ccpn_after_return(s: &State, exit: &Exit, kind: u8) -> u8
     ensures { result ≡ (if kind == 1 then exit.now.ccpn else s.now.ccpn) }
 {
     if kind == CALL { exit.ccpn } else { s.ccpn }
 }
 
-/// Returns the value of one register that a frame has after a return to it: the exit's for a lower
+/// Returns one register's value in a caller's state after a return: the exit's for a lower
 /// register, else the old one.
 fn value_after_return<'a>(i: usize, lower: &'a [Val; 14], v: &'a Val) -> &'a Val
     ensures { result.now

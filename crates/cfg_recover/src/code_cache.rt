@@ -33,7 +33,7 @@ pub(crate) struct KnownCode {
 }
 
 impl KnownCodes {
-    /// Only the word 0 is known.
+    /// Returns a cache of decoded instructions in which only the word 0 is known.
     #[inline(never)]
     pub fn new() -> KnownCodes {
         KnownCodes {
@@ -42,8 +42,8 @@ impl KnownCodes {
         }
     }
 
-    /// The instruction at an address. If its word is known, nothing is decoded; else it is decoded,
-    /// and known from then on.
+    /// Returns the instruction at an address of rom, or `None` if there is none. An instruction
+    /// that is in the cache isn't decoded again.
     #[inline(always)]
     pub fn locate(&mut self, image: &Image, plan: &Plan, addr: u32) -> Option<Located>
         ensures code { LocatesCode image.now plan.now addr result }
@@ -66,8 +66,8 @@ impl KnownCodes {
         code.found
     }
 
-    /// The byte of the image at an address. The segment that held the last word or byte is tried
-    /// first.
+    /// Returns the byte of the image at an address, if a segment holds one. The segment that held
+    /// the last word or byte is tried first.
     #[inline(always)]
     pub fn byte(&mut self, image: &Image, addr: u32) -> Option<u8>
         ensures byte { result ≡ image_byte image.now addr }
@@ -84,7 +84,8 @@ impl KnownCodes {
     }
 }
 
-/// Decodes the bytes of a word.
+/// Returns the cache's entry for a word: the instruction that its four bytes begin with, if they
+/// decode.
 #[inline(never)]
 fn decode_word(word: u32) -> KnownCode
     ensures { result.word ≡ word }
@@ -99,8 +100,8 @@ fn decode_word(word: u32) -> KnownCode
     KnownCode { word, found }
 }
 
-/// Returns the word by which the cache knows the instruction that four bytes begin with. An even
-/// first byte means two bytes, and the word is those two alone.
+/// Returns the word by which the cache of instructions knows one, from its first four bytes. An
+/// instruction of two bytes has a word of these alone.
 #[inline(always)]
 fn cache_word_of_bytes(bytes: [u8; 4]) -> u32
     ensures { located_code_in result ≡ located_code_of (decoded_of bytes) }
@@ -115,8 +116,8 @@ fn code_cache_byte_bounds(bytes: &[u8])
     ensures { (k : ℕ) → slice_index bytes.now k < 2 ^ 8 }
 {}
 
-/// The place of a word: the highest byte of its product with 01010101. Except for carries, this is
-/// the sum of the word's bytes.
+/// Returns the slot of a word in the cache of decoded instructions, below 256: a hash of the word's
+/// bytes.
 #[inline(always)]
 fn code_cache_slot(word: u32) -> usize
     ensures { result < 256 }

@@ -17,7 +17,8 @@ pub(crate) struct InstAt<'a> {
     pub(crate) size: u32,
 }
 
-/// Decodes the instruction at an address.
+/// Decodes the instruction at an address: returns its shape and size, or `None` if rom has no
+/// instruction there.
 #[inline(never)]
 pub(crate) fn decode_at(image: &Image, plan: &Plan, addr: u32) -> Option<Located>
     ensures code { LocatesCode image.now plan.now addr result }

@@ -45,8 +45,8 @@ pub fn push_entered_keys(
     }
 }
 
-/// Returns true if the access of an instruction may be misaligned, so that the instruction enters
-/// the handler of misaligned accesses. Only loads and stores have an address.
+/// Returns true if the access of a point's instruction may be misaligned, so that the point owes
+/// the entry of the handler of misaligned accesses.
 #[inline(always)]
 pub fn may_be_misaligned(b: &Bounds, plan: &Plan, s: &State, shape: Shape) -> bool
     requires shape { IsShape shape }
@@ -60,8 +60,8 @@ pub fn may_be_misaligned(b: &Bounds, plan: &Plan, s: &State, shape: Shape) -> bo
     }
 }
 
-/// Returns true if an address of an access of this size may be misaligned. It is a call of its own,
-/// since it has room for a value.
+/// Returns true if some address of a load or store isn't a multiple of `size`. This is a function
+/// of its own, since a value needs stack.
 #[inline(never)]
 fn has_misaligned_address(b: &Bounds, plan: &Plan, s: &State, shape: Shape, size: u8) -> bool
     requires shape { IsShape shape }
@@ -74,7 +74,7 @@ fn has_misaligned_address(b: &Bounds, plan: &Plan, s: &State, shape: Shape, size
     !aligned(&at, size)
 }
 
-/// Appends the keys of the frames of these functions, which a call enters.
+/// Appends the keys of the frames that a call to these functions enters.
 fn push_called_keys(keys: &mut Vec<Key>, key: &Key, targets: &[u32]) -> Result<(), AllocError>
     ensures { OnOk result
         (keys.new.items ≡ keys.old.items ++ flat_map (λ t. call_key key.now t ∷ []) targets.now) }

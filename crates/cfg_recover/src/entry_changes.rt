@@ -19,7 +19,8 @@ const D15: u8 = 15;
 /// The identification number of the trap of misaligned accesses.
 const ALN_TIN: u32 = 4;
 
-/// The change at the entry of a called function.
+/// Returns the change from a caller's abstract state to that at the entry of the called function:
+/// no locals, and `lower` is false.
 pub fn call_change(b: &Bounds, s: &State) -> Change
     requires { AreValues b.now s.now.regs }
     ensures change { result ≡ changes.call_change s.now }
@@ -32,7 +33,8 @@ pub fn call_change(b: &Bounds, s: &State) -> Change
     c
 }
 
-/// The change at the entry of the handler of system calls, for the call with number `tin`.
+/// Returns the change from a point's abstract state to that at the entry of the handler of system
+/// calls, for SYSCALL `tin`.
 pub fn system_change(b: &Bounds, plan: &Plan, key: &Key, s: &State, tin: u8) -> Change
     requires { AreValues b.now s.now.regs }
     ensures entry { state_after s.now result ≡ sys_entry plan.now key.now s.now tin }
@@ -45,7 +47,8 @@ pub fn system_change(b: &Bounds, plan: &Plan, key: &Key, s: &State, tin: u8) -> 
     c
 }
 
-/// The change at the entry of an interrupt's handler, with this CCPN.
+/// Returns the change from a point's abstract state to that at the entry of an interrupt's handler,
+/// with this CCPN.
 pub fn handler_change(b: &Bounds, plan: &Plan, key: &Key, s: &State, ccpn: u8) -> Change
     requires { AreValues b.now s.now.regs }
     ensures entry { state_after s.now result
@@ -56,7 +59,8 @@ pub fn handler_change(b: &Bounds, plan: &Plan, key: &Key, s: &State, ccpn: u8) -
     handler_change_with_stack(s, handler_entry_stack(b, plan, key, s), ccpn)
 }
 
-/// The change at the entry of the handler of misaligned accesses.
+/// Returns the change from a point's abstract state to that at the entry of the handler of
+/// misaligned accesses.
 pub fn misaligned_change(b: &Bounds, plan: &Plan, key: &Key, s: &State) -> Change
     requires { AreValues b.now s.now.regs }
     ensures entry { state_after s.now result ≡ aln_entry plan.now key.now s.now }
@@ -68,7 +72,8 @@ pub fn misaligned_change(b: &Bounds, plan: &Plan, key: &Key, s: &State) -> Chang
     c
 }
 
-/// The stack pointer of a handler: the interrupt stack's, or A10 if that stack is in use.
+/// Returns the stack pointer at the entry of a handler: the interrupt stack's start, or the point's
+/// A10 if that stack is in use.
 fn handler_entry_stack(b: &Bounds, plan: &Plan, key: &Key, s: &State) -> Val
     requires { AreValues b.now s.now.regs }
     ensures stack { result ≡ entry_stack_of plan.now key.now s.now }
@@ -83,7 +88,7 @@ fn handler_entry_stack(b: &Bounds, plan: &Plan, key: &Key, s: &State) -> Val
     }
 }
 
-/// The value of a register that the entry sets to a constant.
+/// Returns the abstract value of a register that the entry of a handler sets to a constant.
 fn entry_constant(b: &Bounds, x: u32) -> Val
     ensures word { result ≡ word_val x }
     ensures value { IsValue b.now result }
@@ -92,7 +97,8 @@ fn entry_constant(b: &Bounds, x: u32) -> Val
     Val::one(x)
 }
 
-/// The change at the entry of a handler with this stack pointer and CCPN.
+/// Returns the change from a point's state to that at the entry of a handler with this stack
+/// pointer and CCPN: all else is unknown.
 fn handler_change_with_stack(s: &State, sp: Val, ccpn: u8) -> Change
     ensures { result ≡ changes.handler_change sp ccpn }
 {

@@ -18,7 +18,8 @@ use tcd_plan::Plan;
 use value_domain::{Bounds, State};
 use vd_transfer::state_after_change;
 
-/// The entries by a call or a system call.
+/// Returns which frames a point enters by a call or a system call, for its Flow, or `None` if the
+/// instruction is neither.
 pub(crate) fn call_flow_entry(
     b: &Bounds,
     plan: &Plan,
@@ -50,7 +51,8 @@ pub(crate) fn call_flow_entry(
     }
 }
 
-/// The entry of the handler of misaligned accesses, if the instruction's access may be misaligned.
+/// Returns the entry of the handler of misaligned accesses for a point's Flow, or `None` if the
+/// instruction's access is always aligned.
 pub(crate) fn misaligned_flow_entry(
     b: &Bounds,
     plan: &Plan,
@@ -74,8 +76,8 @@ pub(crate) fn misaligned_flow_entry(
     })
 }
 
-/// Returns how an instruction leaves its own frame, which a Flow has beside the entries of other
-/// frames: by RET, by RFE, or not at all.
+/// Returns how a point's instruction leaves its frame, for the point's Flow: by RET, by RFE, or not
+/// at all.
 #[tactic(auto, unfolding(crate::specs::FlowDuties::flow_leave_of))]
 pub(crate) fn flow_leave(key: &Key, s: &State, inst: &Inst) -> Leave
     ensures told { duties_of_leaving key.now s.now result

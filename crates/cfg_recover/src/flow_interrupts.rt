@@ -6,7 +6,8 @@ use arrayvec::ArrayVec;
 use tcd_plan::Plan;
 use value_domain::State;
 
-/// The plan's interrupts that may be taken in a state.
+/// Returns the priorities of the plan's interrupts that may be taken in an abstract state: those
+/// above CCPN, if IE may be on.
 pub fn interrupts(plan: &Plan, s: &State) -> ArrayVec<u8, 32>
     ensures { result.items ≡ irqs_of plan.now s.now }
 {
@@ -17,7 +18,7 @@ pub fn interrupts(plan: &Plan, s: &State) -> ArrayVec<u8, 32>
     }
 }
 
-/// The interrupts of a list whose priority is above CCPN.
+/// Returns the interrupts of a list whose priorities are above CCPN.
 fn irqs_above(irqs: &[u8], ccpn: u8) -> ArrayVec<u8, 32>
     requires { length irqs.now ≤ 32 }
     ensures { result.items ≡ filter (λ p. nat_lt ccpn p) irqs.now }

@@ -22,8 +22,8 @@ use tcd_plan::Plan;
 use value_domain::{Bounds, State};
 use vd_transfer::state_after_change;
 
-/// Computes the Flow of a point with its state: all that a certificate must have because of this
-/// point. If a rule's own part fails there, returns the least such rule.
+/// Returns the Flow of a point in an abstract state: all that a certificate must have because of
+/// the point. If a rule's own part fails there, returns the least such rule.
 pub fn flow(
     b: &Bounds,
     image: &Image,
@@ -46,7 +46,8 @@ pub fn flow(
     }
 }
 
-/// Computes the flow of a point at which no rule's own part fails, from the instruction there.
+/// Returns the Flow of a point whose instruction breaks no rule by itself: successors, entries of
+/// frames, interrupts, and how the frame is left.
 fn flow_of_point(
     b: &Bounds,
     image: &Image,

@@ -25,7 +25,8 @@ use vd_transfer::{
     Base, Change, change_of, identity_change, refine, state_after_change, write_address,
 };
 
-/// The successors of the instruction in its frame, without the one after a call or a system call.
+/// Returns the jumps of a point's Flow to its successors in the same frame (K4), without the one
+/// after a call or a system call.
 pub(crate) fn successors(
     b: &Bounds,
     image: &Image,
@@ -59,8 +60,8 @@ pub(crate) fn successors(
     }
 }
 
-/// Writes into `c`, whatever it was, a point's change to its successor by an instruction that isn't
-/// a branch or a jump. What the instruction saves has room, and what it restores is there.
+/// Writes into `c` the change from a point's state to its successor's, by an instruction that isn't
+/// a branch or a jump. What a load gets is computed first.
 pub fn successor_change(
     b: &Bounds,
     image: &Image,
@@ -88,7 +89,8 @@ pub fn successor_change(
     }
 }
 
-/// The jump on a side of a branch, if that side is possible.
+/// Returns the jump of a point's Flow on a side of its branch, with the refined state, or `None` if
+/// that side isn't possible.
 fn successor_on_side(
     b: &Bounds,
     plan: &Plan,
@@ -109,7 +111,7 @@ fn successor_on_side(
     })
 }
 
-/// The jump to the next instruction.
+/// Returns the jump of a point's Flow to the next instruction, with the state after this one.
 fn successor_by_step(b: &Bounds, image: &Image, plan: &Plan, s: &State, at: InstAt<'_>) -> Jump
     requires values { AreValues b.now s.now.regs }
     requires room { EffectHasRoom b.now (shape_of at.inst.now) s.now }
@@ -126,8 +128,8 @@ fn successor_by_step(b: &Bounds, image: &Image, plan: &Plan, s: &State, at: Inst
     }
 }
 
-/// Writes the change by which a point's successor keeps the state. Mostly a state has no locals,
-/// and then none are copied.
+/// Writes the identity change, by which a point's successor has the point's state. Mostly a state
+/// has no locals, and then none are copied.
 #[inline(always)]
 fn keep_successor_state(s: &State, c: &mut Change)
     ensures { state_after s.now c.new ≡ s.now }
@@ -146,8 +148,8 @@ fn keep_successor_state(s: &State, c: &mut Change)
     c.locals = ArrayVec::new();
 }
 
-/// Writes into `out` what a point's instruction loads from these addresses before it goes on to its
-/// successor, or the value that holds all words if it isn't a load.
+/// Overwrites `out` with the abstract value that a point's load gets from these addresses, or with
+/// any word if the instruction isn't a load.
 fn write_flow_load(b: &Bounds, image: &Image, plan: &Plan, shape: Shape, at: &Val, out: &mut Val)
     requires shape { IsShape shape }
     requires value { IsValue b.now at.now }

@@ -14,8 +14,8 @@ use tcd_plan::Plan;
 use value_domain::{State, Val};
 use vd_transfer::reg;
 
-/// The only address to which a jump or a call at `addr` goes, whatever the registers hold; `None`
-/// if it goes by a register.
+/// Returns the only target of a jump or a call at `addr`, whatever the registers hold, or `None` if
+/// the target is in a register.
 #[inline(always)]
 pub fn direct_target(addr: u32, to: Target) -> Option<u32>
     ensures target { result ≡ rules.direct_target addr to }
@@ -41,7 +41,7 @@ pub fn targets(plan: &Plan, s: &State, addr: u32, to: Target) -> ArrayVec<u32, 1
     }
 }
 
-/// A list of one address.
+/// Returns a list of one target, as a jump or call to a fixed address has.
 pub(crate) fn one_target(x: u32) -> ArrayVec<u32, 128>
     ensures { result.items ≡ x ∷ [] }
 {
@@ -50,8 +50,8 @@ pub(crate) fn one_target(x: u32) -> ArrayVec<u32, 128>
     targets
 }
 
-/// The addresses that a register names. It is a function of its own, so that where no register is
-/// read no room of a value is filled.
+/// Returns the targets of a jump or call by a register, none if unknown. This is a function of its
+/// own, so that direct jumps fill no room for a value.
 #[inline(never)]
 fn targets_in_register(plan: &Plan, s: &State, r: u8) -> ArrayVec<u32, 128>
     requires { r < 32 }
@@ -60,7 +60,8 @@ fn targets_in_register(plan: &Plan, s: &State, r: u8) -> ArrayVec<u32, 128>
     targets_of_value(&reg(plan, s, r))
 }
 
-/// The addresses that the words of a value name; none for a span.
+/// Returns the targets of a jump or call by a register with this value: a Set's words with bit 0
+/// cleared, none for a Span.
 fn targets_of_value(v: &Val) -> ArrayVec<u32, 128>
     ensures { result.items ≡ unwrap_or (targets_named_by v.now) [] }
 {
@@ -70,7 +71,7 @@ fn targets_of_value(v: &Val) -> ArrayVec<u32, 128>
     }
 }
 
-/// The words with bit 0 cleared. If two neighbours become equal, one of them is left out.
+/// Returns the targets that these ascending words name, each once: the words with bit 0 cleared.
 fn even_targets(words: &[u32]) -> ArrayVec<u32, 128>
     requires { AreWords words.now }
     ensures { result.items ≡ sorted_set_of (map (λ w. w / 2 * 2) words.now) }
@@ -82,7 +83,7 @@ fn even_targets(words: &[u32]) -> ArrayVec<u32, 128>
     evened
 }
 
-/// Adds a word that isn't below the others, unless it is the last one.
+/// Adds a target that isn't below the others to their list, unless the last one is the same.
 fn add_target_once(words: &mut ArrayVec<u32, 128>, x: u32)
     requires room { length words.old.items < 128 }
     requires rising { IsAscending words.old.items }
@@ -94,7 +95,7 @@ fn add_target_once(words: &mut ArrayVec<u32, 128>, x: u32)
     }
 }
 
-/// Returns true if `x` is the last word of a list of targets.
+/// Returns true if `x` is the last target of an ascending list.
 fn is_last_target(words: &[u32], x: u32) -> bool
     ensures { IsTrue result ↔ (slice_get words.now (length words.now - 1) ≡ Some x) }
 {

@@ -11,9 +11,9 @@ pub(crate) const SYS_VECTOR: u32 = 6 * 32;
 /// The place of the handler of misaligned accesses, class 2, in the vector table of traps.
 pub(crate) const ALN_VECTOR: u32 = 2 * 32;
 
-/// The key of the frame that a frame enters at `entry` by a call (`kind` is CALL), a system call
-/// (SYS) or a misaligned access (ALN). The priority stays. A called function runs on the caller's
-/// stack, a handler on the interrupt stack.
+/// Returns the key of the frame entered at `entry` by a call (`kind` is CALL), a system call (SYS)
+/// or a misaligned access (ALN). A called function keeps the caller's stack; handlers run on the
+/// interrupt stack.
 pub fn entered_key(key: &Key, kind: u8, entry: u32) -> Key
     ensures { result ≡ entries.entered_key key.now kind entry }
 {
@@ -25,21 +25,21 @@ pub fn entered_key(key: &Key, kind: u8, entry: u32) -> Key
     }
 }
 
-/// The key of the handler of system calls, as a frame enters it.
+/// Returns the key of the handler of system calls that a frame of this key enters.
 pub fn sys_key(plan: &Plan, key: &Key) -> Key
     ensures { result ≡ entries.sys_key plan.now key.now }
 {
     entered_key(key, SYS, plan.btv | SYS_VECTOR)
 }
 
-/// The key of the handler of misaligned accesses, as a frame enters it.
+/// Returns the key of the handler of misaligned accesses that a frame of this key enters.
 pub fn aln_key(plan: &Plan, key: &Key) -> Key
     ensures { result ≡ entries.aln_key plan.now key.now }
 {
     entered_key(key, ALN, plan.btv | ALN_VECTOR)
 }
 
-/// The key of the handler of interrupts of a priority.
+/// Returns the key of the handler of interrupts of this priority.
 pub fn irq_key(plan: &Plan, prio: u8) -> Key
     ensures { result ≡ entries.irq_key plan.now prio }
 {

@@ -4,10 +4,8 @@ ghost use Rattle.cfg_recover.specs.EdgeAndFrameLaws.{EdgesMatchSteps, FramesFoll
 ghost use Rattle.cfg_recover.specs.MovesAreOwed.{InterruptsAreOwed, JumpsAreOwed, PointStoresAreInRange, TrapsAreOwed, CallsAreOwed, SystemCallsAreOwed};
 ghost use Rattle.cfg_recover.specs.RefusalLaws.{RefusalsHaveReasons};
 
-/// The laws of a machine at a point whose instruction breaks no rule by itself and whose state
-/// holds the machine. If the machine stays in its frame, it goes where the point owes a jump, and
-/// the jump's state holds it then. If it calls, makes a system call, or takes an interrupt or the
-/// trap of misaligned accesses, the point owes that entry. Its stores are in range.
+/// The laws of moves, for a machine at a point whose state holds the registers. Each step is a duty
+/// of the point: a jump, a call, a system call, an interrupt or a trap. Stores are in range.
 pub fn move_laws()
     ensures moves { JumpsAreOwed }
     ensures traps { TrapsAreOwed }
@@ -17,9 +15,8 @@ pub fn move_laws()
     ensures stores { PointStoresAreInRange }
 {}
 
-/// The laws of edges and frames: what they are at each step of a machine, and what the promises
-/// about them give. The newest frame is at a point whose state holds the machine. A step is owed by
-/// that point, and a return goes back to a frame that is there.
+/// The laws of edges and frames: what they are at each step of a machine. Held frames describe the
+/// machine; an owed edge is a duty of the newest frame's point, or a return to the frame before.
 pub fn frame_laws()
     ensures edges { EdgesMatchSteps }
     ensures frames { FramesFollowAllRuns }
@@ -27,15 +24,15 @@ pub fn frame_laws()
     ensures owed { StepsAreOwedByPoints }
 {}
 
-/// States the laws that guard what the rules of certificates define: a first fault names a rule
-/// that fails and where, before all others; the certified need is that of the start's node.
+/// The laws of what the checker prints. A first fault names the first place where a rule fails; the
+/// certified need is that of the start's node.
 pub fn fault_laws()
     ensures first { FirstFaultsNameFirstFailures }
     ensures need { CertifiedNeedIsOfStart }
 {}
 
-/// States the law of refusals: a refusal to make a certificate names a rule and the very place
-/// where it fails.
+/// The law of refusals: a refusal to make a certificate names a rule and the very place where that
+/// fails.
 pub fn refusal_laws()
     ensures { RefusalsHaveReasons }
 {}

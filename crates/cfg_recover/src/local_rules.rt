@@ -87,8 +87,8 @@ pub fn check_local_rules(
     }
 }
 
-/// The instruction at an address and its length, if no rule's own part fails there; else the least
-/// rule that fails.
+/// Returns the instruction at a point and its length in bytes, if no rule's own part fails there,
+/// else the least rule that fails.
 pub(crate) fn check_local_rules_of_inst(
     b: &Bounds,
     image: &Image,
@@ -111,9 +111,8 @@ pub(crate) fn check_local_rules_of_inst(
     }
 }
 
-/// Returns `located`, the instruction that was found at a point, if no rule's own part fails there;
-/// else the least rule that fails. The contract holds for each image and address at which it was
-/// found.
+/// Returns the instruction that was found at a point, if no rule's own part fails there, else the
+/// least rule that fails. The contract holds for each image and address with that instruction.
 pub fn check_located<'a>(
     b: &Bounds,
     plan: &Plan,
@@ -137,7 +136,8 @@ pub fn check_located<'a>(
     }
 }
 
-/// The least rule whose own part fails at an instruction.
+/// Returns the least rule whose own part fails at a point's instruction, or `None` if there is no
+/// such rule.
 pub(crate) fn local_fault(b: &Bounds, plan: &Plan, key: &Key, s: &State, inst: &Inst) -> Option<u8>
     requires { AreValues b.now s.now.regs }
     ensures { (p : ℕ) → IsLeastLocalFault b.now plan.now key.now p s.now
@@ -146,8 +146,8 @@ pub(crate) fn local_fault(b: &Bounds, plan: &Plan, key: &Key, s: &State, inst: &
     first_local_fault(b, plan, key, s, &shape(inst))
 }
 
-/// The least rule whose own part fails at an instruction of this shape. Three rules can fail at a
-/// store, two at a load, and at most one at each other shape.
+/// Returns the least rule whose own part fails at a point with an instruction of this shape, or
+/// `None`. At a store up to three rules can fail (K9, K10, K13), at other shapes fewer.
 pub(crate) fn first_local_fault(
     b: &Bounds,
     plan: &Plan,
@@ -198,7 +198,7 @@ pub(crate) fn first_local_fault(
     }
 }
 
-/// Returns a rule, or `None` if its condition holds.
+/// Returns the number of a rule that fails, or `None` if its condition holds.
 #[inline(always)]
 pub fn rule_unless(holds: bool, rule: u8) -> Option<u8>
     ensures { result ≡ (if holds then None else Some rule) }
@@ -206,7 +206,8 @@ pub fn rule_unless(holds: bool, rule: u8) -> Option<u8>
     if holds { None } else { Some(rule) }
 }
 
-/// Tries the rules for an access with one address.
+/// Tries K9, then K10, for a load or store with only one address. Returns the first whose own part
+/// fails, or `None`.
 pub(crate) fn access_fault_at_word(plan: &Plan, x: u32, shape: Shape) -> Option<u8>
     requires shape { IsShape shape }
     ensures { (b : Limits) (s : State) → address_of b plan.now shape s ≡ word_val x
@@ -221,8 +222,8 @@ pub(crate) fn access_fault_at_word(plan: &Plan, x: u32, shape: Shape) -> Option<
     None
 }
 
-/// Tries the rules for an access with any addresses. It is a function of its own, so that an access
-/// with one address makes no value.
+/// Tries K9, then K10, for a load or store with any addresses. Returns the first that fails, or
+/// `None`. This is a function of its own, so that an access with one address builds no value.
 #[inline(never)]
 pub(crate) fn access_fault_at_value(b: &Bounds, plan: &Plan, s: &State, shape: Shape) -> Option<u8>
     requires shape { IsShape shape }
@@ -240,7 +241,7 @@ pub(crate) fn access_fault_at_value(b: &Bounds, plan: &Plan, s: &State, shape: S
     None
 }
 
-/// K5: the targets of a jump or a call are a known list of addresses.
+/// Tests K5 at a jump or call: true if its targets are a known list of addresses.
 pub(crate) fn has_known_targets(plan: &Plan, s: &State, to: Target) -> bool
     requires { IsTarget to }
     ensures { (p : ℕ) → IsTrue result ↔ IsSome (targets_of plan.now s.now p to) }
@@ -251,36 +252,38 @@ pub(crate) fn has_known_targets(plan: &Plan, s: &State, to: Target) -> bool
     }
 }
 
-/// K6, at RET: only a called function returns, and it has restored all lower contexts.
+/// Tests K6's own part, at RET: true if the frame is a called function's and has restored all lower
+/// contexts.
 pub(crate) fn may_return(key: &Key, s: &State) -> bool
     ensures { IsTrue result ↔ MayReturn key.now s.now Ret }
 {
     key.kind == CALL && has_no_locals(s)
 }
 
-/// K7, at RFE: only a handler returns from an exception, and it has restored all lower contexts.
+/// Tests K7's own part, at RFE: true if a handler's frame has restored all lower contexts, with its
+/// entry's lower registers if need be.
 pub(crate) fn may_return_from_exception(key: &Key, s: &State) -> bool
     ensures { IsTrue result ↔ MayReturnFromException key.now s.now Rfe }
 {
     has_no_locals(s) && may_handler_return(key, s)
 }
 
-/// K8, at an instruction that saves a lower context: there is room for a local.
+/// Tests K8 at an instruction that saves a lower context: true if the state has room for a local.
 pub(crate) fn may_save(b: &Bounds, s: &State) -> bool
     ensures { IsTrue result ↔ (length s.now.locals.items < b.now.most_locals) }
 {
     s.locals.len() < b.most_locals()
 }
 
-/// K8, at an instruction that restores a lower context: there is one.
+/// Tests K8 at an instruction that restores a lower context: true if one is saved.
 pub(crate) fn may_restore(s: &State) -> bool
     ensures { IsTrue result ↔ (1 ≤ length s.now.locals.items) }
 {
     1 <= s.locals.len()
 }
 
-/// K9: each possible store is in one ram range or one peripheral range as a whole, and doesn't pass
-/// 2^32.
+/// Tests K9: true if each possible store is wholly in one ram range or one peripheral range, and
+/// doesn't pass 2^32. Other instructions pass.
 pub(crate) fn may_store(plan: &Plan, at: &Val, shape: Shape) -> bool
     requires shape { IsShape shape }
     requires well { IsWellFormed at.now }
@@ -292,8 +295,8 @@ pub(crate) fn may_store(plan: &Plan, at: &Val, shape: Shape) -> bool
     }
 }
 
-/// Returns true if K9's own part holds at an instruction whose access has only one address: a store
-/// is in one ram or peripheral range.
+/// Tests K9 for an instruction with only one address: true if a store there is wholly in one ram
+/// range or one peripheral range.
 pub(crate) fn may_store_at(plan: &Plan, x: u32, shape: Shape) -> bool
     ensures { IsTrue result ↔ StoresInRangeAt plan.now (word_val x) shape }
 {
@@ -303,8 +306,8 @@ pub(crate) fn may_store_at(plan: &Plan, x: u32, shape: Shape) -> bool
     }
 }
 
-/// K10: each possible address is a multiple of the size, or the plan states the trap of misaligned
-/// accesses.
+/// Tests K10's own part: true if each possible address is a multiple of the access's size, or the
+/// plan states the trap of misaligned accesses.
 pub(crate) fn may_access(plan: &Plan, at: &Val, shape: Shape) -> bool
     requires shape { IsShape shape }
     requires well { IsWellFormed at.now }
@@ -317,7 +320,8 @@ pub(crate) fn may_access(plan: &Plan, at: &Val, shape: Shape) -> bool
     }
 }
 
-/// K10, if the access has only one address.
+/// Tests K10's own part for an access with only one address: true if that is aligned, or the plan
+/// states the trap of misaligned accesses.
 pub(crate) fn may_access_at(plan: &Plan, x: u32, shape: Shape) -> bool
     requires { IsShape shape }
     ensures { IsTrue result ↔ MayAccessAt plan.now (word_val x) shape }
@@ -329,14 +333,14 @@ pub(crate) fn may_access_at(plan: &Plan, x: u32, shape: Shape) -> bool
     }
 }
 
-/// K12, at SYSCALL: the plan states the trap of system calls.
+/// Tests K12's own part, at SYSCALL: true if the plan states the trap of system calls.
 pub(crate) fn may_call_system(plan: &Plan) -> bool
     ensures { IsTrue result ↔ (plan.now.sys ≡ true) }
 {
     plan.sys
 }
 
-/// Tries K9, then K10, for an access.
+/// Tries K9, then K10, for a load or store. Returns the first whose own part fails, or `None`.
 fn access_fault(b: &Bounds, plan: &Plan, s: &State, shape: Shape) -> Option<u8>
     requires shape { IsShape shape }
     requires values { AreValues b.now s.now.regs }
@@ -398,7 +402,8 @@ fn rule_address_by_base(
     Some(alu(Op::Add, x, offset))
 }
 
-/// K5, at a jump or a call by a register: its value is a Set, a known list of targets.
+/// Tests K5 for the value of a register that names targets: true for a Set, whose words are a known
+/// list of targets.
 fn is_known_target_list(v: &Val) -> bool
     ensures { IsTrue result ↔ IsSome (targets_named_by v.now) }
 {
@@ -408,16 +413,15 @@ fn is_known_target_list(v: &Val) -> bool
     }
 }
 
-/// K6 and K7: the frame has restored all lower contexts.
+/// Returns true if a frame has restored all lower contexts that were saved, as K6 and K7 ask.
 fn has_no_locals(s: &State) -> bool
     ensures { IsTrue result ↔ (length s.now.locals.items ≡ 0) }
 {
     s.locals.is_empty()
 }
 
-/// Returns true if the handler's registers allow its return. The caller of a system call expects
-/// other registers. The handler of an interrupt or of a misaligned access may come anywhere, so its
-/// lower registers must be those of its entry.
+/// Tests what K7 asks of a handler's registers: true for a system call's. Handlers of interrupts
+/// and misaligned accesses must have their entry's lower registers.
 fn may_handler_return(key: &Key, s: &State) -> bool
     ensures { IsTrue result
         ↔ ((((key.now.kind ≡ 2) ⊎ (key.now.kind ≡ 4)) × (s.now.lower ≡ true))
@@ -430,8 +434,8 @@ fn may_handler_return(key: &Key, s: &State) -> bool
     }
 }
 
-/// Returns true if K10's own part holds for an access of this size: each address is a multiple of
-/// it, or the plan states the trap of misaligned accesses.
+/// Tests K10 for an access of this size: true if each address is aligned, or the plan states the
+/// trap of misaligned accesses.
 fn may_access_by_size(plan: &Plan, at: &Val, size: u8) -> bool
     requires well { IsWellFormed at.now }
     requires size { IsShapeAccessSize size }
@@ -440,7 +444,8 @@ fn may_access_by_size(plan: &Plan, at: &Val, size: u8) -> bool
     plan.aln || aligned(at, size)
 }
 
-/// K10, for an access of this size with only one address.
+/// Tests K10 for an access of this size with only one address: true if that is aligned, or the plan
+/// states the trap.
 fn may_access_by_size_at(plan: &Plan, x: u32, size: u8) -> bool
     requires { IsShapeAccessSize size }
     ensures { IsTrue result

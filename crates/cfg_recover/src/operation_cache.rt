@@ -50,7 +50,7 @@ pub struct OperationCache {
     three: CachedOperation,
 }
 
-/// Whether a value is the set of these words.
+/// Returns true if a value in the cache of operations is the Set of these words.
 fn is_cached_set(v: &Val, words: &[u32]) -> bool
     ensures { IsTrue result ↔ (v.now ≡ Set words.now) }
 {
@@ -60,8 +60,8 @@ fn is_cached_set(v: &Val, words: &[u32]) -> bool
     }
 }
 
-/// The operation of an instruction of this shape, if it works on two data registers whose values
-/// are sets of many words, and writes a data register.
+/// Returns the operation of an instruction that the cache may keep: both operands are data
+/// registers whose values are Sets of many words. The result goes to a data register.
 #[inline(always)]
 fn cacheable_operation(shape: Shape, s: &State) -> Option<SetOperation<'_>>
     ensures shape { IfSome result (λ o. o.shape ≡ shape) }
@@ -84,7 +84,8 @@ fn cacheable_operation(shape: Shape, s: &State) -> Option<SetOperation<'_>>
     })
 }
 
-/// The words of a data register's value, if that is a set of many words.
+/// Returns the words of a data register's value, if that is a Set of so many words that the cache
+/// keeps operations on them.
 fn cacheable_words(s: &State, r: Arg) -> Option<&[u32]>
     ensures { IfSome result (λ ws. IsSetOperand s.now r ws.now) }
 {
@@ -159,7 +160,7 @@ impl CachedOperation {
         }
     }
 
-    /// Whether the entry has this operation with the same operands.
+    /// Returns true only if this entry of the cache has the operation, on equal Sets.
     fn has(&self, operation: SetOperation<'_>) -> bool
         ensures { IsTrue result → IsSameOperation self.now operation.entry }
     {

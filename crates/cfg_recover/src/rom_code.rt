@@ -11,8 +11,8 @@ use tc_isa::Inst;
 use tcd_base::is_in_any_range;
 use tcd_plan::Plan;
 
-/// The instruction at an address, and its length. The address is even; the bytes are in one rom
-/// range and in segments of the image.
+/// Returns the instruction at an address of rom, and its length in bytes, or `None`. The address
+/// must be even, and the bytes in one rom range and in segments of the image.
 pub fn code_at(image: &Image, plan: &Plan, addr: u32) -> Option<(Inst, u32)>
     ensures { FindsCode image.now plan.now addr result }
 {
@@ -29,8 +29,9 @@ pub fn code_at(image: &Image, plan: &Plan, addr: u32) -> Option<(Inst, u32)>
     }
 }
 
-/// Four bytes of the image in one rom range. The segment with the number `near` is tried first, and
-/// `near` becomes the number of the one that holds them.
+/// Returns four bytes of code from an address on, if one rom range and the image's segments have
+/// them. Segment number `near` is tried first; `near` becomes the number of the one that holds
+/// them.
 #[inline(always)]
 pub(crate) fn four_bytes_in_rom(
     image: &Image,
@@ -47,8 +48,8 @@ pub(crate) fn four_bytes_in_rom(
     }
 }
 
-/// The byte of the image at an address. The segment with the number `near` is tried first, and
-/// `near` becomes the number of the one that holds the byte.
+/// Returns the image's byte of code at an address, if a segment holds one. Segment number `near` is
+/// tried first; `near` becomes the number of the one that holds the byte.
 #[inline(always)]
 pub(crate) fn code_byte_at(image: &Image, addr: u32, near: &mut usize) -> Option<u8>
     ensures { result ≡ image_byte image.now addr }
@@ -73,7 +74,8 @@ fn code_in_bytes(bytes: &[u8]) -> Option<(Inst, u32)>
     }
 }
 
-/// Two bytes of the image in one rom range.
+/// Returns two bytes of code from an address on, if one rom range and the image's segments have
+/// them.
 #[inline(always)]
 fn two_bytes_in_rom(image: &Image, plan: &Plan, addr: u32) -> Option<[u8; 2]>
     ensures { FindsHeldBytes image.now plan.now addr 2 result }
@@ -94,7 +96,7 @@ fn is_code_in_rom(plan: &Plan, addr: u32, count: u32) -> bool
     is_in_any_range(plan.rom.as_slice(), addr, count)
 }
 
-/// Two bytes of the image, if segments hold them.
+/// Returns two bytes of code from an address on, if segments of the image hold them.
 #[inline(always)]
 fn two_code_bytes(image: &Image, addr: u32) -> Option<[u8; 2]>
     requires { addr + 2 ≤ 2 ^ 32 }
@@ -105,8 +107,8 @@ fn two_code_bytes(image: &Image, addr: u32) -> Option<[u8; 2]>
     Some([first, second])
 }
 
-/// Four bytes of the image, if segments hold them. The segment with the number `near` is tried
-/// first: mostly it holds all four, as it held the last ones.
+/// Returns four bytes of code from an address on, if segments of the image hold them. Segment
+/// number `near`, which held the last ones, is tried first.
 #[inline(always)]
 fn four_code_bytes(image: &Image, addr: u32, near: &mut usize) -> Option<[u8; 4]>
     requires { addr + 4 ≤ 2 ^ 32 }
@@ -120,7 +122,7 @@ fn four_code_bytes(image: &Image, addr: u32, near: &mut usize) -> Option<[u8; 4]
     four_code_bytes_anywhere(image, addr, near)
 }
 
-/// Four bytes of a segment from an address on, if it holds them all.
+/// Returns four bytes of code from an address on, if this segment of the image holds them all.
 #[inline(always)]
 fn four_code_bytes_of(segment: &Segment, addr: u32) -> Option<[u8; 4]>
     ensures { IfSome result (SegmentHoldsBytes (segment_data segment.now) addr) }
@@ -136,8 +138,8 @@ fn four_code_bytes_of(segment: &Segment, addr: u32) -> Option<[u8; 4]>
     Some([bytes[at], bytes[at + 1], bytes[at + 2], bytes[at + 3]])
 }
 
-/// Four bytes of the image, if segments hold them. All segments are tried. If one holds all four
-/// bytes, `near` becomes its number.
+/// Returns four bytes of code from an address on, if segments of the image hold them; all are
+/// tried. If one holds all four, `near` becomes its number.
 #[inline(never)]
 fn four_code_bytes_anywhere(image: &Image, addr: u32, near: &mut usize) -> Option<[u8; 4]>
     requires { addr + 4 ≤ 2 ^ 32 }
@@ -152,8 +154,8 @@ fn four_code_bytes_anywhere(image: &Image, addr: u32, near: &mut usize) -> Optio
     four_code_bytes_apart(image, addr)
 }
 
-/// Four bytes of the image, if segments hold them. Each byte is looked for by itself, since
-/// segments may meet within the four.
+/// Returns four bytes of code from an address on, if segments of the image hold them. Each byte is
+/// looked for by itself, since segments may meet within the four.
 #[inline(never)]
 fn four_code_bytes_apart(image: &Image, addr: u32) -> Option<[u8; 4]>
     requires { addr + 4 ≤ 2 ^ 32 }

@@ -9,7 +9,8 @@ use elf_image::Image;
 use tcd_plan::Plan;
 use value_domain::{A10_SLOT, State, Val};
 
-/// The state at the start: only A10, IE and CCPN are known.
+/// Returns the abstract state in which a run starts: only A10, IE and CCPN are known, from the
+/// plan.
 #[tactic(auto, unfolding(vd_transfer::specs::Registers::slot))]
 pub fn start_state(plan: &Plan) -> State
     ensures { result ≡ entries.start_state plan.now }
@@ -25,14 +26,15 @@ pub fn start_state(plan: &Plan) -> State
     }
 }
 
-/// The values of the 27 registers at the start, before A10 is set: all are unknown.
+/// Returns 27 register values of which none is known, for the state in which a run starts.
 pub(crate) fn unknown_regs() -> [Val; 27]
     ensures { result ≡ replicate 27 any_val }
 {
     std::array::from_fn(|_| Val::any())
 }
 
-/// The key of the frame in which a run starts.
+/// Returns the key of the frame in which a run starts: the image's entry, at priority 0, on the
+/// stack that the plan names.
 pub fn start_key(image: &Image, plan: &Plan) -> Key
     ensures { result ≡ entries.start_key image.now plan.now }
 {

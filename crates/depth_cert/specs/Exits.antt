@@ -16,7 +16,7 @@ use Rattle.depth_cert.specs.Points.{IsWellFormedCertValue}
 abbrev pub lower_values : List Val → List Val
 lower_values regs = take 8 regs ++ take 6 (drop 16 regs)
 
--- the exit of a state
+-- the exit of a frame that returns in this state: IE, CCPN, and the values of the lower registers
 abbrev pub exit_of : State → Exit
 exit_of s = record { ie = s.ie; ccpn = s.ccpn; lower = lower_values s.regs }
 
@@ -37,17 +37,17 @@ state_after_exit s x kind = record s {
   lower = false;
 }
 
--- an exit covers another
+-- an exit covers another: by the values of lower registers, IE and CCPN
 pub record ExitCovers (upper x : Exit) : Type 0 where
   pub lower : AreBelow x.lower upper.lower
   pub enabled : IsTrue x.ie → IsTrue upper.ie
   pub priority : upper.ccpn ≤ x.ccpn
 
--- the least exit that covers both
+-- the join of two exits: the least one that covers both
 abbrev pub joined_exit : Limits → Exit → Exit → Exit
 joined_exit b x y = record { ie = x.ie || y.ie; ccpn = min x.ccpn y.ccpn; lower = joined_regs b x.lower y.lower }
 
--- an exit that knows nothing
+-- the exit to return if none can be read, without values
 abbrev pub no_exit : Exit
 no_exit = record { ie = false; ccpn = 0; lower = [] }
 

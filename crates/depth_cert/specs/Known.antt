@@ -7,12 +7,13 @@ use Rattle.depth_cert.specs.declared.points.Exit.{Exit}
 use Rattle.depth_cert.specs.Exits.{ExitCovers, joined_exit}
 use Rattle.depth_cert.specs.declared.points.Exit as exits
 
--- what is known at a place
+-- what is known at a place of a frame: the state at a point, or the exit
 pub data Known : Type 0 where
   state : State → Known
   leaving : Exit → Known
 
--- what is known covers something of its kind
+-- what is known at a place of a frame covers something of its kind: a state a state, an exit an
+-- exit
 abbrev pub CoversKnown : Known → Known → Type 0
 CoversKnown (state u) (state s) = Covers u s
 CoversKnown (leaving y) (leaving x) = ExitCovers y x

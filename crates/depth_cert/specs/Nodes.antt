@@ -33,7 +33,7 @@ need_of (Some n) = n.need
 abbrev pub count_points : List NodeData → ℕ
 count_points ns = sum_by (λ n. length n.points) ns
 
--- the keys of these nodes in their order, each as one number
+-- the keys of a certificate's nodes in their order, each as one number
 abbrev pub key_numbers : List NodeData → List ℕ
 key_numbers ns = map (λ n. number_of_key n.key) ns
 

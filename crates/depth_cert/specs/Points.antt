@@ -34,11 +34,11 @@ pub record IsPoint (version : ℕ) (p : Point) : Type 0 where
 abbrev pub addresses : List Point → List ℕ
 addresses ps = map (λ p. p.addr) ps
 
--- points are in ascending order of their addresses
+-- a node's points are in ascending order of their addresses
 abbrev pub ArePoints : List Point → Type 0
 ArePoints ps = IsStrictlyIncreasing (addresses ps)
 
--- the point at an address, if there is one
+-- the point of a node at an address, if there is one
 abbrev pub find_point : ℕ → List Point → Option Point
 find_point addr ps = find (λ p. p.addr == addr) ps
 

@@ -13,34 +13,39 @@ use Rattle.depth_cert.specs.Nodes.{NodeData}
 use Rattle.depth_cert.specs.Certs.{CertData}
 use Rattle.value_domain.specs.Values.{is_any_span}
 
--- a Set as its number of words and these; any word as 0; a Span as its step plus 240, and its ends
+-- a value's bytes in a certificate: a Set's number of words and these; 0 for any word; a Span's
+-- step plus 240 and its ends
 unfoldable pub bytes_of_value : Val → List ℕ
 bytes_of_value (Set ws) = length ws ∷ flat_map bytes_of_word ws
 bytes_of_value (Span lo last step) = if is_any_span lo last step then 0 ∷ [] else (240 + step) ∷ bytes_of_word lo ++ bytes_of_word last
 
--- ie, ccpn, lower, the number of locals and the locals, and the registers' values
+-- the bytes of a state in a certificate: ie, ccpn, lower, the number of locals and the locals, and
+-- the registers' values
 unfoldable pub bytes_of_state : State → List ℕ
 bytes_of_state s =
     cert_flag_byte s.ie ∷ s.ccpn ∷ cert_flag_byte s.lower ∷ length s.locals.items ∷ map cert_flag_byte s.locals.items ++ flat_map bytes_of_value s.regs
 
--- the address and the state
+-- the bytes of a point in a certificate: the address and the state
 unfoldable pub bytes_of_point : Point → List ℕ
 bytes_of_point p = bytes_of_word p.addr ++ bytes_of_state p.state
 
--- the kind, the entry, the priority, and PSW.IS
+-- the bytes of a key in a certificate: the kind, the entry, the priority, and PSW.IS
 unfoldable pub bytes_of_key : Key → List ℕ
 bytes_of_key k = k.kind ∷ bytes_of_word k.entry ++ (k.prio ∷ cert_flag_byte k.is ∷ [])
 
--- 0 for no exit; else 1, ie, ccpn, and the values of the lower registers
+-- the bytes of a node's exit in a certificate: 0 for no exit; else 1, ie, ccpn, and the values of
+-- the lower registers
 unfoldable pub bytes_of_exit : Option Exit → List ℕ
 bytes_of_exit None = 0 ∷ []
 bytes_of_exit (Some e) = 1 ∷ cert_flag_byte e.ie ∷ e.ccpn ∷ flat_map bytes_of_value e.lower
 
--- the key, the need, the exit, the number of points and the points
+-- the bytes of a node in a certificate: the key, the need, the exit, the number of points and the
+-- points
 unfoldable pub bytes_of_node : NodeData → List ℕ
 bytes_of_node n =
     bytes_of_key n.key ++ (bytes_of_half n.need ++ (bytes_of_exit n.exit ++ (bytes_of_word (length n.points) ++ flat_map bytes_of_point n.points)))
 
--- the magic word, the format, the number of nodes and the nodes
+-- the only bytes that spell a certificate: the magic word, the format, the number of nodes and the
+-- nodes
 unfoldable pub bytes_of_cert : CertData → List ℕ
 bytes_of_cert c = bytes_of_word 0x43444354 ++ (bytes_of_half c.version ++ (bytes_of_half (length c.nodes) ++ flat_map bytes_of_node c.nodes))

@@ -12,12 +12,13 @@ pub record IsWellFormedState (b : Limits) (s : State) : Type 0 where
   pub values : AreValues b s.regs
   pub few : length s.locals.items ≤ b.most_locals
 
--- an exit at the limits: 14 values of the plan's lattice
+-- an exit is within the limits of a plan and a format: 14 values of the plan's lattice
 pub record IsWellFormedExit (b : Limits) (x : Exit) : Type 0 where
   pub regs : length x.lower ≡ 14
   pub values : AreValues b x.lower
 
--- what is known is within the limits
+-- what is known at a place of a frame, a state or an exit, is within the limits of a plan and a
+-- format
 abbrev pub IsWellFormedKnown : Limits → Known → Type 0
 IsWellFormedKnown b (state s) = IsWellFormedState b s
 IsWellFormedKnown b (leaving x) = IsWellFormedExit b x

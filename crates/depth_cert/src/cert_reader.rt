@@ -11,7 +11,7 @@ pub(crate) const MAGIC: u32 = 0x4344_4354;
 /// The greatest number of nodes.
 const MOST_NODES: u16 = 2048;
 
-/// Reads the magic bytes 54 43 44 43.
+/// Reads the magic bytes 54 43 44 43 at the start of a certificate, or returns the fault there.
 #[tactic(auto, unfolding(crate::specs::Grammar::magic_at))]
 pub fn read_magic(c: &mut FileCursor<'_>) -> Result<u32, FormErr>
     ensures { ReadsField result c.old c.new magic_at }
@@ -24,7 +24,7 @@ pub fn read_magic(c: &mut FileCursor<'_>) -> Result<u32, FormErr>
     Ok(magic)
 }
 
-/// Reads the format, 1 or 2.
+/// Reads the format of a certificate, 1 or 2, or returns the fault there.
 #[tactic(auto, unfolding(crate::specs::Grammar::version_at))]
 pub fn read_version(c: &mut FileCursor<'_>) -> Result<u8, FormErr>
     ensures read { ReadsField result c.old c.new version_at }
@@ -39,7 +39,7 @@ pub fn read_version(c: &mut FileCursor<'_>) -> Result<u8, FormErr>
     }
 }
 
-/// Reads the number of nodes, at most 2,048.
+/// Reads the number of a certificate's nodes, at most 2,048, or returns the fault there.
 #[tactic(auto, unfolding(crate::specs::Grammar::node_count_at))]
 pub fn read_node_count(c: &mut FileCursor<'_>) -> Result<u16, FormErr>
     ensures { ReadsField result c.old c.new node_count_at }

@@ -45,14 +45,15 @@ pub struct Key {
     pub is: bool,
 }
 
-/// Returns the number of a key. Keys are ordered by it.
+/// Returns the number of a node's key, by which a certificate orders its nodes.
 pub fn key_number(key: &Key) -> u64
     ensures { result ≡ number_of_key key.now }
 {
     key_number_of_fields(key.kind, key.entry, key.prio, if key.is { 1 } else { 0 })
 }
 
-/// Returns the fields of a key as one number. Keys are ordered by it.
+/// Returns the number of a key with these fields, by which a certificate orders its nodes: kind,
+/// then entry, then prio, then is.
 pub(crate) fn key_number_of_fields(kind: u8, entry: u32, prio: u8, is: u8) -> u64
     ensures { result ≡ key_number kind entry prio is }
 {

@@ -1,7 +1,7 @@
 // The law of spellings.
 ghost use Rattle.depth_cert.specs.SpellingLaws.{SpellingIsRead};
 
-/// The law of spellings: from the bytes that spell a certificate, this certificate is read.
+/// The law of spellings: the bytes that spell a certificate are read as this certificate.
 pub fn spelling_laws()
     ensures { SpellingIsRead }
 {}

@@ -13,7 +13,8 @@ use tcd_base::{
     read_u32,
 };
 
-/// Reads the key of a node. `last` is the number of the node before, if there is one.
+/// Reads the key of a certificate's node, or returns the first fault. `last` is the number of the
+/// key before, if there is one.
 #[tactic(auto, unfolding(crate::specs::Grammar::key_after))]
 #[inline]
 pub fn read_key(c: &mut FileCursor<'_>, last: Option<u64>) -> Result<Key, FormErr>
@@ -42,8 +43,8 @@ pub fn read_key(c: &mut FileCursor<'_>, last: Option<u64>) -> Result<Key, FormEr
     })
 }
 
-/// Returns true if the number of a key is above that of the node before, or if there is no node
-/// before.
+/// Returns true if a certificate's node may have a key of this number: one above that of the node
+/// before, if there is one.
 fn is_next_node_number(last: Option<u64>, number: u64) -> bool
     ensures { result ≡ is_above_last_read last number }
 {
@@ -56,7 +57,7 @@ fn is_next_node_number(last: Option<u64>, number: u64) -> bool
 /// The greatest need of a node, in areas.
 const MOST_NEED: u16 = 4096;
 
-/// Reads the need of a node, at most 4,096 areas.
+/// Reads the need of a certificate's node, at most 4,096 areas, or returns the fault there.
 #[tactic(auto, unfolding(crate::specs::Grammar::need_at))]
 pub fn read_need(c: &mut FileCursor<'_>) -> Result<u16, FormErr>
     ensures { ReadsField result c.old c.new need_at }
@@ -82,7 +83,8 @@ pub fn read_has_exit(c: &mut FileCursor<'_>, kind: u8) -> Result<bool, FormErr>
     Ok(exit)
 }
 
-/// Reads an exit in place: IE, CCPN, and the values of the lower registers.
+/// Reads the exit of a certificate's node over `out`: IE, CCPN, and the values of the 14 lower
+/// registers.
 #[tactic(auto, unfolding(crate::specs::Grammar::exit_at))]
 pub fn read_exit(c: &mut FileCursor<'_>, version: u8, out: &mut Exit) -> Result<(), FormErr>
     ensures ok { OnOk result (exit_at version c.old ≡ Ok (out.new, c.new)) }
@@ -95,8 +97,8 @@ pub fn read_exit(c: &mut FileCursor<'_>, version: u8, out: &mut Exit) -> Result<
     Ok(())
 }
 
-/// Reads the number of a node's points. The nodes before have `used`; all together are at most
-/// 65,536.
+/// Reads the number of the points of a certificate's node. The nodes before have `used`; all
+/// together may have 65,536.
 #[tactic(auto, unfolding(crate::specs::Grammar::point_count_at))]
 pub fn read_point_count(c: &mut FileCursor<'_>, used: usize) -> Result<u32, FormErr>
     requires used { used ≤ 2 ^ 16 }

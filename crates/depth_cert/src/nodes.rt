@@ -5,7 +5,7 @@ use crate::Exit;
 use std::marker::Model;
 use value_domain::Val;
 
-/// Returns an exit that knows nothing, for a `Node`: IE is off, CCPN is 0, and each lower register
+/// Returns an exit as room for one of a certificate: IE is off, CCPN is 0, and each lower register
 /// may have any value.
 pub fn no_exit() -> Exit
     ensures ie { result.ie ≡ false }

@@ -7,7 +7,8 @@ use crate::value_reader::read_flag;
 use arrayvec::ArrayVec;
 use tcd_base::{ABOVE_LIMIT, BAD_ORDER, FileCursor, FormErr, form_err_at, read_u8, read_u32};
 
-/// Reads a list of flags: their number, at most 4 in format 1 and 8 in format 2, and each flag.
+/// Reads the flags of a state's saved lower contexts: their number, at most 4 in format 1 and 8 in
+/// format 2, and each flag.
 #[tactic(auto, unfolding(crate::specs::Grammar::locals_at))]
 pub fn read_locals(c: &mut FileCursor<'_>, version: u8) -> Result<ArrayVec<bool, 8>, FormErr>
     ensures ok { IfOk result (λ l. locals_at version c.old ≡ Ok (l.items, c.new)) }
@@ -23,7 +24,8 @@ pub fn read_locals(c: &mut FileCursor<'_>, version: u8) -> Result<ArrayVec<bool,
     read_flags(c, count)
 }
 
-/// Reads the address of a point. `last` is the address of the point before, if there is one.
+/// Reads the address of a certificate's point, which must be above `last`, that of the point
+/// before, if there is one.
 #[tactic(auto, unfolding(crate::specs::Grammar::address_after))]
 #[inline]
 pub fn read_address(c: &mut FileCursor<'_>, last: Option<u32>) -> Result<u32, FormErr>
@@ -38,7 +40,7 @@ pub fn read_address(c: &mut FileCursor<'_>, last: Option<u32>) -> Result<u32, Fo
     Ok(addr)
 }
 
-/// Reads `count` flags of a state's local areas.
+/// Reads the flags of `count` saved lower contexts of a certificate's state.
 #[tactic(auto, unfolding(tcd_base::specs::FieldReaders::many_fields_at))]
 fn read_flags(c: &mut FileCursor<'_>, count: u8) -> Result<ArrayVec<bool, 8>, FormErr>
     requires few { count ≤ 8 }
@@ -55,8 +57,8 @@ fn read_flags(c: &mut FileCursor<'_>, count: u8) -> Result<ArrayVec<bool, 8>, Fo
     Ok(flags)
 }
 
-/// Returns true if a point's address is above that of the point before, or if there is no point
-/// before.
+/// Returns true if a certificate's point may have this address: one above that of the point before,
+/// if there is one.
 fn is_next_point_address(last: Option<u32>, addr: u32) -> bool
     ensures { result ≡ is_above_last_read last addr }
 {

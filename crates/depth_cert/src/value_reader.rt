@@ -31,7 +31,7 @@ pub fn read_flag(c: &mut FileCursor<'_>) -> Result<bool, FormErr>
     Ok(byte == 1)
 }
 
-/// Reads a Set of `n` words, at most `N`, in place.
+/// Reads the `n` words of a Set, at most `N`, from a certificate over `out`.
 #[tactic(auto, unfolding(crate::specs::Grammar::set_at))]
 #[inline(never)]
 fn read_set<const N: usize>(c: &mut FileCursor<'_>, n: usize, out: &mut Val) -> Result<(), FormErr>
@@ -51,7 +51,7 @@ fn read_set<const N: usize>(c: &mut FileCursor<'_>, n: usize, out: &mut Val) -> 
     Ok(())
 }
 
-/// Reads a value of a format in place, or returns its first fault.
+/// Reads an abstract value of a certificate of this format over `out`, or returns the first fault.
 #[tactic(auto, unfolding(crate::specs::Grammar::value_at))]
 pub fn read_value(c: &mut FileCursor<'_>, version: u8, out: &mut Val) -> Result<(), FormErr>
     ensures ok { OnOk result (value_at version c.old ≡ Ok (out.new, c.new)) }
@@ -77,7 +77,7 @@ pub fn read_value(c: &mut FileCursor<'_>, version: u8, out: &mut Val) -> Result<
     read_span(c, version, byte - SPAN, start, out)
 }
 
-/// Reads a value into each place of `out`, or returns the first fault.
+/// Reads an abstract value of a certificate into each place of `out`, or returns the first fault.
 #[tactic(auto, unfolding(crate::specs::Grammar::values_at))]
 pub fn read_values(c: &mut FileCursor<'_>, version: u8, out: &mut [Val]) -> Result<(), FormErr>
     ensures ok { OnOk result (values_at version (length out.old) c.old ≡ Ok (out.new, c.new)) }
@@ -90,7 +90,7 @@ pub fn read_values(c: &mut FileCursor<'_>, version: u8, out: &mut [Val]) -> Resu
     Ok(())
 }
 
-/// Reads a word of a Set, which is above those before it.
+/// Reads a word of a Set from a certificate. The word must be above those before.
 #[tactic(auto, unfolding(crate::specs::Grammar::set_word_after))]
 fn read_set_word(c: &mut FileCursor<'_>, before: &[u32]) -> Result<u32, FormErr>
     ensures read { ReadsField result c.old c.new (set_word_after before.now) }
@@ -104,7 +104,8 @@ fn read_set_word(c: &mut FileCursor<'_>, before: &[u32]) -> Result<u32, FormErr>
     Ok(word)
 }
 
-/// Makes a value the Set of ascending words.
+/// Overwrites an abstract value with the Set of the ascending words that were read from a
+/// certificate.
 fn make_set_of_ascending(words: &[u32], out: &mut Val)
     requires some { 1 ≤ length words.now }
     requires few { length words.now ≤ 128 }
@@ -114,14 +115,16 @@ fn make_set_of_ascending(words: &[u32], out: &mut Val)
     set_words(out, words);
 }
 
-/// Returns true if a word is above the last of those before it, or if there are none before it.
+/// Returns true if a word may be the next one of a Set in a certificate: above those before, if
+/// there are any.
 fn is_next_set_word(before: &[u32], x: u32) -> bool
     ensures { result ≡ is_above_last_read (last_number_read before.now) x }
 {
     before.is_empty() || before[before.len() - 1] < x
 }
 
-/// Reads the ends of a Span, whose first byte was read at `start`, in place.
+/// Reads the two ends of a Span from a certificate over `out`. The step was read before, at
+/// `start`, where a fault is reported.
 #[tactic(auto, unfolding(crate::specs::Grammar::span_at))]
 fn read_span(
     c: &mut FileCursor<'_>,
@@ -149,7 +152,8 @@ fn read_span(
     Ok(())
 }
 
-/// Returns true if a certificate of the format spells these ends and this step as a Span.
+/// Returns true if a certificate of this format may spell this Span: one of more members than a Set
+/// can have, but not all words.
 fn is_cert_span(version: u8, lo: u32, last: u32, step: u8) -> bool
     requires { step ≤ 2 }
     ensures { result ≡ is_cert_span version lo last step }

@@ -12,7 +12,7 @@ use crate::value_reader::SPAN;
 use tcd_base::{NoMemory, put_u32};
 use value_domain::Val;
 
-/// Appends the only bytes that spell a value.
+/// Appends the only bytes that spell an abstract value in a certificate.
 pub fn write_value(out: &mut Vec<u8>, v: &Val) -> Result<(), NoMemory>
     requires { IsWellFormed v.now }
     ensures { OnOk result (out.new.items ≡ out.old.items ++ bytes_of_value v.now) }
@@ -34,7 +34,7 @@ pub fn write_key(out: &mut Vec<u8>, key: &Key) -> Result<(), NoMemory>
     write_cert_flag(out, key.is)
 }
 
-/// Appends the byte that says that there is no exit.
+/// Appends the byte of a certificate that says that a node has no exit.
 #[tactic(auto, unfolding(crate::specs::Spelling::bytes_of_exit))]
 pub fn write_no_exit(out: &mut Vec<u8>) -> Result<(), NoMemory>
     ensures { OnOk result (out.new.items ≡ out.old.items ++ bytes_of_exit None) }
@@ -42,7 +42,7 @@ pub fn write_no_exit(out: &mut Vec<u8>) -> Result<(), NoMemory>
     write_cert_byte(out, 0)
 }
 
-/// Appends the bytes that spell a Set: the number of its words, and these.
+/// Appends the bytes that spell a Set in a certificate: the number of its words, and these.
 #[tactic(auto, unfolding(crate::specs::Spelling::bytes_of_value))]
 fn write_set(out: &mut Vec<u8>, words: &[u32]) -> Result<(), NoMemory>
     requires { length words.now ≤ 128 }
@@ -74,7 +74,7 @@ fn write_cert_byte(out: &mut Vec<u8>, x: u8) -> Result<(), NoMemory>
     Ok(())
 }
 
-/// Appends the words of a Set, one after another.
+/// Appends the words of a Set to the bytes of a certificate, one after another.
 fn write_set_words(out: &mut Vec<u8>, words: &[u32]) -> Result<(), NoMemory>
     ensures { OnOk result (out.new.items ≡ out.old.items ++ flat_map bytes_of_word words.now) }
 {

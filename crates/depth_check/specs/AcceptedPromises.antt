@@ -20,6 +20,7 @@ AcceptedIsSafe = OfAccepted (λ image plan cert. Safe image plan (certified_need
 abbrev pub AcceptedHoldsFrames : Type 0
 AcceptedHoldsFrames = OfAccepted FramesHeld
 
--- and each step's edge is a duty there, or the return to the frame before
+-- each step's edge, in every run, is a duty of the point of the newest frame, or the return to the
+-- frame before
 abbrev pub AcceptedOwesEdges : Type 0
 AcceptedOwesEdges = OfAccepted EdgesOwed

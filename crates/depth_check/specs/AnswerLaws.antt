@@ -27,7 +27,7 @@ pub record AnswerSays (image : ImageData) (plan : PlanData) (cert : CertData) : 
   pub safe : (n : ℕ) → IfAnswerIsYes (Yes n) (Safe image plan) → Safe image plan n
   pub no : (r : ℕ) (k : Key) (p : ℕ) → IsCheckAnswer image plan cert (No r k p) → FirstFaultNamesFirstFailure image plan cert r k p
 
--- of every image, plan and certificate
+-- what the checker's answers say holds for every image, plan and certificate
 abbrev pub AnswersSay : Type 0
 AnswersSay =
     (image : ImageData) (plan : PlanData) (cert : CertData) → image.entry < 2 ^ 32 → IsPlan plan → IsCert cert → AnswerSays image plan cert

@@ -7,8 +7,8 @@ use Rattle.cfg_recover.specs.RulesHoldOrFail.{Accepts, IsFirstFault, certified_n
 use Rattle.depth_check.specs.declared.verdicts.Verdict.{Verdict}
 use Rattle.depth_check.specs.declared.verdicts.Verdict.TheVariants.{Yes, No}
 
--- yes: the rules accept the certificate, and n is the start's need, at most the areas without the
--- reserve; no: the first fault
+-- a yes: the rules accept the certificate, and n is the start's need, within the areas without the
+-- reserve; a no: the first fault
 abbrev pub IsCheckAnswer : ImageData → PlanData → CertData → Verdict → Type 0
 IsCheckAnswer image plan cert (Yes n) = Accepts image plan cert × (n ≡ certified_need image plan cert) × (n ≤ plan.areas - plan.reserve)
 IsCheckAnswer image plan cert (No rule key addr) = IsFirstFault image plan cert rule key addr

@@ -17,25 +17,26 @@ use Rattle.depth_check.specs.declared.fast_paths.CheckedRegisters.{CheckedRegist
 use Rattle.depth_check.specs.PointCheckData.{PointCheckData}
 use Rattle.depth_check.specs.DutiesHold.{HasPointWithState, HasCoveringPoints, DutiesHold}
 
--- the calls to all functions that a checked register names in a state: duties to enter them and,
--- after each, to go on at one address
+-- the duties of calls by the register r in a state: to enter each function that r may name, and to
+-- go on at `back`
 abbrev pub register_call_duties : PlanData → Key → State → ℕ → ℕ → List Owed
 register_call_duties plan key s r back = flat_map (λ t. entry_and_return 5 (call_key key t) (call_entry s) back) (unwrap_or (targets_named_by (reg_of plan s r)) [])
 
--- calls by a register hold in a state, whichever point of the node with that state they return to
+-- calls by the register r hold in a state, whichever point with that state they return to, so the
+-- checker passes over them
 abbrev pub RegisterCallsHold : PlanData → CertData → NodeData → State → ℕ → Type 0
 RegisterCallsHold plan cert node s r = (back : ℕ) → HasPointWithState node back s → (q : ℕ) → DutiesHold cert node s (register_call_duties plan node.key s r back) q
 
--- the node has points for jumps by a register in a state
+-- the node has points that cover the state at all targets of jumps by the register r
 abbrev pub RegisterJumpsHold : PlanData → NodeData → State → ℕ → Type 0
 RegisterJumpsHold plan node s r = HasCoveringPoints node s (unwrap_or (targets_named_by (reg_of plan s r)) [])
 
--- calls and jumps by these registers hold in a state
+-- the checked registers hold in a state of the node: calls by one, jumps by the other
 pub record RegistersHold (plan : PlanData) (cert : CertData) (node : NodeData) (s : State) (registers : CheckedRegisters) : Type 0 where
   pub called : IfSome registers.called (RegisterCallsHold plan cert node s)
   pub jumped : IfSome registers.jumped (RegisterJumpsHold plan node s)
 
--- at a point, they hold in its state
+-- the checked registers hold in the state of the checked point: calls by one, jumps by the other
 abbrev pub RegistersHoldAt : PointCheckData → CheckedRegisters → Type 0
 RegistersHoldAt at registers = RegistersHold at.plan at.cert at.node at.point.state registers
 

@@ -26,7 +26,8 @@ pub record DutyHolds (cert : CertData) (node : NodeData) (s : State) (q : ℕ) (
 abbrev pub HasPointWithState : NodeData → ℕ → State → Type 0
 HasPointWithState node a s = find_point a node.points ≡ Some (record { addr = a; state = s })
 
--- what rule q asks of each of these duties
+-- rule q holds for each of these duties of a checked point, which are met by the certificate's
+-- nodes
 abbrev pub DutiesHold : CertData → NodeData → State → List Owed → ℕ → Type 0
 DutiesHold cert node s duties q = All (DutyHolds cert node s q) duties
 
@@ -35,11 +36,12 @@ DutiesHold cert node s duties q = All (DutyHolds cert node s q) duties
 abbrev pub HasCoveringPoints : NodeData → State → List ℕ → Type 0
 HasCoveringPoints node s targets = All (λ t. HasCoveringPoint node t s) targets
 
--- the node goes on where a frame of the entered node returns
+-- where a frame of the entered node returns, at `back`, the node has a point that covers the state
+-- after the return
 abbrev pub GoesOnAfterReturn : NodeData → State → NodeData → ℕ → Option ℕ → Type 0
 GoesOnAfterReturn node s entered kind back = IfSome back (λ q. IfSome entered.exit (λ x. HasCoveringPoint node q (state_after_exit s x kind)))
 
--- the node has an exit that covers the exit of the state
+-- the certificate's node has an exit that covers the lower registers, IE and CCPN of the state
 abbrev pub HasCoveringExit : NodeData → State → Type 0
 HasCoveringExit node s = IsSomeAnd node.exit (λ y. ExitCovers y (exit_of s))
 

@@ -15,15 +15,15 @@ use Rattle.depth_check.specs.declared.last_interrupts.InterruptContext.{Interrup
 use Rattle.depth_check.specs.declared.last_interrupts.LastInterrupts.{LastInterrupts}
 use Rattle.depth_check.specs.DutiesHold.{DutiesHold}
 
--- the context of a state of a node's point, apart from A10: the stack in use, IE, CCPN, and the
--- areas that the node's need leaves beside the locals
+-- the interrupt context of a state of the node, apart from A10: stack in use, IE, CCPN, and the
+-- areas left beside the locals
 pub record IsContext (context : InterruptContext) (node : NodeData) (s : State) : Type 0 where
   pub is : context.is ≡ (node.key).is
   pub ie : context.ie ≡ s.ie
   pub ccpn : context.ccpn ≡ s.ccpn
   pub spare : context.spare ≡ node.need - length s.locals.items
 
--- a state of a node's point has this context, apart from A10, and no fewer areas are left
+-- a state of the node has this interrupt context, apart from A10, with no fewer areas left
 pub record FitsContextExceptStack (context : InterruptContext) (node : NodeData) (s : State) : Type 0 where
   pub is : context.is ≡ (node.key).is
   pub ie : context.ie ≡ s.ie
@@ -35,7 +35,7 @@ pub record IsBelowContext (context : InterruptContext) (node : NodeData) (s : St
   pub like : FitsContextExceptStack context node s
   pub sp : IsTrue context.is → IsBelow (a10_of s) context.sp
 
--- all rules hold of the entries of interrupts in a state of a node's point
+-- in a state of the node, all rules hold for the entries of the interrupt handlers
 abbrev pub InterruptsHold : PlanData → CertData → NodeData → State → Type 0
 InterruptsHold plan cert node s = (q : ℕ) → DutiesHold cert node s (interrupt_duties_of plan node.key s) q
 
@@ -49,16 +49,16 @@ pub record HoldsInContext (plan : PlanData) (cert : CertData) (context : Interru
   pub sp : IsValue (limits_in plan cert) context.sp
   pub holds : (node : NodeData) (s : State) → IsBelowContext context node s → InterruptsHold plan cert node s
 
--- A10 of both contexts is a well-formed value
+-- in both kept interrupt contexts, A10 is a well-formed value
 pub record AreStacksWellFormed (kept : LastInterrupts) : Type 0 where
   pub last : IfSome kept.last (λ a. IsWellFormed a.sp)
   pub before : IfSome kept.before (λ a. IsWellFormed a.sp)
 
--- the entries hold in both contexts
+-- the handlers' entries hold in both kept interrupt contexts
 pub record LastInterruptsHold (plan : PlanData) (cert : CertData) (kept : LastInterrupts) : Type 0 where
   pub last : IfSome kept.last (HoldsInContext plan cert)
   pub before : IfSome kept.before (HoldsInContext plan cert)
 
--- all rules hold of the entries of interrupts in a state, with this A10 instead of the state's
+-- with this A10 instead of the state's, all rules hold for the entries of the interrupt handlers
 abbrev pub InterruptsHoldWith : PlanData → CertData → NodeData → State → Val → Type 0
 InterruptsHoldWith plan cert node s sp = (q : ℕ) → DutiesHold cert node s (interrupt_entries_with plan node.key s sp) q

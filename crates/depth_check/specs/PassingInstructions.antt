@@ -8,14 +8,14 @@ use Rattle.tc_machine.specs.Instructions.{machine_address_ahead}
 use Rattle.cfg_recover.specs.Code.{IsCode}
 use Rattle.cfg_recover.specs.LocalRules.{direct_target}
 
--- an instruction of this shape and size at p changes nothing, and this address is its only
--- successor
+-- an instruction of this shape and size at p, a nop or a jump, changes nothing and has one
+-- successor, this address
 abbrev pub IsPassingShape : ℕ → Shape → ℕ → ℕ → Type 0
 IsPassingShape p Nothing n next = machine_address_ahead p n ≡ next
 IsPassingShape p (Jump to) n next = direct_target p to ≡ Some next
 IsPassingShape p _ n next = ⊥
 
--- such an instruction is at p
+-- the instruction at p, a nop or a jump to one address, changes nothing, and goes on at `next`
 pub record HasPassingInstruction (image : ImageData) (plan : PlanData) (p next : ℕ) : Type 0 where
   pub shape : Shape
   pub size : ℕ

@@ -6,7 +6,8 @@ use Rattle.depth_cert.specs.declared.points.Point.{Point}
 use Rattle.depth_cert.specs.Nodes.{NodeData}
 use Rattle.depth_cert.specs.Certs.{CertData}
 
--- what a point is checked against, its node, and the point
+-- a point that is checked, as plain data: the limits, image, plan and certificate, its node, and
+-- the point
 pub record PointCheckData : Type 0 where
   pub bounds : Limits
   pub image : ImageData

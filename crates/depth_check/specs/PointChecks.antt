@@ -14,8 +14,8 @@ use Rattle.depth_check.specs.Interrupts.{InterruptsHold}
 use Rattle.depth_cert.specs.declared.points.Point.{Point}
 use Rattle.depth_check.specs.declared.points.CurrentPoint.{CurrentPoint}
 
--- what a point that is checked knows by its walk: the walk is over the node's points and at this
--- state, and if its next point covers a state, the node has a point there that covers it
+-- the walk is over the node's points and at this state, and the next point, if found to cover a
+-- state, does so
 pub record LooksAhead (node : NodeData) (s : State) (w : WalkData) : Type 0 where
   pub points : w.points ≡ node.points
   pub current : w.current ≡ s
@@ -35,7 +35,7 @@ pub record IsPointCheck (at : Inside) : Type 0 where
   pub values : AreValues at.bounds.now (at.point.state.now).regs
   pub facts : HasPathFacts at.plan.now at.cert.now at.node.now at.point
 
--- the point that is checked now, as a certificate has it: its address and its state
+-- the checked point as a certificate has points: its address and its state
 abbrev pub point_here : CurrentPoint → Point
 point_here here = record { addr = here.addr; state = here.state.now }
 

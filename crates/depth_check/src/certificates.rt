@@ -28,8 +28,8 @@ pub fn check(image: &Image, plan: &Plan, cert: &Cert) -> Verdict
     judge(image, plan, cert)
 }
 
-/// Returns the certificate's node of the start, as K1 asks for it: with a point at the image's
-/// entry that covers the start state. `None` if there is none.
+/// Returns the start's node of the certificate if K1 holds: its point at the image's entry covers
+/// the start state. Else `None`.
 #[inline(never)]
 pub(crate) fn start_node<'a>(image: &Image, plan: &Plan, cert: &'a Cert) -> Option<Node<'a>>
     ensures none { IsNone result → HoldsAtStart image.now plan.now cert.now → ⊥ }

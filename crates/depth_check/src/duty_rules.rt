@@ -34,8 +34,8 @@ use tc_isa::{Shape, Target};
 use value_domain::State;
 use vd_transfer::Change;
 
-/// Returns the least rule that the duties of a point break: what it enters, its interrupts, how it
-/// leaves the node, or its successors. The instruction breaks no rule by itself.
+/// Returns the least rule that the duties of a checked point break: successors, entries of frames,
+/// interrupts, the exit. `None` if all hold.
 pub(crate) fn rule_broken_by_duties(
     at: &PointCheck<'_, '_>,
     found: &Located,
@@ -65,8 +65,8 @@ pub(crate) fn rule_broken_by_duties(
     )
 }
 
-/// Returns the least rule that a point's duties to enter interrupt handlers break. They are passed
-/// over if they are known to hold.
+/// Returns the least rule that the entries of interrupt handlers at a checked point break. Entries
+/// known to hold are passed over.
 pub(crate) fn rule_broken_by_interrupts(at: &PointCheck<'_, '_>) -> Option<u8>
     ensures { FindsLeastBrokenByDuties at.now
         (interrupt_duties_of at.now.plan at.now.node.key at.now.point.state) result }
@@ -86,8 +86,8 @@ pub(crate) fn rule_broken_by_interrupts(at: &PointCheck<'_, '_>) -> Option<u8>
     rule_broken_by_taken_irqs(at, irqs.as_slice())
 }
 
-/// The least rule that the entries of these interrupts break. `entry` is their change, except for
-/// its CCPN.
+/// Returns the least rule that the entries of these interrupts' handlers break. `entry` is the
+/// change at an entry, except for CCPN.
 pub(crate) fn rule_broken_by_irqs(at: &PointCheck<'_, '_>, irqs: &[u8], entry: Change) -> Option<u8>
     requires { AreWellFormed (state_after at.now.point.state entry).regs }
     ensures { FindsLeastBrokenByDuties at.now
@@ -103,7 +103,8 @@ pub(crate) fn rule_broken_by_irqs(at: &PointCheck<'_, '_>, irqs: &[u8], entry: C
     found
 }
 
-/// The least rule that the entries of a call or a system call break.
+/// Returns the least rule that a checked point breaks by what its call or SYSCALL enters. `None`
+/// for other instructions.
 fn rule_broken_by_entries(
     at: &PointCheck<'_, '_>,
     shape: Shape,
@@ -125,8 +126,8 @@ fn rule_broken_by_entries(
     }
 }
 
-/// The least rule that the trap of a misaligned access breaks. Without that trap in the plan no
-/// entry is owed, since K10 holds.
+/// Returns the least rule that a checked point breaks by the trap of a misaligned access, if the
+/// plan has that trap.
 fn rule_broken_by_access(at: &PointCheck<'_, '_>, found: &Located) -> Option<u8>
     requires { IsFaultlessShape at.now.bounds at.now.image at.now.plan
         at.now.node.key at.now.point.addr at.now.point.state found.now }
@@ -144,8 +145,8 @@ fn rule_broken_by_access(at: &PointCheck<'_, '_>, found: &Located) -> Option<u8>
     rule_broken_by_trap_entry(at)
 }
 
-/// Returns the least rule that a point's duty to leave its node breaks: by RET, or by RFE in the
-/// handler of system calls.
+/// Returns K6 or K7 if a checked RET, or RFE of a system call's handler, leaves in a state that the
+/// node's exit doesn't cover.
 #[tactic(auto, unfolding(cfg_recover::specs::FlowDuties::flow_leave_of))]
 fn rule_broken_by_leaving(node: &Node<'_>, s: &State, shape: Shape) -> Option<u8>
     requires { AreWellFormed s.now.regs }
@@ -164,8 +165,8 @@ fn rule_broken_by_leaving(node: &Node<'_>, s: &State, shape: Shape) -> Option<u8
     }
 }
 
-/// The least rule that a call breaks. Calls by the register `called` are passed over if the point
-/// after them has the current state; if calls by another register hold, that one is kept.
+/// Returns the least rule that a checked call breaks. Calls by the register `called`, known to hold
+/// in this state, are passed over.
 fn rule_broken_by_unknown_call(
     at: &PointCheck<'_, '_>,
     to: Target,
@@ -198,8 +199,8 @@ fn rule_broken_by_unknown_call(
     found
 }
 
-/// Returns the least rule that the entry of the handler of the system call `tin` breaks, with the
-/// point to which it returns.
+/// Returns the least rule that a checked SYSCALL breaks: by the entry of the handler, its need, or
+/// the point at `back`.
 #[inline(never)]
 fn rule_broken_by_system_call(at: &PointCheck<'_, '_>, tin: u8, back: u32) -> Option<u8>
     ensures { FindsLeastBrokenByDuties at.now
@@ -212,8 +213,8 @@ fn rule_broken_by_system_call(at: &PointCheck<'_, '_>, tin: u8, back: u32) -> Op
     rule_broken_by_entry(at, NO_SYSTEM_CALL, &key, &entry, Some(back))
 }
 
-/// Returns the least rule that the entries of a call's functions break, with the points to which
-/// they return.
+/// Returns the least rule that a checked call breaks: by the entries of the functions that may be
+/// called, their needs, or at `back`.
 #[inline(never)]
 fn rule_broken_by_call(at: &PointCheck<'_, '_>, to: Target, back: u32) -> Option<u8>
     requires { IsTarget to }
@@ -230,7 +231,8 @@ fn rule_broken_by_call(at: &PointCheck<'_, '_>, to: Target, back: u32) -> Option
     }
 }
 
-/// The least rule that calls of these targets break. They return to `back`.
+/// Returns the least rule that calls of the functions at these addresses break; each returns to
+/// `back`.
 fn rule_broken_by_calls(
     at: &PointCheck<'_, '_>,
     entry: &Change,
@@ -253,8 +255,8 @@ fn rule_broken_by_calls(
     found
 }
 
-/// The least rule that a call of a key's node breaks. If the call of the key `held` holds and both
-/// nodes have the same entry and exit, only needs are compared. If a call holds, its key is kept.
+/// Returns the least rule that a call of one function breaks. After `held`, with the same entry and
+/// exit, only needs are compared.
 fn rule_broken_by_called_node(
     at: &PointCheck<'_, '_>,
     key: &Key,
@@ -285,7 +287,7 @@ fn rule_broken_by_called_node(
     found
 }
 
-/// The least rule that a call breaks whose targets are those of a register.
+/// Returns the least rule that a checked call breaks by the functions that its register may name.
 #[inline(never)]
 fn rule_broken_by_call_list(
     at: &PointCheck<'_, '_>,
@@ -305,8 +307,8 @@ fn rule_broken_by_call_list(
     rule_broken_by_calls(at, entry, targets.as_slice(), back)
 }
 
-/// The least rule that the entry of a key's node with a changed state breaks. `rule` asks for the
-/// entry; the frame returns to `back`.
+/// Returns the least rule that the entry of a frame breaks: `rule` if no node covers the changed
+/// state, K14, or K4 at `back`.
 fn rule_broken_by_entry(
     at: &PointCheck<'_, '_>,
     rule: u8,
@@ -335,16 +337,16 @@ fn rule_broken_by_entry(
     lesser_broken_rule(lesser_broken_rule(into, need), on)
 }
 
-/// Whether the need of a node is at least the areas of its locals, one for the entry, and the
-/// entered node's need.
+/// Returns whether a node's need has room for its locals, one area for the entry, and the entered
+/// node's need: K14.
 fn has_need_for_entry(node: &Node<'_>, s: &State, entered: &Node<'_>) -> bool
     ensures { IsTrue result ↔ (length s.now.locals.items + 1 + entered.now.need ≤ node.now.need) }
 {
     s.locals.len() + 1 + usize::from(entered.need) <= usize::from(node.need)
 }
 
-/// Tests K4 of an entry: whether the node goes on at `back` after a frame of the entered node has
-/// returned. True if `back` is no address.
+/// Returns whether the node has a point at `back` that covers the state after the entered frame's
+/// return, as K4 asks. True without `back`.
 fn has_point_after_entry(
     node: &Node<'_>,
     s: &State,
@@ -361,7 +363,8 @@ fn has_point_after_entry(
     }
 }
 
-/// The least rule that the entry of the handler of misaligned accesses breaks.
+/// Returns the least rule that a checked point breaks by the entry of the handler of misaligned
+/// accesses.
 #[inline(never)]
 fn rule_broken_by_trap_entry(at: &PointCheck<'_, '_>) -> Option<u8>
     ensures { FindsLeastBrokenByDuties at.now
@@ -375,7 +378,8 @@ fn rule_broken_by_trap_entry(at: &PointCheck<'_, '_>) -> Option<u8>
     rule_broken_by_entry(at, NO_MISALIGNED, &key, &entry, None)
 }
 
-/// The least rule that the entries of these interrupts break, which are all that may be taken.
+/// Returns the least rule that the handlers' entries break for all interrupts that may be taken at
+/// a checked point.
 #[inline(never)]
 fn rule_broken_by_taken_irqs(at: &PointCheck<'_, '_>, irqs: &[u8]) -> Option<u8>
     requires { irqs.now ≡ irqs_of at.now.plan at.now.point.state }

@@ -58,8 +58,8 @@ pub(crate) fn fast_path_next(at: &PointCheck<'_, '_>, codes: &mut KnownCodes) ->
     }
 }
 
-/// Whether an instruction of this shape leaves each state as it is: one that changes nothing, or a
-/// store that leaves its base as it is. It needs no change, and the state is compared as it is.
+/// Returns true only if an instruction of this shape changes no state, so that the checker compares
+/// the state before the instruction.
 pub(crate) fn may_skip_change(shape: Shape) -> bool
     ensures { IsTrue result → (b : Limits) (plan : PlanData) (s : State) (loaded : Val)
         → transfer_of b plan shape s loaded ≡ s }
@@ -71,9 +71,8 @@ pub(crate) fn may_skip_change(shape: Shape) -> bool
     }
 }
 
-/// Whether each side of this branch allows no more than the state before it: true unless the branch
-/// lowers a counter. A point that covers the state before the branch then covers both sides, and no
-/// value is refined.
+/// Returns true only if both sides of this branch allow no more than the state before, so that the
+/// checker needn't refine values first.
 pub(crate) fn may_skip_refinement(shape: Shape) -> bool
     ensures { IsTrue result → (b : Limits) (plan : PlanData) (s : State) (side : Bool)
         → AreValues b s.regs → IfSome (refine_of b plan shape s side) (Covers s) }
@@ -111,8 +110,8 @@ pub(crate) struct CheckedRegisters {
 }
 
 impl CheckedRegisters {
-    /// The registers that are known at the next point too, whose address is `next` if it has the
-    /// current state.
+    /// Returns these checked registers if the next point, at `next`, has the same state; else no
+    /// registers.
     #[inline(always)]
     pub(crate) fn kept_if_repeated(self, next: Option<u32>) -> CheckedRegisters
         ensures { result ≡ record {
@@ -133,7 +132,8 @@ pub(crate) const NO_REGISTERS: CheckedRegisters = CheckedRegisters {
     jumped: None,
 };
 
-/// The least rule that a step breaks which changes nothing.
+/// Returns K4 if the node has no point at `next` that covers the checked point's own state, which
+/// its instruction keeps.
 pub(crate) fn rule_broken_by_kept_state(at: &PointCheck<'_, '_>, next: u32) -> Option<u8>
     ensures { FindsLeastBrokenByDuties at.now (owed 4 (jump next at.now.point.state) ∷ []) result }
 {

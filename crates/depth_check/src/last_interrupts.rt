@@ -24,7 +24,7 @@ pub(crate) struct LastInterrupts {
 }
 
 impl LastInterrupts {
-    /// No context is kept.
+    /// Returns no interrupt contexts: before any point of a certificate is checked.
     pub(crate) fn none() -> LastInterrupts
         ensures { (plan : PlanData) (cert : CertData) → LastInterruptsHold plan cert result }
     {
@@ -34,8 +34,8 @@ impl LastInterrupts {
         }
     }
 
-    /// Whether the entries are known to hold in a state of the node's point. It isn't looked up if
-    /// interrupts are off.
+    /// Returns true only if a kept context shows that the handlers' entries hold in a state of the
+    /// node; false with interrupts off.
     pub(crate) fn covers(&self, node: &Node<'_>, s: &State) -> bool
         requires stacks { AreStacksWellFormed self.now }
         requires stack { IsWellFormed (a10_of s.now) }
@@ -51,8 +51,8 @@ impl LastInterrupts {
         context_covers(&self.before, node, s)
     }
 
-    /// The join of the last context's A10 and the state's, if the state needs more only because of
-    /// A10.
+    /// Returns the join of the last kept context's A10 with the state's, if the state needs more
+    /// only because of A10, or `None`.
     fn join_stack(&self, b: &Bounds, node: &Node<'_>, s: &State) -> Option<Val>
         requires last { IfSome self.now.last (λ a. IsValue b.now a.sp) }
         requires values { AreValues b.now s.now.regs }
@@ -71,8 +71,9 @@ impl LastInterrupts {
         }
     }
 
-    /// Keeps the context of a point whose entries hold, and drops the older of the two contexts.
-    /// This is a function of its own, so that the loop over points needs no stack for a value.
+    /// Keeps the interrupt context of a point whose handlers' entries hold, and drops the older of
+    /// the two kept ones. A function of its own, so that the loop over points needs no stack for a
+    /// value.
     #[inline(never)]
     pub(crate) fn keep_context(&mut self, at: &PointCheck<'_, '_>)
         requires holds { InterruptsHold at.now.plan at.now.cert at.now.node at.now.point.state }
@@ -98,7 +99,8 @@ pub(crate) struct InterruptContext {
 }
 
 impl InterruptContext {
-    /// The context of a state of the node's point, with this A10.
+    /// Returns the interrupt context of a state of the node, with the stack pointer `sp` instead of
+    /// its A10.
     fn of_state(node: &Node<'_>, s: &State, sp: Val) -> InterruptContext
         ensures same { IsContext result node.now s.now }
         ensures sp { result.sp ≡ sp }
@@ -112,8 +114,8 @@ impl InterruptContext {
         }
     }
 
-    /// Whether a state of the node's point has this context, apart from A10, with no fewer areas
-    /// left.
+    /// Returns whether a state of the node has this interrupt context, apart from A10, with no
+    /// fewer areas left.
     fn is_equal_except_stack(&self, node: &Node<'_>, s: &State) -> bool
         ensures { IsTrue result → FitsContextExceptStack self.now node.now s.now }
     {
@@ -124,7 +126,8 @@ impl InterruptContext {
     }
 }
 
-/// Whether the entries of interrupts that hold in this context hold in the state too.
+/// Returns true only if handlers' entries that hold in this interrupt context hold in the state
+/// too.
 fn context_covers(context: &Option<InterruptContext>, node: &Node<'_>, s: &State) -> bool
     requires own { IfSome context.now (λ a. IsWellFormed a.sp) }
     requires stack { IsWellFormed (a10_of s.now) }

@@ -16,8 +16,8 @@ pub fn accepted_holds_frames()
     ensures edges { AcceptedOwesEdges }
 {}
 
-/// What the numbers of an answer are. A yes has the need of the start's node, and no rule fails. A
-/// no has the first rule that fails, and where.
+/// What the checker's answers say: a yes has the start's need, and no rule fails; a no has the
+/// first fault, and where.
 pub fn answer_laws()
     ensures { AnswersSay }
 {}

@@ -12,7 +12,7 @@ use std::marker::Model;
 use value_domain::State;
 use vd_transfer::Change;
 
-/// Whether the node has a point at this address that covers the state.
+/// Returns whether the certificate's node has a point at this address that covers the state.
 pub(crate) fn has_covering_point(node: &Node<'_>, addr: u32, s: &State) -> bool
     requires { AreWellFormed s.now.regs }
     ensures { IsTrue result ↔ HasCoveringPoint node.now addr s.now }
@@ -23,8 +23,8 @@ pub(crate) fn has_covering_point(node: &Node<'_>, addr: u32, s: &State) -> bool
     }
 }
 
-/// Returns true if the node has points at all these addresses that cover the checked point's own
-/// state.
+/// Returns true if the certificate's node has points at all these addresses that cover the checked
+/// point's own state.
 pub(crate) fn has_covering_points(at: &PointCheck<'_, '_>, targets: &[u32]) -> bool
     ensures { IsTrue result ↔ HasCoveringPoints at.now.node at.now.point.state targets.now }
 {
@@ -36,8 +36,8 @@ pub(crate) fn has_covering_points(at: &PointCheck<'_, '_>, targets: &[u32]) -> b
     true
 }
 
-/// Returns true if the node has a point at this address that covers the checked point's own state.
-/// If both have the same state in the file, a walk compares no values.
+/// Returns true if the node has a point at this address that covers the checked point's own state,
+/// of which the walk may know.
 pub(crate) fn is_own_state_covered(at: &PointCheck<'_, '_>, addr: u32) -> bool
     ensures { IsTrue result ↔ HasCoveringPoint at.now.node addr at.now.point.state }
 {
@@ -47,8 +47,8 @@ pub(crate) fn is_own_state_covered(at: &PointCheck<'_, '_>, addr: u32) -> bool
     at.point.walk.covers_at(addr)
 }
 
-/// Returns true if the node has a point at this address that covers the checked point's state, kept
-/// as it is. `c` may be overwritten with the change that keeps it.
+/// Returns true if the node has a point at this address that covers the checked point's state
+/// unchanged. `c` may be overwritten.
 pub(crate) fn is_kept_state_covered(at: &PointCheck<'_, '_>, addr: u32, c: &mut Change) -> bool
     ensures { IsTrue result ↔ HasCoveringPoint at.now.node addr at.now.point.state }
 {
@@ -59,7 +59,8 @@ pub(crate) fn is_kept_state_covered(at: &PointCheck<'_, '_>, addr: u32, c: &mut 
     at.point.walk.covers_next(addr, c) || is_own_state_covered(at, addr)
 }
 
-/// Whether the node has a point at this address that covers the changed state.
+/// Returns whether the certificate's node has a point at this address that covers the state after a
+/// change.
 pub(crate) fn has_changed_point(node: &Node<'_>, addr: u32, s: &State, c: &Change) -> bool
     requires { AreWellFormed (state_after s.now c.now).regs }
     ensures { IsTrue result ↔ HasCoveringPoint node.now addr (state_after s.now c.now) }
@@ -70,8 +71,8 @@ pub(crate) fn has_changed_point(node: &Node<'_>, addr: u32, s: &State, c: &Chang
     }
 }
 
-/// Returns true if the node has a point at this address that covers the changed state. The next
-/// point of the walk is tried first.
+/// Returns true if the node has a point at this address that covers the checked point's changed
+/// state. The walk's next point comes first.
 pub(crate) fn is_changed_state_covered(at: &PointCheck<'_, '_>, addr: u32, c: &Change) -> bool
     requires { AreWellFormed (state_after at.now.point.state c.now).regs }
     ensures { IsTrue result
@@ -80,8 +81,8 @@ pub(crate) fn is_changed_state_covered(at: &PointCheck<'_, '_>, addr: u32, c: &C
     at.point.walk.covers_next(addr, c) || has_changed_point(at.node, addr, at.point.state, c)
 }
 
-/// Whether the node has a point at `at` that covers the state after a frame of the entered node has
-/// returned. True if the entered node has no exit.
+/// Returns whether the node has a point at `at` that covers the state after the entered frame's
+/// return. True if that frame has no exit.
 pub(crate) fn has_point_after_return(
     node: &Node<'_>,
     at: u32,
@@ -103,7 +104,8 @@ pub(crate) fn has_point_after_return(
     }
 }
 
-/// Whether the node has an exit that covers the exit of the state.
+/// Returns whether the certificate's node has an exit that covers the lower registers, IE and CCPN
+/// of the state.
 pub(crate) fn has_covering_exit(node: &Node<'_>, s: &State) -> bool
     requires { AreWellFormed s.now.regs }
     ensures { IsTrue result ↔ HasCoveringExit node.now s.now }

@@ -33,7 +33,8 @@ pub(crate) struct NodeScratch<'a> {
     pub(crate) walk: PointWalk<'a>,
 }
 
-/// The first fault of a node, by its address and then by its rule.
+/// Returns the first fault of a certificate's node, by its address and then by its rule, or `None`
+/// if all rules hold there.
 #[inline(never)]
 pub(crate) fn node_fault<'a>(
     b: &Bounds,
@@ -92,8 +93,8 @@ pub(crate) fn node_fault<'a>(
     }
 }
 
-/// The first of two faults: that of a point, and K2 at the node's entry unless `good`. An entry
-/// after the point doesn't count yet.
+/// Returns the first of two faults of a node: of a checked point, and, unless `good`, of K2 at the
+/// entry if that isn't later.
 fn earlier_node_fault(good: bool, entry: u32, addr: u32, found: Option<u8>) -> Option<Fault>
     ensures { result ≡ nodes.earlier_node_fault good entry addr found }
 {
@@ -109,7 +110,7 @@ fn earlier_node_fault(good: bool, entry: u32, addr: u32, found: Option<u8>) -> O
     })
 }
 
-/// K2 at the entry of a node.
+/// Returns the fault of K2 at the entry of a certificate's node.
 fn node_entry_fault(entry: u32) -> Fault
     ensures { result ≡ record { rule = 2; addr = entry } }
 {
@@ -119,14 +120,13 @@ fn node_entry_fault(entry: u32) -> Fault
     }
 }
 
-/// Establishes, for the first fault of a checked node, that a point's address is below 2^32, which
-/// its type says.
+/// Establishes that the address of a checked point is below 2^32, as its type says.
 fn node_address_limit(addr: u32)
     ensures { addr < 2 ^ 32 }
 {}
 
-/// Returns true if K2 holds at the entry of a node: it has a point there, and values of the plan in
-/// its exit if it has one.
+/// Returns true if K2 holds at a node's entry: a point stands there, and the values of the exit, if
+/// any, are the plan's.
 pub(crate) fn holds_at_entry(b: &Bounds, node: &Node<'_>) -> bool
     ensures { IsTrue result ↔ HoldsAtEntry b.now node.now }
 {

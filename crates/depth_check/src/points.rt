@@ -79,7 +79,7 @@ pub(crate) struct PointScratch {
     pub(crate) registers: CheckedRegisters,
 }
 
-/// Returns a change that puts nothing. It is room for other changes.
+/// Returns a change that puts nothing: room that checks of points write their changes into.
 #[inline(always)]
 pub(crate) fn empty_change() -> Change {
     Change {
@@ -103,8 +103,8 @@ pub(crate) fn empty_change() -> Change {
     }
 }
 
-/// Returns the least rule that fails at a point whose values are values of the plan: on a fast
-/// path, or by its instruction, duties and need. `scratch.change` is overwritten.
+/// Returns the least rule that fails at a checked point, on a fast path or by its instruction,
+/// duties and need. `None` if all hold.
 pub(crate) fn rule_broken_at(at: &PointCheck<'_, '_>, scratch: &mut PointScratch) -> Option<u8>
     requires results { HoldsCachedResults at.now.bounds scratch.old.cache }
     requires registers { RegistersHoldAt at.now scratch.old.registers }
@@ -123,8 +123,8 @@ pub(crate) fn rule_broken_at(at: &PointCheck<'_, '_>, scratch: &mut PointScratch
     lesser_broken_rule(lesser_broken_rule(jump, irqs), need)
 }
 
-/// Writes what the instruction changes into the change of `scratch`. The result of an operation on
-/// two sets may be in its cache.
+/// Writes to `scratch.change` what the checked point's instruction changes in its state. The cache
+/// may have the result.
 #[inline(always)]
 pub(crate) fn write_change_at(at: &PointCheck<'_, '_>, found: &Located, scratch: &mut PointScratch)
     requires found { IsFaultlessShape at.now.bounds at.now.image at.now.plan
@@ -156,8 +156,8 @@ pub(crate) fn write_change_at(at: &PointCheck<'_, '_>, found: &Located, scratch:
     );
 }
 
-/// Returns the point that is to be checked, at which the walk is, with facts for the fast paths. If
-/// `known`, the values of the point before it are the plan's.
+/// Returns the point to be checked, where the walk over the node stands. If `known`, the point
+/// before had values of the plan.
 #[inline(always)]
 pub(crate) fn point_of_walk<'b>(
     b: &Bounds,
@@ -189,8 +189,8 @@ pub(crate) fn point_of_walk<'b>(
     }
 }
 
-/// Returns true if each of these values, which are of a checked point's state or of an exit, is a
-/// value of the plan.
+/// Returns true if each of these register values, of a checked point or an exit, is a value of the
+/// plan, as K2 asks.
 pub(crate) fn are_plan_values(b: &Bounds, vs: &[Val]) -> bool
     ensures { IsTrue result ↔ AreValues b.now vs.now }
 {
@@ -202,7 +202,7 @@ pub(crate) fn are_plan_values(b: &Bounds, vs: &[Val]) -> bool
     true
 }
 
-/// Whether the values of a point are values of the plan.
+/// Returns whether all values of the checked point's state are values of the plan, as K2 asks.
 pub(crate) fn are_point_values(b: &Bounds, point: CurrentPoint<'_>) -> bool
     requires { IsTrue point.known → AreValues b.now point.state.now.regs }
     ensures { IsTrue result ↔ AreValues b.now point.entry.state.now.regs }
@@ -213,8 +213,8 @@ pub(crate) fn are_point_values(b: &Bounds, point: CurrentPoint<'_>) -> bool
     are_plan_values(b, &point.state.regs)
 }
 
-/// Returns the least rule that fails at a point whose values are values of the plan. Its
-/// instruction is decoded and checked by itself, and then its duties and its need are checked.
+/// Returns the least rule that fails at a checked point off the fast path: by its decoded
+/// instruction, its duties or its need.
 #[inline(never)]
 fn rule_broken_by_decoded_point(at: &PointCheck<'_, '_>, scratch: &mut PointScratch) -> Option<u8>
     requires results { HoldsCachedResults at.now.bounds scratch.old.cache }

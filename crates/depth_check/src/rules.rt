@@ -36,7 +36,7 @@ pub(crate) const NO_SYSTEM_CALL: u8 = 12;
 /// K14: the need of the node is too small. It is the last rule that a point may break.
 pub(crate) const SMALL_NEED: u8 = 14;
 
-/// The lesser of two rules that fail.
+/// Returns the lesser of two rules that fail at a checked point, or `None` if neither fails.
 pub(crate) fn lesser_broken_rule(a: Option<u8>, b: Option<u8>) -> Option<u8>
     ensures { result ≡ finding.lesser_broken_rule a b }
 {
@@ -47,8 +47,8 @@ pub(crate) fn lesser_broken_rule(a: Option<u8>, b: Option<u8>) -> Option<u8>
     }
 }
 
-/// Whether the node's need has room for the point's locals and, at the start's entry, leaves the
-/// reserve free.
+/// Returns whether the node's need has room for the checked point's locals and, at the start's
+/// entry, leaves the reserve free: K14.
 pub(crate) fn has_own_need(at: &PointCheck<'_, '_>) -> bool
     ensures { IsTrue result ↔ HasOwnNeed at.now.image at.now.plan at.now.node at.now.point }
 {

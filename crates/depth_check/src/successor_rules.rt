@@ -18,8 +18,8 @@ use cfg_recover::{Located, rule_unless, targets};
 use tc_isa::{Shape, Target};
 use vd_transfer::{Change, change_on};
 
-/// The least rule that the successors in the frame break. What follows a call or a system call is
-/// none of them.
+/// Returns K4 if the node doesn't cover a successor of the checked point in its frame. Those after
+/// calls are checked elsewhere.
 pub(crate) fn rule_broken_by_successors(
     at: &PointCheck<'_, '_>,
     found: &Located,
@@ -52,7 +52,7 @@ pub(crate) fn rule_broken_by_successors(
     }
 }
 
-/// The least rule that both sides of a branch break.
+/// Returns K4 if the node doesn't cover one of the two sides of a checked branch.
 #[inline(never)]
 fn rule_broken_by_branch_sides(
     at: &PointCheck<'_, '_>,
@@ -71,8 +71,8 @@ fn rule_broken_by_branch_sides(
     lesser_broken_rule(straight, taken)
 }
 
-/// Returns the least rule that a point breaks by its successors, if its instruction is a jump. A
-/// list of targets is made only for a jump by a register.
+/// Returns K4 if the node doesn't cover a target of the checked jump. Targets are listed only for a
+/// jump by a register.
 fn rule_broken_by_jump(at: &PointCheck<'_, '_>, to: Target, jumped: &mut Option<u8>) -> Option<u8>
     requires target { IsTarget to }
     requires jumped { RegisterJumpsHoldAt at.now jumped.old }
@@ -88,7 +88,8 @@ fn rule_broken_by_jump(at: &PointCheck<'_, '_>, to: Target, jumped: &mut Option<
     }
 }
 
-/// The least rule that an instruction breaks whose only successor is the next one.
+/// Returns K4 if the node doesn't cover the checked point's state after its instruction, at the
+/// next address.
 fn rule_broken_by_next(
     at: &PointCheck<'_, '_>,
     found: &Located,
@@ -109,8 +110,8 @@ fn rule_broken_by_next(
     rule_broken_by_changed_state(at, found, scratch)
 }
 
-/// The least rule that a side of a branch breaks, if the side is possible. If the side allows no
-/// more than the state before it, a point that covers that state suffices.
+/// Returns K4 if the node doesn't cover a possible side of a checked branch. A point that covers
+/// the unrefined state suffices.
 fn rule_broken_by_branch_side(
     at: &PointCheck<'_, '_>,
     shape: Shape,
@@ -131,8 +132,8 @@ fn rule_broken_by_branch_side(
     rule_broken_by_refined_side(at, shape, taken, to, c)
 }
 
-/// The least rule that a side of a branch breaks, if the side is possible. The changed state is
-/// compared.
+/// Returns K4 if the node doesn't cover a side of a checked branch, with the refined state. `None`
+/// if the side isn't possible.
 #[inline(never)]
 fn rule_broken_by_refined_side(
     at: &PointCheck<'_, '_>,
@@ -151,8 +152,8 @@ fn rule_broken_by_refined_side(
     rule_unless(is_changed_state_covered(at, to, c), NO_POINT)
 }
 
-/// The least rule that a jump to the targets of a register breaks. Jumps by the register `jumped`
-/// are passed over; if jumps by another register hold, that one is kept.
+/// Returns K4 if the node doesn't cover a target of a jump by a register, unless jumps by `jumped`
+/// are known to hold.
 #[inline(never)]
 fn rule_broken_by_jump_list(at: &PointCheck<'_, '_>, r: u8, jumped: &mut Option<u8>) -> Option<u8>
     requires register { r < 32 }
@@ -175,7 +176,8 @@ fn rule_broken_by_jump_list(at: &PointCheck<'_, '_>, r: u8, jumped: &mut Option<
     }
 }
 
-/// The least rule that the step to the next instruction breaks.
+/// Returns K4 if the node doesn't cover the changed state at the next address. The change is
+/// written to `scratch`.
 #[inline(never)]
 fn rule_broken_by_changed_state(
     at: &PointCheck<'_, '_>,

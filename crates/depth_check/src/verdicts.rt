@@ -23,8 +23,8 @@ pub enum Verdict {
     No { rule: u8, key: Key, addr: u32 },
 }
 
-/// Returns the verdict on a certificate: yes with the need of the start, or no with the first rule
-/// that fails.
+/// Checks a certificate node by node: returns yes with the start's need, or no with the first rule
+/// that fails, its key and address.
 pub(crate) fn judge(image: &Image, plan: &Plan, cert: &Cert) -> Verdict
     ensures { IsCheckAnswer image.now plan.now cert.now result }
 {

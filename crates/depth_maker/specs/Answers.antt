@@ -17,12 +17,12 @@ use Rattle.depth_maker.specs.SpotsAsPlaces.{place_of_spot}
 use Rattle.depth_cert.specs.Certs.{CertData, IsCert}
 use Rattle.cfg_recover.specs.RulesHoldOrFail.{Accepts}
 
--- answer of the maker when it refuses: no certificate of this format is accepted
+-- the checker accepts no certificate of this format for the image under the plan
 abbrev pub NoneAccepted : ImageData → PlanData → ℕ → Type 0
 NoneAccepted image plan version = (cert : CertData) → IsCert cert → cert.version ≡ version → Accepts image plan cert → ⊥
 
--- a refusal by the maker: it names a fault, or that too many areas are needed, and no certificate
--- of the format is accepted
+-- the maker's error is right: its rule fails at its place, and no certificate of the format is
+-- accepted; nothing is said of NoMemory
 abbrev pub IsRightMakeErr : ImageData → PlanData → ℕ → MakeErr → Type 0
 IsRightMakeErr image plan version (Refused rule key addr) = IsRefusal image plan version rule key addr × NoneAccepted image plan version
 IsRightMakeErr image plan version NoMemory = Unit {0}
@@ -32,7 +32,8 @@ IsRightMakeErr image plan version NoMemory = Unit {0}
 abbrev pub HasLimitsOfFormat : Ground → ℕ → Type 0
 HasLimitsOfFormat g version = g.bounds.now ≡ limits_for g.plan.now version
 
--- the refusal holds
+-- the maker's error names a rule and a place by which no certificate can be made; nothing is said
+-- of NoMemory
 abbrev pub MakeErrHolds : Ground → MakeErr → Type 0
 MakeErrHolds g (Refused rule key addr) = IsRefusalWith g.bounds.now g.image.now g.plan.now rule key addr
 MakeErrHolds g NoMemory = Unit {0}
@@ -42,15 +43,17 @@ MakeErrHolds g NoMemory = Unit {0}
 abbrev pub AreLeastCertBytesOn : Ground → ℕ → List ℕ → Type 0
 AreLeastCertBytesOn g version bytes = AreLeastCertBytes g.image.now g.plan.now version bytes
 
--- the refusal holds, and no certificate of the format is accepted
+-- the maker's error is right for the image and the plan at hand, and no certificate of the format
+-- is accepted
 abbrev pub IsRightMakeErrOn : Ground → ℕ → MakeErr → Type 0
 IsRightMakeErrOn g version e = IsRightMakeErr g.image.now g.plan.now version e
 
--- the fault holds
+-- the refusal names a fault of a derived assignment within these limits; nothing is said of
+-- NoMemory
 abbrev pub RefusalNamesFault : Limits → ImageData → PlanData → Refusal → Type 0
 RefusalNamesFault b image plan (refusal.Fault rule x) = (k : Key) × (p : ℕ) × (place_of_spot x ≡ point k p) × IsRefusalFault b image plan rule k p
 RefusalNamesFault b image plan refusal.NoMemory = Unit {0}
 
--- the fault holds
+-- the refusal names a fault of a derived assignment, for the image, plan and limits at hand
 abbrev pub RefusalIsRight : Ground → Refusal → Type 0
 RefusalIsRight g e = RefusalNamesFault g.bounds.now g.image.now g.plan.now e

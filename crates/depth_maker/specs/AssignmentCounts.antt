@@ -20,13 +20,14 @@ pub record ListsPointsAndFrames (a : Assignment) (ps : List Place) (ks : List Ke
   pub entered : (k : Key) → Contains ks k → IsSome (a (point k k.entry))
   pub once_each : IsDistinct is_same_key ks
 
--- the counts of an assignment pass no limit of certificates: at most 65,536 points and 2,048 frames
+-- the points and frames that the maker has found are within the limits of certificates: 65,536
+-- points, 2,048 frames
 pub record AreFewEnough (ps : List Place) (ks : List Key) : Type 0 where
   pub points : length ps ≤ 2 ^ 16
   pub frames : length ks ≤ 2048
 
--- the maker's table counts each known point and frame of its assignment once, and there aren't too
--- many
+-- the maker's lists have each known point and frame of the table once, within the limits of
+-- certificates
 pub record IsCountedIn {S : Type 0} (places : IndexMap Spot (Marked Known) S) (ps : List Spot) (ks : List Key) : Type 0 where
   pub each : ListsPointsAndFrames (λ q. value_for places (spot_of q)) (map place_of_spot ps) ks
   pub few : AreFewEnough (map place_of_spot ps) ks

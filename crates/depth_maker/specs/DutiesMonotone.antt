@@ -23,7 +23,7 @@ use Rattle.cfg_recover.specs.LocalFaults.{IsFaultless}
 use Rattle.cfg_recover.specs.Duties.{Duty, jump, enter, resume, leave, Owed, duties_of}
 use Rattle.depth_cert.specs.WellFormed.{IsWellFormedState, IsWellFormedExit}
 
--- a duty asks for no more than another, at the same place
+-- two duties ask for something at the same place, and the first for no more than the second
 abbrev pub IsDutyBelow : Duty → Duty → Type 0
 IsDutyBelow (jump q t) (jump r u) = (q ≡ r) × Covers u t
 IsDutyBelow (jump q t) (enter j u) = ⊥
@@ -42,52 +42,54 @@ IsDutyBelow (leave x) (enter j u) = ⊥
 IsDutyBelow (leave x) (resume j r) = ⊥
 IsDutyBelow (leave x) (leave y) = ExitCovers y x
 
--- a duty asks for no more than another, for the same rule
+-- two duties are for the same rule, and the first asks for no more than the second
 pub record IsOwedBelow (d e : Owed) : Type 0 where
   pub rule : d.rule ≡ e.rule
   pub duty : IsDutyBelow d.duty e.duty
 
--- what the growth of duties is stated for: well-formed limits, a plan and an image
+-- what the maker is given is well-formed: the limits of values, the image and the plan
 pub record IsGround (b : Limits) (image : ImageData) (plan : PlanData) : Type 0 where
   pub limits : AreLimits b
   pub is_plan : IsPlan plan
   pub is_image : IsImage image
 
--- a point without a fault of its own has none with a smaller state
+-- faults are monotone in the state: a point without a fault of its own has none with a smaller
+-- state
 abbrev pub FaultsMonotone : Type 0
 FaultsMonotone =
     (b : Limits) (image : ImageData) (plan : PlanData) (key : Key) (p : ℕ) (s t : State) → IsGround b image plan → IsWellFormedState b s → IsWellFormedState b t → Covers t s
     → IsFaultless b image plan key p t → IsFaultless b image plan key p s
 
--- each duty with a smaller state asks for no more than one with the larger
+-- duties are monotone in the state: each one with a smaller state asks for no more than one with
+-- the larger
 abbrev pub DutiesMonotone : Type 0
 DutiesMonotone =
     (b : Limits) (image : ImageData) (plan : PlanData) (key : Key) (p : ℕ) (s t : State) (shape : Shape) (n : ℕ) (d : Owed) → IsGround b image plan
     → IsWellFormedState b s → IsWellFormedState b t → Covers t s → IsFaultless b image plan key p t → IsCode image plan p shape n
     → Contains (duties_of b image plan key p s shape n) d → (e : Owed) × Contains (duties_of b image plan key p t shape n) e × IsOwedBelow d e
 
--- the state after a return grows with the caller's and the exit
+-- the state after a return is monotone in the caller's state and in the exit
 abbrev pub ReturnStatesMonotone : Type 0
 ReturnStatesMonotone =
     (b : Limits) (s t : State) (x y : Exit) (kind : ℕ) → IsWellFormedState b s → IsWellFormedState b t → IsWellFormedExit b x → IsWellFormedExit b y → Covers t s → ExitCovers y x
     → Covers (state_after_exit t y kind) (state_after_exit s x kind)
 
 -- ---- effects
--- why a point's duties grow with its state: the state after the instruction grows with the one
--- before it and with the loaded value
+-- transfer functions are monotone: the state after an instruction grows with the one before and
+-- with the loaded value
 abbrev pub TransfersMonotone : Type 0
 TransfersMonotone =
     (b : Limits) (plan : PlanData) (s t : State) (shape : Shape) (v w : Val) → IsSoundSetting b plan s → IsSoundSetting b plan t → Covers t s → IsShape shape → IsBelow v w
     → Covers (transfer_of b plan shape t w) (transfer_of b plan shape s v)
 
--- for the growth of duties: the addresses of an instruction's access grow with the state before it
+-- addresses are monotone in the state: those of an instruction's access grow with the state before
 abbrev pub AddressesMonotone : Type 0
 AddressesMonotone =
     (b : Limits) (plan : PlanData) (s t : State) (shape : Shape) → IsSoundSetting b plan s → IsSoundSetting b plan t → Covers t s → IsShape shape
     → IsBelow (address_of b plan shape s) (address_of b plan shape t)
 
--- for the growth of duties: a side of a branch that is possible is possible with a larger state,
--- and leads to a larger state
+-- refinement by branches is monotone: a side that is possible is possible with a larger state, and
+-- leads to a larger state
 abbrev pub SidesMonotone : Type 0
 SidesMonotone =
     (b : Limits) (plan : PlanData) (s t u : State) (test : Cond) (x : ℕ) (y : Arg) (by : ℕ) (lowers side : Bool) → IsSoundSetting b plan s → IsSoundSetting b plan t → Covers t s

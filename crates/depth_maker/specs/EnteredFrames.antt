@@ -13,13 +13,14 @@ use Rattle.frame_places.specs.declared.places.Spot.{Spot}
 use Rattle.frame_places.specs.declared.places.Spot.TheVariants.{Point, Exit}
 use Rattle.cfg_recover.specs.Duties.{entry_duties_of, misaligned_duties_of, entered_keys}
 
--- an instruction of this shape enters no frame by itself if none of its accesses breaks K10;
--- interrupts may be taken
+-- where K10 holds, an instruction of this shape owes no entry of a frame, whatever the state;
+-- interrupts apart
 abbrev pub EntersNoFrame : PlanData → Shape → Type 0
 EntersNoFrame plan shape =
     (b : Limits) (k : Key) (p : ℕ) (u : State) (n : ℕ) → LocalRule b plan k p u shape 10 → (entered_keys (entry_duties_of plan k p u shape n) ≡ []) × (entered_keys (misaligned_duties_of b plan k u shape) ≡ [])
 
--- the duties of the instruction at this address enter no frames, except by interrupts
+-- the instruction at this address enters no frame by a call, a system call or a misaligned access,
+-- whatever the state
 pub record EntersNoFrameAt (image : ImageData) (plan : PlanData) (p : ℕ) : Type 0 where
   pub shape : Shape
   pub size : ℕ
@@ -27,8 +28,8 @@ pub record EntersNoFrameAt (image : ImageData) (plan : PlanData) (p : ℕ) : Typ
   pub shaped : IsShape shape
   pub enters : EntersNoFrame plan shape
 
--- the instruction at a place enters no frame, except by interrupts; a frame's exit has no
--- instruction
+-- the instruction at a place enters no frame by a call, system call or misaligned access; an exit
+-- has no instruction
 abbrev pub EntersNoFrameIn : ImageData → PlanData → Spot → Type 0
 EntersNoFrameIn image plan (Point k p) = EntersNoFrameAt image plan p
 EntersNoFrameIn image plan (Exit k) = Unit {0}

@@ -35,22 +35,22 @@ pub record AreHandlersCovered (b : Limits) (plan : PlanData) (a : Assignment) (h
   pub stack : IsValue b h.sp
   pub each : (p : ℕ) → Contains plan.irqs p → h.ccpn < p → IsHandlerCovered b plan a h p
 
--- the entries are covered in a context, if there is one
+-- the handlers' entries are covered in a noted interrupt context; nothing is said if none is noted
 abbrev pub IsContextCovered : Limits → PlanData → Assignment → Option InterruptContext → Type 0
 IsContextCovered b plan a interrupts = IfSome interrupts (AreHandlersCovered b plan a)
 
--- the entries of the interrupt handlers are covered in the last two contexts that the maker's table
--- notes
+-- the handlers' entries are covered in both interrupt contexts that the maker's table notes
 abbrev pub AreContextsCovered : Limits → PlanData → Assignment → LastInterrupts → Type 0
 AreContextsCovered b plan a interrupts = IsContextCovered b plan a interrupts.last × IsContextCovered b plan a interrupts.before
 
--- the context of a frame with this state, which runs on the interrupt stack or on another
+-- the interrupt context of a frame with this state: the stack in use, A10 and CCPN
 pub record IsContextOf (h : InterruptContext) (inner : Bool) (s : State) : Type 0 where
   pub same : h.is ≡ inner
   pub sp : h.sp ≡ a10_of s
   pub ccpn : h.ccpn ≡ s.ccpn
 
--- the context of a frame with this state differs from another at most in A10
+-- the noted interrupt context differs from that of a frame with this state at most in the stack
+-- pointer A10
 pub record IsEqualExceptStack (h : InterruptContext) (inner : Bool) (s : State) : Type 0 where
   pub same : h.is ≡ inner
   pub ccpn : h.ccpn ≡ s.ccpn
@@ -59,8 +59,8 @@ pub record IsEqualExceptStack (h : InterruptContext) (inner : Bool) (s : State) 
 abbrev pub joined_context : Limits → InterruptContext → Val → InterruptContext
 joined_context b h v = record h { sp = join_of b h.sp v }
 
--- a frame with this state takes no interrupt that the maker's noted context doesn't: its CCPN isn't
--- lower; on the interrupt stack its A10 is covered
+-- a frame with this state enters handlers only in states that the noted context covers: CCPN no
+-- lower, A10 below on the interrupt stack
 pub record IsWithinContext (h : InterruptContext) (inner : Bool) (s : State) : Type 0 where
   pub same : h.is ≡ inner
   pub above : h.ccpn ≤ s.ccpn
@@ -72,8 +72,7 @@ pub record AreHandlers (plan : PlanData) (frames : List Key) (irqs : List ℕ) (
   pub priorities : map (λ h. h.prio) handlers ≡ irqs
   pub each : (h : Handler) → Contains handlers h → Contains frames (irq_key plan h.prio) → h.node ≡ frame_number_in frames (irq_key plan h.prio)
 
--- the numbers of the frames of interrupt handlers in the maker's list whose priority is above this
--- one
+-- of the handlers' frames, by their numbers, those whose interrupts have priorities above this one
 abbrev pub handler_nodes_above : ℕ → List Handler → List ℕ
 handler_nodes_above m handlers = map (λ h. h.node) (filter (λ h. nat_lt m h.prio) handlers)
 
@@ -82,13 +81,14 @@ handler_nodes_above m handlers = map (λ h. h.node) (filter (λ h. nat_lt m h.pr
 abbrev pub taken_handlers : Bool → ℕ → List Handler → List ℕ
 taken_handlers ie m handlers = if ie then handler_nodes_above m handlers else []
 
--- frames by their numbers, and the handlers of all stated interrupts with theirs
+-- the map numbers these frames, and the list has the handlers of all interrupts of the plan with
+-- their frames' numbers
 pub record AreNumberedHandlers {S : Type 0} (plan : PlanData) (numbers : IndexMap Key ℕ S) (handlers : List Handler) (frames : List Key) : Type 0 where
   pub all : AreFrameNumbers numbers frames frames
   pub taken : AreHandlers plan frames plan.irqs handlers
 
--- the last context of interrupts in the table covers the entries of the interrupt handlers for each
--- frame with this CCPN, on this stack
+-- the last noted interrupt context covers the handlers' entries from each frame with this CCPN, on
+-- this stack
 pub record AreInterruptsCoveredAt (t : made.Table) (is : Bool) (ccpn : ℕ) : Type 0 where
   pub context : InterruptContext
   pub last : (t.covered).interrupts.last ≡ Some context

@@ -27,7 +27,8 @@ use Rattle.depth_maker.specs.declared.inputs_and_limits.Ground.{Ground}
 use Rattle.depth_maker.specs.declared.table.Table as made
 use Rattle.depth_maker.specs.Answers.{RefusalIsRight}
 
--- v, which wasn't covered, was joined at y alone: y is queued now, and counted
+-- v was joined at the place y of the maker's table, which didn't cover v: y is queued and counted,
+-- and nothing else changed
 pub record IsJoinedAlone (b : Limits) (s t : made.Table) (y : Spot) (v : Known) : Type 0 where
   pub known : Known
   pub raises : raised_at_place b (value_for s.places y) v ≡ Some known
@@ -41,7 +42,8 @@ pub record IsJoinedAlone (b : Limits) (s t : made.Table) (y : Spot) (v : Known) 
   pub frames : t.frames.items ≡ counted_frames_after (is_some (value_for s.places y)) s.frames.items y
   pub few : AreFewEnough (map place_of_spot t.points.items) t.frames.items
 
--- a join keeps places without new work as they are
+-- a join into the maker's table keeps all places without new work as they are, keeps readers and
+-- numbers, and never lowers the level
 pub record JoinKeeps (b : Limits) (image : ImageData) (plan : PlanData) (s t : made.Table) : Type 0 where
   pub each :
       (x : Spot) → is_queued (mark_for t.places x) ≡ false
@@ -56,42 +58,43 @@ pub record JoinKeeps (b : Limits) (image : ImageData) (plan : PlanData) (s t : m
   pub near : t.near ≡ s.near
   pub numbers : KeepsNumbers s.places t.places
 
--- v was joined at y
+-- what flows in, v, was joined at the place y of the maker's table: y covers v, and the invariant
+-- holds
 pub record IsJoinedAt (b : Limits) (image : ImageData) (plan : PlanData) (s t : made.Table) (y : Spot) (v : Known) : Type 0 where
   pub fine : TableInvariantHolds b image plan t
   pub covers : CoversAt (view_of_table t).cells (place_of_spot y) v
   pub keeps : JoinKeeps b image plan s t
 
--- nothing was joined: at most there is more room for places
+-- the join changed nothing in the maker's table; at most there is more room for places
 pub record JoinsNothing (g : Ground) (s t : made.Table) : Type 0 where
   pub fine : TableInvariantHoldsOn g t
   pub keeps : JoinKeeps g.bounds.now g.image.now g.plan.now s t
   pub entries : t.places.entries ≡ s.places.entries
   pub rest : t ≡ record s { places = t.places }
 
--- what a join is asked for: v flows into y from some point of the maker's table
+-- v flows into the place y from some point of the maker's table, which is what a join is asked for
 abbrev pub FlowsInto : Ground → made.Table → Spot → Known → Type 0
 FlowsInto g t y v = AsksFor g.bounds.now g.image.now g.plan.now (view_of_table t).cells (place_of_spot y) v
 
--- v was joined at y alone
+-- v was joined at the place y of the maker's table, and no other place changed
 abbrev pub IsJoinedAloneOn : Ground → made.Table → made.Table → Spot → Known → Type 0
 IsJoinedAloneOn g s t y v = IsJoinedAlone g.bounds.now s t y v
 
--- v was joined at y alone; or y has this number already, and nothing was joined; or the refusal
--- holds
+-- the place y was unknown and now has the value v; or y has this number already, and nothing
+-- changed; or the refusal is right
 abbrev pub AddsJoinedPlace : Ground → made.Table → made.Table → Spot → Known → Result (Option ℕ) Refusal → Type 0
 AddsJoinedPlace g s t y v (Ok None) = IsJoinedAloneOn g s t y v
 AddsJoinedPlace g s t y v (Ok (Some number)) = PlaceHasNumber t.places number y × JoinsNothing g s t
 AddsJoinedPlace g s t y v (Err e) = RefusalIsRight g e
 
--- v was joined at y: alone if the result is true; otherwise it was covered already, or more places
--- rose
+-- v was joined at y, and readers of y aren't queued yet; or y covers v already; or the refusal is
+-- right
 abbrev pub JoinsWithoutReaders : Ground → made.Table → made.Table → Spot → Known → Result Bool Refusal → Type 0
 JoinsWithoutReaders g s t y v (Ok true) = IsJoinedAloneOn g s t y v
 JoinsWithoutReaders g s t y v (Ok false) = IsJoinedAt g.bounds.now g.image.now g.plan.now s t y v
 JoinsWithoutReaders g s t y v (Err e) = RefusalIsRight g e
 
--- v was joined at y
+-- v was joined at the place y of the maker's table, and readers of y are queued if y rose
 abbrev pub JoinsAtPlace : Ground → made.Table → made.Table → Spot → Known → Type 0
 JoinsAtPlace g s t y v = IsJoinedAt g.bounds.now g.image.now g.plan.now s t y v
 

@@ -38,8 +38,8 @@ pub record AreLeastNeeds (b : Limits) (image : ImageData) (plan : PlanData) (a :
   pub meets : MeetsNeeds b image plan a need
   pub least : (other : Key → ℕ) → MeetsNeeds b image plan a other → (k : Key) → need k ≤ other k
 
--- the least certificate, which is to be made: it is accepted, and its assignment and its needs are
--- the least of its format
+-- the certificate is the least of its format: accepted, with the least assignment and the least
+-- needs
 pub record IsMade (image : ImageData) (plan : PlanData) (version : ℕ) (cert : CertData) : Type 0 where
   pub of_version : cert.version ≡ version
   pub accepted : Accepts image plan cert
@@ -62,7 +62,8 @@ pub record IsLeastAccepted (image : ImageData) (plan : PlanData) (version : ℕ)
       (other : CertData) (k : Key) (x : Exit) → IsCert other → other.version ≡ version → Accepts image plan other
       → known_in cert (exit k) ≡ Some (leaving x) → (y : Exit) × (known_in other (exit k) ≡ Some (leaving y)) × ExitCovers y x
 
--- what the maker shows of the certificate that it writes
+-- what the maker proves of a written certificate: derived, closed, without faults, with the least
+-- needs, the start's within the areas
 pub record IsLeastClosedCert (image : ImageData) (plan : PlanData) (version : ℕ) (cert : CertData) : Type 0 where
   pub is_cert : IsCert cert
   pub of_version : cert.version ≡ version
@@ -73,7 +74,7 @@ pub record IsLeastClosedCert (image : ImageData) (plan : PlanData) (version : �
   pub needs : AreLeastNeeds (limits_for plan version) image plan (known_in cert) (needs_in cert)
   pub start : needs_in cert (start_key image plan) ≤ plan.areas - plan.reserve
 
--- the bytes spell the least certificate, which is to be made
+-- the bytes spell the least certificate of this format
 pub record AreLeastCertBytes (image : ImageData) (plan : PlanData) (version : ℕ) (bytes : List ℕ) : Type 0 where
   pub cert : CertData
   pub spell : bytes ≡ bytes_of_cert cert

@@ -72,7 +72,8 @@ SolutionIsAccepted =
     → IsMakerSolution (limits_in plan cert) image plan (known_in cert) (λ k. need_of (find_node k cert.nodes))
     → ((n : NodeData) → Contains cert.nodes n → IsSome (find_point (n.key).entry n.points)) → Accepts image plan cert
 
--- covering is transitive, joins are least, and what points owe grows with their states
+-- the laws of the maker: covering is transitive, joins are least upper bounds, and duties are
+-- monotone in the state
 pub record AreMakerLaws (b : Limits) (image : ImageData) (plan : PlanData) : Type 0 where
   pub covers_same : (v : Known) → CoversKnown v v
   pub covers_through : (v w u : Known) → IsWellFormedKnown b v → IsWellFormedKnown b w → CoversKnown u w → CoversKnown w v → CoversKnown u v
@@ -95,19 +96,21 @@ pub record AreMakerLaws (b : Limits) (image : ImageData) (plan : PlanData) : Typ
       → Covers (state_after_exit t y kind) (state_after_exit s x kind)
   pub after_well_formed : (s : State) (x : Exit) (kind : ℕ) → IsWellFormedState b s → IsWellFormedExit b x → IsWellFormedState b (state_after_exit s x kind)
 
--- law of the maker: if it refuses at a place, each certificate of the format is refused
+-- law of the maker: if the maker refuses at a place, the rules accept no certificate of the format
 abbrev pub RefusalsHold : Type 0
 RefusalsHold =
     (image : ImageData) (plan : PlanData) (version rule : ℕ) (key : Key) (addr : ℕ) (cert : CertData) → IsRightMakeErr image plan version (Refused rule key addr)
     → IsCert cert → cert.version ≡ version → Accepts image plan cert → ⊥
 
--- law of the maker: the certificate that it writes is the one that is to be made
+-- law of the maker: a certificate of a derived closed assignment without faults, with the least
+-- needs, is the least certificate
 abbrev pub LeastClosedCertIsMade : Type 0
 LeastClosedCertIsMade =
     (image : ImageData) (plan : PlanData) (version : ℕ) (cert : CertData) → IsGround (limits_for plan version) image plan → image.entry < 2 ^ 32
     → IsLeastClosedCert image plan version cert → IsMade image plan version cert
 
--- law of the maker: if one of its refusals holds, no certificate of the format is accepted
+-- law of the maker: a refusal by a rule at a place implies that no certificate of the format is
+-- accepted
 abbrev pub RefusalMeansNoneAccepted : Type 0
 RefusalMeansNoneAccepted =
     (image : ImageData) (plan : PlanData) (version r : ℕ) (k : Key) (p : ℕ) → IsGround (limits_for plan version) image plan → image.entry < 2 ^ 32

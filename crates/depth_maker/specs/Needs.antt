@@ -11,12 +11,12 @@ use Rattle.depth_maker.specs.TableView.{view_of_table}
 use Rattle.depth_maker.specs.declared.rows.Source.{Source}
 use Rattle.frame_places.specs.Numbers.{frame_number_in}
 
--- the need of a frame, from needs by numbers
+-- the need of a frame, from a list of needs by the numbers of frames
 abbrev pub need_of_frame : List Key → List ℕ → Key → ℕ
 need_of_frame frames needs k = slice_index needs (frame_number_in frames k)
 
--- the least needs, all within the areas without the reserve; or the start's is above them in any
--- case
+-- the least needs of the table's frames, none above the areas without the reserve; or none, and the
+-- start's is above these
 abbrev pub AreLeastNeedsOrTooMany : Source → Option (Vec ℕ Global) → Type 0
 AreLeastNeedsOrTooMany s (Some needs) =
     AreLeastNeeds (s.ground.now).bounds.now (s.ground.now).image.now (s.ground.now).plan.now (view_of_table s.table.now).cells (need_of_frame (s.table.now).frames.items needs.items)
@@ -25,13 +25,14 @@ AreLeastNeedsOrTooMany s None =
     (need : Key → ℕ) → MeetsNeeds (s.ground.now).bounds.now (s.ground.now).image.now (s.ground.now).plan.now (view_of_table s.table.now).cells need
     → ((s.ground.now).plan.now).areas - ((s.ground.now).plan.now).reserve < need (start_key (s.ground.now).image.now (s.ground.now).plan.now)
 
--- the least needs; or that the start's is above the areas, and the first recursion, if any
+-- the least needs of the table's frames; or the start's is above the areas without the reserve,
+-- with the first recursion, if any
 abbrev pub LeastNeedsOrRecursion : Source → Result (Vec ℕ Global) (Option (Key × ℕ)) → Type 0
 LeastNeedsOrRecursion s (Ok needs) = AreLeastNeedsOrTooMany s (Some needs)
 LeastNeedsOrRecursion s (Err place) = AreLeastNeedsOrTooMany s None × IsFirstRecursion s place
 
--- the least needs of the table's frames, by their numbers; none is above the areas without the
--- reserve
+-- these are the least needs of the frames of the maker's table, by numbers, and none is above the
+-- areas without the reserve
 pub record AreLeastTableNeeds (s : Source) (needs : List ℕ) : Type 0 where
   pub least : AreLeastNeeds (s.ground.now).bounds.now (s.ground.now).image.now (s.ground.now).plan.now (view_of_table s.table.now).cells (need_of_frame (s.table.now).frames.items needs)
   pub few : (k : Key) → need_of_frame (s.table.now).frames.items needs k ≤ ((s.ground.now).plan.now).areas - ((s.ground.now).plan.now).reserve

@@ -15,44 +15,50 @@ use Rattle.frame_places.specs.declared.needs.reach.FrameEdge.{FrameEdge}
 use Rattle.frame_places.specs.declared.needs.row.NeedRow.{NeedRow}
 use Rattle.depth_maker.specs.declared.rows.Source.{Source}
 
--- the point p of the frame k enters t
+-- in the assignment of the maker's table, the point p of the frame k with the state u enters the
+-- frame t
 abbrev pub RecursionEnters : Source → Key → ℕ → State → Key → Type 0
 RecursionEnters s k p u t = EntersInAssignment (s.ground.now).bounds.now (s.ground.now).image.now (s.ground.now).plan.now (view_of_table s.table.now).cells k p u t
 
--- it enters a frame from which its own is reached
+-- in the maker's table, the point p of the frame k enters a frame from which k is reached
 abbrev pub RecursAt : Source → Key → ℕ → Type 0
 RecursAt s k p = Recurs (s.ground.now).bounds.now (s.ground.now).image.now (s.ground.now).plan.now (view_of_table s.table.now).cells k p
 
--- it is the first point that does
+-- in the maker's table, the point p of k is the first, by key and address, that enters a frame from
+-- which k is reached
 abbrev pub RecursFirstAt : Source → Key → ℕ → Type 0
 RecursFirstAt s k p = IsRefusedRecursion (s.ground.now).bounds.now (s.ground.now).image.now (s.ground.now).plan.now (view_of_table s.table.now).cells k p
 
--- the first recursive point, or that there is none
+-- the first point, by key and address, that enters a frame from which its own is reached; or no
+-- point does
 abbrev pub IsFirstRecursion : Source → Option (Key × ℕ) → Type 0
 IsFirstRecursion s None = (k : Key) (p : ℕ) → RecursAt s k p → ⊥
 IsFirstRecursion s (Some x) = RecursFirstAt s x.0 x.1
 
--- the edges of the frames, by their numbers
+-- the edges of the maker's frames, by their numbers: from each point's frame to the frames that the
+-- point enters
 abbrev pub AreTableEdges : Source → List FrameEdge → Type 0
 AreTableEdges s edges = (rows : List NeedRow) × RowsOn s.ground.now s.table.now rows × AreEdges rows edges
 
--- the numbers that order the frames
+-- the numbers of the keys of the maker's frames, by which recursions are ordered
 abbrev pub recursion_orders_in : Source → List ℕ
 recursion_orders_in s = map number_of_key (s.table.now).frames.items
 
--- the point p of the frame k enters a marked frame
+-- in the maker's table, the point p of the frame k enters a marked frame, from which k is reached
 pub record EntersMarkedFrame (s : Source) (marks : List Bool) (k : Key) (p : ℕ) : Type 0 where
   pub before : State
   pub next : Key
   pub enters : RecursionEnters s k p before next
   pub marked : IsNodeMarked marks (frame_number_in (s.table.now).frames.items next)
 
--- the first address of the frame k among these places at which a marked frame is entered
+-- the least address, among these places of the frame k, at which a marked frame is entered; or no
+-- place enters one
 abbrev pub IsFirstRecursiveAddress : Source → List Bool → Key → List Spot → Option ℕ → Type 0
 IsFirstRecursiveAddress s marks k ys None = (p : ℕ) → Contains ys (Point k p) → EntersMarkedFrame s marks k p → ⊥
 IsFirstRecursiveAddress s marks k ys (Some p) = EntersMarkedFrame s marks k p × ((q : ℕ) → Contains ys (Point k q) → EntersMarkedFrame s marks k q → p ≤ q)
 
--- if `old` is the first among some places, `new` is it among these and one more
+-- `new` is the first recursive address among some places and y, if `old` is the first among the
+-- others
 abbrev pub IsFirstRecursiveAddressWith : Source → List Bool → Key → Spot → Option ℕ → Option ℕ → Type 0
 IsFirstRecursiveAddressWith s marks k y old new =
     (ys : List Spot) → IsFirstRecursiveAddress s marks k ys old → IsFirstRecursiveAddress s marks k (ys ++ y ∷ []) new

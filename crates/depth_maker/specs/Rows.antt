@@ -31,7 +31,8 @@ use Rattle.value_domain.specs.Limits.{Limits}
 use Rattle.cfg_recover.specs.LocalFaults.{IsFaultlessShape}
 use Rattle.cfg_recover.specs.Duties.{duties_of, entered_keys}
 
--- the row of the point p of frame k with the state u; frames go by their numbers
+-- the row, for the needs, of the point p of frame k with state u: its frame, locals, and the frames
+-- entered, by numbers
 pub record IsRowAt (b : Limits) (image : ImageData) (plan : PlanData) (frames : List Key) (k : Key) (p : ℕ) (u : State) (row : NeedRow) : Type 0 where
   pub found : Located
   pub stands : IsFaultlessShape b image plan k p u found
@@ -44,32 +45,33 @@ pub record AreRows (b : Limits) (image : ImageData) (plan : PlanData) (a : Assig
   pub sound : (row : NeedRow) → Contains rows row → (k : Key) × (p : ℕ) × (u : State) × (a (point k p) ≡ Some (state u)) × IsRowAt b image plan frames k p u row
   pub complete : (k : Key) (p : ℕ) (u : State) → a (point k p) ≡ Some (state u) → (row : NeedRow) × Contains rows row × IsRowAt b image plan frames k p u row
 
--- the point's row
+-- the row of the visited point, from its instruction and its state
 abbrev pub IsVisitedPointRow : Visit → List Key → NeedRow → Type 0
 IsVisitedPointRow v frames row = IsRowAt (v.ground.now).bounds.now (v.ground.now).image.now (v.ground.now).plan.now frames v.key v.addr v.state.now row
 
--- the point's frame and those that it enters are among these
+-- the visited point's frame, and each frame that the point enters, is among these frames
 pub record AreRowFramesAmong (v : Visit) (frames : List Key) : Type 0 where
   pub own : Contains frames v.key
   pub entered : (found : Located) → OwesDutiesOf v found → (k : Key) → Contains (entered_keys (visit_duties v found)) k → Contains frames k
 
--- the rows of all points of a table
+-- the rows, for the needs, of all known points of the maker's table
 abbrev pub RowsOn : Ground → made.Table → List NeedRow → Type 0
 RowsOn g t rows = AreRows g.bounds.now g.image.now g.plan.now (view_of_table t).cells t.frames.items rows
 
--- a table without work, the numbers of its frames, and its handlers
+-- what rows are made from: a finished table of the maker, the numbers of its frames, and its
+-- interrupt handlers
 pub record IsRowSource (s : Source) : Type 0 where
   pub done : IsLeastClosedTable s.ground.now s.table.now
   pub numbers : AreFrameNumbers s.numbers.now (s.table.now).frames.items (s.table.now).frames.items
   pub handlers : AreHandlers (s.ground.now).plan.now (s.table.now).frames.items ((s.ground.now).plan.now).irqs s.handlers.now
 
--- the row of a known point
+-- the row, for the needs, of the point p of frame k, by its state in the maker's table
 abbrev pub IsPointRow : Source → Key → ℕ → NeedRow → Type 0
 IsPointRow s k p row =
     (u : State) × ((view_of_table s.table.now).cells (point k p) ≡ Some (state u))
     × IsRowAt (s.ground.now).bounds.now (s.ground.now).image.now (s.ground.now).plan.now (s.table.now).frames.items k p u row
 
--- the value and the mark of a point, and the number of its frame
+-- what the maker's table has for this point: its value with its mark, and the number of its frame
 pub record IsKnownRowPoint (s : Source) (at : KnownPoint) : Type 0 where
   pub known : get spot_eq (s.table.now).places (Point at.key at.addr) ≡ Some at.known.now
   pub node : at.node ≡ frame_number_in (s.table.now).frames.items at.key
@@ -81,11 +83,12 @@ pub record IsPlainRow (s : Source) (number : ℕ) (o : Outline) (row : NeedRow) 
   pub held : row.held ≡ o.held
   pub into : row.into.items ≡ taken_handlers o.ie o.ccpn s.handlers.now
 
--- each outline of the list, which is that of a frame, has its row among these
+-- each outline that a frame's plain points share has its row among these rows
 abbrev pub OutlinesHaveRows : Source → List NeedRow → List (Option Outline) → Type 0
 OutlinesHaveRows s rows outlines = (number : ℕ) (o : Outline) → slice_get outlines number ≡ Some (Some o) → (row : NeedRow) × Contains rows row × IsPlainRow s number o row
 
--- a point is plain, and its outline is the list's for its frame
+-- the point is plain, and its outline (IE, CCPN, number of locals) is the one that is listed for
+-- its frame
 pub record HasEqualRow (outlines : List (Option Outline)) (node : ℕ) (known : Marked Known) : Type 0 where
   pub outline : Outline
   pub there : slice_get outlines node ≡ Some (Some outline)
@@ -93,7 +96,7 @@ pub record HasEqualRow (outlines : List (Option Outline)) (node : ℕ) (known : 
   pub plain : known.mark ≡ Plain
 
 -- ---- one after another
--- the rows of the first `count` entries of the table
+-- the draft has the rows of the points among the first `count` places of the maker's table
 pub record HasFirstRows (s : Source) (count : ℕ) (draft : RowsDraft) : Type 0 where
   pub sound : (row : NeedRow) → Contains draft.rows.items row → (k : Key) × (p : ℕ) × IsPointRow s k p row
   pub complete :
@@ -101,11 +104,11 @@ pub record HasFirstRows (s : Source) (count : ℕ) (draft : RowsDraft) : Type 0 
       → (row : NeedRow) × Contains draft.rows.items row × IsPointRow s k p row
   pub outlines : OutlinesHaveRows s draft.rows.items draft.outlines.items
 
--- a row is appended
+-- one more row is appended to the draft, and the shared outlines still have their rows
 pub record AddsRow (s : Source) (old new : RowsDraft) (row : NeedRow) : Type 0 where
   pub rows : new.rows.items ≡ old.rows.items ++ row ∷ []
   pub outlines : OutlinesHaveRows s old.rows.items old.outlines.items → OutlinesHaveRows s new.rows.items new.outlines.items
 
--- the row of a point is appended
+-- the row of this point is appended to the draft of the rows
 abbrev pub AddsPointRow : Source → RowsDraft → RowsDraft → KnownPoint → Type 0
 AddsPointRow s old new at = (row : NeedRow) × IsPointRow s at.key at.addr row × AddsRow s old new row

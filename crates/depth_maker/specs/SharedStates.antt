@@ -22,8 +22,8 @@ use Rattle.depth_maker.specs.Visits.{VisitJoinsDutiesOn}
 use Rattle.depth_maker.specs.declared.inputs_and_limits.Site.{Site}
 use Rattle.depth_maker.specs.declared.table.Table as made
 
--- The instruction at p breaks no rule by itself, whatever the state. A point there owes this
--- successor, with the same state, and the entries of interrupts.
+-- the instruction at p breaks no rule and changes no state: a point there owes the same state at
+-- `next`, and interrupts
 pub record PassesStateTo (image : ImageData) (plan : PlanData) (p next : ℕ) : Type 0 where
   pub shape : Shape
   pub size : ℕ
@@ -33,14 +33,15 @@ pub record PassesStateTo (image : ImageData) (plan : PlanData) (p next : ℕ) : 
   pub duties : (b : Limits) (k : Key) (u : State) → duties_of b image plan k p u shape size ≡ owed 4 (jump next u) ∷ interrupt_duties_of plan k u
   pub enters : EntersNoFrame plan shape
 
--- the entries of all interrupts that may be taken at the point are covered; its CCPN is a byte
+-- at this point, the entries of all interrupts that may be taken are covered, so a new successor
+-- may share its state
 abbrev pub MayShareState : Site → made.Table → Type 0
 MayShareState v t =
     (u : State) → value_for t.places (Point v.key v.addr) ≡ Some (state u)
     → DutiesJoined (v.ground.now).bounds.now (v.ground.now).image.now (v.ground.now).plan.now t t v.key v.addr u (interrupt_duties_of (v.ground.now).plan.now v.key u) × (u.ccpn < 256)
 
--- what the point owes was joined, and its instruction enters no frame by itself; or nothing was
--- joined; or the refusal holds
+-- the point's duties were joined by sharing its state with its successor; or nothing was joined; or
+-- the refusal is right
 abbrev pub JoinsBySharing : Site → made.Table → made.Table → Result Bool Refusal → Type 0
 JoinsBySharing v s t (Ok true) = VisitJoinsDutiesOn v.ground.now s t (Point v.key v.addr) × EntersNoFrameAt (v.ground.now).image.now (v.ground.now).plan.now v.addr
 JoinsBySharing v s t (Ok false) = JoinsNothing v.ground.now s t

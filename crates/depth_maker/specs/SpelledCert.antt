@@ -40,21 +40,21 @@ spelled_addresses_in ps k = map spot_address (filter (is_point_of k) ps)
 abbrev pub no_spelled_state : State
 no_spelled_state = record { regs = []; ie = false; ccpn = 0; lower = false; locals = record { items = [] } }
 
--- the known state
+-- the state that the spelled certificate has for a point: the known one
 abbrev pub spelled_state_at : Option Known → State
 spelled_state_at None = no_spelled_state
 spelled_state_at (Some (state s)) = s
 spelled_state_at (Some (leaving x)) = no_spelled_state
 
--- the point of frame k at an address
+-- the certificate's point at an address of frame k, with the state that the assignment has there
 abbrev pub spelled_point_at : Assignment → Key → ℕ → points.Point
 spelled_point_at a k p = record { addr = p; state = spelled_state_at (a (point k p)) }
 
--- the node of frame k, with its points at these addresses
+-- the certificate's node of frame k, by an assignment and needs, with points at these addresses
 abbrev pub spelled_node_at : Assignment → (Key → ℕ) → (Key → List ℕ) → Key → NodeData
 spelled_node_at a need addresses k = record { key = k; need = need k; exit = exit_if_known (a (exit k)); points = map (spelled_point_at a k) (addresses k) }
 
--- the certificate with the nodes of these frames
+-- the certificate that spells an assignment and needs, with the nodes of these frames
 abbrev pub spelled_cert_with : ℕ → Assignment → (Key → ℕ) → (Key → List ℕ) → List Key → CertData
 spelled_cert_with version a need addresses ks = record { version = version; nodes = map (spelled_node_at a need addresses) ks }
 
@@ -65,31 +65,32 @@ pub record HasSpelledCcpns (n : NodeData) : Type 0 where
 
 -- ---- by the types of the code
 
--- the limits are those of the format
+-- the limits of values that the table was made with are those of this certificate format
 abbrev pub SourceHasLimitsOfFormat : Source → ℕ → Type 0
 SourceHasLimitsOfFormat s version = (s.ground.now).bounds.now ≡ limits_for (s.ground.now).plan.now version
 
--- what is known at a place of the table
+-- what is known at a place of the maker's finished table
 abbrev pub known_from_table : Source → Place → Option Known
 known_from_table s y = (view_of_table s.table.now).cells y
 
--- the exit of a frame, if it is known
+-- the exit of a frame in the maker's finished table, if one is known
 abbrev pub exit_from_table : Source → Key → Option exits.Exit
 exit_from_table s k = exit_if_known ((view_of_table s.table.now).cells (exit k))
 
--- the point of a frame at an address, with its known state
+-- the certificate's point at an address of a frame, with its state in the maker's table
 abbrev pub point_from_table : Source → Key → ℕ → points.Point
 point_from_table s k p = spelled_point_at (view_of_table s.table.now).cells k p
 
--- the node of a frame, with the points of a list
+-- the certificate's node of a frame of the maker's table, with the points of a list
 abbrev pub node_from_table : Source → List ℕ → List Spot → Key → NodeData
 node_from_table s needs ps k = spelled_node_at (view_of_table s.table.now).cells (need_of_frame (s.table.now).frames.items needs) (spelled_addresses_in ps) k
 
--- the certificate with the nodes of these frames
+-- the certificate of the maker's table, with the nodes of these frames and their needs
 abbrev pub cert_from_table : Source → ℕ → List ℕ → List Key → List Spot → CertData
 cert_from_table s version needs ks ps = spelled_cert_with version (view_of_table s.table.now).cells (need_of_frame (s.table.now).frames.items needs) (spelled_addresses_in ps) ks
 
--- a table without work, the least needs of its frames, and its points in order
+-- what the certificate's bytes are made from: a finished table, the least needs of its frames, and
+-- its points sorted
 pub record IsOrderedCertSource (o : Ordered) : Type 0 where
   pub source : IsRowSource o.source.now
   pub needs : AreLeastTableNeeds o.source.now o.needs.now
@@ -99,56 +100,57 @@ pub record IsOrderedCertSource (o : Ordered) : Type 0 where
   pub entries : AreEntries ((o.source.now).table.now).places o.points.now
 
 -- ---- what is appended
--- a point, whose CCPN is a byte
+-- the bytes of a point of the maker's table are appended, and its CCPN is a byte
 pub record SpellsTablePoint (s : Source) (k : Key) (p : ℕ) (old new : List ℕ) : Type 0 where
   pub bytes : new ≡ old ++ bytes_of_point (point_from_table s k p)
   pub ccpn : ((point_from_table s k p).state).ccpn < 2 ^ 8
 
--- these points of frame k
+-- the bytes of these points of frame k are appended, and each CCPN is a byte
 pub record SpellsTablePoints (s : Source) (k : Key) (qs : List Spot) (old new : List ℕ) : Type 0 where
   pub bytes : new ≡ old ++ flat_map (λ q. bytes_of_point (point_from_table s k (spot_address q))) qs
   pub ccpn : All (λ q. ((point_from_table s k (spot_address q)).state).ccpn < 2 ^ 8) qs
 
--- the exit of frame k, or that none is known
+-- the bytes of frame k's exit, or of none if none is known, are appended, and its CCPN is a byte
 pub record SpellsTableExit (s : Source) (k : Key) (old new : List ℕ) : Type 0 where
   pub bytes : new ≡ old ++ bytes_of_exit (exit_from_table s k)
   pub ccpn : IfSome (exit_from_table s k) (λ e. e.ccpn < 2 ^ 8)
 
--- the node of frame k
+-- the bytes of frame k's node are appended, and each CCPN in the node is a byte
 pub record SpellsTableNode (o : Ordered) (k : Key) (old new : List ℕ) : Type 0 where
   pub bytes : new ≡ old ++ bytes_of_node (node_from_table o.source.now o.needs.now (spots_in_order o) k)
   pub ccpn : HasSpelledCcpns (node_from_table o.source.now o.needs.now (spots_in_order o) k)
 
--- the nodes of these frames
+-- the bytes of the nodes of these frames are appended, and each CCPN in them is a byte
 pub record SpellsTableNodes (o : Ordered) (ks : List Key) (old new : List ℕ) : Type 0 where
   pub bytes : new ≡ old ++ flat_map (λ k. bytes_of_node (node_from_table o.source.now o.needs.now (spots_in_order o) k)) ks
   pub ccpn : All (λ k. HasSpelledCcpns (node_from_table o.source.now o.needs.now (spots_in_order o) k)) ks
 
--- these frames are the table's
+-- these are the frames of the maker's table, in any order
 abbrev pub AreTableFrames : Ordered → List Key → Type 0
 AreTableFrames o ks = IsPermutation ((o.source.now).table.now).frames.items ks
 
--- the entry of a point of frame k
+-- this is the entry of a point of frame k in the maker's table
 pub record IsTablePointEntry (s : Source) (k : Key) (x : PointEntry) : Type 0 where
   pub within : x.entry < length (keys (s.table.now).places)
   pub is : place_at (s.table.now).places x ≡ Point k (spot_address (place_at (s.table.now).places x))
 
--- the entries of points of frame k
+-- these are entries of points of frame k in the maker's table
 abbrev pub AreTablePointEntries : Source → Key → List PointEntry → Type 0
 AreTablePointEntries s k xs = (x : PointEntry) → Contains xs x → IsTablePointEntry s k x
 
--- a frame of the table
+-- the maker's table has a frame with this key
 abbrev pub IsTableFrame : Source → Key → Type 0
 IsTableFrame s k = Contains (s.table.now).frames.items k
 
--- the bytes spell the certificate that is to be written
+-- the bytes spell the certificate that the maker proves to be the least closed one
 abbrev pub AreClosedCertBytes : ImageData → PlanData → ℕ → List ℕ → Type 0
 AreClosedCertBytes image plan version bytes = (cert : CertData) × (bytes ≡ bytes_of_cert cert) × IsLeastClosedCert image plan version cert
 
--- the same, by the types of the code
+-- the bytes spell the certificate of this table, which the maker proves to be the least closed one
 abbrev pub AreClosedCertBytesOf : Source → ℕ → List ℕ → Type 0
 AreClosedCertBytesOf s version bytes = AreClosedCertBytes (s.ground.now).image.now (s.ground.now).plan.now version bytes
 
--- the bytes spell the certificate that is to be written
+-- the bytes spell a certificate that the maker proves to be the least closed one, for the image and
+-- the plan at hand
 abbrev pub AreClosedCertBytesOn : Ground → ℕ → List ℕ → Type 0
 AreClosedCertBytesOn g version bytes = (cert : CertData) × (bytes ≡ bytes_of_cert cert) × IsLeastClosedCert g.image.now g.plan.now version cert

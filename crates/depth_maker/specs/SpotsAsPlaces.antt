@@ -8,12 +8,12 @@ use Rattle.frame_places.specs.declared.ordering.PointEntry.{PointEntry}
 use Rattle.depth_maker.specs.declared.rows.Source.{Source}
 use Rattle.depth_maker.specs.declared.spelling.Ordered.{Ordered}
 
--- a place as the code's type
+-- a place of an assignment, as the code's type of places
 abbrev pub spot_of : Place → Spot
 spot_of (point k p) = Point k p
 spot_of (exit k) = Exit k
 
--- a spot, which is a place of the code's type, as the place of an assignment
+-- a place of the code's type, as a place of an assignment
 abbrev pub place_of_spot : Spot → Place
 place_of_spot (Point k p) = point k p
 place_of_spot (Exit k) = exit k
@@ -22,6 +22,6 @@ place_of_spot (Exit k) = exit k
 abbrev pub spots_of_entries : Source → List PointEntry → List Spot
 spots_of_entries s xs = places_at (s.table.now).places xs
 
--- by the types of the code, the places of all points that the maker has ordered
+-- the places of the points that the maker has sorted for the certificate
 abbrev pub spots_in_order : Ordered → List Spot
 spots_in_order o = spots_of_entries o.source.now o.points.now

@@ -32,7 +32,7 @@ use Rattle.depth_cert.specs.WellFormed.{IsWellFormedKnown}
 
 -- ---- the table
 
--- only exits are read
+-- invariant of the maker's table: points only read exits, so no point has a reader
 abbrev pub TableReadsExits : {S : Type 0} → IndexMap Spot (Vec Spot Global) S → Type 0
 TableReadsExits readers = (k : Key) (p : ℕ) (q : Spot) → IsAmongReaders (get spot_eq readers (Point k p)) q → ⊥
 
@@ -41,22 +41,22 @@ TableReadsExits readers = (k : Key) (p : ℕ) (q : Spot) → IsAmongReaders (get
 abbrev pub ArePlainInTable : {S : Type 0} → ImageData → PlanData → IndexMap Spot (Marked Known) S → Type 0
 ArePlainInTable image plan places = (q : Spot) → mark_for places q ≡ Some Plain → EntersNoFrameIn image plan q
 
--- part of the invariant of the maker's table: the state after a return, by what is known of the
--- exit, is covered at the point to return to
+-- if the exit of the entered frame is known, the state after its return is covered at the point to
+-- return to
 abbrev pub IsReturnCovered : TableView → Key → State → Key → ℕ → Known → Type 0
 IsReturnCovered t key s k q (leaving x) = CoversAt t.cells (point key q) (state (state_after_exit s x k.kind))
 IsReturnCovered t key s k q (state u) = Unit {0}
 
--- part of the invariant of the maker's table: a duty of a point is covered, and the point reads the
--- exit, if any, that the duty depends on
+-- a duty of a point is covered in the maker's table, and the point reads the exit, if any, that the
+-- duty depends on
 abbrev pub IsDutySettled : TableView → Key → ℕ → State → Duty → Type 0
 IsDutySettled t key p s (jump q u) = CoversAt t.cells (point key q) (state u)
 IsDutySettled t key p s (enter k u) = CoversAt t.cells (point k k.entry) (state u)
 IsDutySettled t key p s (resume k q) = ((x : Known) → t.cells (exit k) ≡ Some x → IsReturnCovered t key s k q x) × t.reads (exit k) (point key p)
 IsDutySettled t key p s (leave x) = CoversAt t.cells (exit key) (leaving x)
 
--- the invariant of the table as seen: it is derived, and each duty of a point without work is
--- covered
+-- the invariant of the table's view: the assignment is derived, and each duty of a point without
+-- work is covered
 pub record ViewInvariantHolds (b : Limits) (image : ImageData) (plan : PlanData) (t : TableView) : Type 0 where
   pub derived : Derived b image plan t.cells
   pub own : (k : Key) (p : ℕ) (s : State) → t.cells (point k p) ≡ Some (state s) → t.idle (point k p) ≡ true → IsFaultless b image plan k p s
@@ -64,7 +64,7 @@ pub record ViewInvariantHolds (b : Limits) (image : ImageData) (plan : PlanData)
       (k : Key) (p : ℕ) (s : State) (shape : Shape) (n : ℕ) (d : Owed) → t.cells (point k p) ≡ Some (state s) → t.idle (point k p) ≡ true
       → IsCode image plan p shape n → Contains (duties_of b image plan k p s shape n) d → IsDutySettled t k p s d.duty
 
--- the table between two steps
+-- the invariant of the maker's table between two joins
 pub record TableInvariantHolds (b : Limits) (image : ImageData) (plan : PlanData) (t : made.Table) : Type 0 where
   pub table : ViewInvariantHolds b image plan (view_of_table t)
   pub listed : AllListed t.places (all_work t.work)
@@ -74,8 +74,8 @@ pub record TableInvariantHolds (b : Limits) (image : ImageData) (plan : PlanData
   pub readers : (z : Spot) → AreKnown t.places (IsAmongReaders (get spot_eq t.readers z))
   pub plain : ArePlainInTable image plan t.places
 
--- the maker's table at the end: its assignment is derived, closed and without faults, so it is the
--- least of the closed ones without faults
+-- the maker's finished table: its assignment is derived, closed and without faults, hence the least
+-- of these
 pub record IsLeastClosedTable (g : Ground) (t : made.Table) : Type 0 where
   pub derived : Derived g.bounds.now g.image.now g.plan.now (view_of_table t).cells
   pub closed : Closed g.bounds.now g.image.now g.plan.now (view_of_table t).cells
@@ -84,11 +84,10 @@ pub record IsLeastClosedTable (g : Ground) (t : made.Table) : Type 0 where
   pub counted : IsCountedIn t.places t.points.items t.frames.items
 
 -- ---- by the types of the code
--- the table between two steps
+-- the invariant of the maker's table between two joins, for the image, plan and limits at hand
 abbrev pub TableInvariantHoldsOn : Ground → made.Table → Type 0
 TableInvariantHoldsOn g t = TableInvariantHolds g.bounds.now g.image.now g.plan.now t
 
--- what the invariant of the maker's table gives between two steps: each known state or exit is at
--- the limits
+-- each known state or exit of the maker's table is well-formed within these limits
 abbrev pub CellsWellFormed : {S : Type 0} → Limits → IndexMap Spot (Marked Known) S → Type 0
 CellsWellFormed b places = (q : Spot) (v : Known) → value_for places q ≡ Some v → IsWellFormedKnown b v

@@ -24,14 +24,15 @@ abbrev pub level_of_place : Option Known → ℕ
 level_of_place None = 0
 level_of_place (Some v) = 1 + level_of_known v
 
--- the level of a table: the sum of the levels of all points and exits
+-- the level of the maker's table, which bounds its visits: the sum of the levels of all known
+-- points and exits
 unfoldable pub level_of_table : made.Table → ℕ
 level_of_table t = sum_by (λ q. level_of_place (value_for t.places q)) t.points.items + sum_by (λ k. level_of_place (value_for t.places (spots.Exit k))) t.frames.items
 
--- the level rose, or the work list is as it was
+-- the level of the maker's table rose, or level and work list are unchanged
 abbrev pub LevelRises : made.Table → made.Table → Type 0
 LevelRises s t = (level_of_table s < level_of_table t) ⊎ ((level_of_table t ≡ level_of_table s) × (all_work t.work ≡ all_work s.work))
 
--- the level rose, or the work list is shorter by one place
+-- the level of the maker's table rose, or the work list is shorter by one place
 abbrev pub LevelAdvances : made.Table → made.Table → Type 0
 LevelAdvances s t = (level_of_table s < level_of_table t) ⊎ ((level_of_table t ≡ level_of_table s) × (length (all_work s.work) ≡ length (all_work t.work) + 1))

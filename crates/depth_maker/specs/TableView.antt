@@ -15,7 +15,7 @@ pub record TableView : Type 1 where
   pub queued : Place → Bool
   pub reads : Place → Place → Type 0
 
--- the table as an assignment and marks
+-- the maker's table as an assignment, with the marks of places and the readers of exits
 unfoldable pub view_of_table : made.Table → TableView
 view_of_table t = record {
   cells = λ q. value_for t.places (spot_of q);

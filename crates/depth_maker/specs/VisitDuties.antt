@@ -25,14 +25,15 @@ use Rattle.depth_maker.specs.declared.inputs_and_limits.Visit.{Visit}
 use Rattle.depth_maker.specs.Joins.{JoinKeeps}
 use Rattle.depth_maker.specs.declared.table.Table as made
 
--- of what the visited point p of frame k owes by its state u, these duties were joined, unless the
--- point has new work
+-- these duties of the visited point p of frame k, by its state u, are covered in the new table,
+-- unless p is queued
 pub record DutiesJoined (b : Limits) (image : ImageData) (plan : PlanData) (s t : made.Table) (k : Key) (p : ℕ) (u : State) (ds : List Owed) : Type 0 where
   pub fine : TableInvariantHolds b image plan t
   pub keeps : JoinKeeps b image plan s t
   pub settled : is_queued (mark_for t.places (spot_of (point k p))) ≡ false → (d : Owed) → Contains ds d → IsDutySettled (view_of_table t) k p u d.duty
 
--- the point owes this duty by its state u, and has no fault of its own
+-- the point p of frame k has no fault of its own with the state u, and owes this duty by its
+-- instruction
 pub record VisitedPointOwes (b : Limits) (image : ImageData) (plan : PlanData) (k : Key) (p : ℕ) (u : State) (d : Duty) : Type 0 where
   pub faultless : IsFaultless b image plan k p u
   pub shape : Shape
@@ -42,20 +43,20 @@ pub record VisitedPointOwes (b : Limits) (image : ImageData) (plan : PlanData) (
   pub listed : Contains (duties_of b image plan k p u shape size) owed
   pub is : owed.duty ≡ d
 
--- the point owes this duty
+-- the visited point has no fault of its own, and owes this duty
 abbrev pub OwesDuty : Visit → Duty → Type 0
 OwesDuty v d = VisitedPointOwes (v.ground.now).bounds.now (v.ground.now).image.now (v.ground.now).plan.now v.key v.addr v.state.now d
 
--- the point owes each of these duties
+-- the visited point has no fault of its own, and owes each of these duties
 abbrev pub OwesDuties : Visit → List Owed → Type 0
 OwesDuties v ds = (d : Owed) → Contains ds d → VisitedPointOwes (v.ground.now).bounds.now (v.ground.now).image.now (v.ground.now).plan.now v.key v.addr v.state.now d.duty
 
--- of the duties that the visited point owes, these were joined, unless the point has new work
+-- the visit takes the first table to the second by joining these duties, unless the point has new
+-- work
 abbrev pub JoinedBy : Visit → made.Table → made.Table → List Owed → Type 0
 JoinedBy v s t ds = DutiesJoined (v.ground.now).bounds.now (v.ground.now).image.now (v.ground.now).plan.now s t v.key v.addr v.state.now ds
 
--- the visited point owes the duties of this instruction: it is the one there, and no rule's own
--- part fails
+-- the located instruction stands at the visited point, and no rule's own part fails there
 abbrev pub OwesDutiesOf : Visit → Located → Type 0
 OwesDutiesOf v found = IsFaultlessShape (v.ground.now).bounds.now (v.ground.now).image.now (v.ground.now).plan.now v.key v.addr v.state.now found
 
@@ -68,51 +69,57 @@ abbrev pub state_after_step : Visit → Shape → State
 state_after_step v shape =
     transfer_of (v.ground.now).bounds.now (v.ground.now).plan.now shape v.state.now (loaded_for_duties (v.ground.now).bounds.now (v.ground.now).image.now (v.ground.now).plan.now v.state.now shape)
 
--- to continue at the next instruction
+-- the visited point's duty to go on at the next instruction, with the state after its own
 abbrev pub next_duties : Visit → Located → List Owed
 next_duties v found = next_duty_of (v.ground.now).bounds.now (v.ground.now).image.now (v.ground.now).plan.now v.addr v.state.now found.shape found.size
 
--- to continue in the frame, at each successor
+-- the visited point's duties to go on in its frame, at each successor of its instruction
 abbrev pub jump_duties : Visit → Located → List Owed
 jump_duties v found = successor_duties_of (v.ground.now).bounds.now (v.ground.now).image.now (v.ground.now).plan.now v.addr v.state.now found.shape found.size
 
--- to enter each function that a call may name, and to return after it
+-- the visited point's duties by a call: to enter each function that the call may name, and to go on
+-- at `back` after each return
 abbrev pub call_duties : Visit → ℕ → List ℕ → List Owed
 call_duties v back targets = flat_map (λ t. entry_and_return 5 (call_key v.key t) (call_entry v.state.now) back) targets
 
--- to enter the handler of system calls, and to return after the SYSCALL
+-- the visited point's duties by SYSCALL: to enter the handler of system calls, and to go on after
+-- its return
 abbrev pub system_duties : Visit → ℕ → ℕ → List Owed
 system_duties v tin back = entry_and_return 12 (sys_key (v.ground.now).plan.now v.key) (sys_entry (v.ground.now).plan.now v.key v.state.now tin) back
 
--- to enter what the instruction calls, and to return after it
+-- the visited point's duties by a call or SYSCALL: to enter frames, and to go on after their
+-- returns
 abbrev pub entry_duties : Visit → Shape → ℕ → List Owed
 entry_duties v shape size = entry_duties_of (v.ground.now).plan.now v.key v.addr v.state.now shape size
 
--- to enter the handler of misaligned accesses
+-- the visited point's duty to enter the handler of misaligned accesses
 abbrev pub misaligned_duty : Visit → Owed
 misaligned_duty v = misaligned_entry (v.ground.now).plan.now v.key v.state.now
 
--- the same, if an address that the instruction accesses may be misaligned
+-- the visited point's duty to enter the handler of misaligned accesses, if its access may be
+-- misaligned and the plan has that trap
 abbrev pub access_duties : Visit → Located → List Owed
 access_duties v found = misaligned_duties_of (v.ground.now).bounds.now (v.ground.now).plan.now v.key v.state.now found.shape
 
--- to enter the handler of each interrupt that may be taken
+-- the visited point's duties to enter the handler of each interrupt that may be taken
 abbrev pub interrupt_duties : Visit → List Owed
 interrupt_duties v = interrupt_duties_of (v.ground.now).plan.now v.key v.state.now
 
--- of what the visited point owes, these duties stay joined
+-- of what the visited point owes, these duties are still joined in the later table if they were in
+-- the earlier
 abbrev pub KeepsDutiesJoined : Visit → made.Table → made.Table → List Owed → Type 0
 KeepsDutiesJoined v m t ds = (s : made.Table) → JoinedBy v s m ds → JoinedBy v s t ds
 
--- all that the point owes
+-- all duties of the visited point by this instruction: successors, entries of frames, interrupts,
+-- exit
 abbrev pub visit_duties : Visit → Located → List Owed
 visit_duties v found = duties_of (v.ground.now).bounds.now (v.ground.now).image.now (v.ground.now).plan.now v.key v.addr v.state.now found.shape found.size
 
--- to enter each of these functions, with the state after a call
+-- the visited point's duties to enter each of these called functions
 abbrev pub enter_duties : Visit → List ℕ → List Owed
 enter_duties v targets = map (λ t. owed 5 (enter (call_key v.key t) (call_entry v.state.now))) targets
 
--- to return after each of these functions
+-- the visited point's duties to go on at `back` after each of these called functions returns
 abbrev pub resume_duties : Visit → ℕ → List ℕ → List Owed
 resume_duties v back targets = map (λ t. owed 4 (resume (call_key v.key t) back)) targets
 
@@ -122,6 +129,6 @@ IsCoveredEntry v t targets e =
     IsWellFormedKnown (v.ground.now).bounds.now e
     × (((d : Owed) → Contains (enter_duties v targets) d → IsDutySettled (view_of_table t) v.key v.addr v.state.now d.duty) → (q : ℕ) → Contains targets q → CoversAt (view_of_table t).cells (point (call_key v.key q) q) e)
 
--- all duties that the visited point owes are covered
+-- all duties that the visited point owes by its state u are covered in the maker's table
 pub record AllDutiesSettled (b : Limits) (image : ImageData) (plan : PlanData) (t : made.Table) (k : Key) (p : ℕ) (u : State) : Type 0 where
   pub each : (shape : Shape) (n : ℕ) (d : Owed) → IsCode image plan p shape n → Contains (duties_of b image plan k p u shape n) d → IsDutySettled (view_of_table t) k p u d.duty

@@ -32,7 +32,7 @@ pub record IsVisitOpenAt (t : made.Table) (x : Spot) : Type 0 where
   pub only : (q : Spot) → mark_for t.places q ≡ Some Open → q ≡ x
   pub stands : PlaceHasNumber t.places t.near x
 
--- between visits: no place is being visited
+-- no place of the maker's table is being visited
 abbrev pub NoVisitOpen : made.Table → Type 0
 NoVisitOpen t = (q : Spot) → mark_for t.places q ≡ Some Open → ⊥
 
@@ -45,7 +45,7 @@ pub record VisitJoinsDuties (b : Limits) (image : ImageData) (plan : PlanData) (
       (k : Key) (p : ℕ) (u : State) → place_of_spot x ≡ point k p → (view_of_table s).cells (point k p) ≡ Some (state u)
       → is_queued (mark_for t.places x) ≡ false → AllDutiesSettled b image plan t k p u
 
--- between two joins of a visit: the point has the state u, unless it has new work
+-- between two joins of a visit of the maker: the point p has the state u, unless p has new work
 pub record IsVisitedWithState (b : Limits) (image : ImageData) (plan : PlanData) (t : made.Table) (k : Key) (p : ℕ) (u : State) : Type 0 where
   pub fine : TableInvariantHolds b image plan t
   pub well_formed : IsWellFormedState b u
@@ -57,17 +57,19 @@ pub record IsVisitedWithState (b : Limits) (image : ImageData) (plan : PlanData)
 abbrev pub VisitJoinsDutiesOn : Ground → made.Table → made.Table → Spot → Type 0
 VisitJoinsDutiesOn g s t x = VisitJoinsDuties g.bounds.now g.image.now g.plan.now s t x
 
--- a step: the level rose, or the work list is shorter by one; false if nothing was listed
+-- a step of the worklist algorithm: the table's level rose, or the work list is shorter by one;
+-- false if the list was empty
 abbrev pub VisitsNextPlace : Ground → made.Table → made.Table → Result Bool Refusal → Type 0
 VisitsNextPlace g s t (Ok false) = TableInvariantHoldsOn g t × NoVisitOpen t × (level_of_table t ≡ level_of_table s) × (all_work t.work ≡ [])
 VisitsNextPlace g s t (Ok true) = TableInvariantHoldsOn g t × NoVisitOpen t × LevelAdvances s t
 VisitsNextPlace g s t (Err e) = RefusalIsRight g e
 
--- a turn over the work list: the level rose if some work is left
+-- a number of steps of the worklist algorithm: the table's level rose if some work is left
 abbrev pub VisitsListedPlaces : Ground → made.Table → made.Table → Result Bool Refusal → Type 0
 VisitsListedPlaces g s t (Ok more) = TableInvariantHoldsOn g t × NoVisitOpen t × (more ≡ true → level_of_table s < level_of_table t) × (more ≡ false → all_work t.work ≡ [])
 VisitsListedPlaces g s t (Err e) = RefusalIsRight g e
 
--- between two joins: the point has the state that it is visited with, unless it has new work
+-- between two joins of a visit, the maker's table keeps its invariant, and the point its visited
+-- state, unless queued with new work
 abbrev pub VisitInvariantHolds : Visit → made.Table → Type 0
 VisitInvariantHolds v t = IsVisitedWithState (v.ground.now).bounds.now (v.ground.now).image.now (v.ground.now).plan.now t v.key v.addr v.state.now

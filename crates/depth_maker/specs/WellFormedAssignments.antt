@@ -16,23 +16,23 @@ use Rattle.depth_cert.specs.Known.{Known}
 use Rattle.depth_cert.specs.WellFormed.{IsWellFormedState, IsWellFormedExit, IsWellFormedKnown}
 use Rattle.depth_maker.specs.DutiesMonotone.{IsGround}
 
--- all that an assignment knows is at the limits
+-- each state and exit that an assignment knows is well-formed within these limits
 abbrev pub AllWellFormed : Limits → Assignment → Type 0
 AllWellFormed b a = (y : Place) (v : Known) → a y ≡ Some v → IsWellFormedKnown b v
 
--- a duty asks for a state or an exit at the limits
+-- the state or exit that a duty asks for is well-formed within these limits
 abbrev pub IsWellFormedDuty : Limits → Duty → Type 0
 IsWellFormedDuty b (jump q t) = IsWellFormedState b t
 IsWellFormedDuty b (enter k t) = IsWellFormedState b t
 IsWellFormedDuty b (resume k q) = Unit {0}
 IsWellFormedDuty b (leave x) = IsWellFormedExit b x
 
--- the duties of a point are at the limits
+-- the duties of a faultless point with a well-formed state ask for well-formed states and exits
 abbrev pub DutiesAreWellFormed : Type 0
 DutiesAreWellFormed =
     (b : Limits) (image : ImageData) (plan : PlanData) (key : Key) (p : ℕ) (s : State) (shape : Shape) (n : ℕ) (d : Owed) → IsGround b image plan
     → IsWellFormedState b s → IsFaultless b image plan key p s → IsCode image plan p shape n → Contains (duties_of b image plan key p s shape n) d → IsWellFormedDuty b d.duty
 
--- law of assignments at the limits: the state after a return is at the limits too
+-- law of the maker: the state after a return is well-formed if the caller's state and the exit are
 abbrev pub ReturnStatesAreWellFormed : Type 0
 ReturnStatesAreWellFormed = (b : Limits) (s : State) (x : Exit) (kind : ℕ) → IsWellFormedState b s → IsWellFormedExit b x → IsWellFormedState b (state_after_exit s x kind)

@@ -85,7 +85,8 @@ fn make_bytes(alloc: Global, image: &Image, plan: &Plan, version: u8) -> Result<
     make_bytes_within_limits(alloc, &ground, version)
 }
 
-/// Returns the bytes of the least certificate within these limits, or why there is none.
+/// Returns the bytes of the least certificate under an image, a plan and the limits of a format, or
+/// why no certificate is accepted.
 fn make_bytes_within_limits(alloc: Global, ground: &Ground, version: u8) -> Result<Vec<u8>, MakeErr>
     requires version { (version ≡ 1) ⊎ (version ≡ 2) }
     requires limits { HasLimitsOfFormat ground.now version }
@@ -98,7 +99,8 @@ fn make_bytes_within_limits(alloc: Global, ground: &Ground, version: u8) -> Resu
     }
 }
 
-/// Returns the bytes of the certificate of a table without work, or why its needs are too great.
+/// Returns the bytes of the least certificate from the maker's finished table, or a refusal by K14
+/// if the start needs too many areas.
 fn cert_bytes_from_table(
     alloc: Global,
     ground: &Ground,
@@ -122,7 +124,8 @@ fn cert_bytes_from_table(
     cert_bytes_with_needs(alloc, &source, version)
 }
 
-/// Returns the refusal for a fault of a derived assignment.
+/// Returns the maker's error for a refusal: the rule that fails with its frame and address, an
+/// exit's being the frame's entry, or NoMemory.
 fn make_err_from_refusal(_ground: &Ground, refusal: Refusal) -> MakeErr
     requires { RefusalIsRight _ground.now refusal }
     ensures { MakeErrHolds _ground.now result }
@@ -140,7 +143,8 @@ fn make_err_from_refusal(_ground: &Ground, refusal: Refusal) -> MakeErr
     }
 }
 
-/// Returns the bytes of the certificate of a table without work, or why its needs are too great.
+/// Computes the least needs of the frames of a finished table, and returns the certificate's bytes,
+/// or a refusal by K14.
 fn cert_bytes_with_needs(alloc: Global, source: &Source, version: u8) -> Result<Vec<u8>, MakeErr>
     requires source { IsRowSource source.now }
     requires version { (version ≡ 1) ⊎ (version ≡ 2) }

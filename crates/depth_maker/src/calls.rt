@@ -22,8 +22,8 @@ use tc_isa::Target;
 use value_domain::State;
 use vd_transfer::Change;
 
-/// Joins a call. The list of targets is made only for a call by a register. The entry is written
-/// over `c`.
+/// Joins, at a visited CALL, CALLA or CALLI, the state at each called function's entry and the
+/// state after each return to `back`.
 pub(crate) fn join_call(
     alloc: Global,
     table: &mut Table,
@@ -50,8 +50,8 @@ pub(crate) fn join_call(
     }
 }
 
-/// Writes the change of the visited point's state by a call. The entries of the called functions
-/// are joined with it.
+/// Writes to `c` the change by which the visited point's state becomes the state at a called
+/// function's entry.
 #[inline(always)]
 fn write_call_entry_change(c: &mut Change, s: &State)
     ensures { state_after s.now c.new ≡ entries.call_entry s.now }
@@ -61,7 +61,8 @@ fn write_call_entry_change(c: &mut Change, s: &State)
     c.locals = ArrayVec::new();
 }
 
-/// Joins the calls of the targets that a register lists.
+/// Joins, at a visited CALLI, the entries of all functions that its register may name, and the
+/// states after they return to `back`.
 #[inline(never)]
 fn join_listed_calls(
     alloc: Global,
@@ -85,7 +86,8 @@ fn join_listed_calls(
     join_call_returns(alloc, table, v, targets.as_slice(), back)
 }
 
-/// Joins the entries of these functions, unless they are known to be covered.
+/// Joins the state at the entries of the functions that a visited CALLI may call, unless a noted
+/// call shows that these are covered.
 fn join_listed_call_entries(
     alloc: Global,
     table: &mut Table,
@@ -108,7 +110,8 @@ fn join_listed_call_entries(
     Ok(())
 }
 
-/// Joins the states after these functions returned at `back`.
+/// Joins, at `back`, the states after the called functions return, and makes the visited point a
+/// reader of their exits.
 fn join_call_returns(
     alloc: Global,
     table: &mut Table,
@@ -146,8 +149,8 @@ fn is_call_covered(table: &Table, v: &Visit, entry: &Change, targets: &ArrayVec<
     }
 }
 
-/// Stores a call of several functions as the last one, unless the point has new work: then some
-/// entries may have been skipped.
+/// Keeps a call of two or more functions among the last 16 whose entries are covered, unless the
+/// visited point has new work.
 #[inline(never)]
 fn store_last_call(
     alloc: Global,

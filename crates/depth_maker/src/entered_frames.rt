@@ -13,7 +13,8 @@ use std::alloc::{AllocError, Global};
 use tc_isa::Shape;
 use tcd_plan::Plan;
 
-/// Returns the frames that the instruction at the point enters, in the order of its duties.
+/// Returns the keys of the frames that a point's instruction enters by a call, a system call or a
+/// misaligned access, in that order.
 pub(crate) fn entered_frames(
     alloc: Global,
     v: &Visit,
@@ -34,8 +35,8 @@ pub(crate) fn entered_frames(
     Ok(keys)
 }
 
-/// Returns true only if an instruction of this shape enters no frame by itself. Without traps of
-/// misaligned accesses, accesses are aligned.
+/// Returns true only if an instruction of this shape enters no frame by itself: no call, SYSCALL,
+/// or access for which the plan has traps.
 pub(crate) fn enters_no_frame(plan: &Plan, shape: Shape) -> bool
     ensures { IsTrue result → EntersNoFrame plan.now shape }
 {

@@ -29,8 +29,9 @@ pub(crate) struct VisitScratch {
     pub(crate) codes: KnownCodes,
 }
 
-/// Returns the least closed assignment, or a fault of a derived one.
-// It is a function of its own, so that its stack room is free before the rows are made.
+/// Runs the maker's worklist algorithm: returns the table of the least closed assignment, or a
+/// refusal by a fault of a derived one. A function of its own, so that its stack room is free
+/// before the rows are made.
 #[inline(never)]
 pub(crate) fn least_fixpoint(alloc: Global, ground: &Ground) -> Result<Table, Refusal>
     ensures ok { IfOk result (IsLeastClosedTable ground.now) }
@@ -45,7 +46,8 @@ pub(crate) fn least_fixpoint(alloc: Global, ground: &Ground) -> Result<Table, Re
     Ok(table)
 }
 
-/// Returns the table with only the start.
+/// Returns the maker's first table: only the start state at the image's entry is known, and that
+/// point is on the work list.
 #[inline(never)]
 fn begin_fixpoint(alloc: Global, ground: &Ground) -> Result<Table, Refusal>
     ensures ok { IfOk result (λ t. TableInvariantHoldsOn ground.now t × NoVisitOpen t) }
@@ -82,8 +84,8 @@ fn begin_fixpoint(alloc: Global, ground: &Ground) -> Result<Table, Refusal>
     })
 }
 
-/// Takes up to as many places off the list as it has now, and 1,024 more, and visits those with
-/// work. Returns whether some are left.
+/// Visits the places on the maker's work list, as many as are listed now and 1,024 more. Returns
+/// whether some are left.
 #[inline(never)]
 fn visit_listed_places(
     alloc: Global,
@@ -105,15 +107,16 @@ fn visit_listed_places(
     Ok(!table.work.is_empty())
 }
 
-/// Returns the readers of exits at the start of the fixpoint: there are none.
+/// Returns an empty map from exits to the points that read them: at the start of the fixpoint no
+/// point reads an exit.
 fn no_exit_readers(alloc: Global) -> IndexMap<Spot, Vec<Spot>>
     ensures { (z : spots.Spot) → get spot_eq result z ≡ None }
 {
     IndexMap::new(alloc)
 }
 
-/// Takes the next place off the list, and visits it if it still has work. Returns false if the list
-/// is empty.
+/// Takes the next place off the maker's work list, and visits the place unless its work is done.
+/// Returns false if the list is empty.
 fn visit_next_place(
     alloc: Global,
     ground: &Ground,

@@ -37,8 +37,8 @@ pub(crate) struct LastInterrupts {
 }
 
 impl InterruptContext {
-    /// Returns the context of a frame with this state. `is` says whether it runs on the interrupt
-    /// stack.
+    /// Returns the context in which a frame with this state takes interrupts: A10, CCPN, and `is`,
+    /// whether the interrupt stack is in use.
     pub(crate) fn of_state(is: bool, s: &State) -> InterruptContext
         ensures { IsContextOf result is s.now }
     {
@@ -49,7 +49,8 @@ impl InterruptContext {
         }
     }
 
-    /// Returns true only if its entries cover those of a frame with this state.
+    /// Returns true only if the handlers' entries from this noted context cover those from a frame
+    /// with this state.
     pub(crate) fn covers(&self, is: bool, s: &State) -> bool
         requires own { IsWellFormed self.now.sp }
         requires other { IsWellFormed (a10_of s.now) }
@@ -58,8 +59,8 @@ impl InterruptContext {
         self.is == is && self.ccpn <= s.ccpn && self.covers_stack(s)
     }
 
-    /// Returns true only if its entries cover those of each frame with this CCPN, whatever its A10:
-    /// neither runs on the interrupt stack.
+    /// Returns true only if the handlers' entries from this context cover those from frames with
+    /// this CCPN, whatever their A10: neither uses the interrupt stack.
     #[inline(always)]
     fn covers_any_stack(&self, is: bool, ccpn: u8) -> bool
         ensures { IsTrue result → (s : State) → s.ccpn ≡ ccpn → IsWithinContext self.now is s }
@@ -67,14 +68,16 @@ impl InterruptContext {
         !is && !self.is && self.ccpn <= ccpn
     }
 
-    /// Returns true only if the context of a frame with this state differs at most in A10.
+    /// Returns true only if this interrupt context differs from that of a frame with this state at
+    /// most in the stack pointer A10.
     pub(crate) fn is_equal_except_stack(&self, is: bool, s: &State) -> bool
         ensures { IsTrue result → IsEqualExceptStack self.now is s.now }
     {
         self.is == is && self.ccpn == s.ccpn
     }
 
-    /// Joins A10 with that of this state.
+    /// Joins the stack pointer A10 of a state into that of this interrupt context, which then
+    /// covers both.
     pub(crate) fn join_stack(&mut self, b: &Bounds, s: &State)
         requires own { IsValue b.now self.old.sp }
         requires other { IsValue b.now (a10_of s.now) }
@@ -83,7 +86,8 @@ impl InterruptContext {
         self.sp = join(b, &self.sp, &s.regs[A10_SLOT]);
     }
 
-    /// Returns whether A10 of this state is covered. It matters only on the interrupt stack.
+    /// Returns whether this interrupt context covers A10 of a state. Off the interrupt stack, A10
+    /// doesn't matter to the handlers' entries.
     fn covers_stack(&self, s: &State) -> bool
         requires own { IsWellFormed self.now.sp }
         requires other { IsWellFormed (a10_of s.now) }
@@ -94,8 +98,8 @@ impl InterruptContext {
     }
 }
 
-/// Returns true only if the last contexts of interrupts show that the entries of all interrupts
-/// that may be taken are covered.
+/// Returns true only if the last two noted contexts show that the visited point's interrupts enter
+/// no handler in a state that isn't covered.
 pub(crate) fn are_interrupts_covered(table: &Table, v: &Visit) -> bool
     requires { VisitInvariantHolds v.now table.now }
     ensures { IsTrue result → JoinedBy v.now table.now table.now (interrupt_duties v.now) }
@@ -111,8 +115,8 @@ pub(crate) fn are_interrupts_covered(table: &Table, v: &Visit) -> bool
     }
 }
 
-/// Returns true only if the last context of interrupts shows that the entries of all interrupts
-/// that may be taken are covered in each frame with this CCPN.
+/// Returns true only if the last noted context shows that the handlers' entries are covered for
+/// each frame with this CCPN off the interrupt stack.
 #[inline(always)]
 pub(crate) fn are_interrupts_covered_at(table: &Table, is: bool, ccpn: u8) -> bool
     ensures { IsTrue result → AreInterruptsCoveredAt table.now is ccpn }
@@ -123,9 +127,8 @@ pub(crate) fn are_interrupts_covered_at(table: &Table, is: bool, ccpn: u8) -> bo
     }
 }
 
-/// Stores the context of these interrupts as the last one, unless the point has new work: then some
-/// entries may have been skipped. If it differs from the last one at most in A10, both are joined.
-/// It is a call of its own, since it has room for a value.
+/// Notes the visited point's interrupt context as the last covered one, unless the point has new
+/// work. One that differs only in A10 is joined. A call of its own, since it has room for a value.
 #[inline(never)]
 pub(crate) fn store_last_interrupts(table: &mut Table, v: &Visit)
     requires fine { TableInvariantHoldsOn v.now.ground.now table.old }

@@ -18,7 +18,8 @@ pub(crate) struct Handler {
     node: usize,
 }
 
-/// Returns the handlers of all stated interrupts, each with its priority and its frame's number.
+/// Returns a handler for each interrupt of the plan: its priority, and the number of the handler's
+/// frame.
 pub(crate) fn all_handler_frames(
     alloc: Global,
     plan: &Plan,
@@ -37,7 +38,8 @@ pub(crate) fn all_handler_frames(
     Ok(handlers)
 }
 
-/// Appends the frames of the interrupts that may be taken: those above this priority if IE is on.
+/// Appends the frame numbers of the interrupt handlers that a point may enter: those above priority
+/// `ccpn` if IE is on, else none.
 pub(crate) fn add_taken_handlers(
     into: &mut Vec<usize>,
     ie: bool,
@@ -54,8 +56,8 @@ pub(crate) fn add_taken_handlers(
     Ok(())
 }
 
-/// Appends the numbers of the frames of all interrupt handlers above this priority. There is room
-/// for them.
+/// Appends the frame numbers of the handlers of all interrupts above this priority to a row's
+/// entered frames, which have room.
 #[inline(always)]
 fn add_handlers_above(into: &mut Vec<usize>, ccpn: u8, handlers: &[Handler])
     requires { vec_len into.old + length handlers.now ≤ vec_capacity into.old }
@@ -66,7 +68,8 @@ fn add_handlers_above(into: &mut Vec<usize>, ccpn: u8, handlers: &[Handler])
     }
 }
 
-/// Appends the frame of a handler if its interrupt is above this priority. There is room for it.
+/// Appends a handler's frame number to a row's entered frames, which have room, if its interrupt is
+/// above this priority.
 #[inline(always)]
 fn add_handler_above(into: &mut Vec<usize>, ccpn: u8, handler: &Handler)
     requires { vec_len into.old < vec_capacity into.old }

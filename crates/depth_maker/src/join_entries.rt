@@ -30,7 +30,8 @@ use std::alloc::Global;
 use tc_isa::Shape;
 use vd_transfer::Change;
 
-/// Joins the entries by a call or a system call. The change by a call is written over `c`.
+/// Joins the entries of the frames that the visited instruction enters, and the states after their
+/// returns, if the instruction is a call or SYSCALL.
 pub(crate) fn join_entries(
     alloc: Global,
     table: &mut Table,
@@ -53,8 +54,8 @@ pub(crate) fn join_entries(
     }
 }
 
-/// Joins the entry of the frame that the visited point's access may enter: that of the handler of
-/// misaligned accesses, if an address may be misaligned and the plan has such traps.
+/// Joins the entry of the handler of misaligned accesses, if the visited access may be misaligned
+/// and the plan has that trap.
 pub(crate) fn join_access_entry(
     alloc: Global,
     table: &mut Table,
@@ -73,8 +74,8 @@ pub(crate) fn join_access_entry(
     join_misaligned_entry(alloc, table, v)
 }
 
-/// Joins the entries of frames that the visited point enters by interrupts: those that may be
-/// taken, none if IE is off.
+/// Joins the entries of the handlers of all interrupts that may be taken at the visited point; none
+/// if IE is off.
 pub(crate) fn join_interrupts(alloc: Global, table: &mut Table, v: &Visit) -> Result<(), Refusal>
     requires visited { VisitInvariantHolds v.now table.old }
     requires owes { OwesDuties v.now (interrupt_duties v.now) }
@@ -96,7 +97,7 @@ pub(crate) fn join_interrupts(alloc: Global, table: &mut Table, v: &Visit) -> Re
     Ok(())
 }
 
-/// Joins the entries of the functions at these addresses.
+/// Joins the state after a call at the entry of each function at these addresses.
 pub(crate) fn join_call_entries(
     alloc: Global,
     table: &mut Table,
@@ -117,7 +118,8 @@ pub(crate) fn join_call_entries(
     Ok(())
 }
 
-/// Joins a changed state at the entry of a frame.
+/// Joins the visited point's changed state at the entry point of the frame `key`, which the point
+/// enters.
 pub(crate) fn join_entry(
     alloc: Global,
     table: &mut Table,
@@ -140,8 +142,8 @@ pub(crate) fn join_entry(
     join_at_place(alloc, table, v, &Spot::Point(key, key.entry), &incoming)
 }
 
-/// Makes the visited point a reader of the exit of the frame that it enters, and joins the state
-/// after the return at `back`.
+/// Makes the visited point a reader of the exit of the frame `key`, and joins the state after that
+/// frame's return at `back`.
 pub(crate) fn join_return_after_entry(
     alloc: Global,
     table: &mut Table,
@@ -163,7 +165,8 @@ pub(crate) fn join_return_after_entry(
     join_return(alloc, table, v, key, back)
 }
 
-/// Joins a changed state at the entry of a frame, and the state after its return at `back`.
+/// Joins the changed state at the entry of the frame `key`, and the state after its return at
+/// `back`, if its exit is known.
 pub(crate) fn join_entry_and_return(
     alloc: Global,
     table: &mut Table,
@@ -185,7 +188,7 @@ pub(crate) fn join_entry_and_return(
     join_return_after_entry(alloc, table, v, key, back)
 }
 
-/// Joins the entry of the handler of the system call `tin`, and the state after its return. It is a
+/// Joins the entry of the handler of SYSCALL `tin`, and the state after its return at `back`. A
 /// call of its own, since it has room for a change.
 #[inline(never)]
 fn join_system_call_entry(
@@ -205,8 +208,8 @@ fn join_system_call_entry(
     join_entry_and_return(alloc, table, v, sys_key(g.plan, &v.key), &entry, back)
 }
 
-/// Joins the entry of the handler of misaligned accesses, as the other entries of the visited
-/// point. It is a call of its own, since it has room for a change.
+/// Joins the entry of the handler of misaligned accesses, which the visited load or store may enter
+/// by a trap. A call of its own, since it has room for a change.
 #[inline(never)]
 fn join_misaligned_entry(alloc: Global, table: &mut Table, v: &Visit) -> Result<(), Refusal>
     requires visited { VisitInvariantHolds v.now table.old }
@@ -219,8 +222,8 @@ fn join_misaligned_entry(alloc: Global, table: &mut Table, v: &Visit) -> Result<
     join_entry(alloc, table, v, aln_key(g.plan, &v.key), &entry)
 }
 
-/// Joins the entries of the frames that the visited point enters by these interrupts, which may be
-/// taken. It is a call of its own, since it has room for a change.
+/// Joins the entries of the handlers of these interrupts, which are all that may be taken at the
+/// visited point. A call of its own, since it has room for a change.
 #[inline(never)]
 fn join_interrupt_entries(
     alloc: Global,
@@ -238,8 +241,8 @@ fn join_interrupt_entries(
     join_each_handler_entry(alloc, table, v, irqs, entry)
 }
 
-/// Joins the entries of the handlers of these interrupts. `entry` is the change at an entry, except
-/// for its CCPN.
+/// Joins the entries of the handlers of these interrupts at the visited point. `entry` is the
+/// change at an entry, except for CCPN.
 fn join_each_handler_entry(
     alloc: Global,
     table: &mut Table,

@@ -28,8 +28,8 @@ use small_states::{Incoming, SmallKnown, incoming_priority};
 use std::alloc::{AllocError, Global};
 
 /// Adds the place `y` with this value, which flows in, and counts it. If `y` is known, returns its
-/// number and adds nothing. It is never inlined: if `join_without_readers` and `pass_on` each had its
-/// text, LLVM would inline neither `add_or_find_place` nor the pushes of `count_place`.
+/// number and adds nothing. It is never inlined: if `join_without_readers` and `share_state` each
+/// had its text, LLVM would inline neither `add_or_find_place` nor the pushes of `count_place`.
 #[inline(never)]
 pub(crate) fn add_joined_place(
     table: &mut Table,
@@ -50,8 +50,8 @@ pub(crate) fn add_joined_place(
     }
 }
 
-/// Joins what flows from the visited point, which still has its state, into `y`. The readers of a
-/// known exit that rises wait for the next round.
+/// Joins what flows from the visited point into the place `y` of the maker's table, and queues the
+/// readers of an exit that rose.
 pub(crate) fn join_at_place(
     alloc: Global,
     table: &mut Table,
@@ -78,8 +78,8 @@ pub(crate) fn join_at_place(
     Ok(())
 }
 
-/// Joins what flows into `y` alone, unless it is covered. Returns whether it wasn't. After the last
-/// place that was found mostly nothing is known, so `y` is looked up as it is added.
+/// Joins what flows from the visited point into the place `y`, without queuing readers of `y`.
+/// Returns false if `y` covered that already.
 fn join_without_readers(
     alloc: Global,
     table: &mut Table,
@@ -111,8 +111,8 @@ fn join_without_readers(
     }
 }
 
-/// Queues all readers of `y`, and forgets that they read it. They wait for the next round, or are
-/// next. A point has no readers.
+/// Puts the points that read the raised exit `y` back on the work list; with `waits`, for the next
+/// round. A point has no readers.
 fn requeue_readers_after_join(
     places: &mut IndexMap<Spot, Marked<SmallKnown>>,
     work: &mut Work,
@@ -134,8 +134,8 @@ fn requeue_readers_after_join(
     requeue_readers_of(places, work, readers, *y, waits)
 }
 
-/// Joins what flows into `y`, which has this number, and queues `y`, unless it is covered. Returns
-/// whether it wasn't. The entry point of a frame waits for the next round if it was visited.
+/// Raises the known place `y` by what flows from the visited point, and queues `y`. Returns false
+/// if `y` covered that already.
 fn join_known_place(
     alloc: Global,
     table: &mut Table,

@@ -37,9 +37,8 @@ struct Side {
     to: u32,
 }
 
-/// Joins the successors in the same frame, before anything else is joined; those after calls and
-/// system calls are left to `join_entries`. The change by the instruction is written over `c`, and
-/// results of operations on two sets are in `cache`.
+/// Joins the visited point's successors in the same frame; those after calls and system calls are
+/// left to `join_entries`. `c` is overwritten.
 pub(crate) fn join_successors(
     alloc: Global,
     table: &mut Table,
@@ -101,8 +100,8 @@ pub(crate) fn join_jump(
     join_first_jump(alloc, table, v, to, c)
 }
 
-/// Joins a changed state at a point of the same frame, before anything else is joined: the visited
-/// point still has its state.
+/// Joins a changed state at the successor `to` in the same frame, as the first join of a visit: the
+/// point has its visited state.
 pub(crate) fn join_first_jump(
     alloc: Global,
     table: &mut Table,
@@ -123,8 +122,8 @@ pub(crate) fn join_first_jump(
     join_at_place(alloc, table, v, &Spot::Point(v.key, to), &incoming)
 }
 
-/// Joins the visited point's state at the exit of its frame, which the point leaves instead of
-/// going on to a successor.
+/// Joins the exit of the visited point's frame, at RET or RFE, with the lower registers, IE and
+/// CCPN of its state.
 pub(crate) fn join_exit(alloc: Global, table: &mut Table, v: &Visit) -> Result<(), Refusal>
     requires visited { VisitInvariantHolds v.now table.old }
     requires owes { OwesDuty v.now (leave (exit_of v.now.state.now)) }
@@ -140,8 +139,8 @@ pub(crate) fn join_exit(alloc: Global, table: &mut Table, v: &Visit) -> Result<(
     join_at_place(alloc, table, v, &Spot::Exit(v.key), &incoming)
 }
 
-/// Joins the state after the return of a frame that the visited point entered, at the successor
-/// `back`, if the exit of that frame is known.
+/// Joins, at the successor `back`, the state after the frame `key` returned, if the exit of that
+/// frame is known.
 pub(crate) fn join_return(
     alloc: Global,
     table: &mut Table,
@@ -170,7 +169,8 @@ pub(crate) fn join_return(
     join_at_place(alloc, table, v, &Spot::Point(v.key, back), &incoming)
 }
 
-/// Joins the exit if the instruction leaves the frame: RET, or RFE in a system call's handler.
+/// Joins the visited state at the exit of its frame if the instruction leaves: RET, or RFE in the
+/// handler of system calls.
 pub(crate) fn join_exit_if_left(
     alloc: Global,
     table: &mut Table,
@@ -195,7 +195,8 @@ pub(crate) fn join_exit_if_left(
     }
 }
 
-/// Joins both sides of a branch.
+/// Joins both sides of a visited branch: its state, refined by the condition, at the next address
+/// and at the target.
 fn join_branch_sides(
     alloc: Global,
     table: &mut Table,
@@ -220,8 +221,8 @@ fn join_branch_sides(
     join_branch_side(alloc, table, v, taken, c)
 }
 
-/// Joins the unchanged state at the targets of a jump, before anything else is joined. The list of
-/// targets is made only for a jump by a register.
+/// Joins the visited point's unchanged state at the targets of its jump, as the first join of a
+/// visit.
 fn join_jump_targets(
     alloc: Global,
     table: &mut Table,
@@ -250,7 +251,8 @@ fn join_jump_targets(
     }
 }
 
-/// Joins the state after the instruction at the next one, before anything else is joined.
+/// Joins the state after the visited instruction at the next address, as the first join of a visit.
+/// `c` is overwritten.
 fn join_next_instruction(
     alloc: Global,
     table: &mut Table,
@@ -273,7 +275,8 @@ fn join_next_instruction(
     join_first_jump(alloc, table, v, v.addr.wrapping_add(found.size), &*c)
 }
 
-/// Joins a side of a branch if it is possible.
+/// Joins one side of a visited branch, refined by its condition, if the state lets the branch go
+/// that way.
 fn join_branch_side(
     alloc: Global,
     table: &mut Table,
@@ -296,7 +299,7 @@ fn join_branch_side(
     join_jump(alloc, table, v, side.to, &*c)
 }
 
-/// Joins the unchanged state at each target that is listed.
+/// Joins the visited point's unchanged state at each target of its jump by a register, JI.
 #[inline(never)]
 fn join_listed_jumps(
     alloc: Global,
@@ -319,7 +322,7 @@ fn join_listed_jumps(
     join_jumps(alloc, table, v, targets.as_slice(), c)
 }
 
-/// Joins the unchanged state at each of these addresses.
+/// Joins the visited point's unchanged state at each of these addresses of its frame.
 fn join_jumps(
     alloc: Global,
     table: &mut Table,

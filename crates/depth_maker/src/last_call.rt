@@ -24,7 +24,8 @@ pub(crate) struct LastCall {
 }
 
 impl LastCall {
-    /// Returns the call of these functions from a frame of this key.
+    /// Returns a call of these functions from a frame of this key, with the state at their entries,
+    /// to be noted as covered.
     pub(crate) fn of(key: &Key, targets: &ArrayVec<u32, 128>, entry: SmallKnown) -> LastCall
         ensures { IsCallOf result key.now targets.now.items entry }
     {

@@ -3,31 +3,31 @@ ghost use Rattle.depth_maker.specs.DutiesMonotone.{AddressesMonotone, ReturnStat
 ghost use Rattle.depth_maker.specs.WellFormedAssignments.{ReturnStatesAreWellFormed, DutiesAreWellFormed};
 ghost use Rattle.depth_maker.specs.MakerLaws.{RefusalsHold, AcceptedIsClosed, DerivedIsBelow, FaultsRefute, RefusalsRefute, SolutionIsAccepted, RefusalMeansNoneAccepted, LeastClosedCertIsMade, MadeIsLeast};
 
-/// Laws of the maker: what a point owes grows with its state, and is at the limits. A point without
-/// a fault of its own has none with a smaller state.
+/// Laws of the maker: what a point owes is monotone in its state, and well-formed. With a smaller
+/// state a point has no more faults.
 pub fn duty_monotonicity_laws()
     ensures faults { FaultsMonotone }
     ensures duties { DutiesMonotone }
     ensures well_formed { DutiesAreWellFormed }
 {}
 
-/// Laws of the maker: the state after a return grows with the caller's state and with the exit, and
-/// it is at the limits.
+/// Laws of the maker: the state after a return is monotone in the caller's state and in the exit,
+/// and well-formed.
 pub fn return_state_laws()
     ensures grows { ReturnStatesMonotone }
     ensures well_formed { ReturnStatesAreWellFormed }
 {}
 
-/// Laws of the maker: duties grow with states, since effects of instructions do. A side of a branch
-/// that is possible is possible with a larger state.
+/// Laws of the maker: effects of instructions, addresses of accesses and sides of branches are
+/// monotone in the state.
 pub fn effect_monotonicity_laws()
     ensures transfers { TransfersMonotone }
     ensures addresses { AddressesMonotone }
     ensures sides { SidesMonotone }
 {}
 
-/// Every derived assignment is below every closed one without faults of its own. If there is such a
-/// one within the limits, no derived assignment has a fault.
+/// Laws of the maker: every derived assignment is below every closed one without faults, which
+/// shows that no derived one has a fault.
 pub fn derived_laws()
     ensures below { DerivedIsBelow }
     ensures faults { FaultsRefute }
@@ -41,9 +41,8 @@ pub fn accepted_laws()
     ensures solutions { SolutionIsAccepted }
 {}
 
-/// A certificate of a derived closed assignment without faults, with the least needs, is the one to
-/// make. It is accepted, and no accepted certificate of its format is less. If a refusal holds, no
-/// certificate of the format is accepted.
+/// Laws of the maker: its certificate is accepted, and none of the format is less; if a refusal
+/// holds, none is accepted.
 pub fn making_laws()
     ensures made { LeastClosedCertIsMade }
     ensures refused { RefusalMeansNoneAccepted }

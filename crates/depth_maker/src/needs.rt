@@ -16,8 +16,8 @@ use frame_places::{
 use std::alloc::{AllocError, Global};
 use tcd_plan::Plan;
 
-/// Returns the limit up to which the least needs of frames are looked for: the areas without the
-/// reserve.
+/// Returns the cap on the least needs of frames: the plan's areas without the reserve, at most
+/// 4,096.
 pub(crate) fn need_limit(plan: &Plan) -> u32
     ensures areas { result ≡ plan.now.areas - plan.now.reserve }
     ensures few { result ≤ 4096 }
@@ -54,7 +54,8 @@ pub(crate) fn least_frame_needs(
     needs_from_rows(alloc, source, rows.as_slice(), recurs, frames)
 }
 
-/// Returns the refusal if no needs are within the areas: at the first recursion, or at the start.
+/// Returns the refusal by K14 if too many areas are needed: at the first recursion, or at the
+/// start's entry if there is none.
 pub(crate) fn need_refusal(source: &Source, place: Option<(Key, u32)>) -> MakeErr
     requires source { IsRowSource source.now }
     requires none { AreLeastNeedsOrTooMany source.now None }

@@ -18,12 +18,9 @@ use frame_places::{Refusal, Spot};
 use std::alloc::Global;
 use tc_isa::Shape;
 
-/// Joins the state at the successor, if the instruction only passes the state on, no interrupt's
-/// entry has to be joined, and the successor is unknown: the successor shares the state, which
-/// isn't read. Otherwise nothing is joined, and it returns false.
-///
-/// This is tried only at the place that was found last. The successors of other places are mostly
-/// known already, and the look-up here would be in vain.
+/// Joins a nop's or jump's state at its new successor, which shares the state unread. Otherwise
+/// joins nothing, and returns false. Tried only at the place that was found last: other places'
+/// successors are mostly known.
 pub(crate) fn share_state(alloc: Global, table: &mut Table, site: &Site) -> Result<bool, Refusal>
     requires fine { TableInvariantHoldsOn site.now.ground.now table.old }
     requires near { PlaceHasNumber table.old.places table.old.near
@@ -49,8 +46,8 @@ pub(crate) fn share_state(alloc: Global, table: &mut Table, site: &Site) -> Resu
     }
 }
 
-/// Returns the address after an instruction that only passes the state on: one that does nothing,
-/// or a jump to one address.
+/// Returns the only successor of an instruction that changes no state, a nop or a jump to one
+/// address, or None for others.
 #[inline(always)]
 fn unchanged_state_successor(site: &Site) -> Option<u32>
     requires code { LocatesCode site.now.ground.now.image.now site.now.ground.now.plan.now
@@ -69,8 +66,8 @@ fn unchanged_state_successor(site: &Site) -> Option<u32>
     }
 }
 
-/// Returns true only if the visited point is the place that was found last, and the entries of all
-/// interrupts that may be taken there are covered.
+/// Returns true only if the visited point was found last and its interrupts' entries are covered:
+/// then a new successor may share its state.
 #[inline(always)]
 fn may_share_state(table: &Table, site: &Site) -> bool
     requires fine { TableInvariantHoldsOn site.now.ground.now table.now }

@@ -14,7 +14,7 @@ use small_states::ScratchState;
 use std::alloc::{AllocError, Global};
 
 /// Returns the first point, by key and address, that enters a frame from which its own is reached,
-/// or `None` if no point does. It is told the edges between frames, and their ranks.
+/// or `None` if no frame is recursive.
 pub(crate) fn first_recursion(
     alloc: Global,
     source: &Source,
@@ -40,7 +40,8 @@ pub(crate) fn first_recursion(
     }
 }
 
-/// Returns the first address of the frame at which it enters a marked frame.
+/// Returns the least address at which a point of frame `key` enters a marked frame, from which
+/// `key` is reached, or `None`.
 fn first_recursive_address(
     alloc: Global,
     source: &Source,
@@ -58,8 +59,8 @@ fn first_recursive_address(
     Ok(first)
 }
 
-/// Returns the first address among some places and this one, which may be in any frame. `first` is
-/// that of the others.
+/// Returns the lesser of `first` and the place's address, if the place is a point of frame `key`
+/// that enters a marked frame; else `first`.
 fn lesser_recursive_address(
     alloc: Global,
     source: &Source,
@@ -86,7 +87,8 @@ fn lesser_recursive_address(
     }
 }
 
-/// Returns whether the point enters a marked frame.
+/// Returns whether a point enters a marked frame: one from which the recursive frame that is looked
+/// for is reached.
 fn enters_marked_frame(
     alloc: Global,
     source: &Source,

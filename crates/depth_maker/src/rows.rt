@@ -40,7 +40,8 @@ pub(crate) struct KnownPoint<'a> {
     pub(crate) known: &'a Marked<SmallKnown>,
 }
 
-/// Returns the row of a point. Its state is written over `state`.
+/// Returns the row of a known point for the needs: its frame, its number of locals, and the frames
+/// that its instruction enters.
 pub(crate) fn point_row(
     alloc: Global,
     source: &Source,
@@ -66,7 +67,8 @@ pub(crate) fn point_row(
     }
 }
 
-/// Returns the row of a point, from its instruction.
+/// Returns the row of the visited point for the needs, by what its located instruction and its
+/// interrupts enter.
 fn visited_point_row(
     alloc: Global,
     v: &Visit,
@@ -105,8 +107,8 @@ pub(crate) struct RowsDraft {
     node: usize,
 }
 
-/// Returns the rows of all points. A plain point has none of its own if its outline is that of the
-/// last plain point of its frame.
+/// Returns the rows of all known points, from which needs are computed. A plain point with an equal
+/// row in its frame adds none.
 pub(crate) fn need_rows(alloc: Global, source: &Source) -> Result<Vec<NeedRow>, AllocError>
     requires { IsRowSource source.now }
     ensures { IfOk result (λ rows. RowsOn source.now.ground.now source.now.table.now rows.items) }
@@ -176,8 +178,8 @@ fn has_equal_row(outlines: &[Option<Outline>], node: usize, known: &Marked<Small
     }
 }
 
-/// Appends the row of a point. If its instruction enters no frame by itself, its outline says all.
-/// Few points need this call.
+/// Appends the row of a known point. If its instruction enters no frame by itself, IE, CCPN and the
+/// number of locals give the row.
 #[inline(never)]
 fn add_point_row(
     alloc: Global,

@@ -19,13 +19,13 @@ use tcd_base::{NoMemory, put_u32};
 /// The magic bytes 54 43 44 43 of a certificate, as a little-endian word.
 const MAGIC: u32 = 0x4344_4354;
 
-/// Establishes that a CCPN of the maker's table is below 256, as its type says, so that it can be
-/// spelled as a byte.
+/// Establishes that a CCPN of the maker's table is below 256, as its type says, so that a
+/// certificate has a byte for each.
 pub(crate) fn ccpn_fits_byte(_byte: u8)
     ensures { _byte < 2 ^ 8 }
 {}
 
-/// Appends a point: its address and its state.
+/// Appends the certificate's bytes of one point of the maker's table: its address and its state.
 fn spell_table_point(
     out: &mut Vec<u8>,
     source: &Source,
@@ -47,7 +47,8 @@ fn spell_table_point(
     Ok(())
 }
 
-/// Appends these points of a frame.
+/// Appends the certificate's bytes of these points of the maker's table, which are of one frame, by
+/// ascending address.
 fn spell_table_points(
     out: &mut Vec<u8>,
     source: &Source,
@@ -65,7 +66,8 @@ fn spell_table_points(
     Ok(())
 }
 
-/// Appends the exit of a frame, or that none is known.
+/// Appends the certificate's bytes of a frame's exit in the maker's table, or of no exit if none is
+/// known.
 fn spell_table_exit(out: &mut Vec<u8>, source: &Source, key: Key) -> Result<(), NoMemory>
     requires source { IsRowSource source.now }
     ensures { OnOk result (SpellsTableExit source.now key out.old.items out.new.items) }
@@ -83,7 +85,7 @@ fn spell_table_exit(out: &mut Vec<u8>, source: &Source, key: Key) -> Result<(), 
     Ok(())
 }
 
-/// Returns the need of a frame.
+/// Returns the least need of a frame, in areas, as the certificate's number of two bytes.
 fn spelled_need(source: &Source, needs: &[u32], key: Key) -> u16
     requires source { IsRowSource source.now }
     requires needs { AreLeastTableNeeds source.now needs.now }
@@ -105,8 +107,8 @@ pub(crate) struct Ordered<'a> {
     pub(crate) points: &'a [PointEntry],
 }
 
-/// Returns the bytes of the certificate of a table without work, with the least needs of its
-/// frames.
+/// Returns the bytes of the certificate of the maker's finished table: a node for each frame, with
+/// its least need.
 pub(crate) fn spelled_cert_bytes(
     alloc: Global,
     source: &Source,
@@ -135,7 +137,8 @@ pub(crate) fn spelled_cert_bytes(
     Ok(out)
 }
 
-/// Appends the nodes of these frames.
+/// Appends the certificate's bytes of the nodes of these frames of the maker's table, in this
+/// order.
 fn spell_table_nodes(out: &mut Vec<u8>, ordered: &Ordered, frames: &[Key]) -> Result<(), NoMemory>
     requires ordered { IsOrderedCertSource ordered.now }
     requires frames { AreTableFrames ordered.now frames.now }
@@ -147,7 +150,7 @@ fn spell_table_nodes(out: &mut Vec<u8>, ordered: &Ordered, frames: &[Key]) -> Re
     Ok(())
 }
 
-/// Appends the node of a frame.
+/// Appends the certificate's bytes of one frame's node: its key, need, exit and points.
 fn spell_table_node(out: &mut Vec<u8>, ordered: &Ordered, key: Key) -> Result<(), NoMemory>
     requires ordered { IsOrderedCertSource ordered.now }
     requires key { IsTableFrame ordered.now.source.now key }

@@ -31,9 +31,8 @@ use std::alloc::Global;
 use tc_isa::Shape;
 use vd_transfer::Change;
 
-/// Joins what the visited place owes, and returns true only if its instruction enters no frame by
-/// itself. An exit owes nothing. The state of a point may be written over `scratch`, its changes
-/// over `change`, and results of operations on two sets are in `cache`.
+/// Joins what the place with the number `table.near` owes; an exit owes nothing. Returns true only
+/// if its instruction enters no frame by itself.
 pub(crate) fn visit_place(
     alloc: Global,
     ground: &Ground,
@@ -71,8 +70,8 @@ pub(crate) fn visit_place(
     visit_point(alloc, table, &site, scratch, change, cache)
 }
 
-/// Writes what the instruction makes of the state into `c`. The result of an operation on two sets
-/// may be in `cache`.
+/// Writes to `c` the change from the visited point's state to the state after its instruction,
+/// which may be in `cache`.
 #[inline(always)]
 pub(crate) fn write_visit_change(
     v: &Visit,
@@ -94,7 +93,8 @@ pub(crate) fn write_visit_change(
     successor_change(g.bounds, g.image, g.plan, shape, v.state, c);
 }
 
-/// Joins all that the point owes. The change by its instruction is written over `c`.
+/// Joins all that the visited point owes: successors, entries of frames, interrupts, and the exit.
+/// `c` is overwritten.
 fn join_visit_duties(
     alloc: Global,
     table: &mut Table,
@@ -119,8 +119,8 @@ fn join_visit_duties(
     join_exit_if_left(alloc, table, v, found.shape)
 }
 
-/// Reads the state of the visited point over `scratch`, and joins what the point owes, or a part of
-/// it if the point has new work. Returns true only if its instruction enters no frame by itself.
+/// Visits a point: joins what its state owes, or refuses by the rule that fails there. Returns true
+/// only if its instruction enters no frame.
 fn visit_point(
     alloc: Global,
     table: &mut Table,

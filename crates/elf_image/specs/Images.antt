@@ -4,12 +4,13 @@ use Rattle.std.specs.List.{list_all}
 use Rattle.elf_image.specs.declared.images.Image.TheInside.{Inside}
 use Rattle.elf_image.specs.declared.segments.Segment.{Segment}
 
--- bytes, and the address of the first
+-- a segment of an image: the address of its first byte, and its bytes
 pub record SegmentData : Type 0 where
   pub at : ℕ
   pub bytes : List ℕ
 
--- the address at which the program begins, and its segments
+-- an image, what is read of an executable: the address at which the program begins, and its
+-- segments
 pub record ImageData : Type 0 where
   pub entry : ℕ
   pub segments : List SegmentData
@@ -39,7 +40,8 @@ are_all_segments_apart (s ∷ ss) = list_all (are_segments_apart s) ss && are_al
 abbrev pub AreSegmentBytes : List SegmentData → Type 0
 AreSegmentBytes segments = All (λ (s : SegmentData). All (λ b. b < 2 ^ 8) s.bytes) segments
 
--- the limits of an image
+-- an image is within its limits: at most 64 segments with at most 2^24 bytes together, none empty
+-- or past 2^32, no two at one address
 pub record IsImage (i : ImageData) : Type 0 where
   pub entry : i.entry < 2 ^ 32
   pub few : length i.segments ≤ 64
@@ -52,7 +54,7 @@ pub record IsImage (i : ImageData) : Type 0 where
 abbrev pub is_held_by_segment : SegmentData → ℕ → Bool
 is_held_by_segment s x = nat_le s.at x && nat_lt x (s.at + length s.bytes)
 
--- the byte of the segment that holds x
+-- the byte at address x, of the first of these segments that holds x; None if no segment holds x
 abbrev pub segments_byte : List SegmentData → ℕ → Option ℕ
 segments_byte [] x = None
 segments_byte (s ∷ ss) x = if is_held_by_segment s x then slice_get s.bytes (x - s.at) else segments_byte ss x

@@ -103,8 +103,8 @@ has_overlap_with h k = nat_lt h.address (k.address + k.file_size) && nat_lt k.ad
 
 -- ---- refusals
 
--- refusals of a file that isn't ELF of 32 bits with the least significant byte first, isn't for
--- this machine (44), or isn't executable (ET_EXEC)
+-- the refusal of a file that is shorter than an ELF header, isn't ELF of 32 bits with the least
+-- significant byte first, isn't for this machine (44), or isn't executable (ET_EXEC)
 unfoldable pub elf_header_refusal : List ℕ → Option ImageErr
 elf_header_refusal bytes =
     if nat_lt (length bytes) 52 then Some Short
@@ -119,7 +119,8 @@ program_header_refusal bytes =
     if nat_lt 0 (e_phnum bytes) && not (e_phentsize bytes == 32) then Some (BadSegment 0)
     else option_map (λ h. BadSegment h.number) (find (is_bad_header bytes) (program_headers_of bytes))
 
--- more segments or bytes than an image can have
+-- the program headers load more segments or more bytes than an image can have: over 64, or over
+-- 2^24
 unfoldable pub exceeds_limits : List Header → Bool
 exceeds_limits loads = nat_lt 64 (length loads) || nat_lt (2 ^ 24) (sum_by (λ h. h.file_size) loads)
 

@@ -17,15 +17,15 @@ elf_word_bytes n = to_le_bytes w32 n
 abbrev pub identification : List ℕ
 identification = 127 ∷ 69 ∷ 76 ∷ 70 ∷ 1 ∷ 1 ∷ 1 ∷ 0 ∷ 0 ∷ 0 ∷ 0 ∷ 0 ∷ 0 ∷ 0 ∷ 0 ∷ 0 ∷ []
 
--- e_ident; e_type ET_EXEC, e_machine 44, e_version; e_entry, e_phoff, e_shoff, e_flags; e_ehsize,
--- e_phentsize, e_phnum, e_shentsize, e_shnum and e_shstrndx
+-- the ELF header of a written file: e_ident; e_type ET_EXEC, e_machine 44, e_version; e_entry,
+-- e_phoff, e_shoff, e_flags; e_ehsize, e_phentsize, e_phnum, e_shentsize, e_shnum and e_shstrndx
 unfoldable pub elf_header : ℕ → ℕ → List ℕ
 elf_header entry count =
     identification ++ elf_half_bytes 2 ++ elf_half_bytes 44 ++ elf_word_bytes 1 ++ elf_word_bytes entry ++ elf_word_bytes 52 ++ elf_word_bytes 0 ++ elf_word_bytes 0
     ++ elf_half_bytes 52 ++ elf_half_bytes 32 ++ elf_half_bytes count ++ elf_half_bytes 0 ++ elf_half_bytes 0 ++ elf_half_bytes 0
 
--- p_type PT_LOAD, p_offset, p_vaddr, p_paddr; p_filesz, p_memsz, p_flags (readable and executable),
--- p_align
+-- the program header of a segment in a written file: p_type PT_LOAD, p_offset, p_vaddr, p_paddr;
+-- p_filesz, p_memsz, p_flags (readable and executable), p_align
 unfoldable pub program_header : ℕ → ℕ → ℕ → List ℕ
 program_header offset at len =
     elf_word_bytes 1 ++ elf_word_bytes offset ++ elf_word_bytes at ++ elf_word_bytes at ++ elf_word_bytes len ++ elf_word_bytes len ++ elf_word_bytes 5 ++ elf_word_bytes 1
@@ -36,7 +36,7 @@ program_headers offset [] = []
 program_headers offset (s ∷ ss) =
     program_header offset s.at (length s.bytes) ++ program_headers (offset + length s.bytes) ss
 
--- the offset of the segments' bytes
+-- the offset of the segments' bytes in a written file: after the ELF header and the program headers
 abbrev pub elf_contents_offset : List SegmentData → ℕ
 elf_contents_offset ss = 52 + 32 * length ss
 

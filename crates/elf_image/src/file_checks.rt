@@ -10,7 +10,7 @@ use crate::headers::{
     program_header_at, program_header_offset,
 };
 
-// Checks that the file begins with the header of an executable for this machine.
+// Checks that a file begins with the ELF header of an executable for this machine.
 #[tactic(auto, unfolding(crate::specs::ReadElf::elf_header_refusal))]
 pub(crate) fn check_elf_header(bytes: &[u8]) -> Result<(), ImageErr>
     ensures refusal { result_err result ≡ elf_header_refusal bytes.now }
@@ -31,7 +31,7 @@ pub(crate) fn check_elf_header(bytes: &[u8]) -> Result<(), ImageErr>
     Ok(())
 }
 
-// Checks that no program header is bad.
+// Checks that the program headers of an ELF file have 32 bytes each, and that none is bad.
 #[tactic(auto, unfolding(crate::specs::ReadElf::program_header_refusal))]
 pub(crate) fn check_program_headers(bytes: &[u8]) -> Result<(), ImageErr>
     requires { 52 ≤ length bytes.now }
@@ -46,7 +46,7 @@ pub(crate) fn check_program_headers(bytes: &[u8]) -> Result<(), ImageErr>
     }
 }
 
-// Checks that no two of the headers that load bytes share an address.
+// Checks that no two program headers of an ELF file load bytes to the same address.
 #[tactic(auto, unfolding(crate::specs::ReadElf::overlap_refusal))]
 pub(crate) fn check_no_overlap(loads: &[Header]) -> Result<(), ImageErr>
     ensures { result_err result ≡ overlap_refusal loads.now }

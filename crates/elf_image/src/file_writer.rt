@@ -38,7 +38,7 @@ fn elf_header(entry: u32, count: u16) -> [u8; 52]
     ]
 }
 
-// Appends the program headers.
+// Appends to an ELF file the program headers of these segments.
 #[tactic(auto, unfolding(crate::specs::WrittenElf::program_headers))]
 fn put_program_headers(out: &mut Vec<u8>, segments: &[Segment]) -> Result<(), ImageErr>
     requires few { length segments.now ≤ 64 }
@@ -57,7 +57,7 @@ fn put_program_headers(out: &mut Vec<u8>, segments: &[Segment]) -> Result<(), Im
     Ok(())
 }
 
-// Appends the segments' bytes.
+// Appends to an ELF file the bytes of these segments, without gaps.
 #[tactic(auto, unfolding(crate::specs::WrittenElf::elf_contents))]
 fn put_segment_bytes(out: &mut Vec<u8>, segments: &[Segment]) -> Result<(), ImageErr>
     ensures ok { OnOk result

@@ -96,7 +96,8 @@ pub(crate) fn loads_file_bytes(header: &Header) -> bool
     header.kind == PT_LOAD && header.file_size > 0
 }
 
-// Collects the headers that load bytes, in order: at most 64, with at most 2^24 bytes together.
+// Returns the program headers of an ELF file that load bytes, in order, or `TooLarge` for more than
+// 64, or more than 2^24 bytes.
 pub(crate) fn load_headers(alloc: Global, bytes: &[u8]) -> Result<Vec<Header>, ImageErr>
     requires long { 52 ≤ length bytes.now }
     requires good { program_header_refusal bytes.now ≡ None }

@@ -39,7 +39,7 @@ pub fn establish_segment_bytes(segments: &[Segment])
     }
 }
 
-// Copies the segments of these headers, in order.
+// Returns the segments that these program headers load from an ELF file, in order.
 pub(crate) fn segments_of(
     alloc: Global,
     bytes: &[u8],
@@ -67,7 +67,7 @@ fn segment_bytes_below_256(bytes: &[u8])
     }
 }
 
-// Copies the bytes that a header loads.
+// Returns the segment that a program header loads from an ELF file.
 fn segment_of(alloc: Global, bytes: &[u8], load: &Header) -> Result<Segment, ImageErr>
     requires { load.now.offset + load.now.file_size ≤ length bytes.now }
     ensures ok { IfOk result (λ s. segment_data s ≡ segment_of bytes.now load.now) }

@@ -17,12 +17,12 @@ abbrev pub PassesCountLimit : List Spot → List Key → Spot → Type 0
 PassesCountLimit ps ks (Point k p) = (length ps ≡ 2 ^ 16) ⊎ ((p ≡ k.entry) × (length ks ≡ 2048))
 PassesCountLimit ps ks (Exit k) = ⊥
 
--- a refusal by K15, at a place that isn't known
+-- a refusal by K15 at a new place that passes a limit of certificates; nothing is said of NoMemory
 abbrev pub IsCountRefusal : Bool → List Spot → List Key → Spot → Refusal → Type 0
 IsCountRefusal known ps ks y (Fault rule x) = (rule ≡ 15) × (x ≡ y) × (known ≡ false) × PassesCountLimit ps ks y
 IsCountRefusal known ps ks y NoMemory = Unit {0}
 
--- the counted points with one more, if this place is a point
+-- the points that the maker counts, with one more place if that place is a point
 abbrev pub with_point : List Spot → Spot → List Spot
 with_point ps (Point k p) = ps ++ Point k p ∷ []
 with_point ps (Exit k) = ps
@@ -32,6 +32,6 @@ with_point ps (Exit k) = ps
 abbrev pub counted_points_after : Bool → List Spot → Spot → List Spot
 counted_points_after known ps y = if known then ps else with_point ps y
 
--- the frames after a join at y
+-- the frames that the maker counts after a state flows into the place y
 abbrev pub counted_frames_after : Bool → List Key → Spot → List Key
 counted_frames_after known ks y = if known then ks else with_counted_frame ks y

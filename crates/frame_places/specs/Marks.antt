@@ -12,15 +12,15 @@ use Rattle.frame_places.specs.Numbers.{PlaceHasNumber, KeepsNumbers}
 use Rattle.frame_places.specs.Spots.{spot_eq}
 use Rattle.frame_places.specs.Work.{WorkLists, all_work}
 
--- the value of a place
+-- the value that a map of places has for a place, or none if the place is unknown
 abbrev pub value_for : {V S : Type 0} → IndexMap Spot (Marked V) S → Spot → Option V
 value_for places q = option_map (λ m. m.value) (get spot_eq places q)
 
--- the mark of a known place
+-- the mark that a map of places has for a place, or none if the place is unknown
 abbrev pub mark_for : {V S : Type 0} → IndexMap Spot (Marked V) S → Spot → Option Mark
 mark_for places q = option_map (λ m. m.mark) (get spot_eq places q)
 
--- each of these places is known, so it has a value and a mark
+-- each of these places is in the map of places, with a value and a mark
 abbrev pub AreKnown : {V S : Type 0} → IndexMap Spot (Marked V) S → (Spot → Type 0) → Type 0
 AreKnown places these = (q : Spot) → these q → IsSome (value_for places q)
 
@@ -30,13 +30,13 @@ pub record AllListed {V S : Type 0} (places : IndexMap Spot (Marked V) S) (work 
   pub listed : (q : Spot) → mark_for places q ≡ Some Queued → (number : ℕ) × Contains work number × PlaceHasNumber places number q
   pub known : (number : ℕ) → Contains work number → (q : Spot) × PlaceHasNumber places number q
 
--- x gets this mark; no other mark, no value and no number changes
+-- the place x gets this mark in the map of places; no other mark, no value and no number changes
 pub record MarksAs {V S : Type 0} (old new : IndexMap Spot (Marked V) S) (x : Spot) (mark : Mark) : Type 0 where
   pub values : (q : Spot) → value_for new q ≡ value_for old q
   pub marks : (q : Spot) → mark_for new q ≡ (if spot_eq x q then Some mark else mark_for old q)
   pub numbers : KeepsNumbers old new
 
--- y gets this value and is queued; nothing else changes
+-- the place y gets this value in the map of places and is queued; nothing else changes
 pub record PutsPlaceValue {V S : Type 0} (old new : IndexMap Spot (Marked V) S) (y : Spot) (value : V) : Type 0 where
   pub values : (q : Spot) → value_for new q ≡ (if spot_eq y q then Some value else value_for old q)
   pub marks : (q : Spot) → mark_for new q ≡ (if spot_eq y q then Some Queued else mark_for old q)
@@ -48,7 +48,7 @@ abbrev pub AddsOrFinds : {V S : Type 0} → IndexMap Spot (Marked V) S → Index
 AddsOrFinds old new before after y value None = (value_for old y ≡ None) × PutsPlaceValue old new y value × AllListed new (all_work after)
 AddsOrFinds old new before after y value (Some number) = PlaceHasNumber old number y × (new.entries ≡ old.entries) × (after ≡ before)
 
--- these are queued now, and nothing else changes
+-- these places are queued now in the map of places, and nothing else changes
 pub record Requeues {V S : Type 0} (old new : IndexMap Spot (Marked V) S) (these : Spot → Type 0) : Type 0 where
   pub values : (q : Spot) → value_for new q ≡ value_for old q
   pub marks : (q : Spot) → ((mark_for new q ≡ Some Queued) × these q) ⊎ ((mark_for new q ≡ mark_for old q) × (these q → ⊥))
@@ -74,7 +74,7 @@ is_queued (Some Open) = false
 abbrev pub idle_mark : Bool → Mark
 idle_mark plain = if plain then Plain else Idle
 
--- the mark after a visit; a place that was queued during it stays queued
+-- the mark of a place after a visit; a place that was queued during the visit stays queued
 abbrev pub settled_mark : Bool → Option Mark → Mark
 settled_mark plain o = if is_queued o then Queued else idle_mark plain
 

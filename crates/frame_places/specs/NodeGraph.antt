@@ -6,15 +6,15 @@ use Rattle.indexmap.specs.IndexMap.{IndexMap, get}
 use Rattle.frame_places.specs.declared.needs.reach.FrameEdge.{FrameEdge}
 use Rattle.frame_places.specs.declared.needs.row.NeedRow.{NeedRow}
 
--- the edge from one node to another
+-- the edge of the graph of entries from one node to another
 abbrev pub edge_to : ℕ → ℕ → FrameEdge
 edge_to k t = record { node = k; into = t }
 
--- there is an edge of the graph of entries: some row of the node k enters the node t
+-- some row of the node k enters the node t, so the graph of entries has an edge from k to t
 abbrev pub RowHasEntry : List NeedRow → ℕ → ℕ → Type 0
 RowHasEntry rows k t = (row : NeedRow) × Contains rows row × (row.node ≡ k) × Contains row.into.items t
 
--- the edges of the graph are the entries of the rows
+-- the edges of the graph of entries are those of the rows: from a row's node to each node entered
 pub record AreEdges (rows : List NeedRow) (edges : List FrameEdge) : Type 0 where
   pub sound : (k t : ℕ) → Contains edges (edge_to k t) → RowHasEntry rows k t
   pub complete : (k t : ℕ) → RowHasEntry rows k t → Contains edges (edge_to k t)
@@ -25,17 +25,17 @@ pub record AddsEdges (old new : List FrameEdge) (node : ℕ) (into : List ℕ) :
   pub sound : (e : FrameEdge) → Contains new e → Contains old e ⊎ ((e.node ≡ node) × Contains into e.into)
   pub complete : (t : ℕ) → Contains into t → Contains new (edge_to node t)
 
--- the edges are between `nodes` nodes
+-- the edges of the graph of entries join nodes with numbers below `nodes`
 pub record AreEdgesBetween (edges : List FrameEdge) (nodes : ℕ) : Type 0 where
   pub node : (e : FrameEdge) → Contains edges e → e.node < nodes
   pub into : (e : FrameEdge) → Contains edges e → e.into < nodes
 
--- the node j is reached from k along edges, none or more
+-- in the graph of entries, the node j is reached from a node along edges, none or more
 pub data LeadsAlongEdges (edges : List FrameEdge) (j : ℕ) : ℕ → Type 0 where
   here : LeadsAlongEdges edges j j
   along : (k t : ℕ) → Contains edges (edge_to k t) → LeadsAlongEdges edges j t → LeadsAlongEdges edges j k
 
--- the node is reached from one that it enters
+-- the node lies on a cycle of the graph of entries, so its frame is recursive
 pub record IsRecursiveNode (edges : List FrameEdge) (k : ℕ) : Type 0 where
   pub next : ℕ
   pub enters : Contains edges (edge_to k next)
@@ -43,7 +43,7 @@ pub record IsRecursiveNode (edges : List FrameEdge) (k : ℕ) : Type 0 where
 
 -- ---- marks
 
--- the number of nodes without a mark
+-- the number of nodes of the graph of entries without a mark
 abbrev pub unmarked_nodes : List Bool → ℕ
 unmarked_nodes [] = 0
 unmarked_nodes (true ∷ ms) = unmarked_nodes ms
@@ -53,31 +53,32 @@ unmarked_nodes (false ∷ ms) = unmarked_nodes ms + 1
 abbrev pub IsNodeMarked : List Bool → ℕ → Type 0
 IsNodeMarked marks k = slice_index_or marks k false ≡ true
 
--- in the graph, from each marked node j is reached along edges
+-- in the graph of entries, the node j is reached from each marked node
 abbrev pub AllLeadAlongEdges : List FrameEdge → ℕ → List Bool → Type 0
 AllLeadAlongEdges edges j marks = (k : ℕ) → IsNodeMarked marks k → LeadsAlongEdges edges j k
 
--- a node has this source
+-- this node is among the predecessors, the nodes with an edge to a given one
 abbrev pub HasPredecessor : Option (Vec ℕ Global) → ℕ → Type 0
 HasPredecessor None k = ⊥
 HasPredecessor (Some ks) k = Contains ks.items k
 
--- the sources of each node, as far as these edges go
+-- the map has the predecessors of each node: exactly the sources of the edges to the node
 pub record ArePredecessors {S : Type 0} (edges : List FrameEdge) (sources : IndexMap ℕ (Vec ℕ Global) S) : Type 0 where
   pub sound : (k t : ℕ) → HasPredecessor (get nat_eq sources t) k → Contains edges (edge_to k t)
   pub complete : (k t : ℕ) → Contains edges (edge_to k t) → HasPredecessor (get nat_eq sources t) k
 
--- the sources are among `nodes` nodes
+-- all predecessors in the map are numbers below `nodes`
 abbrev pub ArePredecessorsBelow : {S : Type 0} → IndexMap ℕ (Vec ℕ Global) S → ℕ → Type 0
 ArePredecessorsBelow sources nodes = (k t : ℕ) → HasPredecessor (get nat_eq sources t) k → k < nodes
 
--- a node is a source of one more node
+-- the node k is one more predecessor of the node t; nothing else changes
 pub record AddsPredecessor {S T : Type 0} (old : IndexMap ℕ (Vec ℕ Global) S) (new : IndexMap ℕ (Vec ℕ Global) T) (k t : ℕ) : Type 0 where
   pub keeps : (j u : ℕ) → HasPredecessor (get nat_eq old u) j → HasPredecessor (get nat_eq new u) j
   pub there : HasPredecessor (get nat_eq new t) k
   pub sound : (j u : ℕ) → HasPredecessor (get nat_eq new u) j → HasPredecessor (get nat_eq old u) j ⊎ ((j ≡ k) × (u ≡ t))
 
--- these nodes are marked, those that weren't are queued, and nothing else changes
+-- these nodes of the graph of entries are marked, those that weren't are queued, and nothing else
+-- changes
 pub record MarksNodes (nodes : List ℕ) (old new : List Bool) (work later : List ℕ) : Type 0 where
   pub keeps : (k : ℕ) → IsNodeMarked old k → IsNodeMarked new k
   pub marks : (k : ℕ) → Contains nodes k → IsNodeMarked new k
@@ -88,8 +89,8 @@ pub record MarksNodes (nodes : List ℕ) (old new : List Bool) (work later : Lis
   pub less : 2 * unmarked_nodes new + length later ≤ 2 * unmarked_nodes old + length work
   pub same : length new ≡ length old
 
--- the graph's nodes are marked as far as the search has come: marked ones lead to j, queued ones
--- are marked, and so is each source of a marked node that isn't queued
+-- invariant of the backward search from j: marked nodes lead to j, and predecessors of a marked
+-- node are marked unless that is queued
 pub record IsMarking (edges : List FrameEdge) (nodes j : ℕ) (marks : List Bool) (work : List ℕ) : Type 0 where
   pub all : length marks ≡ nodes
   pub sound : AllLeadAlongEdges edges j marks
@@ -97,35 +98,36 @@ pub record IsMarking (edges : List FrameEdge) (nodes j : ℕ) (marks : List Bool
   pub listed : (k : ℕ) → Contains work k → IsNodeMarked marks k
   pub done : (k t : ℕ) → Contains edges (edge_to k t) → IsNodeMarked marks t → Contains work t ⊎ IsNodeMarked marks k
 
--- from marks on the way all marks are set
+-- all nodes are marked from which a queued node is reached along edges, and the queue is empty
 abbrev pub MarksAllReaching : {S : Type 0} → IndexMap ℕ (Vec ℕ Global) S → List Bool → List Bool → List ℕ → Type 0
 MarksAllReaching sources old new work =
     (edges : List FrameEdge) (j : ℕ) → ArePredecessors edges sources → IsMarking edges (length old) j old work
     → IsMarking edges (length old) j new []
 
--- exactly the nodes of the graph from which j is reached are marked
+-- exactly the nodes of the graph of entries from which the node j is reached are marked
 pub record AreReachingMarks (edges : List FrameEdge) (nodes j : ℕ) (marks : List Bool) : Type 0 where
   pub each : length marks ≡ nodes
   pub sound : AllLeadAlongEdges edges j marks
   pub complete : (k : ℕ) → LeadsAlongEdges edges j k → IsNodeMarked marks k
 
--- the same, by the sources of each node
+-- for edges with these predecessors, exactly the nodes are marked from which j is reached
 abbrev pub AreReachingByPredecessors : {S : Type 0} → IndexMap ℕ (Vec ℕ Global) S → ℕ → ℕ → List Bool → Type 0
 AreReachingByPredecessors sources nodes j marks = (edges : List FrameEdge) → ArePredecessors edges sources → AreReachingMarks edges nodes j marks
 
--- some node that this one enters is marked
+-- the node k has an edge of the graph of entries to a marked node
 abbrev pub HasMarkedSuccessor : List Bool → List FrameEdge → ℕ → Type 0
 HasMarkedSuccessor marks edges k = (t : ℕ) × Contains edges (edge_to k t) × IsNodeMarked marks t
 
 -- ---- the first
--- the recursive node that is first in an order, or that none is recursive
+-- the node on a cycle of the graph of entries that is first in these orders; or no node is on a
+-- cycle
 abbrev pub IsFirstRecursiveNode : List ℕ → List FrameEdge → Option ℕ → Type 0
 IsFirstRecursiveNode orders edges None = (k : ℕ) → IsRecursiveNode edges k → ⊥
 IsFirstRecursiveNode orders edges (Some k) =
     (k < length orders) × IsRecursiveNode edges k × ((j : ℕ) → IsRecursiveNode edges j → slice_index orders k ≤ slice_index orders j)
 
--- the recursive node that is first in an order among the nodes before n, or that none of them is
--- recursive
+-- among the nodes before n, the node on a cycle that is first in these orders; or none of them is
+-- on a cycle
 abbrev pub IsFirstRecursiveNodeBefore : List ℕ → List FrameEdge → ℕ → Option ℕ → Type 0
 IsFirstRecursiveNodeBefore orders edges n None = (k : ℕ) → k < n → IsRecursiveNode edges k → ⊥
 IsFirstRecursiveNodeBefore orders edges n (Some k) =

@@ -16,14 +16,14 @@ abbrev pub frame_number_in : List Key → Key → ℕ
 frame_number_in [] k = 0
 frame_number_in (j ∷ js) k = if is_same_key j k then 0 else frame_number_in js k + 1
 
--- the map has the numbers of these frames
+-- the map gives each of these known frames its number, the position in the list of frames
 pub record AreFrameNumbers {S : Type 0} (numbers : IndexMap Key ℕ S) (frames : List Key) (known : List Key) : Type 0 where
   pub each : (k : Key) → Contains known k → get frame_key_eq numbers k ≡ Some (frame_number_in frames k)
 
--- the number of a place: x has this number, which is its position in the map
+-- the place x has this number, the position in the map of places
 abbrev pub PlaceHasNumber : {X S : Type 0} → IndexMap Spot X S → ℕ → Spot → Type 0
 PlaceHasNumber m number x = slice_get (keys m) number ≡ Some x
 
--- the numbers of places stay: each place of a map keeps its number, which is its position
+-- each place of the old map of places has the same number in the new one
 abbrev pub KeepsNumbers : {V S : Type 0} → IndexMap Spot (Marked V) S → IndexMap Spot (Marked V) S → Type 0
 KeepsNumbers old new = (number : ℕ) (q : Spot) → PlaceHasNumber old number q → PlaceHasNumber new number q

@@ -10,22 +10,22 @@ use Rattle.frame_places.specs.declared.places.Spot.TheVariants.{Point, Exit}
 abbrev pub spot_eq : Spot → Spot → Bool
 spot_eq = (block.ghosts).eq
 
--- places are ordered by key, then address
+-- the number by which places are sorted: that of the frame's key, then the address
 abbrev pub spot_number : Spot → ℕ
 spot_number (Point k p) = number_of_key k * 2 ^ 32 + p
 spot_number (Exit k) = number_of_key k * 2 ^ 32 + 0
 
--- the address of a point
+-- the address of a place of a frame: that of a point, 0 for an exit
 abbrev pub spot_address : Spot → ℕ
 spot_address (Point k p) = p
 spot_address (Exit k) = 0
 
--- the entry point of a frame
+-- a place is the entry point of its frame
 abbrev pub is_entry_point : Spot → Bool
 is_entry_point (Point k p) = p == k.entry
 is_entry_point (Exit k) = false
 
--- a point of frame k
+-- a place is a point of the frame k
 abbrev pub is_point_of : Key → Spot → Bool
 is_point_of k (Point j p) = is_same_key j k
 is_point_of k (Exit j) = false
@@ -35,7 +35,7 @@ is_point_of k (Exit j) = false
 abbrev pub AreRangedSpots : List Spot → Type 0
 AreRangedSpots ps = (q : Spot) → Contains ps q → (k : Key) × (p : ℕ) × (q ≡ Point k p) × IsKey k × (p < 2 ^ 32)
 
--- the address of a place in the frame k
+-- the address of the place y if y is a point of the frame k; or y is no point of k
 abbrev pub IsAddressIn : Key → Spot → Option ℕ → Type 0
 IsAddressIn k y None = (p : ℕ) → y ≡ Point k p → ⊥
 IsAddressIn k y (Some p) = y ≡ Point k p

@@ -13,7 +13,8 @@ const MOST_POINTS: usize = 65536;
 /// The greatest number of frames in a certificate.
 const MOST_FRAMES: usize = 2048;
 
-/// Counts a place, unless it is known.
+/// Counts a place that the maker finds, unless known: a point, and the frame that begins there.
+/// Refuses by K15 past the limits.
 pub fn count_place(
     known: bool,
     points: &mut Vec<Spot>,
@@ -39,7 +40,8 @@ pub fn count_place(
     }
 }
 
-/// Counts a new point, and its frame if it is the frame's entry point.
+/// Counts a new point, and its frame if the point is the frame's entry. Refuses by K15 past 65,536
+/// points or 2,048 frames.
 fn count_point(
     points: &mut Vec<Spot>,
     frames: &mut Vec<Key>,

@@ -12,14 +12,14 @@ use indexmap::IndexMap;
 use std::alloc::AllocError;
 use std::hash::{Hash, Hasher};
 
-/// Returns whether a place is an entry point that wasn't visited yet. If it is marked as queued, it
-/// moves to the front when its state rises.
+/// Returns whether a place is an entry point that wasn't visited yet: such a queued place moves to
+/// the front when its state rises.
 #[inline(always)]
 pub(crate) fn is_unvisited_entry(entry: bool, visits: u8) -> bool {
     entry && visits == 0
 }
 
-/// Marks the place with this number.
+/// Sets the mark of the place with this number: idle, plain, queued, or being visited.
 #[inline(always)]
 pub(crate) fn mark_place<V>(places: &mut IndexMap<Spot, Marked<V>>, number: usize, mark: Mark)
     ensures { (x : Spot) → PlaceHasNumber places.old number x
@@ -34,8 +34,8 @@ pub(crate) fn mark_place<V>(places: &mut IndexMap<Spot, Marked<V>>, number: usiz
 /// rises.
 const PATIENT: u8 = 2;
 
-/// Returns whether a place that is marked as queued again waits for the next round: it is told to,
-/// or was visited often. So a call of many functions waits until their exits have risen.
+/// Returns whether a place that is queued again waits for the next round: if told to, or after two
+/// visits. So a call of many functions waits until their exits have risen.
 #[inline(always)]
 pub(crate) fn must_wait_for_round<V>(
     places: &IndexMap<Spot, Marked<V>>,
@@ -48,8 +48,8 @@ pub(crate) fn must_wait_for_round<V>(
     }
 }
 
-/// Marks each of these known places as queued, unless it is. They wait for the next round, or are
-/// next.
+/// Puts each of these known readers back on the work list unless queued: for the next round if
+/// `waits`, else as next.
 pub(crate) fn requeue_all<V>(
     places: &mut IndexMap<Spot, Marked<V>>,
     work: &mut Work,
@@ -79,7 +79,7 @@ pub fn has_queued_mark<V>(places: &IndexMap<Spot, Marked<V>>, number: usize) -> 
     }
 }
 
-/// Begins the visit of the place with this number.
+/// Marks the place with this number as being visited, and counts the visit, up to 255.
 #[inline(always)]
 pub fn begin_visit<V>(places: &mut IndexMap<Spot, Marked<V>>, number: usize)
     ensures { (x : Spot) → PlaceHasNumber places.old number x
@@ -100,8 +100,8 @@ pub fn is_plain_mark(mark: Mark) -> bool
     matches!(mark, Mark::Plain)
 }
 
-/// Ends the visit of the place with this number: it has no work, unless it was queued during the
-/// visit. `plain` may be set if the instruction there enters no frame by itself.
+/// Marks the visited place with this number as done, unless queued meanwhile: as plain if `plain`,
+/// else as idle.
 #[inline(always)]
 pub fn end_visit<V>(places: &mut IndexMap<Spot, Marked<V>>, number: usize, plain: bool)
     ensures { (x : Spot) → PlaceHasNumber places.old number x
@@ -136,7 +136,8 @@ pub(crate) fn requeue<V>(
     Ok(())
 }
 
-/// Returns the mark of a place whose visit ends.
+/// Returns the mark of a place after a visit: queued if new work came meanwhile, else plain or
+/// idle.
 #[inline(always)]
 fn mark_after_visit(mark: Mark, plain: bool) -> Mark
     ensures { result ≡ settled_mark plain (Some mark) }

@@ -9,7 +9,7 @@ use depth_cert::Key;
 use indexmap::IndexMap;
 use std::alloc::{AllocError, AllocFailed, Global};
 
-/// Returns the numbers of the frames.
+/// Returns the map from each frame's key to its number, the position in this list.
 pub fn number_frames(
     alloc: Global,
     frames: &[Key],
@@ -24,7 +24,7 @@ pub fn number_frames(
     Ok(numbers)
 }
 
-/// Returns the number of a frame, or 0 if it has none.
+/// Returns the number of the frame with this key, or 0 if the map has none.
 pub fn frame_number(numbers: &IndexMap<Key, usize>, key: Key) -> usize
     ensures { (frames : List keys.Key) → AreFrameNumbers numbers.now frames frames
         → Contains frames key
@@ -36,7 +36,8 @@ pub fn frame_number(numbers: &IndexMap<Key, usize>, key: Key) -> usize
     }
 }
 
-/// Returns the number of a frame, or 0 if it has none. It is likely to be `near`.
+/// Returns the number of the frame with this key, or 0 if the map has none. The number `near` is
+/// tried first.
 #[inline(always)]
 pub fn frame_number_near(numbers: &IndexMap<Key, usize>, near: usize, key: &Key) -> usize
     ensures { (frames : List keys.Key) → AreFrameNumbers numbers.now frames frames
@@ -50,7 +51,7 @@ pub fn frame_number_near(numbers: &IndexMap<Key, usize>, near: usize, key: &Key)
     frame_number(numbers, *key)
 }
 
-/// Returns the numbers of these frames, with room for `more` others.
+/// Returns the numbers of the entered frames, in a list with room for `more` others.
 pub fn frame_numbers(
     alloc: Global,
     numbers: &IndexMap<Key, usize>,

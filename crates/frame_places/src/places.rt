@@ -30,7 +30,8 @@ pub enum Spot {
 }
 
 impl Spot {
-    /// Returns the number that orders places.
+    /// Returns the number by which places are sorted: the number of the frame's key, then the
+    /// address, 0 for an exit.
     #[inline(always)]
     pub(crate) fn order_number(&self) -> u128
         ensures { result ≡ spot_number self.now }
@@ -41,7 +42,7 @@ impl Spot {
         }
     }
 
-    /// Returns whether it is the entry point of its frame.
+    /// Returns whether the place is the entry point of its frame.
     pub fn is_entry(&self) -> bool
         ensures { result ≡ is_entry_point self.now }
     {
@@ -51,7 +52,8 @@ impl Spot {
         }
     }
 
-    /// Returns the word for hashing: the low four bytes of the frame's number, and the address.
+    /// Returns the word by which a place is hashed: the low four bytes of the number of its key,
+    /// and the address.
     #[inline(always)]
     fn hash_word(&self) -> u64
         ensures { result ≡ hashed_word self.now }
@@ -109,7 +111,7 @@ pub fn place_address(place: &Spot) -> u32
     }
 }
 
-/// Returns the address of a place if it is a point of the frame.
+/// Returns the address of a place if the place is a point of the frame `key`, else `None`.
 pub fn address_in_frame(key: Key, place: Spot) -> Option<u32>
     ensures { IsAddressIn key place result }
 {
@@ -119,8 +121,8 @@ pub fn address_in_frame(key: Key, place: Spot) -> Option<u32>
     if other == key { Some(addr) } else { None }
 }
 
-/// Adds the unknown place `y` with this value to the map of places, marked as queued and listed as
-/// work.
+/// Adds the unknown place `y` with this value to the map of places, marks `y` as queued, and puts
+/// `y` on the work list.
 #[inline(always)]
 pub fn add_queued_place<V: Drop>(
     places: &mut IndexMap<Spot, Marked<V>>,
@@ -145,8 +147,8 @@ pub fn add_queued_place<V: Drop>(
     Ok(())
 }
 
-/// Adds the place `y` with this value and work to the map of places if it is unknown. Otherwise
-/// returns its number.
+/// Returns the number of the place `y` if known. Otherwise adds `y` with this value, marked as
+/// queued, to the map and the work list.
 #[inline(always)]
 pub fn add_or_find_place<V: Drop>(
     places: &mut IndexMap<Spot, Marked<V>>,

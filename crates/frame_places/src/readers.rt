@@ -17,7 +17,7 @@ use std::alloc::{AllocError, Global};
 /// The least number of readers for which a list is searched for duplicates.
 const MANY: usize = 1024;
 
-/// Appends `x`, unless it is the last one.
+/// Appends a point to a list of an exit's readers, unless the list ends in that point.
 pub(crate) fn push_reader_unless_last(out: &mut Vec<Spot>, x: Spot) -> Result<(), AllocError>
     ensures { OnOk result ((q : spots.Spot)
         → Contains out.new.items q ↔ (Contains out.old.items q ⊎ (q ≡ x))) }
@@ -31,7 +31,7 @@ pub(crate) fn push_reader_unless_last(out: &mut Vec<Spot>, x: Spot) -> Result<()
     Ok(())
 }
 
-/// Records that `x` reads `z`.
+/// Records that the point `x` reads the exit `z`, so that `x` is queued when `z` rises.
 pub fn register_reader(
     alloc: Global,
     readers: &mut IndexMap<Spot, Vec<Spot>>,
@@ -50,7 +50,7 @@ pub fn register_reader(
     Ok(())
 }
 
-/// Queues all places that read `y`, which are known. They read it no more until they say so again.
+/// Puts all points that read the exit `y` back on the work list; with `waits`, for the next round.
 pub fn requeue_readers_of<V>(
     places: &mut IndexMap<Spot, Marked<V>>,
     work: &mut Work,
@@ -73,7 +73,8 @@ pub fn requeue_readers_of<V>(
     Ok(())
 }
 
-/// Returns a list of readers without the places that equal the one before them.
+/// Returns a list of readers without points that equal the one before them: in a sorted list,
+/// without duplicates.
 pub(crate) fn dedup_readers(alloc: Global, list: &[Spot]) -> Result<Vec<Spot>, AllocError>
     ensures { IfOk result (λ out. (q : spots.Spot)
         → Contains out.items q ↔ Contains list.now q) }
@@ -85,9 +86,8 @@ pub(crate) fn dedup_readers(alloc: Global, list: &[Spot]) -> Result<Vec<Spot>, A
     Ok(out)
 }
 
-/// Appends `x` to the readers of a place. Each visit of a point does so. When the length is a power
-/// of two, the list is searched for duplicates: it stays short, or at most four times as long as
-/// its number of readers.
+/// Appends a point to an exit's readers. Whenever a long list's length is a power of two,
+/// duplicates are looked for.
 #[inline(always)]
 fn push_reader(alloc: Global, list: &mut Vec<Spot>, x: Spot) -> Result<(), AllocError>
     ensures { OnOk result ((q : spots.Spot)

@@ -46,7 +46,7 @@ impl Model for Work {
 }
 
 impl Work {
-    /// Returns an empty list.
+    /// Returns an empty work list of places.
     pub fn new(alloc: Global) -> Work
         ensures { all_work result ≡ [] }
     {
@@ -59,7 +59,8 @@ impl Work {
         }
     }
 
-    /// Returns the number of places that are listed.
+    /// Returns how many numbers of places the work list has; a place that is listed twice counts
+    /// twice.
     pub fn len(&self) -> u128
         ensures listed { result ≡ length (all_work self.now) }
         ensures few { result < 2 ^ 66 }
@@ -68,7 +69,7 @@ impl Work {
         next + (self.round.len() as u128 + self.waiting.len() as u128)
     }
 
-    /// Returns whether no place is listed.
+    /// Returns whether the work list has no places.
     pub fn is_empty(&self) -> bool
         ensures { result ≡ (length (all_work self.now) == 0) }
     {
@@ -78,7 +79,7 @@ impl Work {
             && self.waiting.is_empty()
     }
 
-    /// Puts a place after those that are next.
+    /// Puts a place on the work list, at the end of the queue of those that are next.
     #[inline(always)]
     pub(crate) fn push_next(&mut self, number: usize) -> Result<(), AllocError>
         ensures { OnOk result (PutsNext self.old self.new number) }
@@ -87,7 +88,7 @@ impl Work {
         Ok(())
     }
 
-    /// Puts a place among those that wait.
+    /// Puts a place on the work list among those that wait for the next round.
     #[inline(always)]
     pub(crate) fn push_waiting(&mut self, number: usize) -> Result<(), AllocError>
         ensures { OnOk result (PutsWaiting self.old self.new number) }
@@ -110,7 +111,8 @@ impl Work {
         Ok(())
     }
 
-    /// Takes a place. If memory is short, the same places stay listed.
+    /// Takes the place to be visited next off the work list, or `None` if the list is empty.
+    /// Without memory, all places stay listed.
     #[inline(always)]
     pub fn pop(&mut self) -> Result<Option<usize>, AllocError>
         ensures some { IfOk result (λ o. IfSome o (TakesPlace self.old self.new)) }
@@ -128,7 +130,7 @@ impl Work {
         Ok(self.pop_round())
     }
 
-    /// Takes the first of the places that are next. A single one is also the last.
+    /// Takes the first place of the work list's queue, or `None` if no place is next.
     #[inline(always)]
     fn pop_next(&mut self) -> Option<usize>
         ensures some { IfSome result (TakesPlace self.old self.new) }
@@ -144,7 +146,7 @@ impl Work {
         self.pop_last()
     }
 
-    /// Takes a place of this round.
+    /// Takes a place of the work list's current round, or `None` if the round is over.
     #[inline(always)]
     fn pop_round(&mut self) -> Option<usize>
         ensures some { IfSome result (TakesRound self.old self.new) }
@@ -155,9 +157,8 @@ impl Work {
         number
     }
 
-    /// Begins a round, if the last one is over, with the places that wait and were found first. The
-    /// least number is the last, where places are taken. Room comes first, so that no place that
-    /// leaves the heap is lost.
+    /// Begins the work list's next round with up to 64 of the waiting places, those found first,
+    /// the earliest at the end.
     fn begin_round(&mut self) -> Result<(), AllocError>
         ensures round { OnOk result (BeginsRound self.old self.new) }
         ensures err { OnErr result (HasSameWork self.old self.new) }
@@ -173,7 +174,7 @@ impl Work {
         Ok(())
     }
 
-    /// Takes the first place.
+    /// Takes the front place of the work list's queue, or `None` if its reversed part is empty.
     #[inline(always)]
     fn pop_first(&mut self) -> Option<usize>
         ensures some { IfSome result (TakesFirst self.old self.new) }
@@ -182,8 +183,8 @@ impl Work {
         self.first.pop()
     }
 
-    /// Makes the places that are next the first ones, in reverse, since they are taken from the
-    /// end.
+    /// Refills the reversed part of the work list's queue, from whose end places are taken, with
+    /// the places that are next.
     fn refill_first(&mut self)
         ensures { RefillsFirst self.old self.new }
     {
@@ -191,7 +192,8 @@ impl Work {
         self.first.reverse();
     }
 
-    /// Takes the last of the places that are next.
+    /// Takes the last place of the part of the work list's queue that isn't reversed, or `None` if
+    /// that part is empty.
     #[inline(always)]
     fn pop_last(&mut self) -> Option<usize>
         ensures some { IfSome result (TakesLast self.old self.new) }
@@ -201,7 +203,7 @@ impl Work {
     }
 }
 
-/// Queues a place: it waits for the next round, or is next.
+/// Puts a place on the work list: for the next round if `waits`, else at the end of the queue.
 #[inline(always)]
 pub(crate) fn enqueue(work: &mut Work, number: usize, waits: bool) -> Result<(), AllocError>
     ensures { OnOk result (PutsWaitingOrNext waits work.old work.new number) }
@@ -213,8 +215,8 @@ pub(crate) fn enqueue(work: &mut Work, number: usize, waits: bool) -> Result<(),
     }
 }
 
-/// Queues a new place on the work list: the entry point of a frame goes before the places found
-/// earlier, any other is next.
+/// Puts a new place on the work list: a frame's entry point before the places found earlier, any
+/// other at the end of the queue.
 #[inline(always)]
 pub(crate) fn enqueue_new(work: &mut Work, number: usize, entry: bool) -> Result<(), AllocError>
     ensures { OnOk result (PutsEntryOrNext entry work.old work.new number) }

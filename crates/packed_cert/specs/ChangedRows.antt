@@ -9,7 +9,8 @@ use Rattle.packed_cert.specs.ValuesInBytes.{place_after_values}
 abbrev pub IsOutsideRow : ValueRow → ℕ → Type 0
 IsOutsideRow row k = (k < row.first) ⊎ (row.behind ≤ k)
 
--- as many values as before, and those outside a row are as they were
+-- a state's values before and after differ only in this row: there are as many, and those outside
+-- the row are as they were
 pub record ChangesOnlyRow (before after : List Val) (row : ValueRow) : Type 0 where
   pub count : length after ≡ length before
   pub order : row.first ≤ row.behind
@@ -25,7 +26,8 @@ RowBeginsAtPlace bytes x row = 0 < row.behind → row.from ≡ place_after_value
 abbrev pub IsWholeRow : ℕ → ValueRow → Type 0
 IsWholeRow n row = (row.first ≡ 0) × (row.behind ≡ n)
 
--- a row of changed values with one more, which was read and is after the others
+-- this row of changed values is another one with value number `place` too, which was read and is
+-- after the others
 pub record IsRowWithReadValue (row : ValueRow) (place : ℕ) (more : ValueRow) : Type 0 where
   pub first : more.first ≤ place
   pub behind : more.behind ≡ place + 1

@@ -6,9 +6,8 @@ use Rattle.packed_cert.specs.ChangedRows.{ChangesOnlyRow}
 use Rattle.packed_cert.specs.PointsInBytes.{state_in}
 use Rattle.packed_cert.specs.ValuesInBytes.{values_in, HaveValuesInBytes}
 
--- The state of a point beside the one before it: outside its row the values are the same, the row's
--- values and those after it are where the point says, and the whole state is the same if the point
--- says so.
+-- A point's state differs from the one before only in the point's row. The values from the row on
+-- are where the point says, and the whole state is the same if the point says so.
 pub record DiffersOnlyInRow (version : ℕ) (bytes : List ℕ) (before : State) (p : PointPlace) : Type 0 where
   pub row : ChangesOnlyRow before.regs (state_in version bytes p.place).regs p.row
   pub few : (p.row).behind ≤ 27
@@ -22,6 +21,6 @@ pub record IsStateBefore (version : ℕ) (bytes : List ℕ) (ps : List PointPlac
   pub count : length s.regs ≡ 27
   pub last : (j : ℕ) (d : PointPlace) → j + 1 ≡ k → s ≡ state_in version bytes (slice_index_or ps j d).place
 
--- each point says what it shares with the state before it
+-- each point's state differs from the one before only in the point's row, as the point says
 abbrev pub AllDifferOnlyInRows : ℕ → List ℕ → List PointPlace → Type 0
 AllDifferOnlyInRows version bytes ps = (k : ℕ) (d : PointPlace) (s : State) → k < length ps → IsStateBefore version bytes ps k s → DiffersOnlyInRow version bytes s (slice_index_or ps k d)

@@ -19,11 +19,11 @@ use Rattle.packed_cert.specs.PointsInBytes.{points_in, HasState}
 use Rattle.packed_cert.specs.Moves.{AllDifferOnlyInRows}
 use Rattle.depth_cert.specs.Exits.{no_exit}
 
--- the exit at a place
+-- the exit at a place of a certificate's bytes
 abbrev pub exit_in : ℕ → List ℕ → ℕ → Exit
 exit_in version bytes place = read_from_bytes_or no_exit (exit_at version (place_in_bytes bytes place))
 
--- there is an exit at a place
+-- there is an exit at a place of a certificate's bytes
 abbrev pub HasExit : ℕ → List ℕ → ℕ → Type 0
 HasExit version bytes place = (x : Exit × Place) × (exit_at version (place_in_bytes bytes place) ≡ Ok x)
 
@@ -31,7 +31,7 @@ HasExit version bytes place = (x : Exit × Place) × (exit_at version (place_in_
 abbrev pub ReadsExit : ℕ → Place → Place → Type 0
 ReadsExit version c d = (x : Exit) × (exit_at version c ≡ Ok (x, d))
 
--- there is an exit at these places
+-- there is an exit in a certificate's bytes, from its start to its end
 pub record IsExitAtPlaces (version : ℕ) (bytes : List ℕ) (p : ExitPlaces) : Type 0 where
   pub order : p.start ≤ p.end
   pub within : p.end ≤ length bytes
@@ -43,7 +43,7 @@ pub record IsExitAt (version : ℕ) (bytes : List ℕ) (place : ℕ) : Type 0 wh
   pub exit : HasExit version bytes place
   pub room : place + 2 ≤ length bytes
 
--- a node as plain data
+-- a node of a certificate on its bytes, as plain data
 abbrev pub node_in : ℕ → List ℕ → Key → ℕ → Option ℕ → List PointPlace → NodeData
 node_in version bytes key need exit points = record { key = key; need = need; exit = option_map (exit_in version bytes) exit; points = points_in version bytes points }
 
@@ -56,20 +56,21 @@ pub record IsNodeAt (version : ℕ) (bytes : List ℕ) (exit_place : Option ℕ)
   pub exit : IfSome exit_place (HasExit version bytes)
   pub moves : AllDifferOnlyInRows version bytes points
 
--- the node of these places
+-- the node of a certificate that has these places in the bytes
 abbrev pub node_of : ℕ → List ℕ → NodePlaces → NodeData
 node_of version bytes n = node_in version bytes n.key n.need n.exit n.points.items
 
--- the nodes of these places
+-- the nodes of a certificate that have these places in the bytes
 abbrev pub nodes_of : ℕ → List ℕ → List NodePlaces → List NodeData
 nodes_of version bytes ns = map (node_of version bytes) ns
 
--- the number is that of the key, and states and an exit are at the places of a node
+-- these are the places of a node in a certificate's bytes: the number is that of its key, and
+-- states and an exit are there
 pub record AreNodePlaces (version : ℕ) (bytes : List ℕ) (n : NodePlaces) : Type 0 where
   pub number : n.number ≡ number_of_key n.key
   pub node : IsNodeAt version bytes n.exit n.points.items
 
--- a certificate as plain data
+-- a certificate on its bytes, as plain data
 abbrev pub cert_of : ℕ → List ℕ → List NodePlaces → CertData
 cert_of version bytes ns = record { version = version; nodes = nodes_of version bytes ns }
 

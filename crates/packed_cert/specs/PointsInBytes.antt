@@ -9,11 +9,11 @@ use Rattle.packed_cert.specs.declared.places.StatePlaces.{StatePlaces}
 use Rattle.packed_cert.specs.ValuesInBytes.{AreValuesInBytes, place_in_bytes, read_from_bytes_or}
 use Rattle.value_domain.specs.State.{no_state}
 
--- the state at a place
+-- the state at a place of a certificate's bytes
 abbrev pub state_in : ℕ → List ℕ → ℕ → State
 state_in version bytes place = read_from_bytes_or no_state (state_at version (place_in_bytes bytes place))
 
--- there is a state at a place
+-- there is a state at a place of a certificate's bytes
 abbrev pub HasState : ℕ → List ℕ → ℕ → Type 0
 HasState version bytes place = (x : State × Place) × (state_at version (place_in_bytes bytes place) ≡ Ok x)
 
@@ -25,7 +25,7 @@ point_in version bytes p = record { addr = p.addr; state = state_in version byte
 abbrev pub points_in : ℕ → List ℕ → List PointPlace → List Point
 points_in version bytes ps = map (point_in version bytes) ps
 
--- there is a state at these places
+-- this state is in a certificate's bytes, at these places of its start, its values and its end
 pub record IsStateAtPlaces (version : ℕ) (bytes : List ℕ) (s : State) (p : StatePlaces) : Type 0 where
   pub order : p.start ≤ p.end
   pub within : p.end ≤ length bytes

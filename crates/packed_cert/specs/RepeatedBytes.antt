@@ -10,7 +10,7 @@ use Rattle.tcd_base.specs.Bytes.{word_in_bytes}
 abbrev pub SameBytesAtPlaces : List ℕ → ℕ → ℕ → ℕ → Type 0
 SameBytesAtPlaces bytes x y n = take n (drop x bytes) ≡ take n (drop y bytes)
 
--- so many bytes of a point's state come again at a place
+-- so many bytes of a certificate's state, from its start on, come again at a place
 pub record IsRepeated (bytes : List ℕ) (place : ℕ) (p : RepeatedState) : Type 0 where
   pub first : (p.at).start + p.same ≤ length bytes
   pub second : place + p.same ≤ length bytes

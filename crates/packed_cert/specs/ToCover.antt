@@ -9,13 +9,13 @@ use Rattle.value_domain.specs.declared.states.State.{State}
 use Rattle.value_domain.specs.Values.{any_val, IsBelow}
 use Rattle.vd_transfer.specs.declared.change.Change.{Change}
 
--- all of a state, all of a changed one, or those of the lower registers
+-- the values that a certificate is to cover: all of a state, all of a changed one, or those of the
+-- lower registers
 abbrev pub values_to_cover : ToCover → List Val
 values_to_cover (Whole s) = (s.now).regs
 values_to_cover (Changed s c) = (state_after s.now c.now).regs
 values_to_cover (Lower s) = lower_values (s.now).regs
 
--- a value that is to be covered, that of a changed state at this place, is below the unchanged
--- state's own there
+-- at place i, the value of a state after a change is below the unchanged state's own
 abbrev pub IsCoveredByOwn : State → Change → ℕ → Type 0
 IsCoveredByOwn s c i = IsBelow (slice_index_or (state_after s c).regs i any_val) (slice_index_or s.regs i any_val)

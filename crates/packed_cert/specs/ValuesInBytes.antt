@@ -7,12 +7,12 @@ use Rattle.value_domain.specs.Values.{any_val}
 use Rattle.depth_cert.specs.Grammar.{value_at}
 use Rattle.tcd_base.specs.declared.errors.FormErr.{FormErr}
 
--- n words from a place on
+-- n words from a place of a certificate's bytes on
 unfoldable pub words_at : List ℕ → ℕ → ℕ → List ℕ
 words_at bytes place zero = []
 words_at bytes place (suc n) = word_in_bytes bytes place ∷ words_at bytes (place + 4) n
 
--- what was read from the bytes, or d if nothing was
+-- what was read from a certificate's bytes, or d if nothing was
 abbrev pub read_from_bytes_or : {A : Type 0} → A → Result (A × Place) FormErr → A
 read_from_bytes_or d (Ok x) = x.0
 read_from_bytes_or d (Err e) = d
@@ -21,11 +21,11 @@ read_from_bytes_or d (Err e) = d
 abbrev pub place_in_bytes : List ℕ → ℕ → Place
 place_in_bytes bytes place = record { bytes = bytes; place = place }
 
--- the value at a place
+-- the abstract value at a place of a certificate's bytes
 abbrev pub value_in : ℕ → List ℕ → ℕ → Val
 value_in version bytes place = read_from_bytes_or any_val (value_at version (place_in_bytes bytes place))
 
--- there is a value at a place
+-- there is an abstract value at a place of a certificate's bytes
 abbrev pub HasValueInBytes : ℕ → List ℕ → ℕ → Type 0
 HasValueInBytes version bytes place = (x : Val × Place) × (value_at version (place_in_bytes bytes place) ≡ Ok x) × (place ≤ length bytes)
 
@@ -33,31 +33,31 @@ HasValueInBytes version bytes place = (x : Val × Place) × (value_at version (p
 abbrev pub value_length_by_tag : ℕ → ℕ
 value_length_by_tag tag = if tag == 0 then 1 else if nat_le tag 128 then 1 + 4 * tag else 9
 
--- the place after a value in the bytes
+-- the place after a value in a certificate's bytes
 abbrev pub place_after_value : List ℕ → ℕ → ℕ
 place_after_value bytes place = place + value_length_by_tag (slice_index bytes place)
 
--- the n values that the bytes have from a place on
+-- the n abstract values that a certificate's bytes have from a place on
 abbrev pub values_in : ℕ → List ℕ → ℕ → ℕ → List Val
 values_in version bytes place zero = []
 values_in version bytes place (suc n) = value_in version bytes place ∷ values_in version bytes (place_after_value bytes place) n
 
--- there are n values from a place on
+-- a certificate's bytes have n abstract values from a place on
 abbrev pub HaveValuesInBytes : ℕ → List ℕ → ℕ → ℕ → Type 0
 HaveValuesInBytes version bytes place zero = Unit {0}
 HaveValuesInBytes version bytes place (suc n) = HasValueInBytes version bytes place × HaveValuesInBytes version bytes (place_after_value bytes place) n
 
--- the place after n values that are one after another from a place on
+-- the place after n values that a certificate's bytes have one after another from a place on
 abbrev pub place_after_values : List ℕ → ℕ → ℕ → ℕ
 place_after_values bytes place zero = place
 place_after_values bytes place (suc n) = place_after_values bytes (place_after_value bytes place) n
 
--- these values are in the bytes, one after another, from one place to another
+-- these values are in a certificate's bytes, one after another, from one place to another
 abbrev pub AreValuesBetween : ℕ → List ℕ → ℕ → List Val → ℕ → Type 0
 AreValuesBetween version bytes place [] end = place ≡ end
 AreValuesBetween version bytes place (v ∷ vs) end = (value_at version (place_in_bytes bytes place) ≡ Ok (v, place_in_bytes bytes (place_after_value bytes place))) × AreValuesBetween version bytes (place_after_value bytes place) vs end
 
--- these values are in the bytes, one after another, from one place to another; the first place
--- isn't past the end of the bytes
+-- these values are in a certificate's bytes, one after another, from place x, which isn't past
+-- their end, to another
 abbrev pub AreValuesInBytes : ℕ → List ℕ → List Val → ℕ → ℕ → Type 0
 AreValuesInBytes version bytes vs x end = (x ≤ length bytes) × AreValuesBetween version bytes x vs end

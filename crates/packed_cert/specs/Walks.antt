@@ -13,31 +13,32 @@ use Rattle.packed_cert.specs.declared.places.ValueRow.{ValueRow}
 use Rattle.packed_cert.specs.PointsInBytes.{HasState}
 use Rattle.packed_cert.specs.Moves.{IsStateBefore, AllDifferOnlyInRows}
 
--- the points that are walked over, the state of the point at hand, values of it that hold all that
--- the last step read, and the points after it
+-- a walk over a node's points: all of them, the state at hand, its values that the last step may
+-- have read, those left
 pub record WalkData : Type 0 where
   pub points : List Point
   pub current : State
   pub anew : List Val
   pub left : List Point
 
--- each value at hand is as it was before, or one of those that may be new
+-- after a step of a walk, each value of the state at hand is as before, or one of those that may be
+-- new
 abbrev pub KeepsOtherValues : State → WalkData → Type 0
 KeepsOtherValues before after =
     (r : ℕ) → r < length (after.current).regs → ((r < length before.regs) × (slice_index_or (after.current).regs r any_val ≡ slice_index_or before.regs r any_val)) ⊎ Contains after.anew (slice_index_or (after.current).regs r any_val)
 
--- a step returns the address of the first point that is left, whose state is then at hand, or none
--- is left
+-- a step of a walk returns the address of the first point that is left, whose state is then at
+-- hand; or none is left
 abbrev pub StepsTo : WalkData → Option ℕ → WalkData → Type 0
 StepsTo before None after = (before.left ≡ []) × (after ≡ before)
 StepsTo before (Some addr) after =
     (before.left ≡ record { addr = addr; state = after.current } ∷ after.left) × KeepsOtherValues before.current after × (after.points ≡ before.points)
 
--- the next point has this address and the state at hand
+-- the next point of a walk has this address and the state at hand
 abbrev pub IsNextWithSameState : WalkData → ℕ → Type 0
 IsNextWithSameState w addr = w.left ≡ record { addr = addr; state = w.current } ∷ drop 1 w.left
 
--- the next point has this address, and its state covers this one
+-- the next point of a walk has this address, and its state covers this one
 abbrev pub CoversNext : WalkData → ℕ → State → Type 0
 CoversNext w addr s = (t : State) × (w.left ≡ record { addr = addr; state = t } ∷ drop 1 w.left) × Covers t s
 

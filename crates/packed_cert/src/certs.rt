@@ -66,7 +66,7 @@ impl Cert {
         self.bytes
     }
 
-    /// Returns the format, 1 or 2. A certificate keeps the order and the limits.
+    /// Returns the format of a certificate, 1 or 2. A certificate keeps the order and the limits.
     pub fn version(&self) -> u8
         ensures version { result ≡ self.now.version }
         ensures limits { IsCert self.now }
@@ -74,21 +74,21 @@ impl Cert {
         self.version
     }
 
-    /// Returns the number of nodes.
+    /// Returns the number of a certificate's nodes.
     pub fn len(&self) -> usize
         ensures { result ≡ length self.now.nodes }
     {
         self.nodes.len()
     }
 
-    /// Returns the number of points that the nodes have together.
+    /// Returns the number of points that all nodes of a certificate have together.
     pub fn count_points(&self) -> usize
         ensures { result ≡ count_points self.now.nodes }
     {
         count_points_of_nodes(&self.nodes)
     }
 
-    /// Returns the node at an index, or `None` if the index is past the last.
+    /// Returns the node of a certificate at an index, or `None` if the index is past the last.
     pub fn get(&self, index: usize) -> Option<Node<'_>>
         ensures { result ≡ slice_get self.now.nodes index }
     {
@@ -98,7 +98,7 @@ impl Cert {
         None
     }
 
-    /// Returns the node of a key, or `None` if there is none.
+    /// Returns the node of a certificate that has this key, or `None` if there is none.
     pub fn node(&self, key: &Key) -> Option<Node<'_>>
         ensures { result ≡ find_node key.now self.now.nodes }
     {
@@ -112,7 +112,7 @@ impl Cert {
     }
 
     /// Returns true only if the nodes of two keys have the same state at the keys' entries, and the
-    /// same exit. Their places are compared: what is at equal places is equal.
+    /// same exit. Their places in the bytes are compared: what is at equal places is equal.
     pub fn have_same_entry_and_exit(&self, a: &Key, b: &Key) -> bool
         ensures { IsTrue result → HaveSameEntryAndExit self.now.nodes a.now b.now }
     {
@@ -171,7 +171,8 @@ fn count_points_of_nodes(nodes: &[NodePlaces]) -> usize
     total
 }
 
-/// Returns the number of nodes whose keys are below `number`.
+/// Returns the number of a certificate's nodes whose keys are below the key of this number, by
+/// binary search.
 fn count_nodes_below(nodes: &[NodePlaces], number: u64) -> usize
     requires { IsStrictlyIncreasing (map (λ n. n.number) nodes.now) }
     ensures { IsPartitionPoint (λ n. nat_lt n.number number ≡ true)

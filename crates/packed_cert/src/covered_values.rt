@@ -27,8 +27,8 @@ pub(crate) enum ToCover<'a> {
     Lower(&'a State),
 }
 
-/// Returns true if each of the `n` values that are to be covered is below the one in its turn in
-/// the bytes.
+/// Returns true if each of the `n` abstract values to cover is below the one in its turn in a
+/// certificate's bytes.
 #[inline(always)]
 pub(crate) fn are_covered_at(
     values: &ToCover,
@@ -56,7 +56,8 @@ pub(crate) fn are_covered_at(
     true
 }
 
-/// Returns true if the value at a place is below the value at another. The first is read.
+/// Returns true if the abstract value at one place of a certificate's bytes is below the value at
+/// another. The first is read.
 #[inline(never)]
 pub(crate) fn is_read_value_covered(low: ValuesAt<'_>, high: ValuesAt<'_>) -> bool
     requires low { HasValueInBytes low.version low.bytes.now low.place }
@@ -70,7 +71,7 @@ pub(crate) fn is_read_value_covered(low: ValuesAt<'_>, high: ValuesAt<'_>) -> bo
     is_below_value_at(&v, high.bytes, high.version, high.place)
 }
 
-/// Returns true if a value is below the span at a place.
+/// Returns true if an abstract value is below the Span at a place of a certificate's bytes.
 pub(crate) fn is_below_span_at(v: &Val, bytes: &[u8], version: u8, place: usize) -> bool
     requires well { IsWellFormed v.now }
     requires stands { HasValueInBytes version bytes.now place }
@@ -87,8 +88,8 @@ pub(crate) fn is_below_span_at(v: &Val, bytes: &[u8], version: u8, place: usize)
     step <= e.step
 }
 
-/// Returns true if each of the ascending words is one of the `n` ascending ones at a place. Both
-/// are walked once.
+/// Returns true if each word of a Set is one of the `n` ascending words at a place of a
+/// certificate's bytes. Both are walked once.
 pub(crate) fn are_words_covered_at(own: &[u32], bytes: &[u8], place: usize, n: usize) -> bool
     requires within { place + 4 * n ≤ length bytes.now }
     requires own { IsAscending own.now }
@@ -106,8 +107,8 @@ pub(crate) fn are_words_covered_at(own: &[u32], bytes: &[u8], place: usize, n: u
     true
 }
 
-/// Returns true if a value is below the one at a place, which is read.
-// A function of its own, so that the others have no room of a value to fill.
+/// Returns true if an abstract value is below the one at a place of a certificate's bytes, which is
+/// read. A function of its own, so that the others have no room of a value to fill.
 #[inline(never)]
 pub(crate) fn is_covered_by_read(v: &Val, bytes: &[u8], version: u8, place: usize) -> bool
     requires well { IsWellFormed v.now }
@@ -117,8 +118,8 @@ pub(crate) fn is_covered_by_read(v: &Val, bytes: &[u8], version: u8, place: usiz
     leq(v, &value_at_place(bytes, version, place))
 }
 
-/// Returns value number `i` of those that are to be covered. `any` is returned for one that has all
-/// words.
+/// Returns value number `i` of those that a certificate's values are to cover. `any` is returned
+/// for one that has all words.
 #[inline(always)]
 fn value_to_cover<'a>(values: &'a ToCover, any: &'a Val, i: usize) -> &'a Val
     requires place { i < length (values_to_cover values.now) }
@@ -141,7 +142,7 @@ fn value_to_cover<'a>(values: &'a ToCover, any: &'a Val, i: usize) -> &'a Val
     }
 }
 
-/// Returns the state's own value number `i`, which is to be covered.
+/// Returns register value number `i` of a state that a certificate's state is to cover.
 #[inline(always)]
 fn state_value_at<'a>(s: &'a State, i: usize) -> &'a Val
     requires place { i < 27 }

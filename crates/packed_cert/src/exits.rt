@@ -40,7 +40,7 @@ impl<'a> ExitAt<'a> {
     ghost use Rattle.depth_cert.specs.Exits.{exit_of, ExitCovers};
     ghost use Rattle.packed_cert.specs.ValuesInBytes.{values_in, HaveValuesInBytes};
 
-    /// Returns the exit at a place.
+    /// Returns the exit of a certificate's node at a place of the bytes.
     pub(crate) fn at(bytes: &'a [u8], version: u8, place: usize) -> ExitAt<'a>
         requires short { length bytes.now ≤ 2 ^ 30 }
         requires exit { HasExit version bytes.now place }
@@ -53,21 +53,21 @@ impl<'a> ExitAt<'a> {
         }
     }
 
-    /// Returns true if interrupts may be enabled after the frame.
+    /// Returns true if interrupts may be enabled after a return by this exit.
     pub fn ie(&self) -> bool
         ensures { result ≡ self.now.ie }
     {
         self.bytes[self.place] == 1
     }
 
-    /// Returns a number that CCPN isn't below after the frame.
+    /// Returns the least CCPN after a return by this exit.
     pub fn ccpn(&self) -> u8
         ensures { result ≡ self.now.ccpn }
     {
         self.bytes[self.place + 1]
     }
 
-    /// Returns the place of the values of its lower registers.
+    /// Returns the place of the values of the lower registers at this exit.
     pub(crate) fn lower(&self) -> ValuesAt<'a>
         ensures have { HaveValuesInBytes result.version result.bytes.now result.place 14 }
         ensures values { self.now.lower
@@ -81,7 +81,7 @@ impl<'a> ExitAt<'a> {
         }
     }
 
-    /// Returns true if its values are those of the plan and the format.
+    /// Returns true if the values of this exit are in the lattice of the plan and the format.
     pub fn has_lattice_values(&self, b: &Bounds) -> bool
         ensures { IsTrue result ↔ AreValues b.now self.now.lower }
     {
@@ -89,7 +89,8 @@ impl<'a> ExitAt<'a> {
         are_values_at(b, lower.bytes, lower.version, lower.place, LOWER_VALUES)
     }
 
-    /// Returns true if it covers the exit of a state. Its own values are compared in the bytes.
+    /// Returns true if this exit covers the one of a frame that returns in state `s`. Its own
+    /// values are compared in the certificate's bytes.
     pub fn covers(&self, s: &State) -> bool
         requires { AreWellFormed s.now.regs }
         ensures { IsTrue result ↔ ExitCovers self.now (exit_of s.now) }
@@ -111,7 +112,7 @@ impl<'a> ExitAt<'a> {
         )
     }
 
-    /// Reads the exit.
+    /// Returns this exit as a struct, read from the certificate's bytes.
     pub fn read(&self) -> Exit
         ensures { result ≡ self.now }
     {
@@ -123,8 +124,8 @@ impl<'a> ExitAt<'a> {
     }
 }
 
-/// Reads an exit, if this kind of frame has one here, into the room of exits, and returns its place
-/// for an `ExitAt`.
+/// Reads the exit of a certificate's node, if there is one, over the last exit in `room`, and
+/// returns its place for an `ExitAt`.
 #[tactic(auto, unfolding(depth_cert::specs::Grammar::optional_exit_at))]
 pub(crate) fn read_exit_place(
     c: &mut FileCursor<'_>,
@@ -149,8 +150,8 @@ pub(crate) fn read_exit_place(
     Ok(Some(read_or_skip_exit(c, bytes, version, room)?))
 }
 
-/// Reads an exit into its room, and returns its place. If the bytes of the last one come again,
-/// they are passed over, and its place is that of the last one.
+/// Reads the exit of a certificate's node over the last one in `room`, and returns its place. If
+/// the same bytes come again, they are skipped and the last one's place is returned.
 pub(crate) fn read_or_skip_exit(
     c: &mut FileCursor<'_>,
     bytes: &[u8],

@@ -19,8 +19,8 @@ use std::marker::Model;
 use value_domain::{State, Val, are_flags_implied, leq};
 use vd_transfer::{Change, changed_value};
 
-/// Returns true if each value that is put outside the next point's row is below the state's own
-/// there.
+/// Returns true if each value that a change puts outside the next point's row is below the
+/// unchanged state's value there.
 pub(crate) fn are_puts_below(s: &State, c: &Change, row: ValueRow) -> bool
     requires base { c.now.base ≡ Same }
     requires hand { AreWellFormed s.now.regs }
@@ -37,7 +37,8 @@ pub(crate) fn are_puts_below(s: &State, c: &Change, row: ValueRow) -> bool
     is_put_below(s, c, row, c.third.at)
 }
 
-/// Returns true if each changed value of a point's row is below the point's own.
+/// Returns true if each changed value in the row of a certificate's point is below the point's own,
+/// in the bytes.
 pub(crate) fn is_row_below(
     s: &State,
     c: &Change,
@@ -93,8 +94,8 @@ pub(crate) fn does_next_point_cover(
     are_puts_below(s, c, point.row) && is_row_below(s, c, bytes, version, point)
 }
 
-/// Returns true if the changed value at a place is below the state's own, or if there is no place,
-/// or it is inside the row.
+/// Returns true if the changed value at a place is below the unchanged state's. Also if there is no
+/// place, or the row has that place.
 fn is_put_below(s: &State, c: &Change, row: ValueRow, place: Option<usize>) -> bool
     requires hand { AreWellFormed s.now.regs }
     requires well { AreWellFormed (state_after s.now c.now).regs }

@@ -14,7 +14,8 @@ use depth_cert::{CertErr, key_number, read_key, read_need};
 use std::alloc::Global;
 use tcd_base::FileCursor;
 
-/// Reads a node after those before it.
+/// Reads a node of a packed certificate, after those before: its key, need and exit, and the places
+/// of its points' states.
 #[tactic(auto, unfolding(depth_cert::specs::Grammar::node_after))]
 pub(crate) fn read_node(
     alloc: Global,

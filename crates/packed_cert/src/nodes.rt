@@ -38,7 +38,7 @@ impl<'a> Model for Node<'a> {
 impl<'a> Node<'a> {
     ghost use Rattle.depth_cert.specs.Points.{ArePoints, find_point};
 
-    /// Returns the node of these places.
+    /// Returns the node of a packed certificate that has these places.
     pub(crate) fn at(bytes: &'a [u8], version: u8, places: &'a NodePlaces) -> Node<'a>
         requires { AreNodePlaces version bytes.now places.now }
         ensures { result ≡ node_of version bytes.now places.now }
@@ -69,7 +69,7 @@ impl<'a> Node<'a> {
         }
     }
 
-    /// Returns the exit, or `None` if the node has none.
+    /// Returns the exit of this node of a certificate, or `None` if the node has none.
     pub fn exit(&self) -> Option<ExitAt<'a>>
         ensures { result ≡ self.now.exit }
     {
@@ -79,7 +79,7 @@ impl<'a> Node<'a> {
         }
     }
 
-    /// Returns the number of points.
+    /// Returns the number of points of this node of a certificate.
     pub fn len(&self) -> usize
         ensures { result ≡ length self.now.points }
     {
@@ -95,7 +95,7 @@ impl<'a> Node<'a> {
         walk.restart(self.bytes, self.version, self.points);
     }
 
-    /// Returns the state at the address of a point, or `None` if there is none.
+    /// Returns the state of this node's point at an address, or `None` if there is no point.
     pub fn point(&self, addr: u32) -> Option<StateAt<'a>>
         ensures { result ≡ option_map (λ p. p.state) (find_point addr self.now.points) }
     {
@@ -131,8 +131,8 @@ pub(crate) fn count_points_below(points: &[PointPlace], addr: u32, near: usize) 
     points.partition_point(|p| is_node_point_below(p, addr))
 }
 
-/// Returns the number that the point at `addr` has if all instructions between it and point number
-/// `near` have four bytes. A guess that saves the search.
+/// Returns the number of the point at `addr` if all instructions between that and point number
+/// `near` have four bytes. A guess, which can save a search.
 fn guessed_point_number(points: &[PointPlace], addr: u32, near: usize) -> usize {
     if near >= points.len() {
         return near;

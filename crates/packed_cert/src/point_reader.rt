@@ -56,7 +56,8 @@ pub(crate) fn blank_state_for_reading() -> State {
     }
 }
 
-/// Reads the number of a node's points, and each point.
+/// Reads the points of a certificate's node, as many as the bytes say: their addresses, and the
+/// places of their states.
 #[tactic(auto, unfolding(depth_cert::specs::Grammar::points_at))]
 pub(crate) fn read_points(
     alloc: Global,
@@ -102,8 +103,8 @@ pub(crate) fn read_points(
     Ok(points)
 }
 
-/// Reads the next point's state over that of the point before, with the places `before`. If its
-/// bytes come again, they are passed over, and those places stay.
+/// Reads a point's state over that of the point before, which has the places `before`. If all of
+/// the same bytes come again, they are skipped.
 #[inline(always)]
 pub(crate) fn read_or_skip_state(
     c: &mut FileCursor<'_>,
@@ -204,8 +205,8 @@ pub(crate) fn read_state_after(
     })
 }
 
-/// Returns what a point keeps of the state that was read. For a node's first point it is the row of
-/// all values, as any state may be at hand before it.
+/// Returns what a point of a certificate keeps of its state that was read. For a node's first point
+/// the row has all values, as any state may be at hand before.
 fn with_whole_row_if_first(read: ReadState, first: bool) -> ReadState
     requires { read.at.values < 2 ^ 32 }
     ensures first { IsTrue first → IsWholeRow 27 result.row × (result.same ≡ false) }

@@ -8,7 +8,7 @@ use crate::places::RepeatedState;
 use crate::value_reader::FEW_BYTES;
 use tcd_base::FileCursor;
 
-/// Counts the bytes that are equal at two places, up to `end` at the first.
+/// Counts the bytes of a certificate that are equal at two places, up to `end` at the first.
 pub(crate) fn count_repeated_before(bytes: &[u8], x: usize, y: usize, end: usize) -> usize
     requires first { x ≤ length bytes.now }
     requires second { y ≤ length bytes.now }
@@ -137,7 +137,8 @@ fn count_repeated_from(bytes: &[u8], x: usize, y: usize, from: usize, n: usize) 
     i
 }
 
-/// Returns true if the bytes from `x` on come again at the cursor, which then moves past them.
+/// Skips `n` bytes of a certificate if they equal those from `x` on. Returns false, and the cursor
+/// stays, if they aren't seen to be equal.
 #[inline(always)]
 pub(crate) fn skip_if_repeated(
     c: &mut FileCursor<'_>,
@@ -162,9 +163,9 @@ pub(crate) fn skip_if_repeated(
     before == here && c.take(n).is_some()
 }
 
-/// Returns the place up to which the bytes of a state's values come again at `at`, where its own
-/// bytes come again at `start`. They are compared again only if the bytes before the values differ,
-/// or are more or fewer.
+/// Returns where the equal bytes of the last state's values end, if that state's bytes come again
+/// at `start`, its values at `at`. Only if the bytes before the values differ, they are compared
+/// again.
 pub(crate) fn end_of_repeated(bytes: &[u8], state: RepeatedState, start: usize, at: usize) -> usize
     requires inside { at ≤ length bytes.now }
     requires values { state.at.values ≤ length bytes.now }
@@ -225,7 +226,7 @@ fn are_eight_bytes_repeated(bytes: &[u8], x: usize, y: usize) -> bool
     eight_bytes_to_compare(bytes, x) == eight_bytes_to_compare(bytes, y)
 }
 
-/// Returns the eight bytes from a place on as a number.
+/// Returns the eight bytes from a place on as a number, little-endian, to compare them at once.
 #[inline(always)]
 fn eight_bytes_to_compare(bytes: &[u8], place: usize) -> u64
     requires { place + 8 ≤ length bytes.now }

@@ -23,8 +23,8 @@ pub(crate) struct ValuesAt<'a> {
     pub(crate) place: usize,
 }
 
-/// Returns true if each value of a state is below the one in its turn at `high`, with those at
-/// `lower` for the lower registers.
+/// Returns true if the values after a return are below those at `high` in a certificate. Lower
+/// registers have the exit's values at `lower`, others the caller's.
 pub(crate) fn are_restored_below(regs: &[Val; 27], lower: ValuesAt<'_>, high: ValuesAt<'_>) -> bool
     requires well { AreWellFormed regs.now }
     requires low { HaveValuesInBytes lower.version lower.bytes.now lower.place 14 }
@@ -58,8 +58,8 @@ pub(crate) fn are_restored_below(regs: &[Val; 27], lower: ValuesAt<'_>, high: Va
     true
 }
 
-/// Returns true if value number `i` after a return is below the one at `high`. For a lower register
-/// it is the one at `low`, else the state's own.
+/// Returns true if value number `i` after a return is below the one at `high` in a certificate. For
+/// a lower register that is the exit's at `low`, else the caller's.
 fn is_restored_below(regs: &[Val; 27], i: usize, low: ValuesAt<'_>, high: ValuesAt<'_>) -> bool
     requires place { i < 27 }
     requires well { AreWellFormed regs.now }
@@ -85,8 +85,8 @@ fn is_restored_below(regs: &[Val; 27], i: usize, low: ValuesAt<'_>, high: Values
     is_below_value_at(&regs[i], high.bytes, high.version, high.place)
 }
 
-/// Returns the place of the next lower register's value: after the one at `low` if value number `i`
-/// is a lower register's, and else `low`.
+/// Returns the place of the exit's next lower value: the one after `low` if value number `i` is a
+/// lower register's, else `low`.
 fn next_lower_place(i: usize, low: ValuesAt<'_>) -> usize
     requires { IsTrue (states.is_lower_slot i)
         → HasValueInBytes low.version low.bytes.now low.place }

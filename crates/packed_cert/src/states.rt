@@ -35,7 +35,7 @@ impl<'a> Model for StateAt<'a> {
 }
 
 impl<'a> StateAt<'a> {
-    /// Returns the state at a place.
+    /// Returns the state of a certificate's point at a place of the bytes.
     pub(crate) fn at(bytes: &'a [u8], version: u8, place: usize) -> StateAt<'a>
         requires { HasState version bytes.now place }
         ensures { result ≡ state_in version bytes.now place }
@@ -49,14 +49,14 @@ impl<'a> StateAt<'a> {
 }
 
 impl<'a> StateAt<'a> {
-    /// Returns true if interrupts may be enabled.
+    /// Returns true if interrupts may be enabled in this state of a certificate.
     pub fn ie(&self) -> bool
         ensures { result ≡ self.now.ie }
     {
         self.bytes[self.place] == 1
     }
 
-    /// Returns a number that CCPN isn't below.
+    /// Returns the least CCPN in this state of a certificate.
     pub fn ccpn(&self) -> u8
         ensures { result ≡ self.now.ccpn }
     {
@@ -70,7 +70,7 @@ impl<'a> StateAt<'a> {
         self.bytes[self.place + 2] == 1
     }
 
-    /// Returns what is known of the local areas.
+    /// Returns the flags of the saved lower contexts in this state of a certificate.
     pub fn locals(&self) -> ArrayVec<bool, 8>
         ensures { result.items ≡ self.now.locals.items }
     {
@@ -84,7 +84,7 @@ impl<'a> StateAt<'a> {
     ghost use Rattle.depth_cert.specs.Exits.{state_after_exit};
     ghost use Rattle.vd_transfer.specs.Changes.{state_after};
 
-    /// Returns true if this context covers another.
+    /// Returns true if the context of this state (IE, least CCPN, `lower`) covers another.
     pub fn covers_context(&self, ie: bool, ccpn: u8, lower: bool) -> bool
         ensures { IsTrue result
             ↔ ((IsTrue ie → IsTrue self.now.ie) × (self.now.ccpn ≤ ccpn)
@@ -93,7 +93,8 @@ impl<'a> StateAt<'a> {
         (self.ie() || !ie) && self.ccpn() <= ccpn && (lower || !self.lower())
     }
 
-    /// Returns true if this state covers another.
+    /// Returns true if this state covers an abstract state. Its own values are compared in the
+    /// certificate's bytes.
     pub fn covers(&self, s: &State) -> bool
         requires { AreWellFormed s.now.regs }
         ensures { IsTrue result ↔ Covers self.now s.now }
@@ -109,7 +110,8 @@ impl<'a> StateAt<'a> {
         are_covered_at(&ToCover::Whole(s), VALUES, self.bytes, self.version, place)
     }
 
-    /// Returns true if this state covers a changed one, which is never built.
+    /// Returns true if this state of a certificate covers the state `s` after the change `c`, which
+    /// is never built.
     pub fn covers_changed(&self, s: &State, c: &Change) -> bool
         requires { AreWellFormed (state_after s.now c.now).regs }
         ensures { IsTrue result ↔ Covers self.now (state_after s.now c.now) }
@@ -131,8 +133,8 @@ impl<'a> StateAt<'a> {
         )
     }
 
-    /// Returns true if this state covers the one after a `CALL` or a `SYS` that returned by the
-    /// exit. Neither is read.
+    /// Returns true if this state of a certificate covers the state after a CALL or SYSCALL that
+    /// returned by the exit. Neither state nor exit is decoded as a whole.
     pub fn covers_after_return(&self, s: &State, exit: &ExitAt<'_>, kind: u8) -> bool
         requires { AreWellFormed s.now.regs }
         ensures { IsTrue result ↔ Covers self.now (state_after_exit s.now exit.now kind) }
@@ -153,8 +155,7 @@ impl<'a> StateAt<'a> {
     }
 }
 
-/// Returns IE and CCPN of the state after a return, which a `StateAt` is to cover: the packed
-/// exit's after a call, the caller's after a system call.
+/// Returns IE and CCPN after a return: the exit's after a call, the caller's after a system call.
 fn ie_and_ccpn_after_return(s: &State, exit: &ExitAt<'_>, kind: u8) -> (bool, u8)
     ensures ie { result.0 ≡ (if kind == 1 then exit.now.ie else s.now.ie) }
     ensures ccpn { result.1 ≡ (if kind == 1 then exit.now.ccpn else s.now.ccpn) }
@@ -165,7 +166,8 @@ fn ie_and_ccpn_after_return(s: &State, exit: &ExitAt<'_>, kind: u8) -> (bool, u8
     (s.ie, s.ccpn)
 }
 
-/// Returns the flags of a state's local areas, which the bytes have from a place on, a byte each.
+/// Returns the flags of a state's `count` saved lower contexts, which a certificate's bytes have
+/// from a place on, a byte each.
 fn state_locals_at(bytes: &[u8], place: usize, count: u8) -> ArrayVec<bool, 8>
     requires within { place + count ≤ length bytes.now }
     requires few { count ≤ 8 }
@@ -178,7 +180,7 @@ fn state_locals_at(bytes: &[u8], place: usize, count: u8) -> ArrayVec<bool, 8>
     flags
 }
 
-/// Returns the place of the values of a state.
+/// Returns the place of the 27 register values of a state, in a certificate's bytes.
 fn place_of_values(bytes: &[u8], version: u8, place: usize) -> usize
     requires { IsStateAt version bytes.now place }
     ensures have { HaveValuesInBytes version bytes.now result 27 }

@@ -70,7 +70,7 @@ pub(crate) fn read_values_after(
     Ok(row)
 }
 
-/// Returns how many bytes the reader of values takes for a value whose first byte is this tag.
+/// Returns how many bytes an abstract value has in a certificate, by the first of them.
 #[inline(always)]
 pub(crate) fn value_length_by_tag(tag: u8) -> usize
     ensures { result ≡ standing.value_length_by_tag tag }
@@ -82,7 +82,7 @@ pub(crate) fn value_length_by_tag(tag: u8) -> usize
     }
 }
 
-/// Moves the reader of values on to a place, past bytes that it doesn't read.
+/// Skips the bytes of a certificate up to a place, without reading the values there.
 #[inline(always)]
 pub(crate) fn skip_values_to(c: &mut FileCursor<'_>, place: usize)
     requires order { c.old.place ≤ place }
@@ -93,8 +93,8 @@ pub(crate) fn skip_values_to(c: &mut FileCursor<'_>, place: usize)
     let _passed = c.take(n);
 }
 
-/// Reads values of a state that begins at `start`, and returns the row of those that were read. If
-/// there is a state before, `out` holds its values already.
+/// Reads the values of a state that begins at `start`, and returns the row of those that were read.
+/// `out` has the values of the state before, if there is one; repeated bytes are skipped.
 pub(crate) fn read_or_skip_values(
     c: &mut FileCursor<'_>,
     bytes: &[u8],
@@ -128,7 +128,8 @@ pub(crate) fn read_or_skip_values(
     }
 }
 
-/// Returns the row with value number `i`, which is after its others and was read at `place`.
+/// Returns a row of values that were read with one more: value number `i`, after the others, at
+/// `place`.
 fn row_with_read_value(row: ValueRow, i: u8, place: u32) -> ValueRow
     requires order { row.first ≤ row.behind }
     requires behind { row.behind ≤ i }

@@ -13,7 +13,7 @@ use crate::value_reader::{MOST_WORDS, value_length_by_tag};
 use depth_cert::SPAN;
 use value_domain::{Bounds, Val, is_value, set_span, set_words, write_any};
 
-/// Tests the value that is at a place in the bytes: returns true if another value is below it.
+/// Returns true if an abstract value is below the one at a place of a certificate's bytes.
 pub(crate) fn is_below_value_at(v: &Val, bytes: &[u8], version: u8, place: usize) -> bool
     requires well { IsWellFormed v.now }
     requires stands { HasValueInBytes version bytes.now place }
@@ -35,7 +35,8 @@ pub(crate) fn is_below_value_at(v: &Val, bytes: &[u8], version: u8, place: usize
     }
 }
 
-/// Returns true if each of the `n` values from a place on is one of the plan and the format.
+/// Returns true if each of the `n` values at a place of a certificate's bytes is in the lattice of
+/// the plan and the format.
 pub(crate) fn are_values_at(b: &Bounds, bytes: &[u8], version: u8, place: usize, n: usize) -> bool
     requires { HaveValuesInBytes version bytes.now place n }
     ensures { IsTrue result ↔ AreValues b.now (values_in version bytes.now place n) }
@@ -53,7 +54,7 @@ pub(crate) fn are_values_at(b: &Bounds, bytes: &[u8], version: u8, place: usize,
     true
 }
 
-/// Reads the value at a place.
+/// Returns the abstract value at a place of a certificate's bytes.
 #[inline(never)]
 pub(crate) fn value_at_place(bytes: &[u8], version: u8, place: usize) -> Val
     requires { HasValueInBytes version bytes.now place }
@@ -64,8 +65,8 @@ pub(crate) fn value_at_place(bytes: &[u8], version: u8, place: usize) -> Val
     out
 }
 
-/// Reads the value that is at a place in the bytes, without a cursor, over `out`. Nothing is
-/// written if `out` is that set of two or more words already.
+/// Reads the abstract value at a place of a certificate's bytes over `out`, without a cursor.
+/// Nothing is written if `out` is that Set of two or more words already.
 pub(crate) fn read_value_at_place(bytes: &[u8], version: u8, place: usize, out: &mut Val)
     requires { HasValueInBytes version bytes.now place }
     ensures { out.new ≡ value_in version bytes.now place }
@@ -95,7 +96,8 @@ pub(crate) fn read_value_at_place(bytes: &[u8], version: u8, place: usize, out: 
     }
 }
 
-/// Makes a value the Set of the words at a place, at most `N`.
+/// Overwrites an abstract value with the Set of the `n` words at a place of a certificate's bytes,
+/// at most `N`.
 fn make_set_at_place<const N: usize>(out: &mut Val, bytes: &[u8], place: usize, n: usize)
     requires within { place + 4 * n ≤ length bytes.now }
     requires few { n ≤ N }
@@ -110,8 +112,8 @@ fn make_set_at_place<const N: usize>(out: &mut Val, bytes: &[u8], place: usize, 
     set_words(out, &words[..n]);
 }
 
-/// Tests the `n` words at a place in the bytes: returns true if a value is the Set of just these
-/// words.
+/// Returns true if an abstract value is the Set of just the `n` words at a place of a certificate's
+/// bytes.
 fn has_words_at(v: &Val, bytes: &[u8], place: usize, n: usize) -> bool
     requires within { place + 4 * n ≤ length bytes.now }
     ensures { IsTrue result → v.now ≡ Set (words_at bytes.now place n) }
@@ -131,7 +133,8 @@ fn has_words_at(v: &Val, bytes: &[u8], place: usize, n: usize) -> bool
     true
 }
 
-/// Returns true if the value at a place is one of the plan and the format.
+/// Returns true if the value at a place of a certificate's bytes is in the lattice of the plan and
+/// the format.
 #[inline(never)]
 fn is_value_at(b: &Bounds, bytes: &[u8], version: u8, place: usize) -> bool
     requires { HasValueInBytes version bytes.now place }
@@ -140,7 +143,7 @@ fn is_value_at(b: &Bounds, bytes: &[u8], version: u8, place: usize) -> bool
     is_value(b, &value_at_place(bytes, version, place))
 }
 
-/// Reads the word of a value at a place in the bytes.
+/// Returns the word at a place of a certificate's bytes, little-endian.
 pub(crate) fn read_value_word(bytes: &[u8], place: usize) -> u32
     requires { place + 4 ≤ length bytes.now }
     ensures { result ≡ word_in_bytes bytes.now place }

@@ -55,7 +55,7 @@ impl<'a> PointWalk<'a> {
     ghost use Rattle.packed_cert.specs.Moves.{AllDifferOnlyInRows};
     ghost use Rattle.packed_cert.specs.Walks.{StepsTo, IsNextWithSameState, CoversNext, CoversAt};
 
-    /// Returns a walk over no points.
+    /// Returns a walk over no points, as room for a walk over the points of a certificate's node.
     pub fn none() -> PointWalk<'a>
         ensures { result.left ≡ [] }
     {
@@ -69,7 +69,8 @@ impl<'a> PointWalk<'a> {
         }
     }
 
-    /// Goes before the first of these points. The state at hand is room for theirs.
+    /// Starts this walk again, before the first of these points of a certificate's node. The state
+    /// at hand stays, as room for theirs.
     pub(crate) fn restart(&mut self, bytes: &'a [u8], version: u8, points: &'a [PointPlace])
         requires states { All (λ p. HasState version bytes.now p.place) points.now }
         requires rising { IsStrictlyIncreasing (map (λ p. p.addr) points.now) }
@@ -84,7 +85,8 @@ impl<'a> PointWalk<'a> {
         self.row = empty_row();
     }
 
-    /// Goes on to the next point and returns its address, or `None` after the last.
+    /// Goes on to the next point of a certificate's node and returns its address, or `None` after
+    /// the last. The walk then has the point's state.
     #[inline(always)]
     pub fn step(&mut self) -> Option<u32>
         ensures { StepsTo self.old result self.new }
@@ -98,7 +100,8 @@ impl<'a> PointWalk<'a> {
         Some(point.addr)
     }
 
-    /// Returns the address of the next point if its state is the one at hand.
+    /// Returns the address of the walk's next point if that has the same state as the point at
+    /// hand, else `None`.
     pub fn next_address_if_same_state(&self) -> Option<u32>
         ensures { IfSome result (IsNextWithSameState self.now) }
     {
@@ -109,8 +112,8 @@ impl<'a> PointWalk<'a> {
         if point.same { Some(point.addr) } else { None }
     }
 
-    /// Returns true if the walk's next point has this address and is seen to cover the changed
-    /// state. Only values put or in its row are compared; a base other than `Same` gives false.
+    /// Returns true if the walk's next point has this address and is seen to cover the state at
+    /// hand after the change `c`. Only values put or in the point's row are compared.
     pub fn covers_next(&self, addr: u32, c: &Change) -> bool
         requires hand { AreWellFormed self.now.current.regs }
         requires changed { AreWellFormed (state_after self.now.current c.now).regs }
@@ -129,8 +132,8 @@ impl<'a> PointWalk<'a> {
         }
     }
 
-    /// Returns true if a point has this address, and its state covers the one at hand. A state that
-    /// is in the file at the same place is the same one, so its values aren't compared.
+    /// Returns true if the node has a point at this address whose state covers the one at hand.
+    /// Values aren't compared if both are at the same place of the file.
     pub fn covers_at(&self, addr: u32) -> bool
         requires { AreWellFormed self.now.current.regs }
         ensures { IsTrue result ↔ CoversAt self.now addr }
@@ -147,15 +150,15 @@ impl<'a> PointWalk<'a> {
         false
     }
 
-    /// Returns the state of the point at hand.
+    /// Returns the abstract state of the walk's point at hand.
     pub fn state(&self) -> &State
         ensures { result.now ≡ self.now.current }
     {
         &self.state
     }
 
-    /// Returns the values at hand that the last step read, and perhaps others between them. The
-    /// rest were at hand before.
+    /// Returns the values at hand that the walk's last step read, and perhaps others between them.
+    /// The rest were at hand before.
     pub fn anew(&self) -> &[Val]
         ensures { result.now ≡ self.now.anew }
     {
@@ -164,8 +167,8 @@ impl<'a> PointWalk<'a> {
     }
 }
 
-/// Makes the state before a point that of the point: only the values of its row are read. Returns
-/// the row.
+/// Overwrites the state before a point of a certificate with that of the point. Only the values of
+/// its row are read. Returns the row.
 fn walk_to_point(bytes: &[u8], version: u8, point: PointPlace, room: &mut State) -> ValueRow
     requires state { HasState version bytes.now point.place }
     requires moved { DiffersOnlyInRow version bytes.now room.old point }
@@ -185,7 +188,8 @@ fn walk_to_point(bytes: &[u8], version: u8, point: PointPlace, room: &mut State)
     point.row
 }
 
-/// Reads the row of the walk's next point into its room, over the values of the state before.
+/// Reads the row of the walk's next point, those of its values that may differ, over the values of
+/// the state before.
 fn read_row(bytes: &[u8], version: u8, point: PointPlace, out: &mut [Val; 27])
     requires row { ChangesOnlyRow out.old (state_in version bytes.now point.place).regs point.row }
     requires few { point.row.behind ≤ 27 }

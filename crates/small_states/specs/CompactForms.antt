@@ -14,11 +14,11 @@ use Rattle.small_states.specs.declared.known.KnownForm.{KnownForm}
 use Rattle.small_states.specs.declared.known.KnownForm.TheVariants.{Point, Leaves}
 use Rattle.small_states.specs.declared.known.Outline.{Outline}
 
--- a known value after unknown ones
+-- the values that an entry of a compact list stands for: unknown ones, then a known one
 abbrev pub spaced_values : SpacedValue → List Val
 spaced_values s = replicate s.anys any_val ++ s.value ∷ []
 
--- the values up to the last known one
+-- the values of a compact list up to the last known one
 abbrev pub compact_front : List SpacedValue → List Val
 compact_front known = flat_map spaced_values known
 
@@ -26,32 +26,32 @@ compact_front known = flat_map spaced_values known
 abbrev pub all_values : Values → List Val
 all_values v = compact_front v.known.items ++ replicate v.rest any_val
 
--- of the values that a compact list stands for, `count` values from a place on; any_val past the
+-- `count` of the values that a compact list stands for, from an index on; unknown values past the
 -- end
 unfoldable pub values_from : List Val → ℕ → ℕ → List Val
 values_from vs from zero = []
 values_from vs from (suc count) = slice_index_or vs from any_val ∷ values_from vs (from + 1) count
 
--- the state with these values
+-- the whole state that a compact state stands for
 abbrev pub whole_state : SmallState → State
 whole_state s = record { regs = all_values s.regs.value; ie = s.ie; ccpn = s.ccpn; lower = s.lower; locals = s.locals }
 
--- the exit with these values
+-- the whole exit that a compact exit stands for
 abbrev pub whole_exit : SmallExit → Exit
 whole_exit x = record { ie = x.ie; ccpn = x.ccpn; lower = all_values x.lower.value }
 
--- the state or the exit of this form
+-- the state or the exit that a compact form stands for
 abbrev pub whole_known : KnownForm → Known
 whole_known (Point s) = state (whole_state s)
 whole_known (Leaves x) = leaving (whole_exit x)
 
--- the outline (IE, CCPN and the number of locals) is that of the state that a compact form stands
--- for; an exit has none
+-- the outline has IE, CCPN and the number of locals of a known state; an exit has none
 abbrev pub IsOutline : Known → Outline → Type 0
 IsOutline (state s) o = (s.ie ≡ o.ie) × (s.ccpn ≡ o.ccpn) × (length s.locals.items ≡ o.held)
 IsOutline (leaving x) o = ⊥
 
--- the place i is after n known values and `others` unknown ones, before the next known value
+-- the index i of a compact list is after n known values and `others` unknown ones, before the next
+-- known value
 pub record IsIndexAfter (v : Values) (i n others : ℕ) : Type 0 where
   pub within : n ≤ length v.known.items
   pub at : i ≡ length (compact_front (take n v.known.items)) + others

@@ -14,49 +14,49 @@ use Rattle.depth_cert.specs.declared.points.Exit.{Exit}
 use Rattle.small_states.specs.declared.incoming.Given.{Given}
 use Rattle.small_states.specs.declared.incoming.Given.TheVariants.{Whole, Compact}
 
--- what flows in
+-- the state or exit that flows into a place: after a change, after a return, or at leaving a frame
 abbrev pub incoming_known : Incoming → Known
 incoming_known (Changed s c) = state (state_after s.now c.now)
 incoming_known (After s x kind) = state (state_after_exit s.now (whole_exit x.now) kind)
 incoming_known (Leaving s) = leaving (exit_of s.now)
 
--- the state of the point that it comes from
+-- the state of the point from which something flows into a place
 abbrev pub sender_state : Incoming → State
 sender_state (Changed s c) = s.now
 sender_state (After s x kind) = s.now
 sender_state (Leaving s) = s.now
 
--- the incoming values: 27 of a state, or 14 of an exit
+-- the register values of what flows into a place: 27 of a state, or 14 of an exit
 abbrev pub incoming_values : Incoming → List Val
 incoming_values (Changed s c) = (state_after s.now c.now).regs
 incoming_values (After s x kind) = (state_after_exit s.now (whole_exit x.now) kind).regs
 incoming_values (Leaving s) = lower_values (s.now).regs
 
--- an exit flows in
+-- what flows into a place is an exit, not a state
 abbrev pub is_incoming_exit : Incoming → Bool
 is_incoming_exit (Changed s c) = false
 is_incoming_exit (After s x kind) = false
 is_incoming_exit (Leaving s) = true
 
--- the state with these values and this context
+-- the incoming state with these register values, and IE, CCPN, flags and locals of this context
 abbrev pub incoming_state_with : List Val → Context → State
 incoming_state_with values k = record { regs = values; ie = k.ie; ccpn = k.ccpn; lower = k.lower; locals = k.locals.now }
 
--- the exit with these values; of the context it keeps IE and CCPN
+-- the incoming exit with these register values, and IE and CCPN of this context
 abbrev pub incoming_exit_with : List Val → Context → Exit
 incoming_exit_with values k = record { ie = k.ie; ccpn = k.ccpn; lower = values }
 
--- what flows in, by its values and its context
+-- the state or exit that flows into a place, with its own values and this context
 abbrev pub incoming_known_with : Incoming → Context → Known
 incoming_known_with incoming k = if is_incoming_exit incoming then leaving (incoming_exit_with (incoming_values incoming) k) else state (incoming_state_with (incoming_values incoming) k)
 
--- if what is known at a place, into which other states flow, is a state, its bytes are appended and
--- its CCPN is a byte; nothing is said of an exit
+-- the certificate's bytes of a known state are appended, and its CCPN is a byte; nothing is said of
+-- an exit
 abbrev pub AddsKnownState : Known → List ℕ → List ℕ → Type 0
 AddsKnownState (state s) old new = (new ≡ old ++ bytes_of_state s) × (s.ccpn < 2 ^ 8)
 AddsKnownState (leaving x) old new = Unit {0}
 
--- the value that an incoming value stands for, whether it is given whole or in compact form
+-- the value of an incoming register, which is given whole or in compact form
 abbrev pub value_of_given : Given → Val
 value_of_given (Whole v) = v.now
 value_of_given (Compact v) = v.now

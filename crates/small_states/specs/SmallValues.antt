@@ -6,7 +6,7 @@ use Rattle.value_domain.specs.declared.values.Val.TheVariants.{Set, Span}
 use Rattle.small_states.specs.declared.small_value.SmallForm.{SmallForm}
 use Rattle.small_states.specs.declared.small_value.SmallForm.TheVariants.{Any, One, Many, Range}
 
--- the value that one small value stands for, by its form
+-- the whole value that the form of a compact one stands for
 abbrev pub small_value_of : SmallForm → Val
 small_value_of Any = any_val
 small_value_of (One x) = Set (x ∷ [])

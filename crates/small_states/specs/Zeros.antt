@@ -1,7 +1,7 @@
 -- Bytes that end in zeros.
 use Rattle.std.specs.Prelude.{◌≡◌, ◌≤◌, ◌-◌, ◌++◌, ℕ, List, length, replicate, take}
 
--- the bytes after the first n, up to 192, are zeros
+-- in the buffer of a state's bytes, all bytes after the first n are zeros
 pub record AreZerosBehind (n : ℕ) (bytes : List ℕ) : Type 0 where
   pub within : n ≤ 192
   pub long : length (take n bytes) ≡ n

@@ -30,7 +30,7 @@ impl Model for Gathered {
     ghost invariant = { λ g. AreZerosBehind g.len g.bytes };
 }
 
-/// Returns whether a range is all words: then the buffer gathers a single byte for it.
+/// Returns whether a range holds all words, which a certificate spells as a single byte.
 #[inline(always)]
 fn is_all_words_range(lo: u32, last: u32, step: u8) -> bool
     ensures { result ≡ is_any_span lo last step }
@@ -39,7 +39,7 @@ fn is_all_words_range(lo: u32, last: u32, step: u8) -> bool
 }
 
 impl Gathered {
-    /// Returns an empty buffer.
+    /// Returns an empty buffer of 192 bytes, in which the bytes of a state are gathered.
     #[inline(always)]
     pub(crate) fn new() -> Gathered
         ensures { result ≡ [] }
@@ -50,7 +50,7 @@ impl Gathered {
         }
     }
 
-    /// Appends its bytes to `out`.
+    /// Appends the gathered bytes of a state to `out`.
     #[inline(always)]
     pub(crate) fn add_to(&self, out: &mut Vec<u8>) -> Result<(), NoMemory>
         ensures { OnOk result (out.new.items ≡ out.old.items ++ self.now) }
@@ -70,7 +70,8 @@ impl Gathered {
         Ok(())
     }
 
-    /// Makes room for `count` bytes.
+    /// Makes room for `count` more bytes in the buffer of a state's bytes, by flushing to `out` if
+    /// too few are free.
     #[inline(always)]
     pub(crate) fn make_room(&mut self, out: &mut Vec<u8>, count: usize) -> Result<(), NoMemory>
         requires { count ≤ 192 }
@@ -83,7 +84,7 @@ impl Gathered {
         Ok(())
     }
 
-    /// Adds a byte. There is room for it.
+    /// Adds a byte to the buffer of a state's bytes, which has room.
     #[inline(always)]
     pub(crate) fn push(&mut self, x: u8)
         requires { length self.old < 192 }
@@ -93,7 +94,7 @@ impl Gathered {
         self.len += 1;
     }
 
-    /// Adds the value that holds these words, at most 32 words at a time.
+    /// Adds the bytes that spell a set of these words to the buffer, at most 32 words at a time.
     #[tactic(auto, unfolding(depth_cert::specs::Spelling::bytes_of_value))]
     pub(crate) fn put_set(&mut self, out: &mut Vec<u8>, words: &[u32]) -> Result<(), NoMemory>
         requires { length words.now ≤ 128 }
@@ -112,7 +113,7 @@ impl Gathered {
         Ok(())
     }
 
-    /// Adds the value that holds a range.
+    /// Adds the bytes that spell a range of words to the buffer.
     pub(crate) fn put_range(
         &mut self,
         out: &mut Vec<u8>,
@@ -133,8 +134,8 @@ impl Gathered {
         Ok(())
     }
 
-    /// Adds values that hold all words and then a single word. Returns false, and adds nothing, if
-    /// the value isn't a single word or there is no room.
+    /// Adds the bytes of unknown values and then of a single word. Returns false, with nothing
+    /// added, for another value or without room.
     #[inline(always)]
     pub(crate) fn put_spaced_word(&mut self, here: &SpacedValue) -> bool
         ensures put { IsTrue result
@@ -158,7 +159,7 @@ impl Gathered {
         true
     }
 
-    /// Adds `count` values that hold all words. The byte 0 spells each.
+    /// Adds the bytes of `count` unknown values to the buffer: a zero for each.
     #[inline(always)]
     pub(crate) fn put_anys(&mut self, out: &mut Vec<u8>, count: u32) -> Result<(), NoMemory>
         ensures { OnOk result
@@ -173,7 +174,7 @@ impl Gathered {
         Ok(())
     }
 
-    /// Adds the bytes of words. There is room for them.
+    /// Adds the bytes of these words to the buffer of a state's bytes, which has room.
     #[inline(always)]
     fn push_words(&mut self, words: &[u32])
         requires { length self.old + 4 * length words.now ≤ 192 }

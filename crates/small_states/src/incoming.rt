@@ -51,7 +51,7 @@ pub(crate) struct Context<'a> {
     pub locals: &'a ArrayVec<bool, 8>,
 }
 
-/// Returns the incoming priority.
+/// Returns the CCPN of the state or exit that flows into a place.
 #[inline(always)]
 pub fn incoming_priority(incoming: &Incoming) -> u8
     ensures { result ≡ known_priority (incoming_known incoming.now) }
@@ -63,7 +63,7 @@ pub fn incoming_priority(incoming: &Incoming) -> u8
     }
 }
 
-/// Returns whether an exit flows in.
+/// Returns whether what flows into a place is the exit of a frame, not a state.
 #[inline(always)]
 pub(crate) fn is_exit_flow(incoming: &Incoming) -> bool
     ensures { result ≡ is_incoming_exit incoming.now }
@@ -75,7 +75,8 @@ pub(crate) fn is_exit_flow(incoming: &Incoming) -> bool
     }
 }
 
-/// Returns the incoming facts beside the values.
+/// Returns what flows into a place beside register values: IE, CCPN, whether the lower registers
+/// are the entry's, and the locals.
 pub(crate) fn incoming_context<'a>(incoming: &Incoming<'a>) -> Context<'a>
     ensures { incoming_known incoming.now ≡ incoming_known_with incoming.now result }
 {
@@ -103,7 +104,7 @@ pub(crate) fn incoming_context<'a>(incoming: &Incoming<'a>) -> Context<'a>
     }
 }
 
-/// Returns the incoming state or exit with these values.
+/// Returns the compact form of the state or exit that flows into a place, from its compact values.
 pub(crate) fn incoming_form(values: Rc<Values>, incoming: &Incoming) -> KnownForm
     requires { all_values values.value ≡ incoming_values incoming.now }
     ensures { whole_known result ≡ incoming_known incoming.now }
@@ -125,7 +126,8 @@ pub(crate) fn incoming_form(values: Rc<Values>, incoming: &Incoming) -> KnownFor
     })
 }
 
-/// Returns whether a state covers the incoming one.
+/// Returns whether a compact state covers the state that flows into its place, with the context
+/// `k`.
 pub(crate) fn is_incoming_state_covered(
     upper: &SmallState,
     incoming: &Incoming,
@@ -178,7 +180,7 @@ pub(crate) fn join_incoming_state(
     Ok(Some(SmallKnown { form }))
 }
 
-/// Returns whether an exit covers the incoming one.
+/// Returns whether a compact exit covers the exit that flows into its place, with the context `k`.
 pub(crate) fn is_incoming_exit_covered(upper: &SmallExit, incoming: &Incoming, k: &Context) -> bool
     requires upper { AreWellFormed (all_values upper.now.lower.value) }
     requires incoming { AreWellFormed (incoming_values incoming.now) }
@@ -193,7 +195,7 @@ pub(crate) fn is_incoming_exit_covered(upper: &SmallExit, incoming: &Incoming, k
     are_incoming_covered(upper.lower.as_ref(), incoming)
 }
 
-/// Returns the least exit that covers both.
+/// Returns the least exit that covers a compact one and the incoming one. There always is one.
 pub(crate) fn join_incoming_exit(
     alloc: Global,
     b: &Bounds,

@@ -20,8 +20,8 @@ use std::rc::Rc;
 use value_domain::{A10_SLOT, Bounds, State, Val};
 use vd_transfer::{Base, Change, Put, is_lower_slot};
 
-/// Returns the incoming values, place by place. It is a call of its own, since it has room for a
-/// whole value.
+/// Returns the values of what flows in as a compact list, each copied from the sender's state, the
+/// change or the exit. A call of its own, since it has room for a whole value.
 #[inline(never)]
 pub(crate) fn compact_values(alloc: Global, incoming: &Incoming) -> Result<Values, AllocError>
     ensures { IfOk result (λ values. all_values values ≡ incoming_values incoming.now) }
@@ -41,7 +41,8 @@ pub(crate) fn compact_values(alloc: Global, incoming: &Incoming) -> Result<Value
     Ok(values)
 }
 
-/// Returns the incoming values, from a point whose compact values are at hand.
+/// Returns the values of what flows in as a compact list, from the sender's compact list `own`,
+/// which is shared if no value changes.
 pub(crate) fn compact_shared_values(
     alloc: Global,
     own: &Rc<Values>,
@@ -59,8 +60,8 @@ pub(crate) fn compact_shared_values(
     }
 }
 
-/// Returns whether each incoming value is below the one at its place. Places of unknown values are
-/// skipped.
+/// Returns whether each incoming value is below the known value at the same index. Unknown values,
+/// which cover all, are skipped.
 pub(crate) fn are_incoming_covered(upper: &Values, incoming: &Incoming) -> bool
     requires upper { AreWellFormed (all_values upper.now) }
     requires incoming { AreWellFormed (incoming_values incoming.now) }
@@ -87,7 +88,8 @@ pub(crate) fn are_incoming_covered(upper: &Values, incoming: &Incoming) -> bool
     true
 }
 
-/// Returns the least values with the members of the known and the incoming ones at each place.
+/// Returns the compact list of the least values that have the members of the known and the incoming
+/// values at each index.
 pub(crate) fn join_incoming_values(
     alloc: Global,
     b: &Bounds,
@@ -125,7 +127,8 @@ pub(crate) fn join_incoming_values(
     Ok(values)
 }
 
-/// Returns the incoming value at a place. `any` is returned for an unknown value.
+/// Returns the incoming value at an index of the state's or exit's values. `any` is returned for an
+/// unknown value.
 #[inline(always)]
 pub(crate) fn incoming_value<'a>(incoming: &'a Incoming, any: &'a Small, i: usize) -> Given<'a>
     requires place { i < length (incoming_values incoming.now) }
@@ -148,7 +151,8 @@ pub(crate) fn incoming_value<'a>(incoming: &'a Incoming, any: &'a Small, i: usiz
     }
 }
 
-/// Returns the incoming values of a changed state in compact form, from the state's compact values.
+/// Returns the compact list of a changed state's values, from that of the state; shared if no value
+/// changes.
 #[inline(always)]
 fn compact_changed_values(
     alloc: Global,
@@ -163,7 +167,8 @@ fn compact_changed_values(
     put_change_over(alloc, own, c)
 }
 
-/// Returns the incoming values, from a point whose compact values are at hand.
+/// Returns the values of what flows in as a new compact list, from the sender's compact list `own`
+/// and the exit's.
 #[inline(never)]
 fn compact_from_own(alloc: Global, own: &Values, incoming: &Incoming) -> Result<Values, AllocError>
     requires { all_values own.now ≡ (sender_state incoming.now).regs }
@@ -193,8 +198,8 @@ fn compact_from_own(alloc: Global, own: &Values, incoming: &Incoming) -> Result<
     }
 }
 
-/// Returns the compact incoming values of a changed state: its values with the change put over
-/// them. If no part of them changes, the list is shared.
+/// Returns a compact list of values with a change put over them. If the change keeps all values,
+/// the list is shared.
 #[inline(always)]
 fn put_change_over(alloc: Global, own: &Rc<Values>, c: &Change) -> Result<Rc<Values>, AllocError>
     requires { length (all_values own.now.value) ≡ 27 }
@@ -215,7 +220,8 @@ fn put_change_over(alloc: Global, own: &Rc<Values>, c: &Change) -> Result<Rc<Val
     Ok(Rc::new(alloc, values)?)
 }
 
-/// Returns the values that a change starts from, with room for more known ones.
+/// Returns the compact list that a change starts from: all values, those without the lower
+/// registers, or only unknown ones.
 #[inline(always)]
 fn base_values(alloc: Global, own: &Values, base: Base) -> Result<Values, AllocError>
     requires { length (all_values own.now) ≡ 27 }
@@ -231,7 +237,7 @@ fn base_values(alloc: Global, own: &Values, base: Base) -> Result<Values, AllocE
     }
 }
 
-/// Puts one value of a change over a list of compact incoming values, if the change has it.
+/// Puts one register's value of a change into a compact list, if the change has that value.
 #[inline(always)]
 fn put_value_over(alloc: Global, values: &mut Values, put: &Put) -> Result<(), AllocError>
     ensures { OnOk result (all_values values.new ≡ with_put (all_values values.old) put.now) }
@@ -243,7 +249,7 @@ fn put_value_over(alloc: Global, values: &mut Values, put: &Put) -> Result<(), A
     values.put(at, value)
 }
 
-/// Returns a state's values with the lower registers unknown.
+/// Returns a compact list of a state's values in which those of the lower registers are unknown.
 #[inline(never)]
 fn without_lower_values(alloc: Global, own: &Values) -> Result<Values, AllocError>
     requires { length (all_values own.now) ≡ 27 }
@@ -259,7 +265,8 @@ fn without_lower_values(alloc: Global, own: &Values) -> Result<Values, AllocErro
     Ok(values)
 }
 
-/// Returns the value at a place of a changed state.
+/// Returns the value at an index of a changed state, from the state and the change. `any` is
+/// returned for an unknown value.
 #[inline(always)]
 fn changed_state_value<'a>(s: &'a State, c: &'a Change, any: &'a Small, i: usize) -> Given<'a>
     requires place { i < 27 }
@@ -279,7 +286,8 @@ fn changed_state_value<'a>(s: &'a State, c: &'a Change, any: &'a Small, i: usize
     base_value(s, c.base, any, i)
 }
 
-/// Returns the value at a place after a frame returned with an exit.
+/// Returns the value at an index of the caller's state after a called frame returned with this
+/// exit.
 #[inline(always)]
 fn value_after_return<'a>(
     s: &'a State,
@@ -297,7 +305,8 @@ fn value_after_return<'a>(
     lower_or_caller_value(i, exit, any, &s.regs[i])
 }
 
-/// Returns the value at a place before a change puts others over it.
+/// Returns the value at an index of what a change starts from, before the change puts in its
+/// values.
 #[inline(always)]
 fn base_value<'a>(s: &'a State, base: Base, any: &'a Small, i: usize) -> Given<'a>
     requires place { i < 27 }
@@ -318,8 +327,8 @@ fn base_value<'a>(s: &'a State, base: Base, any: &'a Small, i: usize) -> Given<'
     }
 }
 
-/// Returns the value at a place after a frame returned: the exit's for a lower register, else the
-/// caller's, `v`.
+/// Returns the value at an index after a return: the exit's for a lower register, else `v`, the
+/// caller's.
 #[inline(always)]
 fn lower_or_caller_value<'a>(
     i: usize,
@@ -343,7 +352,8 @@ fn lower_or_caller_value<'a>(
     }
 }
 
-/// Returns the number of incoming values: 27 for a state, 14 for an exit.
+/// Returns the number of register values of what flows into a place: 27 for a state, 14 for an
+/// exit.
 pub(crate) fn count_incoming(incoming: &Incoming) -> usize
     ensures long { result ≡ length (incoming_values incoming.now) }
     ensures few { result ≤ 27 }

@@ -53,8 +53,8 @@ impl Model for SmallKnown {
     ghost view = { λ c. whole_known c.form };
 }
 
-/// Returns whether the incoming state seems to cover the known one. The answer is only a hint,
-/// which saves most comparisons.
+/// Returns whether the incoming state may cover the known compact one: only a hint, which saves
+/// most comparisons.
 #[inline(always)]
 fn may_be_above_known(known: &KnownForm, incoming: &Incoming) -> bool {
     let KnownForm::Point(known) = known else {
@@ -69,8 +69,8 @@ fn may_be_above_known(known: &KnownForm, incoming: &Incoming) -> bool {
         && has_known_grown(known, &c.third)
 }
 
-/// Returns true if nothing is put, or if the known value at its place, in compact form, is the put
-/// value or has fewer words. The answer is only a hint.
+/// Returns whether a change's value for a register is the known compact one or has more words, only
+/// as a hint. True without a value.
 fn has_known_grown(known: &SmallState, put: &Put) -> bool {
     let Some(at) = put.at else {
         return true;
@@ -85,7 +85,7 @@ fn has_known_grown(known: &SmallState, put: &Put) -> bool {
 }
 
 impl SmallKnown {
-    /// Returns what flows in.
+    /// Returns a compact copy of the state or exit that flows into a place.
     pub fn new(alloc: Global, _b: &Bounds, incoming: &Incoming) -> Result<SmallKnown, AllocError>
         requires { IsWellFormedKnown _b.now (incoming_known incoming.now) }
         ensures { IfOk result (λ c. c ≡ incoming_known incoming.now) }
@@ -95,8 +95,8 @@ impl SmallKnown {
         Ok(SmallKnown { form })
     }
 
-    /// Returns what flows in from a point with this state. It keeps a copy of the state's values,
-    /// or shares them if none changes.
+    /// Returns a compact copy of what flows from the point with this known state; unchanged lists
+    /// of values are shared.
     pub fn apply(&self, alloc: Global, incoming: &Incoming) -> Result<SmallKnown, AllocError>
         requires { self.now ≡ state (sender_state incoming.now) }
         ensures { IfOk result (λ c. c ≡ incoming_known incoming.now) }
@@ -109,7 +109,7 @@ impl SmallKnown {
         Ok(SmallKnown { form })
     }
 
-    /// Returns a copy. It shares the values.
+    /// Returns a copy of what is known at a place. The copies share their values.
     pub fn copy(&self) -> Result<SmallKnown, AllocError>
         ensures { IfOk result (λ c. c ≡ self.now) }
     {
@@ -126,7 +126,7 @@ impl SmallKnown {
         Ok(SmallKnown { form })
     }
 
-    /// Returns whether it covers what flows in.
+    /// Returns whether what is known at a place covers the state or exit that flows into the place.
     pub fn covers(&self, _b: &Bounds, incoming: &Incoming) -> bool
         requires known { IsWellFormedKnown _b.now self.now }
         requires incoming { IsWellFormedKnown _b.now (incoming_known incoming.now) }
@@ -149,7 +149,8 @@ impl SmallKnown {
         }
     }
 
-    /// Returns the least that covers both, or `None` for states with different numbers of locals.
+    /// Returns the least state or exit that covers the known and the incoming one, or `None` for
+    /// states with unequal numbers of locals.
     pub fn join(
         &self,
         alloc: Global,
@@ -177,9 +178,8 @@ impl SmallKnown {
         }
     }
 
-    /// Returns the least that covers both. `own` is the state of the point that the flow comes
-    /// from. If what flows in covers what is known, it is the answer, and shares its unchanged
-    /// values with `own`.
+    /// Returns the same as `join`, and shares values with `own`, the sender's state, if the
+    /// incoming state covers the known one.
     pub fn join_from(
         &self,
         alloc: Global,
@@ -201,7 +201,8 @@ impl SmallKnown {
         self.join(alloc, b, incoming)
     }
 
-    /// Returns what needs depend on, or `None` for an exit.
+    /// Returns IE, CCPN and the number of locals of a known state, on which needs depend, or `None`
+    /// for an exit.
     pub fn outline(&self) -> Option<Outline>
         ensures { IfSome result (IsOutline self.now) }
     {
@@ -215,7 +216,7 @@ impl SmallKnown {
         }
     }
 
-    /// Writes the state over another.
+    /// Writes the known compact state over a scratch state of whole values. An exit writes nothing.
     pub fn read_state(&self, _b: &Bounds, into: &mut ScratchState)
         requires { IsWellFormedKnown _b.now self.now }
         ensures { IsKnownState self.now into.new }
@@ -225,8 +226,7 @@ impl SmallKnown {
         }
     }
 
-    /// Appends the bytes of what is known at a place, if it is a state. For an exit, it appends
-    /// nothing.
+    /// Appends the certificate's bytes of the known state. For an exit, nothing is appended.
     pub fn spell_state(&self, _b: &Bounds, out: &mut Vec<u8>) -> Result<(), NoMemory>
         requires { IsWellFormedKnown _b.now self.now }
         ensures { OnOk result (AddsKnownState self.now out.old.items out.new.items) }
@@ -240,7 +240,7 @@ impl SmallKnown {
         }
     }
 
-    /// Returns the compact exit, or `None` for a state.
+    /// Returns the compact exit that is known at a place, or `None` for a state.
     pub fn exit(&self) -> Option<&SmallExit>
         ensures some { IfSome result (λ x. self.now ≡ leaving (whole_exit x.now)) }
         ensures none { IfNone result (IsNoExit self.now) }
@@ -251,7 +251,8 @@ impl SmallKnown {
         }
     }
 
-    /// Returns true only if both are states and this one covers the other.
+    /// Returns true only if both are states, with the same gaps between known values, and this
+    /// state covers `low`.
     fn is_above(&self, low: &SmallKnown, _b: &Bounds) -> bool
         requires own { IsWellFormedKnown _b.now self.now }
         requires low { IsWellFormedKnown _b.now low.now }

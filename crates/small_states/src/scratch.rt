@@ -28,7 +28,8 @@ impl Model for ScratchState {
     ghost invariant = { λ s. IfSome s.last (λ last. s.state.regs ≡ all_values last.value) };
 }
 
-/// Writes values over the last ones, and remembers them.
+/// Writes compact values over a scratch state's 27 whole ones, and remembers them as the last that
+/// were written.
 #[inline(always)]
 fn write_scratch_values(values: &Rc<Values>, last: &mut Option<Rc<Values>>, regs: &mut [Val; 27])
     requires long { length (all_values values.now.value) ≡ 27 }
@@ -50,8 +51,8 @@ fn write_scratch_values(values: &Rc<Values>, last: &mut Option<Rc<Values>>, regs
     };
 }
 
-/// Writes values over the last ones. If both have the same gaps, only the values that differ are
-/// written. Returns true only if none was written.
+/// Writes compact values over those written last. With the same gaps, only values that differ are
+/// written. Returns true only if none was.
 #[inline(always)]
 fn overwrite_last_values(values: &Values, last: &Values, regs: &mut [Val; 27]) -> bool
     requires long { length (all_values values.now) ≡ 27 }
@@ -85,14 +86,14 @@ fn overwrite_last_values(values: &Values, last: &Values, regs: &mut [Val; 27]) -
 }
 
 impl ScratchState {
-    /// Returns scratch room that holds this state.
+    /// Returns a scratch state, over which others are written, that begins with this state.
     pub fn new(state: State) -> ScratchState
         ensures { result ≡ state }
     {
         ScratchState { state, last: None }
     }
 
-    /// Returns the state.
+    /// Returns the state that was written into the scratch room last.
     #[inline(always)]
     pub fn state(&self) -> &State
         ensures { result.now ≡ self.now }
@@ -100,7 +101,7 @@ impl ScratchState {
         &self.state
     }
 
-    /// Writes a state over it.
+    /// Writes a compact state over this scratch state, as whole values.
     pub(crate) fn write(&mut self, s: &SmallState)
         requires { length (all_values s.now.regs.value) ≡ 27 }
         ensures { self.new ≡ whole_state s.now }

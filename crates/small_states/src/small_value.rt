@@ -44,7 +44,7 @@ impl Model for Small {
     ghost view = { λ s. small_value_of s.form };
 }
 
-/// Returns true only if a Set has this word alone, so that a small value of one word stands for it.
+/// Returns true only if a set of words has this word alone.
 #[inline(always)]
 fn is_single_word(words: &Words, x: u32) -> bool
     ensures { IsTrue result → words.now ≡ x ∷ [] }
@@ -56,8 +56,7 @@ fn is_single_word(words: &Words, x: u32) -> bool
     all[0] == x
 }
 
-/// Returns true only if both values are sets of the same words, one of them the set that a small
-/// value shares.
+/// Returns true only if both values are sets of the same words.
 #[inline(never)]
 fn have_same_words(v: &Val, w: &Val) -> bool
     ensures { IsTrue result → v.now ≡ w.now }
@@ -71,8 +70,8 @@ fn have_same_words(v: &Val, w: &Val) -> bool
     own.len() == words.len() && begins_with_words(own, words)
 }
 
-/// Returns the number of words that are among those of a small value, up to the first that isn't.
-/// Both ascend, and are walked once.
+/// Returns how many words, from the first on, are among those of a compact set, up to the first
+/// that isn't. Both ascend.
 fn count_held_words(own: &[u32], words: &[u32]) -> usize
     requires own { IsAscending own.now }
     requires words { IsAscending words.now }
@@ -94,8 +93,8 @@ fn count_held_words(own: &[u32], words: &[u32]) -> usize
     n
 }
 
-/// Returns whether each member of a value is one of another. Of two sets it compares the greatest
-/// words first. A set that grew mostly begins with the words that it had.
+/// Returns whether each member of `v` is one of `own`, which a compact value shares. Of two sets
+/// the greatest words are compared first.
 fn is_below_small_value(v: &Val, own: &Val) -> bool
     requires value { IsWellFormed v.now }
     requires own { IsWellFormed own.now }
@@ -119,8 +118,7 @@ fn is_below_small_value(v: &Val, own: &Val) -> bool
     count_held_words(held, words) == words.len()
 }
 
-/// Returns whether each member of a value is a word of a range that a small value holds, which may
-/// be a single word.
+/// Returns whether each member of a value is a word of a range.
 fn is_below_range(v: &Val, lo: u32, last: u32, step: u8) -> bool
     requires value { IsWellFormed v.now }
     requires step { step ≤ 2 }
@@ -130,8 +128,7 @@ fn is_below_range(v: &Val, lo: u32, last: u32, step: u8) -> bool
     is_extent_in_span(&e, lo, last, step)
 }
 
-/// Returns whether a word is a member of a range: that of a small value, or one that a small value
-/// is compared with.
+/// Returns whether a word lies in a range: between its ends, and aligned to its step.
 #[inline(always)]
 fn is_word_in_range(x: u32, lo: u32, last: u32, step: u8) -> bool
     ensures { IsTrue result ↔ IsMember x (Span lo last step) }
@@ -139,8 +136,7 @@ fn is_word_in_range(x: u32, lo: u32, last: u32, step: u8) -> bool
     lo <= x && x <= last && step <= alignment_log2(x)
 }
 
-/// Returns a range that isn't all words. Since this is a call, the test before it stays a jump, and
-/// most tested values are all words.
+/// Returns the compact form of a range that isn't all words, out of line.
 #[inline(never)]
 fn small_range_form(lo: u32, last: u32, step: u8) -> SmallForm
     ensures { small_value_of result ≡ Span lo last step }
@@ -148,8 +144,8 @@ fn small_range_form(lo: u32, last: u32, step: u8) -> SmallForm
     SmallForm::Range { lo, last, step }
 }
 
-/// Returns true only if a small value's words begin with the words of another. It compares all of
-/// them, since that takes several at once.
+/// Returns true only if the words of one set begin with those of another. All are compared, since
+/// that takes several at once.
 #[inline(always)]
 fn begins_with_words(own: &[u32], words: &[u32]) -> bool
     ensures { IsTrue result → (rest : List ℕ) × (own.now ≡ words.now ++ rest) }
@@ -169,7 +165,7 @@ fn begins_with_words(own: &[u32], words: &[u32]) -> bool
 // Code that needs room for a whole value is in functions of its own, so that the others have no
 // such room to fill.
 impl Small {
-    /// Returns a copy of a value.
+    /// Returns a compact copy of a value: of a single word, a range, a shared set, or all words.
     #[inline(always)]
     pub fn of(alloc: Global, v: &Val) -> Result<Small, AllocError>
         ensures { IfOk result (λ s. s ≡ v.now) }
@@ -196,7 +192,7 @@ impl Small {
         }
     }
 
-    /// Returns the whole value.
+    /// Returns the whole value that a compact one stands for.
     #[inline(never)]
     pub fn value(&self) -> Val
         ensures { result ≡ self.now }
@@ -213,7 +209,7 @@ impl Small {
         }
     }
 
-    /// Returns whether it holds all words.
+    /// Returns whether a compact value holds all words, so that nothing is known.
     #[inline(always)]
     pub fn is_any(&self) -> bool
         ensures { IsTrue result ↔ (self.now ≡ any_val) }
@@ -229,7 +225,7 @@ impl Small {
         }
     }
 
-    /// Returns true only if it is this value.
+    /// Returns true only if this compact value stands for the given one.
     #[inline(always)]
     pub fn is_same(&self, v: &Val) -> bool
         ensures { IsTrue result → v.now ≡ self.now }
@@ -245,7 +241,7 @@ impl Small {
         }
     }
 
-    /// Returns the word if it has the form of a single word.
+    /// Returns the word of a compact value that has the form of a single word, else `None`.
     #[inline(always)]
     pub(crate) fn word(&self) -> Option<u32>
         ensures { IfSome result (λ x. self.now ≡ Set (x ∷ [])) }
@@ -256,8 +252,8 @@ impl Small {
         }
     }
 
-    /// Returns true only if it is this compact value. Most are single words, which are asked for
-    /// first.
+    /// Returns true only if both compact values stand for the same value. Most are single words,
+    /// which are compared first.
     #[inline(always)]
     pub(crate) fn is_equal(&self, v: &Small) -> bool
         ensures { IsTrue result → v.now ≡ self.now }
@@ -268,7 +264,7 @@ impl Small {
         self.is_equal_form(v)
     }
 
-    /// Returns a copy. It shares the words of a set.
+    /// Returns a copy of a compact value. The words of a set are shared.
     #[inline(always)]
     pub(crate) fn copy(&self) -> Result<Small, AllocError>
         ensures { IfOk result (λ s. s ≡ self.now) }
@@ -286,7 +282,7 @@ impl Small {
         Ok(Small { form })
     }
 
-    /// Returns a compact copy of an incoming value.
+    /// Returns a compact copy of an incoming value, which is whole or compact.
     #[inline(always)]
     pub(crate) fn of_incoming(alloc: Global, v: &Given) -> Result<Small, AllocError>
         ensures { IfOk result (λ s. s ≡ value_of_given v.now) }
@@ -297,7 +293,7 @@ impl Small {
         }
     }
 
-    /// Writes the value over another.
+    /// Writes the whole value that a compact one stands for over another.
     #[inline(never)]
     pub fn replace(&self, out: &mut Val)
         ensures { out.new ≡ self.now }
@@ -313,7 +309,7 @@ impl Small {
         }
     }
 
-    /// Appends the only bytes that spell this small value. It makes the whole value first.
+    /// Appends the certificate's bytes of a compact value, by way of the whole value.
     #[inline(never)]
     pub(crate) fn spell(&self, out: &mut Vec<u8>) -> Result<(), NoMemory>
         requires { IsWellFormed self.now }
@@ -322,7 +318,7 @@ impl Small {
         write_value(out, &self.value())
     }
 
-    /// Returns whether it has all members of a value.
+    /// Returns whether a compact value has all members of a whole one.
     #[inline(always)]
     pub fn covers(&self, v: &Val) -> bool
         requires own { IsWellFormed self.now }
@@ -348,7 +344,7 @@ impl Small {
         }
     }
 
-    /// Returns whether it is a word or a set and the other has more words.
+    /// Returns whether a compact value is a word or a set, and the other value has more words.
     pub(crate) fn has_fewer_words(&self, v: &Val) -> bool {
         let most = match v.words() {
             Some(words) => words.len(),
@@ -364,7 +360,7 @@ impl Small {
         }
     }
 
-    /// Returns whether it has all members of a compact value.
+    /// Returns whether a compact value has all members of another compact one.
     #[inline(always)]
     pub(crate) fn covers_small(&self, v: &Small) -> bool
         requires own { IsWellFormed self.now }
@@ -377,7 +373,7 @@ impl Small {
         self.covers_compact(v)
     }
 
-    /// Returns whether the small value has all members of an incoming one.
+    /// Returns whether a compact value has all members of an incoming one.
     #[inline(always)]
     pub(crate) fn covers_incoming(&self, v: &Given) -> bool
         requires own { IsWellFormed self.now }
@@ -390,7 +386,7 @@ impl Small {
         }
     }
 
-    /// Returns the least value with the members of both.
+    /// Returns the least compact value with the members of this one and of a whole one.
     #[inline(always)]
     pub fn join(&self, alloc: Global, b: &Bounds, v: &Val) -> Result<Small, AllocError>
         requires own { IsValue b.now self.now }
@@ -411,7 +407,7 @@ impl Small {
         }
     }
 
-    /// Returns the least value with the members of both.
+    /// Returns the least compact value with the members of this one and of an incoming one.
     #[inline(always)]
     pub(crate) fn join_incoming(
         &self,
@@ -434,7 +430,7 @@ impl Small {
         }
     }
 
-    /// Returns a copy of a whole value.
+    /// Returns a compact form with a copy of the whole value, which copies of the form share.
     #[inline(never)]
     fn of_shared(alloc: Global, v: &Val) -> Result<Small, AllocError>
         ensures { IfOk result (λ s. s ≡ v.now) }
@@ -443,7 +439,7 @@ impl Small {
         Ok(Small { form })
     }
 
-    /// Returns true only if it is this compact value.
+    /// Returns true only if both compact values have the same form and stand for the same value.
     #[inline(always)]
     fn is_equal_form(&self, v: &Small) -> bool
         ensures { IsTrue result → v.now ≡ self.now }
@@ -459,7 +455,7 @@ impl Small {
         }
     }
 
-    /// Returns true only if it has the form of this range.
+    /// Returns true only if a compact value has the form of this range.
     #[inline(always)]
     fn is_range(&self, lo: u32, last: u32, step: u8) -> bool
         ensures { IsTrue result → self.now ≡ Span lo last step }
@@ -474,7 +470,7 @@ impl Small {
         }
     }
 
-    /// Returns whether a word is one of its members.
+    /// Returns whether a word is a member of a compact value.
     #[inline(always)]
     fn has(&self, x: u32) -> bool
         ensures { IsTrue result ↔ IsMember x self.now }
@@ -490,8 +486,8 @@ impl Small {
         }
     }
 
-    /// Returns whether it has all members of a compact value. The caller has asked for an equal one
-    /// before.
+    /// Returns whether a compact value has all members of another one, which has been found
+    /// unequal.
     #[inline(never)]
     fn covers_compact(&self, v: &Small) -> bool
         requires own { IsWellFormed self.now }
@@ -511,7 +507,7 @@ impl Small {
         }
     }
 
-    /// Returns true only if its form shows that it has all words of a range.
+    /// Returns true only if a compact value's form shows that all words of a range are its members.
     #[inline(always)]
     fn has_all_of_range(&self, lo: u32, last: u32, step: u8) -> bool
         ensures { IsTrue result → IsBelow (Span lo last step) self.now }
@@ -526,7 +522,7 @@ impl Small {
         }
     }
 
-    /// Returns whether it has all members of a compact value. It makes the whole value.
+    /// Returns whether a compact value has all members of another one, which is made whole first.
     #[inline(never)]
     fn covers_as_whole(&self, v: &Small) -> bool
         requires own { IsWellFormed self.now }
@@ -536,8 +532,8 @@ impl Small {
         self.covers(&v.value())
     }
 
-    /// Returns the least value with its members and these words, a set's. Of two sets it adds the
-    /// fewer words to the others. If more than 16 are missing, it joins whole values.
+    /// Returns the least compact value with the members of this one and the words of a set. Of two
+    /// sets, the fewer words are added.
     #[inline(never)]
     fn join_words(
         &self,
@@ -574,8 +570,8 @@ impl Small {
         self.with_words(alloc, b, &words[n..])
     }
 
-    /// Returns the least value with its members and the words of a range. If one has all members
-    /// of the other, it is the one.
+    /// Returns the least compact value with the members of this one and of a range: one of the two,
+    /// if that covers the other.
     #[inline(never)]
     fn join_range(&self, alloc: Global, b: &Bounds, v: &Val) -> Result<Small, AllocError>
         requires own { IsValue b.now self.now }
@@ -593,7 +589,8 @@ impl Small {
         self.join_whole(alloc, b, v)
     }
 
-    /// Returns the least value with these words, a set's, and others.
+    /// Returns the least compact value with the words of a set and others, which are added to a
+    /// copy of the set.
     #[inline(never)]
     fn with_others(
         alloc: Global,
@@ -614,7 +611,8 @@ impl Small {
         Small::of(alloc, &out)
     }
 
-    /// Returns the least value with its members and these words. It adds them to a copy.
+    /// Returns the least compact value with the members of this one and these words, which are
+    /// added to a whole copy.
     #[inline(never)]
     fn with_words(&self, alloc: Global, b: &Bounds, words: &[u32]) -> Result<Small, AllocError>
         requires own { IsValue b.now self.now }
@@ -630,7 +628,7 @@ impl Small {
         Small::of(alloc, &out)
     }
 
-    /// Returns a copy. It is a call of its own, for rare cases.
+    /// Returns a copy of a compact value, out of line, for rare cases.
     #[inline(never)]
     fn copy_out_of_line(&self) -> Result<Small, AllocError>
         ensures { IfOk result (λ s. s ≡ self.now) }
@@ -638,7 +636,8 @@ impl Small {
         self.copy()
     }
 
-    /// Returns the least value with the members of both. It adds those of `v` to a copy.
+    /// Returns the least compact value with the members of this one and of a whole one, which are
+    /// added to a whole copy.
     #[inline(never)]
     fn join_whole(&self, alloc: Global, b: &Bounds, v: &Val) -> Result<Small, AllocError>
         requires own { IsValue b.now self.now }
@@ -651,7 +650,7 @@ impl Small {
         Small::of_moved(alloc, out)
     }
 
-    /// Returns a compact value. If it is a set of several words, it isn't copied.
+    /// Returns the compact form of a value. A set of several words is moved, not copied.
     #[inline(never)]
     fn of_moved(alloc: Global, v: Val) -> Result<Small, AllocError>
         ensures { IfOk result (λ s. s ≡ v) }
@@ -663,7 +662,7 @@ impl Small {
         Small::of(alloc, &v)
     }
 
-    /// Returns true only if its form shows that its members are words of a range.
+    /// Returns true only if a compact value's form shows that its members are words of a range.
     #[inline(always)]
     fn is_inside_range(&self, lo: u32, last: u32, step: u8) -> bool
         ensures { IsTrue result → IsBelow self.now (Span lo last step) }
@@ -679,8 +678,8 @@ impl Small {
         }
     }
 
-    /// Returns the least value with the members of both. The caller has asked for an equal one
-    /// before.
+    /// Returns the least compact value with the members of this one and of another, which has been
+    /// found unequal.
     #[inline(never)]
     fn join_compact(&self, alloc: Global, b: &Bounds, v: &Small) -> Result<Small, AllocError>
         requires own { IsValue b.now self.now }
@@ -699,7 +698,8 @@ impl Small {
         }
     }
 
-    /// Returns the least value with the members of both. It makes the other whole value.
+    /// Returns the least compact value with the members of this one and of another, which is made
+    /// whole first.
     #[inline(never)]
     fn join_as_whole(&self, alloc: Global, b: &Bounds, v: &Small) -> Result<Small, AllocError>
         requires own { IsValue b.now self.now }

@@ -20,7 +20,8 @@ fn spelled_flag_byte(x: bool) -> u8
     if x { 1 } else { 0 }
 }
 
-/// Appends the bytes of all values of a list.
+/// Appends the certificate's bytes of all values of a compact list, known and unknown, by way of
+/// the buffer.
 #[inline(always)]
 fn spell_values(out: &mut Vec<u8>, gathered: &mut Gathered, values: &Values) -> Result<(), NoMemory>
     requires { All IsWellFormed (all_values values.now) }
@@ -37,7 +38,8 @@ fn spell_values(out: &mut Vec<u8>, gathered: &mut Gathered, values: &Values) -> 
     gathered.put_anys(out, values.rest)
 }
 
-/// Appends unknown values and then a known one. The caller has tried a single word before.
+/// Appends the certificate's bytes of unknown values and then of a known one, which is no single
+/// word that had room.
 #[inline(never)]
 fn spell_spaced_value(
     out: &mut Vec<u8>,

@@ -27,7 +27,7 @@ pub struct Values {
     pub(crate) rest: u32,
 }
 
-/// Writes the unknown values of a sparse list to the places from `from` to before `to`.
+/// Writes unknown values, all words, to the indices from `from` to before `to` of a state's values.
 #[inline(always)]
 fn write_anys(out: &mut [Val; 27], from: usize, to: usize)
     requires ordered { from ≤ to }
@@ -41,7 +41,7 @@ fn write_anys(out: &mut [Val; 27], from: usize, to: usize)
 }
 
 impl Values {
-    /// Appends `count` unknown values.
+    /// Appends `count` unknown values to a compact list.
     #[inline(always)]
     pub(crate) fn add_anys(&mut self, count: u32)
         requires { length (all_values self.old) + count < 2 ^ 32 }
@@ -50,7 +50,7 @@ impl Values {
         self.rest += count;
     }
 
-    /// Appends a compact value.
+    /// Appends a value to a compact list, which only counts unknown ones.
     #[inline(always)]
     pub(crate) fn add_small(&mut self, value: Small) -> Result<(), AllocError>
         requires { length (all_values self.old) + 1 < 2 ^ 32 }
@@ -66,7 +66,7 @@ impl Values {
         Ok(())
     }
 
-    /// Appends `anys` unknown values and then a value.
+    /// Appends `anys` unknown values and then a value to a compact list.
     #[inline(always)]
     pub(crate) fn add_spaced(&mut self, anys: u32, value: Small) -> Result<(), AllocError>
         requires { length (all_values self.old) + anys + 1 < 2 ^ 32 }
@@ -77,7 +77,7 @@ impl Values {
         self.add_small(value)
     }
 
-    /// Returns the value at a place. `any` is returned for an unknown value.
+    /// Returns the value at an index of a compact list. `any` is returned for an unknown value.
     pub(crate) fn value_or_any<'a>(&'a self, any: &'a Small, i: usize) -> Given<'a>
         requires { any.now ≡ any_val }
         ensures { value_of_given result ≡ slice_index_or (all_values self.now) i any_val }
@@ -92,7 +92,7 @@ impl Values {
         Given::Compact(any)
     }
 
-    /// Puts a value at a place, if there is one.
+    /// Puts a value at an index of a compact list. Past the end, nothing changes.
     pub(crate) fn put(&mut self, i: usize, value: Small) -> Result<(), AllocError>
         ensures { OnOk result
             (all_values self.new ≡ slice_set (all_values self.old) i value) }
@@ -104,7 +104,7 @@ impl Values {
         self.put_behind(anys, value)
     }
 
-    /// Writes the values of a state over others.
+    /// Writes a compact list of 27 values over a state's whole ones.
     #[inline(never)]
     pub(crate) fn write(&self, out: &mut [Val; 27])
         requires { length (all_values self.now) ≡ 27 }
@@ -124,7 +124,7 @@ impl Values {
         write_anys(out, at, 27);
     }
 
-    /// Returns a copy with room for one more known value.
+    /// Returns a copy of a compact list, with room for one more known value.
     pub(crate) fn copy(&self, alloc: Global) -> Result<Values, AllocError>
         ensures { IfOk result (λ copy. all_values copy ≡ all_values self.now) }
     {
@@ -154,7 +154,7 @@ impl Values {
         Ok(Values { known, rest })
     }
 
-    /// Appends `count` values of another list, from a place on.
+    /// Appends `count` values of another compact list, from the index `from` on.
     #[inline(always)]
     pub(crate) fn add_part(
         &mut self,
@@ -190,8 +190,8 @@ impl Values {
         Ok(())
     }
 
-    /// Finds a place: returns the number of known values before it, and the number of unknown ones
-    /// between.
+    /// Finds an index of a compact list: returns how many known values are before, and how many
+    /// unknown ones lie between.
     #[inline(always)]
     fn find(&self, i: usize) -> (usize, usize)
         ensures { IsIndexAfter self.now i result.0 result.1 }
@@ -208,8 +208,8 @@ impl Values {
         (known.len(), left)
     }
 
-    /// Puts a value after `n` known ones and `anys` unknown ones: over the next known value, or
-    /// before it.
+    /// Puts a value into a compact list, `anys` unknown values after the `n`th known one: over the
+    /// next known value, or between.
     fn put_before(&mut self, n: usize, anys: usize, value: Small) -> Result<(), AllocError>
         requires within { n < length self.old.known.items }
         requires before { (d : spaced.SpacedValue)
@@ -238,8 +238,8 @@ impl Values {
         Ok(())
     }
 
-    /// Puts a value after the last known one and `anys` unknown ones. Nothing changes if there is
-    /// no such place.
+    /// Puts a value into a compact list, `anys` unknown values after the last known one. Past the
+    /// end, nothing changes.
     fn put_behind(&mut self, anys: usize, value: Small) -> Result<(), AllocError>
         ensures { OnOk result
             (all_values self.new
@@ -259,8 +259,8 @@ impl Values {
     }
 }
 
-/// Returns true only if both sparse lists of values have the same gaps and each value is below the
-/// other list's value at its place.
+/// Returns true only if two compact lists have the same gaps and each value of `low` is below that
+/// of `high` at its index.
 pub(crate) fn are_all_below(low: &Values, high: &Values) -> bool
     requires low { AreWellFormed (all_values low.now) }
     requires high { AreWellFormed (all_values high.now) }

@@ -20,18 +20,20 @@ AreStoresInRange plan v size = (x : ℕ) → IsMember x v → IsStoreInRange pla
 abbrev pub AreAligned : Val → ℕ → Type 0
 AreAligned v size = (x : ℕ) → IsMember x v → x % size ≡ 0
 
--- the access from x, and each later one that ends at the end or before, is in range
+-- the store of this size at x is in range (K9), and so is each later one that ends at `end` or
+-- before
 pub record AreStoresInRangeUntil (plan : PlanData) (size x end : ℕ) : Type 0 where
   pub here : x + size ≤ end
   pub within : end ≤ 2 ^ 32
   pub each : (y : ℕ) → x ≤ y → y + size ≤ end → IsStoreInRange plan (y, size)
 
--- the least multiple of 2 ^ step above x
+-- next is the least multiple of 2 ^ step above x: the next address that a Span of accesses may have
 pub record IsNextAccessAddress (step x next : ℕ) : Type 0 where
   pub above : x < next
   pub fits : step ≤ alignment_log2 next
   pub least : (y : ℕ) → x < y → step ≤ alignment_log2 y → next ≤ y
 
--- each address is a multiple of the size
+-- all accesses of this size from the members of a value are aligned: each address is a multiple of
+-- the size
 abbrev pub are_aligned : Val → ℕ → Bool
 are_aligned v size = list_all (λ x. x % size == 0) (members v)

@@ -8,7 +8,7 @@ use Rattle.value_domain.specs.Values.{IsValue, IsBelow}
 use Rattle.store_ranges.specs.Accesses.{IsAccessSize}
 use Rattle.store_ranges.specs.Loads.{load_value_of}
 
--- a value with fewer members gives fewer loaded words
+-- loads are monotone: from a value with fewer addresses, the loaded value has fewer words
 abbrev pub LoadsAreMonotone : Type 0
 LoadsAreMonotone =
     (b : Limits) (image : ImageData) (plan : PlanData) (v w : Val) (size : ℕ) (signed : Bool) → IsPlan plan → IsImage image → IsAccessSize size →

@@ -42,7 +42,8 @@ abbrev pub answers_to_load : ℕ → Bool → Option Device → List ℕ
 answers_to_load size signed None = all_loaded_words size signed
 answers_to_load size signed (Some d) = range d.lo d.hi 0
 
--- the loaded word of a number that is known, else what the peripheral can answer
+-- the words that a load gives: the extended number, if that is known, else what the peripheral can
+-- answer
 abbrev pub loaded_word_or_answers : ℕ → Bool → Option Device → Option ℕ → List ℕ
 loaded_word_or_answers size signed device None = answers_to_load size signed device
 loaded_word_or_answers size signed device (Some w) = extend_loaded_bytes signed size w ∷ []

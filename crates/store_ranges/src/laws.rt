@@ -1,7 +1,8 @@
 // The law of loads.
 ghost use Rattle.store_ranges.specs.Laws.{LoadsAreMonotone};
 
-/// The law of loads: a value with fewer members gives fewer loaded words.
+/// The law of loads: they are monotone, so an abstract value with fewer addresses gives a loaded
+/// value with fewer words.
 pub fn load_laws()
     ensures { LoadsAreMonotone }
 {}

@@ -25,9 +25,9 @@ pub struct LoadKind {
     pub signed: bool,
 }
 
-/// Returns the least value that holds what loads of 1, 2 or 4 bytes (`size`) from all members of
-/// `at` give. An address in rom gives the image's word, a word of a peripheral what the plan lets
-/// the peripheral answer, any other address any word.
+/// Returns the least abstract value that holds the results of loads of `size` bytes from all
+/// addresses in `at`. Rom gives the image's word, a peripheral the plan's answers, any other
+/// address any word.
 pub fn load_of(b: &Bounds, image: &Image, plan: &Plan, at: &Val, size: u8, signed: bool) -> Val
     requires at { IsValue b.now at.now }
     requires size { IsAccessSize size }
@@ -40,9 +40,8 @@ pub fn load_of(b: &Bounds, image: &Image, plan: &Plan, at: &Val, size: u8, signe
     out
 }
 
-/// Overwrites a value with what loads from all members of `at` give, as `load_of` does. Only a load
-/// from a peripheral, and one from several addresses of which some aren't in rom, make a value of
-/// their own.
+/// Overwrites an abstract value with what loads from all addresses in `at` give, as `load_of` does.
+/// A second value is built only for several addresses, some outside rom.
 pub fn write_load(b: &Bounds, image: &Image, plan: &Plan, at: &Val, load: LoadKind, out: &mut Val)
     requires at { IsValue b.now at.now }
     requires size { IsAccessSize load.size }
@@ -58,7 +57,7 @@ pub fn write_load(b: &Bounds, image: &Image, plan: &Plan, at: &Val, load: LoadKi
     }
 }
 
-/// Overwrites a value with what all addresses give.
+/// Overwrites an abstract value with what loads from all of these addresses give.
 fn write_loads(b: &Bounds, image: &Image, plan: &Plan, words: &[u32], load: LoadKind, out: &mut Val)
     requires some { 1 ≤ length words.now }
     requires size { IsAccessSize load.size }
@@ -73,7 +72,8 @@ fn write_loads(b: &Bounds, image: &Image, plan: &Plan, words: &[u32], load: Load
     }
 }
 
-/// Overwrites a value with what a Span of addresses gives.
+/// Overwrites an abstract value with what loads from a Span of addresses give: a peripheral's
+/// answers if all are in its range, else any word.
 fn write_loads_from_span(b: &Bounds, plan: &Plan, at: &Val, load: LoadKind, out: &mut Val)
     requires at { IsValue b.now at.now }
     requires size { IsAccessSize load.size }
@@ -86,7 +86,8 @@ fn write_loads_from_span(b: &Bounds, plan: &Plan, at: &Val, load: LoadKind, out:
     write_peripheral_answers(b, device, load, out);
 }
 
-/// Overwrites a value with what an address gives.
+/// Overwrites an abstract value with what a load from one address gives: the word in rom, a
+/// peripheral's answers, or any word.
 fn write_load_at(b: &Bounds, image: &Image, plan: &Plan, x: u32, load: LoadKind, out: &mut Val)
     requires { IsAccessSize load.size }
     ensures loaded { out.new
@@ -102,7 +103,7 @@ fn write_load_at(b: &Bounds, image: &Image, plan: &Plan, x: u32, load: LoadKind,
     }
 }
 
-/// Widens a value to the least one that holds what an address gives, too.
+/// Joins what a load from one more address gives into an abstract value.
 fn join_load_at(b: &Bounds, image: &Image, plan: &Plan, x: u32, load: LoadKind, out: &mut Val)
     requires size { IsAccessSize load.size }
     requires value { IsValue b.now out.old }
@@ -117,8 +118,8 @@ fn join_load_at(b: &Bounds, image: &Image, plan: &Plan, x: u32, load: LoadKind, 
     }
 }
 
-/// Returns the peripheral whose range has a word both at `low` and at `high`. For smaller accesses
-/// there is none.
+/// Returns the peripheral from which a load gets its word: its range has a word both at `low` and
+/// at `high`. Smaller loads have none.
 fn device_of_load(plan: &Plan, low: u32, high: u32, size: u8) -> Option<Device>
     ensures device { result
         ≡ (if size == 4
@@ -133,8 +134,8 @@ fn device_of_load(plan: &Plan, low: u32, high: u32, size: u8) -> Option<Device>
     device_range_at(plan.devices.as_slice(), low, high, 4)
 }
 
-/// Returns the word that a load from a member of a value gives: the loaded number, extended by its
-/// sign or with zeros.
+/// Returns the word that a load writes to its register: the loaded number, extended by its sign or
+/// with zeros.
 fn extend_loaded_number(number: u32, load: LoadKind) -> u32
     requires size { IsAccessSize load.size }
     requires below { number < 2 ^ (8 * load.size) }
@@ -147,8 +148,8 @@ fn extend_loaded_number(number: u32, load: LoadKind) -> u32
     }
 }
 
-/// Overwrites a value with the cover of the words that a peripheral can answer. Without a
-/// peripheral, it is that of anything.
+/// Overwrites an abstract value with the cover of the words that a peripheral may answer to a load.
+/// Without a peripheral, any loaded word is covered.
 fn write_peripheral_answers(b: &Bounds, device: Option<Device>, load: LoadKind, out: &mut Val)
     requires size { IsAccessSize load.size }
     requires bounds { IfSome device (λ d. d.lo ≤ d.hi) }
@@ -162,7 +163,8 @@ fn write_peripheral_answers(b: &Bounds, device: Option<Device>, load: LoadKind, 
     }
 }
 
-/// Overwrites a value with the cover of all words that a load of this kind can give.
+/// Overwrites an abstract value with the cover of all words that a load of this size and sign can
+/// give.
 fn write_any_loaded_word(b: &Bounds, load: LoadKind, out: &mut Val)
     requires { IsAccessSize load.size }
     ensures cover { out.new ≡ cover b.now (all_loaded_words load.size load.signed) }
@@ -176,7 +178,8 @@ fn write_any_loaded_word(b: &Bounds, load: LoadKind, out: &mut Val)
     }
 }
 
-/// Overwrites a value with the cover of all numbers of `size` bytes.
+/// Overwrites an abstract value with the cover of all numbers of `size` bytes, which an unsigned
+/// load can give.
 fn write_unsigned_load_range(b: &Bounds, size: u8, out: &mut Val)
     requires { IsAccessSize size }
     ensures cover { out.new ≡ cover b.now (all_loaded_words size false) }
@@ -191,7 +194,7 @@ fn write_unsigned_load_range(b: &Bounds, size: u8, out: &mut Val)
     }
 }
 
-/// Returns the greatest number of `size` bytes.
+/// Returns the greatest number that an unsigned load of `size` bytes can give.
 fn greatest_loaded_number(size: u8) -> u32
     requires { IsAccessSize size }
     ensures { result ≡ 2 ^ (8 * size) - 1 }
@@ -203,8 +206,8 @@ fn greatest_loaded_number(size: u8) -> u32
     }
 }
 
-/// Widens a value to the least one that holds the words that a peripheral can answer, too. This is
-/// a function of its own, so that its callers need no stack for a value.
+/// Joins the words that a peripheral may answer to a load into an abstract value. This is a
+/// function of its own, so that its callers need no stack for a value.
 #[inline(never)]
 fn join_peripheral_answers(b: &Bounds, device: Option<Device>, load: LoadKind, out: &mut Val)
     requires size { IsAccessSize load.size }

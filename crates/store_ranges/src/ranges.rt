@@ -10,7 +10,7 @@ use tcd_base::Range;
 use tcd_plan::{Device, Plan};
 use value_domain::alignment_log2;
 
-/// Returns the first range that has the `n` addresses from `x` on.
+/// Returns the first memory range that holds all `n` bytes of a store at `x`, or `None`.
 pub(crate) fn store_range_at(ranges: &[Range], x: u32, n: u8) -> Option<Range>
     ensures { result ≡ find (is_within_range x n) ranges.now }
 {
@@ -29,8 +29,8 @@ pub(crate) fn device_range_at(devices: &[Device], low: u32, high: u32, n: u8) ->
         .copied()
 }
 
-/// Returns true if for each of these addresses one ram range or one peripheral range has all the
-/// bytes of a store there.
+/// Returns true if a store of `size` bytes at each address is wholly in one ram range or one
+/// peripheral range, as K9 asks.
 pub(crate) fn are_stores_in_range(plan: &Plan, words: &[u32], size: u8) -> bool
     ensures { IsTrue result ↔ All (λ x. IsStoreInRange plan.now (x, size)) words.now }
 {
@@ -42,16 +42,16 @@ pub(crate) fn are_stores_in_range(plan: &Plan, words: &[u32], size: u8) -> bool
     true
 }
 
-/// Returns true if a store of so many bytes at an address is wholly in one ram range or one
-/// peripheral range.
+/// Returns true if a store of `size` bytes at an address is wholly in one ram range or one
+/// peripheral range, as K9 asks.
 pub fn is_store_in_range(plan: &Plan, x: u32, size: u8) -> bool
     ensures { IsTrue result ↔ IsStoreInRange plan.now (x, size) }
 {
     store_range_end(plan, x, size).is_some()
 }
 
-/// Walks from range to range: the first member whose access isn't in the last range is looked for
-/// in the others.
+/// Returns true if the store at each member of a Span is in range, as K9 asks. Walks from range to
+/// range, not from member to member.
 pub(crate) fn is_span_store_in_range(plan: &Plan, least: u32, last: u32, step: u8, size: u8) -> bool
     requires step { step ≤ 2 }
     requires least { step ≤ sets.alignment_log2 least }
@@ -67,7 +67,8 @@ pub(crate) fn is_span_store_in_range(plan: &Plan, least: u32, last: u32, step: u
     true
 }
 
-/// Returns the least multiple of `2 ^ step` above `x`, where the walk from range to range goes on.
+/// Returns the least multiple of `2 ^ step` above `x`: the next address to test after the last
+/// store that a range holds.
 pub(crate) fn next_store_address(x: u64, step: u8) -> u64
     requires step { step ≤ 2 }
     requires small { x ≤ 2 ^ 32 }
@@ -77,7 +78,8 @@ pub(crate) fn next_store_address(x: u64, step: u8) -> u64
     (x / unit + 1) * unit
 }
 
-/// Returns the end of a ram range or peripheral range that holds the access.
+/// Returns the end of the ram range or peripheral range that holds all bytes of a store at `x`, or
+/// `None`.
 fn store_range_end(plan: &Plan, x: u32, size: u8) -> Option<u64>
     ensures { MatchOption result (¬ IsStoreInRange plan.now (x, size))
         (λ end. AreStoresInRangeUntil plan.now size x end) }

@@ -22,8 +22,8 @@ pub fn loaded_rom(image: &Image, plan: &Plan, addr: u32, len: u8) -> bool
     are_bytes_in_image(image, addr, len)
 }
 
-/// Returns the number in the `n` bytes from `x` on, little-endian, if they are in one rom range and
-/// held by segments.
+/// Returns the number that a load gets from the `n` bytes of rom at `x`, little-endian. `None` if
+/// no rom range or segment has them.
 pub(crate) fn rom_number(image: &Image, plan: &Plan, x: u32, n: u8) -> Option<u32>
     requires { n ≤ 4 }
     ensures value { result ≡ loads.rom_number image.now plan.now x n }
@@ -35,7 +35,7 @@ pub(crate) fn rom_number(image: &Image, plan: &Plan, x: u32, n: u8) -> Option<u3
     number_in_image(image, x, n)
 }
 
-/// Returns true if the `n` bytes from `x` on are in one rom range.
+/// Returns true if the `n` bytes from `x` on are in one of the plan's rom ranges.
 fn is_in_rom(plan: &Plan, x: u32, n: u8) -> bool
     ensures value { result ≡ list_any (is_within_range x n) plan.now.rom }
     ensures fits { OnTrue result (x + n ≤ 2 ^ 32) }
@@ -56,7 +56,8 @@ fn are_bytes_in_image(image: &Image, x: u32, n: u8) -> bool
     true
 }
 
-/// Returns the number in the `n` bytes from `x` on, little-endian, if segments hold them.
+/// Returns the number in the image's `n` bytes from `x` on, little-endian, or `None` if its
+/// segments don't hold them all.
 fn number_in_image(image: &Image, x: u32, n: u8) -> Option<u32>
     requires few { n ≤ 4 }
     requires fits { x + n ≤ 2 ^ 32 }

@@ -65,8 +65,8 @@ pub record AreTasksSafeAt (image : ImageData) (plan : PlanData) (tasks : TasksDa
   pub code_in_rom : IsAtCode image plan m
   pub stores : IfSome (stored m e) (IsAllowedTaskStore plan tasks m.pc)
 
--- this holds in every run from every start state, for every list of fitting events and every next
--- event
+-- all runs of the tasks are safe: from every start state, under any fitting events, each state
+-- reached is safe, and so is its next event
 abbrev pub SafeTasks : ImageData → PlanData → TasksData → (ℕ → ℕ) → Type 0
 SafeTasks image plan tasks needs =
     (m : Machine) (es : List Event) (e : Event) → TasksStart image plan tasks m → AllFit plan m es → Fits plan (run m es) e → AreTasksSafeAt image plan tasks needs (run m es) e

@@ -84,7 +84,8 @@ pub record HasRoutineByte (image : ImageData) (plan : PlanData) (tasks : TasksDa
 abbrev pub routine_size : ℕ
 routine_size = 72
 
--- the image has the routine
+-- the image has all 72 bytes of the switch routine at their addresses, in segments and inside one
+-- rom range
 abbrev pub HasRoutine : ImageData → PlanData → TasksData → Type 0
 HasRoutine image plan tasks = (i : ℕ) → i < routine_size → HasRoutineByte image plan tasks i
 

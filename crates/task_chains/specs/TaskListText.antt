@@ -109,8 +109,8 @@ IsTaskErr plan lines tasks NoRoom = AreTwoToSevenTasks tasks × IsBlockInRam pla
 IsTaskErr plan lines tasks OnIsp = AreTwoToSevenTasks tasks × IsBlockInRam plan tasks × HasRoomForViews plan tasks × (plan.start_is ≡ true)
 IsTaskErr plan lines tasks Count = ⊥
 
--- the error of lines: that of the first line of another form, or that of the tasks that all of them
--- name
+-- the error of a text of tasks: that of the first line of another form, or that of the tasks that
+-- all lines name
 abbrev pub IsErrOfTaskText : PlanData → List (List ℕ) → TasksErr → Type 0
 IsErrOfTaskText plan lines (BadLine n) = IsBadTaskLine lines n
 IsErrOfTaskText plan lines e = (tasks : TasksData) × AreNamedTasks lines tasks × IsTaskErr plan lines tasks e
@@ -121,7 +121,8 @@ pub record AreTasksOfText (plan : PlanData) (lines : List (List ℕ)) (tasks : T
   pub are : AreTasks tasks
   pub fit : FitPlan plan tasks
 
--- the answer for lines: the tasks that they name, or their error
+-- the result of reading a text of tasks: those that its lines name, if they fit the plan, or the
+-- error
 abbrev pub IsResultOfTaskText : PlanData → List (List ℕ) → Result TasksData TasksErr → Type 0
 IsResultOfTaskText plan lines (Ok tasks) = AreTasksOfText plan lines tasks
 IsResultOfTaskText plan lines (Err e) = IsErrOfTaskText plan lines e
@@ -136,7 +137,8 @@ abbrev pub IsEighthTaskLineIfAny : List (List ℕ) → TasksData → Option ℕ 
 IsEighthTaskLineIfAny lines tasks None = count tasks ≤ 7
 IsEighthTaskLineIfAny lines tasks (Some n) = IsEighthTaskLine lines n
 
--- what the lines say: the draft has the first seven tasks and the line of an eighth
+-- the draft has the first seven tasks that the lines name, and the number of the line that names an
+-- eighth
 pub record HasFirstSevenTasks (lines : List (List ℕ)) (places : Places) (list : List Task) (eighth : Option ℕ) : Type 0 where
   pub all : List Task
   pub said : AreNamedTasks lines (tasks_with places all)
@@ -156,7 +158,8 @@ IsTasksDraftOf lines d = IsTasksDraftOfParts lines d.places d.list.items d.eight
 abbrev pub IsTasksDraftAfterLine : TasksDraft → ℕ → List ℕ → TasksDraft → Type 0
 IsTasksDraftAfterLine old n line new = (before : List (List ℕ)) → IsTasksDraftOf before old → n ≡ length before + 1 → IsTasksDraftOf (before ++ line ∷ []) new
 
--- the line of this number is of another form
+-- the error is that of a line of another form, which has this number and comes after the draft's
+-- lines
 abbrev pub IsErrOfTaskLine : TasksDraft → ℕ → List ℕ → TasksErr → Type 0
 IsErrOfTaskLine old n line e = (e ≡ BadLine n) × ((before : List (List ℕ)) → IsTasksDraftOf before old → BreaksTaskForm before line)
 

@@ -30,17 +30,16 @@ current_task tasks mem = block_word tasks mem (count tasks)
 abbrev pub task_upper_area : PlanData → ℕ → ℕ
 task_upper_area plan u = first_link plan + 2 * (u - 1)
 
--- the link of the area of its lower context
+-- the link of the area of the lower context of a task other than the first
 abbrev pub task_lower_area : PlanData → ℕ → ℕ
 task_lower_area plan u = first_link plan + (2 * (u - 1) + 1)
 
--- the number of areas of all these contexts
+-- how many areas hold contexts of tasks at the start: two for each task except the first
 abbrev pub areas_held_at_start : TasksData → ℕ
 areas_held_at_start tasks = 2 * (count tasks - 1)
 
--- The upper context has PCXI 0, a PSW with IO 2 and IS 0, and the task's stack pointer. The lower
--- one, which links to the upper, has the task's entry as A11. The block's word names the lower one.
--- All other words are any.
+-- Task u is ready for its first turn: its two areas hold an upper context with its stack pointer
+-- and a lower one with its entry. All other words are any.
 pub record IsTaskReady (core : Core) (plan : PlanData) (tasks : TasksData) (mem : Memory) (u : ℕ) : Type 0 where
   pub ends : area_word mem (task_upper_area plan u) 0 ≡ 0
   pub io : area_word mem (task_upper_area plan u) 1 / 2 ^ 10 % 4 ≡ 2

@@ -9,7 +9,7 @@ use Rattle.task_chains.specs.Devices.{view_devices}
 
 -- ---- the image
 
--- bytes from x on, with those in the routine replaced by the view's
+-- the bytes of a segment from address x on, with those of the switch routine replaced by the view's
 unfoldable pub with_view_routine_from : TasksData → ℕ → List ℕ → List ℕ
 with_view_routine_from tasks x [] = []
 with_view_routine_from tasks x (b ∷ bs) =

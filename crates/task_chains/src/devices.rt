@@ -5,8 +5,8 @@ ghost use Rattle.task_chains.specs.Devices.{view_devices_beside_block};
 use arrayvec::ArrayVec;
 use tcd_plan::{Device, Plan, cut_plan_ranges};
 
-/// Returns the plan's peripherals, and after them what is left of each ram range without the `n`
-/// bytes from `x` on, as peripherals that answer with any word.
+/// Returns the peripherals of a task's view: the plan's, then the parts of each ram range outside
+/// the `n` bytes from `x`, which answer with any word.
 pub(crate) fn view_devices_beside_block(plan: &Plan, x: u32, n: u32) -> ArrayVec<Device, 16>
     requires { length (view_devices_beside_block plan.now x n) ≤ 16 }
     ensures { result.items ≡ view_devices_beside_block plan.now x n }
@@ -27,7 +27,8 @@ pub(crate) fn view_devices_beside_block(plan: &Plan, x: u32, n: u32) -> ArrayVec
     devices
 }
 
-/// Returns the number of the plan's peripherals and of the parts that are left of ram.
+/// Returns how many peripherals a task's view has: the plan's, and the parts of ram ranges outside
+/// the `n` bytes from `x`.
 pub(crate) fn count_view_devices(plan: &Plan, x: u32, n: u32) -> usize
     ensures { result ≡ length (view_devices_beside_block plan.now x n) }
 {

@@ -23,7 +23,8 @@ pub struct TasksDraft {
     pub eighth: Option<u32>,
 }
 
-/// Returns what all lines of a text say, or the error of the first line that has another form.
+/// Reads all lines of a text of tasks into a draft, or returns the error of the first line that has
+/// another form.
 pub(crate) fn read_tasks_draft(bytes: &[u8]) -> Result<TasksDraft, TasksErr>
     requires { length bytes.now ≤ 2 ^ 30 }
     ensures ok { IfOk result (IsTasksDraftOf (text_lines bytes.now)) }

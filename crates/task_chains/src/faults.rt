@@ -42,7 +42,8 @@ pub fn task_fault(view: &Image, plan: &Plan, tasks: &Tasks, cert: &Cert) -> Opti
     None
 }
 
-/// Returns the first address of a node's points at which K17 fails.
+/// Returns the first address of a node's points at which K17, the rule on tasks, fails, or None if
+/// the rule holds at all of them.
 fn node_task_fault<'a>(
     rule: &TasksRule,
     codes: &mut KnownCodes,

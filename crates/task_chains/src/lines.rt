@@ -25,7 +25,8 @@ pub(crate) fn switch_places_in(line: &[u8]) -> Option<Places>
     }
 }
 
-/// Returns the two numbers of a line of three words that begins with this name.
+/// Returns the two numbers of a line `NAME X Y` of a text of tasks, or None if the line has another
+/// form or name.
 #[tactic(auto, using(crate::proofs::LineForms::more), unfolding(crate::specs::TaskListText::task_pair_of_words))]
 pub(crate) fn task_pair_in_line(name: &[u8], line: &[u8]) -> Option<(u32, u32)>
     ensures { result ≡ task_pair_of_words name.now (line_words line.now) }

@@ -15,7 +15,8 @@ use tcd_plan::Plan;
 /// The number of bytes of the routine: 18 instructions of four bytes.
 pub(crate) const ROUTINE_BYTES: u32 = 72;
 
-/// Returns the bits of a 16-bit offset in the word of an instruction `lea.l`, `ld.w.l` or `st.w.l`.
+/// Returns the bits of a 16-bit offset, placed as in an instruction word of format BOL: `lea.l`,
+/// `ld.w.l` or `st.w.l` of the switch routine.
 pub(crate) fn bol_offset_bits(k: u32) -> u32
     requires { k < 2 ^ 16 }
     ensures { result ≡ k / 64 % 16 * 2 ^ 28 + k / 1024 * 2 ^ 22 + k % 64 * 2 ^ 16 }
@@ -23,7 +24,8 @@ pub(crate) fn bol_offset_bits(k: u32) -> u32
     k / 64 % 16 * 0x1000_0000 + k / 1024 * 0x40_0000 + k % 64 * 0x1_0000
 }
 
-/// Returns the bytes of the words, one word after another.
+/// Returns the 72 bytes of the switch routine's 18 instruction words, the lowest byte of each word
+/// first.
 pub(crate) fn routine_bytes_of_words(words: &[u32; 18]) -> [u8; 72]
     ensures { result ≡ flat_map four_bytes words.now }
 {
@@ -61,7 +63,7 @@ pub fn routine_fault(image: &Image, plan: &Plan, tasks: &Tasks) -> Option<u32>
     None
 }
 
-/// Returns whether an address is that of one of the routine's instructions.
+/// Returns whether an address is that of one of the switch routine's 18 instructions.
 pub(crate) fn is_routine_instruction(tasks: &Tasks, addr: u32) -> bool
     ensures { IsTrue result ↔ ((i : ℕ) × (i < 18) × (addr ≡ tasks.now.switch + 4 * i)) }
 {
@@ -79,7 +81,7 @@ pub(crate) fn view_routine_bytes(tasks: &Tasks) -> [u8; 72]
     routine_bytes_of_words(&view_routine_words(tasks.list.len() as u32, tasks.block))
 }
 
-/// Returns the words of the routine of `n` tasks whose block is at `b`.
+/// Returns the 18 instruction words of the switch routine for `n` tasks whose block is at `b`.
 fn routine_words(n: u32, b: u32) -> [u32; 18]
     requires { n ≤ 7 }
     ensures { flat_map four_bytes result ≡ bytes_of_routine (switch_routine_of n b) }
@@ -109,8 +111,8 @@ fn routine_words(n: u32, b: u32) -> [u32; 18]
     ]
 }
 
-/// Returns whether the image has byte `i` of the routine, `byte`, at its address. The bytes up to
-/// it are to be inside one rom range.
+/// Returns whether the image has `byte`, byte `i` of the switch routine, at its address, and all
+/// bytes up to there are inside one rom range.
 fn has_routine_byte(image: &Image, plan: &Plan, tasks: &Tasks, i: u32, byte: u8) -> bool
     requires within { i < 72 }
     requires byte { slice_index (routine_bytes tasks.now) i ≡ byte }

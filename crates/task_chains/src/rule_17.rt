@@ -68,8 +68,8 @@ pub(crate) fn are_accesses_apart(at: &Val, size: u8, from: u32, len: u32) -> boo
     !has_access_between(at, from.wrapping_sub(below), 0xFFFF_FFFF)
 }
 
-/// Returns whether an instruction of this shape keeps the rule at an address of a frame, with this
-/// state before it.
+/// Returns whether an instruction of this shape keeps K17 at an address of a frame, with this state
+/// before it.
 pub(crate) fn stays_apart(rule: &TasksRule, key: &Key, addr: u32, s: &State, shape: Shape) -> bool
     requires shape { IsShape shape }
     requires values { AreValues rule.now.bounds.now s.now.regs }
@@ -126,8 +126,8 @@ fn is_between(x: u32, low: u32, high: u32) -> bool
     low <= x && x <= high
 }
 
-/// Returns whether a frame can have a point at an address: the routine's frame only at the
-/// routine's instructions, each other frame only outside of the routine.
+/// Returns whether K17 lets a frame have a point at an address: the switch routine's only at its
+/// instructions, other frames only outside of it.
 fn may_have_point_at(tasks: &Tasks, key: &Key, addr: u32) -> bool
     ensures { IsTrue result ↔ MayHavePointAt tasks.now key.now addr }
 {
@@ -161,7 +161,8 @@ fn misses_areas_and_routine(b: &Bounds, plan: &Plan, tasks: &Tasks, s: &State, s
     }
 }
 
-/// Returns whether the instruction reads none of PCXI, FCX and LCX, as K17 asks.
+/// Returns whether the instruction reads none of the context management registers PCXI, FCX and
+/// LCX, as K17 asks.
 fn reads_no_context_register(shape: Shape) -> bool
     ensures { IsTrue result ↔ ReadsNoContextRegister shape }
 {

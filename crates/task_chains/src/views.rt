@@ -60,7 +60,8 @@ pub fn view_plan(plan: &Plan, tasks: &Tasks, u: usize) -> Plan
     }
 }
 
-/// Returns a segment of the view's image.
+/// Returns a copy of a segment for the image of a task's view, with the view's bytes in place of
+/// the switch routine's.
 fn segment_of_view(alloc: Global, segment: &Segment, tasks: &Tasks) -> Result<Segment, NoMemory>
     ensures { IfOk result (λ s. segment_data s
         ≡ view_segment tasks.now (segment_data segment.now)) }
@@ -83,7 +84,8 @@ fn write_view_routine(bytes: &mut [u8], at: u32, tasks: &Tasks)
     }
 }
 
-/// Writes the byte of address `x` into bytes that begin at `at`, if they reach that address.
+/// Writes a byte of the view's switch routine, that of address `x`, into a segment's bytes from
+/// address `at`, if they reach `x`.
 fn put_view_byte(bytes: &mut [u8], at: u32, x: u64, byte: u8)
     ensures { bytes.new ≡ (if nat_le at x && nat_lt (x - at) (length bytes.old)
         then set bytes.old (x - at) byte else bytes.old) }

@@ -9,7 +9,7 @@ use Rattle.tc_asm.specs.Symbols.{SymbolData, symbol_names}
 use Rattle.tc_isa.specs.Relocations.{is_relocation_kind}
 use Rattle.tc_asm.specs.Drafts.{UseData, PartData, DraftData, count_of_uses, part_names, part_size_at}
 
--- each element has the property
+-- each element of a list has the property: of a draft's sections, of their uses, or of its symbols
 abbrev pub EachInDraft : {A : Type 0} → (A → Type 0) → List A → Type 0
 EachInDraft P [] = Unit {0}
 EachInDraft P (x ∷ xs) = P x × EachInDraft P xs
@@ -36,7 +36,8 @@ abbrev pub IsPlaced : List PartData → Option Place → Type 0
 IsPlaced parts None = Unit {0}
 IsPlaced parts (Some p) = IsLabelPlace parts p
 
--- numbers that fit the fields of an object
+-- the place of a symbol's label, if there is one, fits the fields of an object: a section below
+-- 2^16, an offset below 2^32
 abbrev pub IsSmallLabelPlace : Option Place → Type 0
 IsSmallLabelPlace o = IfSome o (λ p. (p.section < 2 ^ 16) × (p.offset < 2 ^ 32))
 

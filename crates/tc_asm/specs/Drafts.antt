@@ -44,7 +44,7 @@ empty_draft = record { section = 64; parts = []; symbols = []; total = 0; count 
 abbrev pub part : List ℕ → List ℕ → List UseData → PartData
 part name bs uses = record { name = name; bytes = bs; uses = uses }
 
--- the offset of the next byte in the current section
+-- the offset of the draft's next byte in its current section, and 0 if there is none
 unfoldable pub next_byte_offset : DraftData → ℕ
 next_byte_offset d = option_map_or (λ p. length p.bytes) (slice_get d.parts d.section) 0
 
@@ -58,12 +58,12 @@ abbrev pub has_room : DraftData → ℕ → Bool
 has_room d n = nat_le (d.total + n) (2 ^ 24)
 
 -- ---- labels and sections
--- the place of the next byte
+-- the place of the draft's next byte: the number of its current section, and the offset there
 abbrev pub next_byte_place : DraftData → Place
 next_byte_place d = record { section = d.section; offset = next_byte_offset d }
 
--- A label here, if it is a name. Before the first section its line breaks a rule, but the label
--- still defines its name.
+-- The draft after a label at its next byte, if the label is a name. Before the first section the
+-- line breaks a rule, but the label still defines its name.
 unfoldable pub with_label : DraftData → List ℕ → DraftData
 with_label d name = if is_source_name name then record d { symbols = with_symbol_label d.symbols name (next_byte_place d) } else d
 
@@ -80,21 +80,21 @@ with_current_section d name =
     else (if nat_lt (length d.parts) 64 then record d { section = length d.parts; parts = d.parts ++ part name [] [] ∷ [] }
     else d))
 
--- a name made global, if it is a name
+-- the draft after `.global` with this name: the name's symbol is global; a bad name changes nothing
 unfoldable pub with_global : DraftData → List ℕ → DraftData
 with_global d name = if is_source_name name then record d { symbols = with_global_symbol d.symbols name } else d
 
 -- ---- bytes
--- bytes added at the end of the section of this number
+-- the sections of a draft after bytes are added at the end of the one with this number
 unfoldable pub with_part_bytes : List PartData → ℕ → List ℕ → List PartData
 with_part_bytes parts i bs = option_map_or (λ p. slice_set parts i (record p { bytes = p.bytes ++ bs })) (slice_get parts i) parts
 
--- bytes added at the end of the current section, if they are within the limit
+-- the draft after bytes are added at the end of its current section, if they are within the limit
 unfoldable pub with_bytes : DraftData → List ℕ → DraftData
 with_bytes d bs =
     if has_section d && has_room d (length bs) then record d { parts = with_part_bytes d.parts d.section bs; total = d.total + length bs } else d
 
--- a further use of a symbol in the section of this number
+-- the sections of a draft after a further use of a symbol in the one with this number
 unfoldable pub with_part_use : List PartData → ℕ → UseData → List PartData
 with_part_use parts i u = option_map_or (λ p. slice_set parts i (record p { uses = p.uses ++ u ∷ [] })) (slice_get parts i) parts
 
@@ -112,7 +112,8 @@ unfoldable pub with_reference : DraftData → ℕ → Option ReferenceData → D
 with_reference d size None = d
 with_reference d size (Some r) = if is_source_name r.name then with_use (record d { symbols = with_name d.symbols r.name }) size r else d
 
--- bytes at the end of the current section, with the symbol that goes to them, if there is one
+-- the draft after bytes are added at the end of its current section, with their symbol if they have
+-- one
 abbrev pub with_content : DraftData → List ℕ → Option ReferenceData → DraftData
 with_content d bs r = with_bytes (with_reference d (length bs) r) bs
 

@@ -14,14 +14,14 @@ without_symbols d = record d { symbols = [] }
 abbrev pub kept : Bool → DraftData → DraftData
 kept known d = if known then without_symbols d else d
 
--- an item that defines no label that one of these symbols has already, as the second pass needs if
--- it knows its symbols
+-- the item's label is new: it is none of the labels that these symbols have; items of other kinds
+-- have no label
 abbrev pub is_new : List SymbolData → ItemData → Bool
 is_new ss (label name) = not (is_some (place_in ss name))
 is_new ss i = true
 
--- the symbols of the second pass are known if this holds: each item after a draft has room for its
--- symbol, and defines no label twice
+-- each item has room for its symbol and a new label, if any, after the items before it: so the
+-- second pass knows all symbols
 abbrev pub are_new : List SymbolData → DraftData → List ItemData → Bool
 are_new labels d [] = true
 are_new labels d (i ∷ is) = (has_symbol_room d.symbols && is_new d.symbols i) && are_new labels (draft_after_item labels d i) is

@@ -10,19 +10,20 @@ use Rattle.tc_asm.specs.Drafts.{DraftData, has_section, has_room, number_of_part
 use Rattle.tc_stmt.specs.Lines.{LineData}
 use Rattle.tc_asm.specs.DraftedSources.{draft_from_lines, symbols_of}
 
--- 7: a label twice
+-- rule 7 if the draft has a label of this name already, else no rule
 abbrev pub label_rule : DraftData → List ℕ → ℕ
 label_rule d name = if is_some (place_in d.symbols name) then label_twice else no_rule
 
--- 8: a label, an instruction or data before any section
+-- rule 8 if the draft has no current section, which labels, instructions and data need, else no
+-- rule
 abbrev pub section_rule : DraftData → ℕ
 section_rule d = if has_section d then no_rule else no_section
 
--- 9: a bad name
+-- rule 9 if these bytes are no name that a source may use, else no rule
 abbrev pub name_rule : List ℕ → ℕ
 name_rule name = if is_source_name name then no_rule else bad_name
 
--- 13: a 65th section
+-- rule 13 if a section of this name would be the draft's 65th, else no rule
 abbrev pub section_limit_rule : DraftData → List ℕ → ℕ
 section_limit_rule d name = if nat_lt (number_of_part d.parts name) (length d.parts) || nat_lt (length d.parts) 64 then no_rule else past_limits
 
@@ -30,28 +31,31 @@ section_limit_rule d name = if nat_lt (number_of_part d.parts name) (length d.pa
 abbrev pub has_symbol_room : List SymbolData → Bool
 has_symbol_room ss = nat_lt (length ss) 65535
 
--- 13: a 65,536th symbol
+-- rule 13 if a symbol of this name would be the draft's 65,536th, else no rule
 abbrev pub symbol_limit_rule : DraftData → List ℕ → ℕ
 symbol_limit_rule d name = if is_some (entry_in d.symbols name) || has_symbol_room d.symbols then no_rule else past_limits
 
--- 13: a 65,536th relocation
+-- rule 13 if the relocation that this reference needs would be the draft's 65,536th, else no rule
 abbrev pub reloc_limit_rule : DraftData → ReferenceData → ℕ
 reloc_limit_rule d r = if is_relocation_kind r.kind && not (nat_lt d.count 65535) then past_limits else no_rule
 
--- 13: more than 16,777,216 bytes
+-- rule 13 if n more bytes would exceed the 16,777,216 bytes of all sections of a draft, else no
+-- rule
 abbrev pub byte_limit_rule : DraftData → ℕ → ℕ
 byte_limit_rule d n = if has_room d n then no_rule else past_limits
 
--- 14: a global name that is never defined
+-- rule 14 if no label of the source defines this global name, else no rule
 abbrev pub undefined_global_rule : List SymbolData → List ℕ → ℕ
 undefined_global_rule labels name = if is_some (place_in labels name) then no_rule else undefined_global
 
--- 13: no room for a symbol or its relocation
+-- rule 13 if the draft has no room for the symbol of a reference or for its relocation, else no
+-- rule
 abbrev pub reference_rule : DraftData → Option ReferenceData → ℕ
 reference_rule d None = no_rule
 reference_rule d (Some r) = min (symbol_limit_rule d r.name) (reloc_limit_rule d r)
 
--- the least rule that this many bytes break here, with their symbol
+-- the least rule that this many bytes and their symbol break as the next bytes of this draft, or no
+-- rule
 abbrev pub content_rule : DraftData → ℕ → Option ReferenceData → ℕ
 content_rule d size r = min (section_rule d) (min (byte_limit_rule d size) (reference_rule d r))
 

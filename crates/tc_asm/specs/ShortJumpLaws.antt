@@ -31,7 +31,8 @@ pub record ReachesLabel (source : List ℕ) (index : ℕ) (t : StatementData) (r
   pub here : label.section ≡ t.section
   pub reaches : (base : ℕ) → (base + offset_of (statements_in source) index t.section + short_jump_displacement spells.row spells.fields) % 2 ^ 32 ≡ ((base + label.offset) % 2 ^ 32 + assembled_addend r) % 2 ^ 32
 
--- each such statement of a source that breaks no rule reaches its label
+-- each statement of a source that breaks no rule, if its symbol takes no relocation, reaches the
+-- symbol's label
 abbrev pub ShortJumpsLaw : Type 0
 ShortJumpsLaw = (source : List ℕ) (index : ℕ) (t : StatementData) (r : ReferenceData) → KeepsRules (lines_in source) (length (lines_in source)) → slice_get (statements_in source) index ≡ Some t → t.reference ≡ Some r → r.kind ≡ 0
     → ReachesLabel source index t r

@@ -19,7 +19,8 @@ pub record StatementData : Type 0 where
 abbrev pub statement_data : ℕ → List ℕ → Option ReferenceData → StatementData
 statement_data s bs r = record { section = s; bytes = bs; reference = r }
 
--- an instruction's spelling, data, or zeros; None for labels and directives
+-- the statement that an item gives after this draft: an instruction's bytes, data or zeros; None
+-- for labels, sections and global names
 abbrev pub statement_of_item : List SymbolData → DraftData → ItemData → Option StatementData
 statement_of_item labels d (label name) = None
 statement_of_item labels d (section name) = None
@@ -28,7 +29,8 @@ statement_of_item labels d (code k f r) = Some (statement_data d.section (code_b
 statement_of_item labels d (bytes bs r) = Some (statement_data d.section bs r)
 statement_of_item labels d (zeros n) = Some (statement_data d.section (replicate n 0) None)
 
--- the statement, if there is a current section and the bytes are within the limit
+-- a list of the statement, if the draft has a current section and room for its bytes, else an empty
+-- list
 abbrev pub statement_with_room : DraftData → Option StatementData → List StatementData
 statement_with_room d None = []
 statement_with_room d (Some t) = if has_section d && has_room d (length t.bytes) then t ∷ [] else []

@@ -17,11 +17,12 @@ symbol name e = record { name = name; entry = e }
 abbrev pub undefined_entry : Entry
 undefined_entry = record { place = None; is_global = false }
 
--- the entry of a name, if it is in the table
+-- the entry of a name in the assembler's table of symbols, if it is there
 abbrev pub entry_in : List SymbolData → List ℕ → Option Entry
 entry_in ss name = option_map (λ (s : SymbolData). s.entry) (find (λ s. bytes_eq name s.name) ss)
 
--- the entry of a name, or the unseen entry if it isn't in the table
+-- the entry of a name in the assembler's table of symbols, or that of an undefined name if it isn't
+-- there
 abbrev pub entry_of : List SymbolData → List ℕ → Entry
 entry_of ss name = unwrap_or (entry_in ss name) undefined_entry
 
@@ -35,7 +36,7 @@ put_entry (s ∷ ss) name e = if bytes_eq name s.name then symbol s.name e ∷ s
 abbrev pub place_in : List SymbolData → List ℕ → Option Place
 place_in ss name = (entry_of ss name).place
 
--- the table after a use of a name
+-- the assembler's table of symbols after a use of a name: a new name is added, without a label
 unfoldable pub with_name : List SymbolData → List ℕ → List SymbolData
 with_name ss name = put_entry ss name (entry_of ss name)
 
@@ -47,11 +48,11 @@ entry_of_new_label place = record { place = Some place; is_global = false }
 abbrev pub entry_with_label : Entry → Place → Entry
 entry_with_label e place = if is_some e.place then e else record e { place = Some place }
 
--- the table after a label at this place
+-- the assembler's table of symbols after a label of this name at this place
 unfoldable pub with_symbol_label : List SymbolData → List ℕ → Place → List SymbolData
 with_symbol_label ss name place = put_entry ss name (entry_with_label (entry_of ss name) place)
 
--- the table after a name is made global
+-- the assembler's table of symbols after `.global` with this name, which is added if it is new
 unfoldable pub with_global_symbol : List SymbolData → List ℕ → List SymbolData
 with_global_symbol ss name = put_entry ss name (record (entry_of ss name) { is_global = true })
 

@@ -21,8 +21,8 @@ use std::alloc::{AllocError, Global};
 use tc_object::Object;
 use tc_stmt::{Item, NO_RULE, Source, read_source};
 
-/// The object of a source, or the least line that breaks a rule, counted from 1, and the least rule
-/// there.
+/// Assembles a source in two passes: returns its object, or the first line that breaks a rule,
+/// counted from 1, with the least such rule.
 pub fn assemble(alloc: Global, source: &[u8]) -> Result<Object, AsmErr>
     requires { length source.now ≤ 2 ^ 30 }
     ensures ok { IfOk result
@@ -40,9 +40,8 @@ pub fn assemble(alloc: Global, source: &[u8]) -> Result<Object, AsmErr>
     Ok(emit_object(alloc, draft_with_known_symbols(draft, known, labels))?)
 }
 
-// The draft of all lines, or the first line that breaks a rule with the least rule there. If there
-// is room for all symbols and no label is there twice, the symbols are `known`: they are those of
-// the first pass, and the draft is kept without them.
+// Runs the assembler's second pass: returns the draft of all lines, or the first line that breaks a
+// rule. If the symbols are `known` from the first pass, none is added.
 fn draft_of_lines<'a>(
     alloc: Global,
     labels: &Symbols<'a>,
@@ -81,7 +80,8 @@ fn draft_of_lines<'a>(
     Ok(draft)
 }
 
-// The draft with these symbols, if they are known.
+// Returns the finished draft of an object, with the first pass's symbols put in if they are
+// `known`: the second pass then added none.
 fn draft_with_known_symbols<'a>(draft: Draft<'a>, known: bool, symbols: Symbols<'a>) -> Draft<'a>
     ensures { result
         ≡ (if known then record draft.entry { symbols = symbols.entry } else draft.entry) }
@@ -130,7 +130,7 @@ fn are_items_new(before: bool, room: bool, new: bool) -> bool
     before && (room && new)
 }
 
-// The items after the first `count`.
+// The items of a source after the first `count`: those of the lines that are still to be assembled.
 fn later_items<'p, 'a>(items: &'p [Item<'a>], count: u8) -> &'p [Item<'a>]
     ensures { result.now ≡ drop count items.now }
 {

@@ -55,7 +55,7 @@ impl<'a> Draft<'a> {
     ghost use Rattle.tc_asm.specs.Symbols.{with_name};
     ghost use Rattle.tc_asm.specs.KnownSymbols.{is_new};
 
-    /// An empty draft.
+    /// An empty draft of an object: no section, no symbol.
     pub fn new(alloc: Global) -> Draft<'a>
         ensures { result ≡ empty_draft }
     {
@@ -80,14 +80,14 @@ impl<'a> Draft<'a> {
         }
     }
 
-    /// Whether there is a current section.
+    /// Whether the draft of an object has a current section.
     pub fn has_section(&self) -> bool
         ensures { result ≡ has_section self.now }
     {
         self.section < self.parts.len()
     }
 
-    /// Whether `n` more bytes are within the limit of all sections.
+    /// Whether `n` more bytes keep all sections of the draft together within 16,777,216 bytes.
     pub fn has_room(&self, n: usize) -> bool
         ensures { result ≡ has_room self.now n }
     {
@@ -233,7 +233,8 @@ impl<'a> Draft<'a> {
         Ok(())
     }
 
-    // Adds a label here, and returns whether its name has no label before it.
+    // Adds a label at the draft's next byte, if the label is a name. Returns whether no earlier
+    // label has this name.
     #[inline(never)]
     #[tactic(auto, unfolding(crate::specs::Drafts::with_label))]
     fn add_label(&mut self, name: &'a [u8]) -> Result<bool, AllocError>
@@ -393,7 +394,8 @@ impl<'a> Draft<'a> {
         self.add_zeros(n)
     }
 
-    // Notes the symbol of an item of the first pass, which needs no use of it.
+    // Adds the symbol of an item, if there is one, to the symbols of the first pass's draft, which
+    // notes no uses of symbols.
     #[inline(always)]
     #[tactic(auto, unfolding(crate::specs::Drafts::with_reference))]
     fn add_symbol_of_reference(&mut self, r: &Option<Reference<'a>>) -> Result<(), AllocError>

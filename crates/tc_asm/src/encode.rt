@@ -25,7 +25,8 @@ pub(crate) fn assembled_code(row: u8, f: &Fields) -> Code
     }
 }
 
-/// The first `len` of four bytes.
+/// The first `len` of the at most four bytes that an instruction or a value of data in a source
+/// has.
 pub(crate) fn first_assembled_bytes(bytes: &[u8; 4], len: u8) -> &[u8]
     ensures { result.now ≡ take len bytes.now }
 {
@@ -72,7 +73,8 @@ impl<'a> Draft<'a> {
     ghost use Rattle.tc_stmt.specs.Items.{reference_of};
     ghost use Rattle.tc_asm.specs.Drafts.{label_distance, fields_with_label_distance, fields_with_target, row_fields_with_target, code_bytes};
 
-    /// The fields of the row with this number, once its target is resolved.
+    /// Returns the fields of the draft's next instruction, of the row with this number, with its
+    /// target resolved unless a relocation will fill it in.
     #[inline(always)]
     pub(crate) fn resolve(
         &self,
@@ -94,7 +96,8 @@ impl<'a> Draft<'a> {
         }
     }
 
-    /// The bytes of an instruction here.
+    /// Returns the bytes of an instruction at the draft's next byte, with its target resolved
+    /// unless a relocation will fill it in.
     #[tactic(auto, unfolding(crate::specs::Drafts::code_bytes))]
     pub(crate) fn code_bytes(
         &self,

@@ -48,7 +48,8 @@ pub(crate) fn emit_section_relocs(
     Ok(())
 }
 
-/// The object of a draft.
+/// Makes the object of a draft: its sections, its symbols, and one relocation for each use of a
+/// symbol.
 pub(crate) fn emit_object(alloc: Global, draft: Draft<'_>) -> Result<Object, AllocError>
     requires { IsDraft draft }
     ensures { IfOk result (λ o. o ≡ object_of_draft draft.entry) }
@@ -108,7 +109,7 @@ fn emit_symbol(alloc: Global, name: &[u8], entry: Entry) -> Result<Symbol, Alloc
     }
 }
 
-// A name as an owned text.
+// Copies the name of a section or symbol of the draft into a text that the object owns.
 fn emit_name(alloc: Global, name: &[u8]) -> Result<String, AllocError>
     requires { is_some (name_in name.now) ≡ true }
     ensures { IfOk result (λ s. string_bytes s ≡ name.now) }

@@ -40,8 +40,8 @@ impl<'a> Draft<'a> {
         }
     }
 
-    // Adds an item but no symbol, and returns the least rule that it breaks after a draft without
-    // symbols.
+    // Adds an item to the draft, but no symbol, since the first pass found all. Returns the least
+    // rule that the item breaks.
     fn put_item_without_symbol(
         &mut self,
         alloc: Global,
@@ -147,7 +147,8 @@ impl<'a> Draft<'a> {
         Ok(rule)
     }
 
-    // Adds an item in the ordinary way, and returns the least rule that it breaks.
+    // Adds an item to the draft, with its symbol if it has one, and returns the least rule that the
+    // item breaks.
     fn put_item_with_symbol(
         &mut self,
         alloc: Global,

@@ -28,7 +28,8 @@ impl<'a> Draft<'a> {
     ghost use Rattle.tc_asm.specs.Rules.{has_symbol_room};
     ghost use Rattle.tc_asm.specs.Rules.{label_rule, section_rule, name_rule, section_limit_rule, symbol_limit_rule, reloc_limit_rule, byte_limit_rule, undefined_global_rule, reference_rule, content_rule, item_rule};
 
-    /// Rule 8: no current section.
+    /// Returns rule 8 if the draft has no current section, which labels, instructions and data
+    /// need, else no rule.
     pub(crate) fn section_rule(&self) -> u8
         ensures { result ≡ section_rule self.now }
     {
@@ -46,7 +47,7 @@ impl<'a> Draft<'a> {
         self.symbols.len() < MOST_SYMBOLS
     }
 
-    /// Rule 13: a 65,536th symbol.
+    /// Returns rule 13 if a symbol of this name would be the draft's 65,536th, else no rule.
     pub(crate) fn symbol_limit_rule(&self, name: &[u8]) -> u8
         ensures { result ≡ symbol_limit_rule self.now name.now }
     {
@@ -57,7 +58,8 @@ impl<'a> Draft<'a> {
         }
     }
 
-    /// Rule 13: a 65,536th relocation.
+    /// Returns rule 13 if the relocation that this reference needs would be the draft's 65,536th,
+    /// else no rule.
     pub(crate) fn reloc_limit_rule(&self, r: Reference<'a>) -> u8
         ensures { result ≡ reloc_limit_rule self.now (reference_of r.entry) }
     {
@@ -68,7 +70,8 @@ impl<'a> Draft<'a> {
         }
     }
 
-    /// Rule 13: more than 16,777,216 bytes in all sections.
+    /// Returns rule 13 if `n` more bytes would exceed the 16,777,216 bytes of all sections of a
+    /// draft, else no rule.
     pub(crate) fn byte_limit_rule(&self, n: usize) -> u8
         ensures { result ≡ byte_limit_rule self.now n }
     {
@@ -87,7 +90,7 @@ impl<'a> Draft<'a> {
         self.section_rule().min(room)
     }
 
-    /// Rule 9: a bad name.
+    /// Returns rule 9 if these bytes are no name that a source may use, else no rule.
     pub(crate) fn name_rule(name: &[u8]) -> u8
         ensures { result ≡ name_rule name.now }
     {
@@ -98,7 +101,7 @@ impl<'a> Draft<'a> {
         }
     }
 
-    /// Rule 14: a global name that no label of the source defines.
+    /// Returns rule 14 if no label of the source defines this global name, else no rule.
     pub(crate) fn undefined_global_rule(labels: &Symbols<'a>, name: &[u8]) -> u8
         ensures { result ≡ undefined_global_rule labels.now name.now }
     {
@@ -144,7 +147,8 @@ impl<'a> Draft<'a> {
         }
     }
 
-    // Rule 13: a 65,536th symbol or relocation, for a reference if there is one.
+    // Returns rule 13 if the draft has no room for the symbol of a reference or for its relocation,
+    // else no rule.
     fn reference_rule(&self, r: &Option<Reference<'a>>) -> u8
         ensures { result ≡ reference_rule self.now (option_map reference_of r.now) }
     {
@@ -154,7 +158,7 @@ impl<'a> Draft<'a> {
         }
     }
 
-    // Rule 7: a label that is defined already.
+    // Returns rule 7 if the draft has a label of this name already, else no rule.
     fn label_rule(&self, name: &[u8]) -> u8
         ensures { result ≡ label_rule self.now name.now }
     {
@@ -165,7 +169,7 @@ impl<'a> Draft<'a> {
         }
     }
 
-    // Rule 13: a 65th section.
+    // Returns rule 13 if a section of this name would be the draft's 65th, else no rule.
     fn section_limit_rule(&self, name: &[u8]) -> u8
         ensures { result ≡ section_limit_rule self.now name.now }
     {
@@ -177,7 +181,8 @@ impl<'a> Draft<'a> {
         }
     }
 
-    // The least rule that an instruction breaks.
+    // The least rule that an instruction breaks after this draft, or no rule. `labels` are the
+    // symbols of the whole source.
     #[inline(never)]
     #[tactic(auto, unfolding(crate::specs::Rules::item_rule))]
     fn code_rule(

@@ -32,7 +32,7 @@ pub struct Part<'a> {
     pub uses: Vec<Use<'a>>,
 }
 
-/// The number of the section with this name, or the number of sections if none has it.
+/// The number of the draft's section with this name, or the number of sections if none has it.
 pub(crate) fn number_of_part(parts: &[Part], name: &[u8]) -> usize
     ensures value { result ≡ number_of_part (map part_of parts.now) name.now }
     ensures within { result ≤ length parts.now }
@@ -50,7 +50,7 @@ pub(crate) fn part_len(part: &Part) -> usize
     part.bytes.len() + part.zeros as usize
 }
 
-/// Adds bytes at the end of a section.
+/// Adds bytes at the end of section `i` of a draft.
 #[inline(always)]
 pub(crate) fn extend_part(parts: &mut Vec<Part>, i: usize, bytes: &[u8]) -> Result<(), AllocError>
     requires { i < length parts.old.items }
@@ -63,7 +63,7 @@ pub(crate) fn extend_part(parts: &mut Vec<Part>, i: usize, bytes: &[u8]) -> Resu
     Ok(())
 }
 
-/// Adds zeros at the end of a section, which are only counted.
+/// Adds `n` zeros at the end of section `i` of a draft. They are only counted.
 pub(crate) fn extend_by_zeros(parts: &mut Vec<Part>, i: usize, n: usize) -> Result<(), AllocError>
     requires place { i < length parts.old.items }
     requires few { n ≤ 2 ^ 24 }
@@ -77,7 +77,7 @@ pub(crate) fn extend_by_zeros(parts: &mut Vec<Part>, i: usize, n: usize) -> Resu
     Ok(())
 }
 
-/// Notes a use of a symbol.
+/// Notes that the four bytes at `offset` in section `i` of a draft wait for the value of a symbol.
 pub(crate) fn add_part_use<'a>(
     parts: &mut Vec<Part<'a>>,
     i: usize,
@@ -113,7 +113,8 @@ fn find_part(parts: &[Part], name: &[u8]) -> Option<usize>
     parts.iter().position(|p| are_same_bytes(name, p.name))
 }
 
-// Leaves no zeros that are only counted.
+// Writes the zeros that are only counted, if there are any, so that bytes can be added after them
+// in a draft's section.
 #[inline(always)]
 fn write_zeros_if_any(part: &mut Part) -> Result<(), AllocError>
     ensures same { OnOk result (part_of part.new ≡ part_of part.old) }
@@ -125,7 +126,8 @@ fn write_zeros_if_any(part: &mut Part) -> Result<(), AllocError>
     write_counted_zeros(part)
 }
 
-// Leaves at most `MOST_BYTES` zeros that are only counted.
+// Writes the counted zeros at the end of a draft's section if they are more than `MOST_BYTES`, so
+// that their number stays small.
 fn limit_counted_zeros(part: &mut Part) -> Result<(), AllocError>
     ensures same { OnOk result (part_of part.new ≡ part_of part.old) }
     ensures few { OnOk result (part.new.zeros ≤ 2 ^ 24) }

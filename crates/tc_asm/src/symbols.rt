@@ -65,7 +65,7 @@ impl<'a> Symbols<'a> {
     ghost use Rattle.std.specs.Prelude.{◌≡◌, ◌<◌, ◌≤◌, [], IfOk, OnOk, length, slice_get, Some};
     ghost use Rattle.tc_asm.specs.Symbols.{symbol_number, symbol, entry_in, entry_of, put_entry, place_in, with_name, with_symbol_label, with_global_symbol};
 
-    /// An empty table.
+    /// An empty table of the assembler's symbols.
     pub fn new(alloc: Global) -> Symbols<'a>
         ensures { result ≡ [] }
     {
@@ -74,14 +74,14 @@ impl<'a> Symbols<'a> {
         }
     }
 
-    /// The number of symbols.
+    /// The number of symbols in the assembler's table.
     pub fn len(&self) -> usize
         ensures { result ≡ length self.now }
     {
         self.known.len()
     }
 
-    /// The name and the entry of the symbol with this number.
+    /// The name and the entry of the symbol with this number in the assembler's table.
     pub fn at(&self, i: usize) -> (&'a [u8], Entry)
         requires { i < length self.now }
         ensures { slice_get self.now i ≡ Some (symbol result.0.now result.1) }
@@ -148,7 +148,8 @@ impl<'a> Symbols<'a> {
         }
     }
 
-    /// Makes a name global.
+    /// Makes a name global in the assembler's table of symbols, as `.global` asks. A new name is
+    /// added.
     #[tactic(auto, unfolding(crate::specs::Symbols::with_global_symbol))]
     pub fn make_global(&mut self, name: &'a [u8]) -> Result<(), AllocError>
         ensures { OnOk result (self.new ≡ with_global_symbol self.old name.entry.now) }
@@ -167,7 +168,8 @@ impl<'a> Symbols<'a> {
         self.get(name).unwrap_or(UNSEEN)
     }
 
-    // Sets the entry of a name, and returns its earlier entry.
+    // Sets the entry of a name in the assembler's table of symbols, and returns the entry before,
+    // if there was one.
     fn put(&mut self, name: &'a [u8], entry: Entry) -> Result<Option<Entry>, AllocError>
         ensures put { OnOk result (self.new ≡ put_entry self.old name.entry.now entry) }
         ensures old { IfOk result (λ old. old ≡ entry_in self.old name.entry.now) }

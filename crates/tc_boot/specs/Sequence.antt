@@ -28,7 +28,7 @@ boot_limit_link plan = first_link plan + (plan.areas - plan.reserve)
 abbrev pub boot_psw : PlanData → ℕ
 boot_psw plan = if plan.start_is then 0xb7f else 0x97f
 
--- CCPN (in ICR, with interrupts off), PCXI, FCX, LCX, BIV, BTV, ISP and PSW
+-- sets CCPN (in ICR, with interrupts off), PCXI, FCX, LCX, BIV, BTV, ISP and PSW
 abbrev pub boot_core_part : PlanData → List InstData
 boot_core_part plan =
     set_core_register_at_boot 0xfe2c plan.start_ccpn ++ set_core_register_at_boot 0xfe00 0 ++ set_core_register_at_boot 0xfe38 (first_link plan) ++ set_core_register_at_boot 0xfe3c (boot_limit_link plan)

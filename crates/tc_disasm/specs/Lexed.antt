@@ -15,7 +15,8 @@ lexed_listing_after front.Blank text room next = next room 0
 lexed_listing_after front.Bad text room next = None
 lexed_listing_after (front.Token kind len) text room next = if room == 0 then None else option_map (λ ps. printed_token kind (take len text) ∷ ps) (next (room - 1) (len - 1))
 
--- at most `room` tokens after the first `skip` bytes; None if the text can't be cut
+-- the tokens of a listing's text with their texts, at most `room` after the first `skip` bytes;
+-- None if the text can't be cut
 unfoldable pub lexed_listing : List ℕ → ℕ → ℕ → Option (List PieceData)
 lexed_listing [] room skip = Some []
 lexed_listing (c ∷ cs) room zero = lexed_listing_after (token_front_of (c ∷ cs)) (c ∷ cs) room (lexed_listing cs)

@@ -9,12 +9,14 @@ use Rattle.tc_encode.specs.Decoding.{decoded_of}
 use Rattle.tcd_text.specs.HexNumbers.{hex_byte, hex_word}
 use Rattle.tc_disasm.specs.Texts.{instruction_text, data_text}
 
--- the instruction that was decoded from the start of the bytes, else data
+-- the text in a listing of the instruction that was decoded from the start of the bytes, or of data
+-- if none was
 abbrev pub decoded_or_data_text : Result (InstData × ℕ) DecodeErr → List ℕ → List ℕ
 decoded_or_data_text (Ok found) bytes = instruction_text found.0
 decoded_or_data_text (Err e) bytes = data_text bytes
 
--- the number of bytes of that instruction or data
+-- the number of bytes of the instruction that was decoded from the start of the bytes, or of data
+-- if none was
 abbrev pub decoded_or_data_size : Result (InstData × ℕ) DecodeErr → List ℕ → ℕ
 decoded_or_data_size (Ok found) bytes = found.1
 decoded_or_data_size (Err e) bytes = min 2 (length bytes)
@@ -49,7 +51,7 @@ listing_section_line number address = codes ".section s" ++ (decimal number ++ (
 unfoldable pub section_text : ℕ → SegmentData → List ℕ
 section_text number s = listing_section_line number s.at ++ listing_lines_from s.at s.bytes 0
 
--- the sections, numbered from here on
+-- the text of these sections of a listing, numbered from this number on
 unfoldable pub listing_sections_from : ℕ → List SegmentData → List ℕ
 listing_sections_from number [] = []
 listing_sections_from number (s ∷ ss) = section_text number s ++ listing_sections_from (number + 1) ss

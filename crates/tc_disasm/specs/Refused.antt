@@ -2,7 +2,7 @@
 use Rattle.std.specs.Prelude.{◌<◌, ◌≤◌, Option, Some, None}
 use Rattle.tc_stmt.specs.RowFields.{RowFieldsData}
 
--- the operands have another form, or break a rule
+-- a row refuses the printed operands: they have another form, or break a rule
 abbrev pub AreRefusedOperands : Option RowFieldsData → Type 0
 AreRefusedOperands None = Unit {0}
 AreRefusedOperands (Some f) = f.rule < 15

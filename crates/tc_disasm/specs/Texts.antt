@@ -16,7 +16,7 @@ use Rattle.tc_stmt.specs.Wants.{wants_of}
 use Rattle.tc_stmt.specs.RowFields.{field_of}
 use Rattle.tc_stmt.specs.Displacements.{is_two_way}
 
--- a register of a bank, true for address registers: `d0` to `d15`, `a0` to `a15`
+-- the text of a register in a listing: `d0` to `d15`, or `a0` to `a15` if bank is true
 unfoldable pub register_text : Bool → ℕ → List ℕ
 register_text bank n = (if bank then 97 else 100) ∷ decimal n
 
@@ -29,11 +29,12 @@ is_printed_minus signed bound v = signed && nat_le (bound / 2) v
 abbrev pub printed_size : Bool → ℕ → ℕ → ℕ
 printed_size signed bound v = if is_printed_minus signed bound v then bound - v else v
 
--- a constant, in decimal
+-- the text of a constant operand in a listing: decimal, with a minus if it is negative
 unfoldable pub number_text : Bool → ℕ → ℕ → List ℕ
 number_text signed bound v = if is_printed_minus signed bound v then 45 ∷ decimal (bound - v) else decimal v
 
--- a target: `.+` or `.-` and a number of bytes, twice the displacement
+-- the text of a jump's target in a listing: `.+` or `.-` and a number of bytes, twice the
+-- displacement
 unfoldable pub target_text : Bool → ℕ → ℕ → List ℕ
 target_text both bound k = 46 ∷ (if is_printed_minus both bound k then 45 ∷ decimal (2 * (bound - k)) else 43 ∷ decimal (2 * k))
 
@@ -41,15 +42,15 @@ target_text both bound k = 46 ∷ (if is_printed_minus both bound k then 45 ∷ 
 unfoldable pub absolute_operand_address : Form → Fields → ℕ
 absolute_operand_address form f = if is_abs_form form then address_in_constant f else code_address_in_constant f
 
--- `0x` and the address
+-- the text of an absolute address in a listing: `0x` and eight hex digits
 unfoldable pub absolute_text : Form → Fields → List ℕ
 absolute_text form f = 48 ∷ 120 ∷ hex_word (absolute_operand_address form f)
 
--- `[aN]` or `[aN+]`
+-- the text of a memory operand's base register in a listing: `[aN]` or `[aN+]`
 unfoldable pub base_text : Bool → ℕ → List ℕ
 base_text plus n = 91 ∷ (register_text true n ++ (if plus then codes "+]" else codes "]"))
 
--- the operand that the row wants, with these fields
+-- the text of the operand that a row wants, with these fields, in a listing
 unfoldable pub operand_text : Form → Fields → Want → List ℕ
 operand_text form f (Reg bank field) = register_text bank (field_of field f)
 operand_text form f A10 = codes "a10"
@@ -71,7 +72,8 @@ row_text r f = r.name ++ operands_text r.form f (wants_of r)
 unfoldable pub instruction_text : InstData → List ℕ
 instruction_text i = option_map_or (λ r. row_text r (fields_in i)) (slice_get listed i.row) []
 
--- two bytes as a little-endian number, or a single last byte
+-- the text of data in a listing: `.half` with two bytes as a little-endian number, or `.byte` with
+-- a single last byte
 abbrev pub data_text : List ℕ → List ℕ
 data_text [] = []
 data_text (a ∷ []) = codes ".byte 0x" ++ hex_byte a

@@ -20,7 +20,7 @@ use Rattle.tc_stmt.specs.Displacements.{is_two_way}
 abbrev pub printed_token : TokenKind → List ℕ → PieceData
 printed_token k text = record { kind = k; text = text }
 
--- a number with its sign
+-- the tokens of a printed number: a minus if there is one, and the decimal digits
 abbrev pub number_tokens : Bool → ℕ → List PieceData
 number_tokens minus size = if minus then printed_token kind.Minus (45 ∷ []) ∷ printed_token kind.Number (decimal size) ∷ [] else printed_token kind.Number (decimal size) ∷ []
 
@@ -32,7 +32,7 @@ field_number_tokens signed bound v = number_tokens (is_printed_minus signed boun
 abbrev pub target_tokens : Bool → ℕ → ℕ → List PieceData
 target_tokens both bound k = printed_token kind.Word (codes ".") ∷ (if is_printed_minus both bound k then printed_token kind.Minus (45 ∷ []) else printed_token kind.Plus (43 ∷ [])) ∷ printed_token kind.Number (decimal (2 * printed_size both bound k)) ∷ []
 
--- `[aN]` or `[aN+]`
+-- the tokens of a memory operand's printed base register: `[aN]` or `[aN+]`
 abbrev pub base_tokens : Bool → ℕ → List PieceData
 base_tokens plus n = printed_token kind.Open (91 ∷ []) ∷ printed_token kind.Word (register_text true n) ∷ (if plus then printed_token kind.Plus (43 ∷ []) ∷ printed_token kind.Close (93 ∷ []) ∷ [] else printed_token kind.Close (93 ∷ []) ∷ [])
 

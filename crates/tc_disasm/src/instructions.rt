@@ -12,7 +12,7 @@ use tc_stmt::{Want, wants};
 use tcd_base::NoMemory;
 use tcd_text::append_str;
 
-/// Appends the text of an instruction.
+/// Appends the text of an instruction to a listing: its name, and its operands.
 pub(crate) fn append_instruction(text: &mut String, inst: &Inst) -> Result<(), NoMemory>
     ensures { OnOk result (string_bytes text.new ≡ string_bytes text.old
         ++ instruction_text inst.now) }

@@ -59,7 +59,8 @@ fn append_line(text: &mut String, address: u32, bytes: &[u8]) -> Result<usize, N
     Ok(size)
 }
 
-// Appends the first instruction, or data if there is none, and returns its size in bytes.
+// Appends the first instruction of these bytes, or data if there is none, to a listing as text, and
+// returns its size in bytes.
 #[tactic(auto, unfolding(crate::specs::Listing::listed_text_at, crate::specs::Listing::listed_size_at))]
 fn append_listed_text(text: &mut String, bytes: &[u8]) -> Result<usize, NoMemory>
     requires { 0 < length bytes.now }
@@ -163,7 +164,7 @@ fn append_long_remark(text: &mut String, address: u32, bytes: &[u8]) -> Result<(
     append_str(text, "\n")
 }
 
-// Appends bytes in hex digits.
+// Appends bytes to a listing, each as two hex digits.
 fn append_remark_bytes(text: &mut String, bytes: &[u8]) -> Result<(), NoMemory>
     ensures { OnOk result (string_bytes text.new
         ≡ string_bytes text.old ++ flat_map hex_byte bytes.now) }

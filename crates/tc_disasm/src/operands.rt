@@ -15,7 +15,8 @@ use tc_stmt::{Field, Want, field_of, wants};
 use tcd_base::NoMemory;
 use tcd_text::{append_hex_word, append_str};
 
-/// Appends the operand that the row wants here.
+/// Appends the text of an operand to a listing, by what the instruction's row wants there, with the
+/// value of its field.
 #[tactic(auto, unfolding(crate::specs::Texts::operand_text))]
 pub(crate) fn append_operand(
     text: &mut String,
@@ -212,7 +213,7 @@ fn append_other_operands(
     Ok(())
 }
 
-// Appends a comma and an operand.
+// Appends a comma and the text of a further operand to a listing.
 fn append_next(text: &mut String, form: Form, f: &Fields, want: Want) -> Result<(), NoMemory>
     requires { AreFieldsBelow f.now (bounds form) }
     ensures { OnOk result

@@ -11,7 +11,7 @@ use Rattle.tc_isa.specs.Spelling.{word_of}
 use Rattle.tc_isa.specs.Insts.{InstData, IsInst, fields_in}
 use Rattle.tc_encode.specs.Decoding.{decoded_row_length}
 
--- the instruction to be found by the word w: w is its word
+-- w is the word of the instruction
 pub record IsWordOf (w : ℕ) (i : InstData) : Type 0 where
   pub inst : IsInst i
   pub is : word_of inst.row (fields_in i) ≡ w
@@ -36,7 +36,7 @@ word_part_span (suc (suc (suc n))) = 2 ^ 24
 abbrev pub mix_low_bytes : ℕ → ℕ → ℕ → ℕ
 mix_low_bytes n a b = a % word_part_span n + b / word_part_span n * word_part_span n
 
--- the search has read the low n bytes of the word of an instruction, and the instruction is longer
+-- the low n bytes of the instruction's word are `part`, and the instruction is longer than n bytes
 pub record IsCompletionOf (n part : ℕ) (i : InstData) : Type 0 where
   pub inst : IsInst i
   pub longer : n < decoded_row_length inst.row
@@ -66,7 +66,8 @@ abbrev pub is_index_place : ℕ → Option ℕ → Bool
 is_index_place place None = false
 is_index_place place (Some p) = p == place
 
--- the place is after the base by the row's second code
+-- in the search by a word: the index of codes has this place, as far behind the base as the row's
+-- second code says
 abbrev pub is_at_index_place : List ℕ → ℕ → RowData → Option ℕ → Bool
 is_at_index_place places place r None = false
 is_at_index_place places place r (Some base) = is_index_place place (slice_get places (base + r.op2))

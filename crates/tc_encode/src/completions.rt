@@ -25,7 +25,8 @@ pub fn completion(first: u8, n: u8, part: u32) -> Option<Inst>
     completion_between(starts[place], ends[place], first, n, part)
 }
 
-/// Returns an instruction with these `n` low bytes, of a row from one place up to before another.
+/// Returns an instruction of more than `n` bytes that begins with these, of the table's rows `from`
+/// up to before `to`.
 fn completion_between(from: u8, to: u8, first: u8, n: u8, part: u32) -> Option<Inst>
     requires places { to ≤ ROW_COUNT }
     requires low { 1 ≤ n }
@@ -44,8 +45,8 @@ fn completion_between(from: u8, to: u8, first: u8, n: u8, part: u32) -> Option<I
     None
 }
 
-/// Returns an instruction of the row at this place with these `n` low bytes, if the row's first
-/// code is the lowest of them.
+/// Returns an instruction of more than `n` bytes that begins with these, of the table's row at this
+/// place.
 fn completion_at(place: u8, first: u8, n: u8, part: u32) -> Option<Inst>
     requires place { place < ROW_COUNT }
     requires low { 1 ≤ n }
@@ -62,7 +63,8 @@ fn completion_at(place: u8, first: u8, n: u8, part: u32) -> Option<Inst>
     completion_in_row(place, row, n, part)
 }
 
-/// Returns an instruction of this row with these `n` low bytes, if there is one.
+/// Returns an instruction of this row of the table that begins with these `n` low bytes of a word,
+/// if there is one.
 fn completion_in_row(place: u8, row: &Row, n: u8, part: u32) -> Option<Inst>
     requires place { slice_get listed place ≡ Some (row_of row.now) }
     requires low { 1 ≤ n }

@@ -29,7 +29,7 @@ pub fn decode(bytes: &[u8]) -> Result<(Inst, usize), DecodeErr>
     decode_by_first_byte(bytes)
 }
 
-/// Returns the instruction of this row if the word is one.
+/// Returns the instruction of this row of the table whose word this is, if there is one.
 pub(crate) fn decode_row_word(place: u8, row: &Row, w: u32) -> Option<Inst>
     requires { slice_get listed place ≡ Some (row_of row.now) }
     ensures some { IfSome result (IsWordOf w) }
@@ -67,7 +67,7 @@ fn decode_by_first_byte(bytes: &[u8]) -> Result<(Inst, usize), DecodeErr>
     }
 }
 
-/// Decodes bytes of which the first is odd.
+/// Decodes bytes of which the first is odd, as in all instructions of 32 bits.
 fn decode_long(bytes: &[u8]) -> Result<(Inst, usize), DecodeErr>
     requires { slice_index bytes.now 0 % 2 ≡ 1 }
     ensures { result ≡ decoded_of bytes.now }
@@ -85,7 +85,7 @@ fn decode_long(bytes: &[u8]) -> Result<(Inst, usize), DecodeErr>
     }
 }
 
-/// Decodes bytes of which the first is even.
+/// Decodes bytes of which the first is even, as in all instructions of 16 bits.
 fn decode_short(bytes: &[u8]) -> Result<(Inst, usize), DecodeErr>
     requires { slice_index bytes.now 0 % 2 ≡ 0 }
     ensures { result ≡ decoded_of bytes.now }
@@ -113,7 +113,7 @@ fn decode_refusal(first: u8, n: u8, part: u32) -> DecodeErr
     }
 }
 
-/// Decodes four bytes, the first of which is odd.
+/// Decodes four bytes, of which the first is odd, as an instruction of 32 bits.
 fn decode_four_bytes(a: u8, b: u8, c: u8, d: u8) -> Result<(Inst, usize), DecodeErr>
     requires { a % 2 ≡ 1 }
     ensures { (rest : List ℕ) → decoded_of (a ∷ b ∷ c ∷ d ∷ rest) ≡ result }
@@ -124,7 +124,7 @@ fn decode_four_bytes(a: u8, b: u8, c: u8, d: u8) -> Result<(Inst, usize), Decode
     }
 }
 
-/// Decodes two bytes, the first of which is even.
+/// Decodes two bytes, of which the first is even, as an instruction of 16 bits.
 fn decode_two_bytes(a: u8, b: u8) -> Result<(Inst, usize), DecodeErr>
     requires { a % 2 ≡ 0 }
     ensures { (rest : List ℕ) → decoded_of (a ∷ b ∷ rest) ≡ result }

@@ -6,7 +6,7 @@ ghost use Rattle.tc_isa.specs.InBounds.{AreFieldsBelow};
 
 use tc_isa::{Fields, Form};
 
-/// Returns the fields of a word.
+/// Returns the fields in the word of an instruction of this form.
 #[tactic(auto, unfolding(tc_isa::specs::Forms::fields_of))]
 #[inline(always)]
 pub fn fields_of_word(form: Form, w: u32) -> Fields
@@ -118,7 +118,8 @@ pub fn fields_of_word(form: Form, w: u32) -> Fields
     }
 }
 
-/// Returns the second code of a word.
+/// Returns the second operation code in the word of an instruction of this form, or 0 if the form
+/// has none.
 #[tactic(auto, unfolding(tc_isa::specs::Forms::second_code_by_form))]
 pub fn second_code(form: Form, w: u32) -> u8
     requires { w < 2 ^ 32 }
@@ -135,7 +136,7 @@ pub fn second_code(form: Form, w: u32) -> u8
     }
 }
 
-/// Returns the word of these codes and fields.
+/// Returns the word of the instruction of this form with these operation codes and fields.
 #[tactic(auto, unfolding(tc_isa::specs::Spelling::word_by_form, tc_isa::specs::Forms::bounds, tc_isa::specs::Forms::second_bound))]
 pub fn word_of_fields(form: Form, op1: u8, op2: u8, f: &Fields) -> u32
     requires second { op2 < second_bound form }

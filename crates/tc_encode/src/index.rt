@@ -35,7 +35,8 @@ static ENDS: [u8; 256] = [
     0, 101, 0, 107,
 ];
 
-/// Returns the places of the first rows, and those after the last rows, by the first byte.
+/// Returns two lists by the first byte of an instruction: the places in the table where its rows
+/// begin, and where they end.
 pub fn index_by_first_byte() -> (&'static [u8; 256], &'static [u8; 256])
     ensures starts { length result.0.now ≡ 256 }
     ensures start_within { list_all (λ n. nat_lt n ROW_COUNT) result.0.now ≡ true }
@@ -82,8 +83,8 @@ static PLACES: [u8; PLACE_COUNT] = [
     8, 139, 84, 116, 114, 101, 102, 115, 108, 121, 141, 123, 100, 104, 106,
 ];
 
-/// Returns for each first byte the place at which its rows begin in the list of places, and that
-/// list.
+/// Returns for each first byte where its rows begin in the list of places, and that list, which has
+/// the rows' places by second code.
 pub fn index_by_codes() -> (&'static [u16; 256], &'static [u8; PLACE_COUNT])
     ensures bases { length result.0.now ≡ 256 }
     ensures places { length result.1.now ≡ PLACE_COUNT }
@@ -247,7 +248,8 @@ pub fn plain_rows() -> &'static [bool; ROW_COUNT]
     &PLAIN
 }
 
-/// Returns the place of the row with these codes, if there is one.
+/// Returns the place in the table of the row with these two codes. If no row has them, the answer
+/// means nothing.
 pub(crate) fn place_in_code_index(first: u8, second: u8) -> Option<u8>
     ensures within { IfSome result (λ p. p < ROW_COUNT) }
     ensures only { (place : ℕ) (r : RowData) → slice_get listed place ≡ Some r → r.op1 ≡ first

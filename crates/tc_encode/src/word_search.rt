@@ -79,7 +79,8 @@ pub(crate) fn find_word_at(place: u8, first: u8, second: u8, w: u32) -> Option<I
     find_word_in_row(place, row, w)
 }
 
-/// Returns the second code of the word, in the form of the rows that begin with this byte.
+/// Returns the second operation code in a word, by the form of the table's rows that begin with
+/// this byte.
 fn second_code_by_first(first: u8, w: u32) -> u8
     ensures { (place : ℕ) (r : RowData) → slice_get listed place ≡ Some r → r.op1 ≡ first
         → result ≡ second_code_by_form r.form w }

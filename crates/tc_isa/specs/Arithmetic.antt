@@ -29,7 +29,7 @@ taken_of cond.LtU x y = nat_lt x y
 taken_of cond.Ge x y = nat_le (signed_order_place y) (signed_order_place x)
 taken_of cond.GeU x y = nat_le y x
 
--- 1 for true, else 0
+-- the word that a comparison gives: 1 for true, 0 for false
 abbrev pub one_if : Bool → ℕ
 one_if b = if b then 1 else 0
 

@@ -30,7 +30,8 @@ bounds Srr = fields 1 16 16 1 1
 bounds Slr = fields 1 16 16 1 1
 bounds Ssr = fields 1 16 16 1 1
 
--- the bound of a form's second code
+-- the bound, exclusive, of the second operation code in instructions of this form; 1 for a form
+-- without one
 unfoldable pub second_bound : Form → ℕ
 second_bound Rlc = 1
 second_bound Rr = 256
@@ -51,7 +52,8 @@ second_bound Srr = 1
 second_bound Slr = 1
 second_bound Ssr = 1
 
--- the fields of the number of an instruction
+-- the fields in the word of an instruction, from the bits where its form has them; 0 for a field
+-- that it doesn't have
 unfoldable pub fields_of : Form → ℕ → Fields
 fields_of Rlc w = fields (w / 2 ^ 28) (w / 2 ^ 8 % 16) (0) (0) (w / 2 ^ 12 % 2 ^ 16)
 fields_of Rr w = fields (w / 2 ^ 28) (w / 2 ^ 8 % 16) (w / 2 ^ 12 % 16) (w / 2 ^ 16 % 4) (0)
@@ -94,7 +96,7 @@ second_code_by_form Srr w = 0
 second_code_by_form Slr w = 0
 second_code_by_form Ssr w = 0
 
--- a form of 32 bits
+-- instructions of this form have 32 bits; those of the other forms have 16
 unfoldable pub is_long_form : Form → Bool
 is_long_form Rlc = true
 is_long_form Rr = true
@@ -137,15 +139,15 @@ form_index Srr = 15
 form_index Slr = 16
 form_index Ssr = 17
 
--- the form of loads and stores with a long offset
+-- the form is BOL, that of loads, stores and lea with a long offset, of 16 bits
 abbrev pub is_bol_form : Form → Bool
 is_bol_form form = form_index form == 3
 
--- the form of calls and jumps of 32 bits
+-- the form is B, that of direct calls and jumps of 32 bits
 abbrev pub is_b_form : Form → Bool
 is_b_form form = form_index form == 7
 
--- the form with an absolute address
+-- the form is ABS, that of loads, stores and lea with an absolute address
 abbrev pub is_abs_form : Form → Bool
 is_abs_form form = form_index form == 8
 
@@ -154,6 +156,6 @@ is_abs_form form = form_index form == 8
 abbrev pub is_sb_form : Form → Bool
 is_sb_form form = form_index form == 12
 
--- the form of branches of 16 bits, which only go forwards
+-- the form is SBR, that of branches of 16 bits on a data register, which only go forwards
 abbrev pub is_sbr_form : Form → Bool
 is_sbr_form form = form_index form == 13

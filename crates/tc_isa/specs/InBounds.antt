@@ -50,7 +50,7 @@ IsShape (Mfcr dst number) = IsRegister dst × (number < 2 ^ 16)
 IsShape (Mtcr src number) = IsRegister src × (number < 2 ^ 16)
 IsShape Nothing = Unit {0}
 
--- register fields have four bits, n two, and k at most 24
+-- the fields of an instruction are small: register fields have four bits, n two, and k at most 24
 pub record AreFieldsSmall (f : Fields) : Type 0 where
   pub c : f.c < 16
   pub s1 : f.s1 < 16

@@ -5,7 +5,7 @@ use Rattle.tc_isa.specs.declared.fields.Fields.{Fields}
 use Rattle.tc_isa.specs.Forms.{fields}
 use Rattle.tc_isa.specs.ValidRowFields.{FieldsFitRow}
 
--- the number of a row, and fields
+-- an instruction: the number of its row in the instruction table, and its fields c, s1, s2, n and k
 pub record InstData : Type 0 where
   pub row : ℕ
   pub c : ℕ
@@ -18,7 +18,7 @@ pub record InstData : Type 0 where
 abbrev pub fields_in : InstData → Fields
 fields_in i = fields i.c i.s1 i.s2 i.n i.k
 
--- the number is that of a row, and the fields fit the row
+-- the instruction is valid: the table has a row of its number, and its fields fit the row
 pub record IsInst (i : InstData) : Type 0 where
   pub row : RowData
   pub at : slice_get listed i.row ≡ Some row

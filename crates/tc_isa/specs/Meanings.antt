@@ -17,19 +17,19 @@ use Rattle.tc_isa.specs.FromFields.{a, address_in_constant, forward_distance, co
 abbrev pub Meaning : Type 0
 Meaning = Fields → Shape
 
--- Dc = the operation on Ds1 and Ds2
+-- the meaning of a row: Dc = the operation on Ds1 and Ds2
 abbrev pub registers : Op → Meaning
 registers op f = Compute op (d f.c) (Reg (d f.s1)) (Reg (d f.s2))
 
--- Dc = the operation on Ds1 and the signed constant
+-- the meaning of a row: Dc = the operation on Ds1 and the signed constant
 abbrev pub signed : Op → Meaning
 signed op f = Compute op (d f.c) (Reg (d f.s1)) (Word (sk 9 f))
 
--- Dc = the operation on Ds1 and the unsigned constant
+-- the meaning of a row: Dc = the operation on Ds1 and the unsigned constant
 abbrev pub unsigned : Op → Meaning
 unsigned op f = Compute op (d f.c) (Reg (d f.s1)) (Word (uk f))
 
--- Ds1 = the operation on Ds1 and Ds2
+-- the meaning of a row: Ds1 = the operation on Ds1 itself and Ds2
 abbrev pub own : Op → Meaning
 own op f = Compute op (d f.s1) (Reg (d f.s1)) (Reg (d f.s2))
 
@@ -67,7 +67,7 @@ pub record MeaningLine : Type 0 where
   pub name : List ℕ
   pub shape : Meaning
 
--- the line of a name and a meaning
+-- a line of the table of meanings: the name of a row, and its meaning
 abbrev pub line : List ℕ → Meaning → MeaningLine
 line name shape = record { name = name; shape = shape }
 

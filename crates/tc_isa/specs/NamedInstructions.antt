@@ -80,7 +80,7 @@ abbrev pub rslcx : InstData
 rslcx = bare_instruction 55
 
 -- ---- what comes next
--- nop
+-- nop: goes on, and changes nothing else
 abbrev pub nop : InstData
 nop = bare_instruction 51
 

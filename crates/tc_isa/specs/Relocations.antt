@@ -3,15 +3,15 @@ use Rattle.std.specs.Prelude.{◌==◌, ◌&&◌, ◌||◌, nat_le, ℕ, Bool, f
 use Rattle.tc_isa.specs.declared.table.Form.{Form}
 use Rattle.tc_isa.specs.declared.table.Form.TheVariants.{Rlc, Bol, Brr, Brc, B}
 
--- half the displacement of a jump or a call, in 24 bits
+-- the kind of relocations with half the displacement of a jump or a call, in 24 bits
 abbrev pub rel24 : ℕ
 rel24 = 1
 
--- bits 31:28 and 20:1 of an address, in 24 bits
+-- the kind of relocations with bits 31:28 and 20:1 of an address, in 24 bits, for ja and calla
 abbrev pub abs24 : ℕ
 abs24 = 2
 
--- half the displacement of a branch, in 15 bits
+-- the kind of relocations with half the displacement of a branch, in 15 bits
 abbrev pub rel15 : ℕ
 rel15 = 3
 
@@ -20,19 +20,21 @@ rel15 = 3
 abbrev pub hi16 : ℕ
 hi16 = 4
 
--- the lower half of an address, in the constant of an operation
+-- the kind of relocations with the lower half of an address, as the constant of an operation such
+-- as addi
 abbrev pub lo16 : ℕ
 lo16 = 5
 
--- the lower half of an address, in the offset of an access
+-- the kind of relocations with the lower half of an address, as the offset of a load, a store or
+-- lea
 abbrev pub offset16 : ℕ
 offset16 = 6
 
--- an address as a word of data
+-- the kind of relocations with an address as a word of data
 abbrev pub word32 : ℕ
 word32 = 7
 
--- the kinds of relocations, from 1 to 7
+-- the number is that of a kind of relocations: from 1 to 7
 abbrev pub is_relocation_kind : ℕ → Bool
 is_relocation_kind kind = nat_le rel24 kind && nat_le kind word32
 

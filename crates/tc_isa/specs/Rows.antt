@@ -4,7 +4,8 @@ use Rattle.tc_isa.specs.declared.table.Row.{Row}
 use Rattle.tc_isa.specs.declared.table.Form.{Form}
 use Rattle.tc_isa.specs.declared.table.Form.TheVariants.{Rlc, Rr, Rc, Bol, Bo, Brr, Brc, B, Abs, Sys, Sr, Sc, Sb, Sbr, Src, Srr, Slr, Ssr}
 
--- a row, with its texts as bytes
+-- a row of the instruction table: the name and the operands' text as bytes, the form, and the
+-- operation codes op1 and op2
 pub record RowData : Type 0 where
   pub name : List ℕ
   pub operands : List ℕ
@@ -20,8 +21,8 @@ row_of r = record { name = r.name.now; operands = r.operands.now; form = r.form;
 abbrev pub row : List ℕ → List ℕ → Form → ℕ → ℕ → RowData
 row name operands form op1 op2 = record { name = name; operands = operands; form = form; op1 = op1; op2 = op2 }
 
--- the rows: instructions and codes of the TriCore 1 Architecture Manual V1.3, volume 2, instruction
--- set
+-- the rows of the instruction table, with the codes of the TriCore 1 Architecture Manual V1.3,
+-- volume 2, instruction set
 abbrev pub listed : List RowData
 listed =
     row (codes "addi") (codes "Dc, Ds1, sk") Rlc 0x1b 0x00 ∷
@@ -168,6 +169,6 @@ listed =
     row (codes "st16.a") (codes "[As2], As1") Ssr 0xf4 0x00 ∷
     []
 
--- a row of 32 bits: its first byte is odd
+-- the instructions of a row have 32 bits: their first byte, op1, is odd
 abbrev pub is_long : RowData → Bool
 is_long r = r.op1 % 2 == 1

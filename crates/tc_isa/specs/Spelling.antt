@@ -37,7 +37,7 @@ abbrev pub spelling_of : Bool → ℕ → List ℕ
 spelling_of true w = four_bytes w
 spelling_of false w = two_bytes w
 
--- the bytes of a row with these fields
+-- the bytes of the instruction of a row with these fields
 abbrev pub spelling : RowData → Fields → List ℕ
 spelling r f = spelling_of (is_long r) (word_of r f)
 

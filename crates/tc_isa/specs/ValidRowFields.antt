@@ -19,8 +19,7 @@ has_operand_pair a b (x ∷ y ∷ rest) = x == a && y == b || has_operand_pair a
 abbrev pub has_operand_byte : ℕ → List ℕ → Bool
 has_operand_byte a xs = list_any (λ x. x == a) xs
 
--- which fields a row has, by the text of its operands: c, s1, s2 (or the constant k4 kept there),
--- n, and k (or a target kept there)
+-- which fields a row has, by letters in the text of its operands: c; s1; s2 or k4; n; k, T or U
 abbrev pub uses_of : RowData → Uses
 uses_of r = record {
   c = has_operand_byte 99 r.operands;
@@ -34,8 +33,8 @@ uses_of r = record {
 abbrev pub are_unused_fields_zero : Uses → Fields → Bool
 are_unused_fields_zero u f = (u.c || f.c == 0) && (u.s1 || f.s1 == 0) && (u.s2 || f.s2 == 0) && (u.n || f.n == 0) && (u.k || f.k == 0)
 
--- the registers are valid for the row: an address register that is loaded or stored with
--- post-increment isn't the base too
+-- the registers are valid for the row: in ld.a and st.a with post-increment, the address register
+-- that is loaded or stored isn't the base
 abbrev pub are_registers_apart : RowData → Fields → Bool
 are_registers_apart r f = not ((r.op1 == 9 || r.op1 == 137) && r.op2 == 6) || not (f.s1 == f.s2)
 
@@ -55,7 +54,7 @@ are_bools_equal false b = not b
 abbrev pub least_fields : RowData → Fields
 least_fields r = if are_registers_apart r (fields 0 0 0 0 0) then fields 0 0 0 0 0 else fields 0 1 0 0 0
 
--- the codes fit the form, and the least fields the row
+-- a row of the instruction table is valid: its codes fit the form, and its least fields the row
 pub record IsRow (r : RowData) : Type 0 where
   pub first : r.op1 < 256
   pub second : r.op2 < second_bound r.form
@@ -71,7 +70,7 @@ is_row r = nat_lt r.op1 256 && nat_lt r.op2 (second_bound r.form) && are_fields_
 abbrev pub have_clashing_codes : RowData → RowData → Bool
 have_clashing_codes r s = r.op1 == s.op1 && (not (form_index r.form == form_index s.form) || r.op2 == s.op2)
 
--- no two rows clash
+-- no two rows of the list have codes that clash
 abbrev pub have_no_clashing_codes : List RowData → Bool
 have_no_clashing_codes [] = true
 have_no_clashing_codes (r ∷ rs) = not (list_any (have_clashing_codes r) rs) && have_no_clashing_codes rs

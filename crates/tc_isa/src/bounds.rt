@@ -113,7 +113,7 @@ pub fn bounds_of(form: Form) -> Fields
     }
 }
 
-/// Returns true if each field is below its bound.
+/// Returns true if each field of an instruction is below its bound.
 pub fn are_below_bounds(f: &Fields, bounds: &Fields) -> bool
     ensures { IsTrue result ↔ AreFieldsBelow f.now bounds.now }
 {

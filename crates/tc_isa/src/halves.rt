@@ -2,8 +2,8 @@
 ghost use Rattle.std.specs.Prelude.{◌≡◌, ◌<◌, ◌^◌};
 ghost use Rattle.tc_isa.specs.NamedInstructions as named;
 
-/// Returns the upper half of a word, plus one if the lower half is negative as a signed number.
-/// With the signed lower half added, it is the word.
+/// Returns the constant of `movh` for a word: its upper half, plus one if the lower half, which
+/// `addi` or `lea` adds, is negative.
 pub fn upper_half(x: u32) -> u32
     ensures is { result ≡ named.upper_half x }
     ensures small { result < 2 ^ 16 }
@@ -11,7 +11,7 @@ pub fn upper_half(x: u32) -> u32
     ((u64::from(x) + 0x8000) / 0x1_0000 % 0x1_0000) as u32
 }
 
-/// Returns the lower half of a word.
+/// Returns the lower half of a word: the constant that `addi` or `lea` adds to the word of `movh`.
 pub fn lower_half(x: u32) -> u32
     ensures is { result ≡ named.lower_half x }
     ensures small { result < 2 ^ 16 }

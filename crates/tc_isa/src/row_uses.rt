@@ -246,7 +246,7 @@ static USES: [Uses; ROW_COUNT] = [
     S1_S2, // st16.a [As2], As1
 ];
 
-/// Returns the fields that each row has, in the order of the rows.
+/// Returns which fields the instructions of each row of the table have, in the order of the rows.
 pub fn uses_by_row() -> &'static [Uses]
     ensures { result.now ≡ map uses_of listed }
 {

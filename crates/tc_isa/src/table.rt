@@ -198,7 +198,7 @@ pub static ROWS: [Row; ROW_COUNT] = [
     row!("st16.a", "[As2], As1", Ssr, 0xf4, 0x00),
 ];
 
-/// Returns all rows, numbered from 0.
+/// Returns all rows of the instruction table, numbered from 0.
 pub fn rows() -> &'static [Row]
     ensures rows { map row_of result.now ≡ listed }
     ensures count { length result.now ≡ ROW_COUNT }

@@ -26,7 +26,7 @@ pub fn writes(inst: &Inst) -> u32
     }
 }
 
-/// Returns the bit of a written register in the mask.
+/// Returns the bit of a register in the mask of registers that an instruction writes.
 fn register_bit(register: u8) -> u32
     requires { register < 32 }
     ensures { result ≡ register_bit register }
@@ -34,7 +34,8 @@ fn register_bit(register: u8) -> u32
     1u32 << register
 }
 
-/// Returns the bit of a base register that an access increases, or 0.
+/// Returns the bit, in the mask of written registers, of the base register that post-increment
+/// writes, or 0 without one.
 fn increased_base_bit(after: bool, base: Arg) -> u32
     requires { IsArg base }
     ensures { result ≡ increased_base_bit after base }

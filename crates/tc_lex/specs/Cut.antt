@@ -20,7 +20,8 @@ has_hex_front bs = nat_lt 2 (length bs) && slice_index bs 0 == 48 && slice_index
 unfoldable pub number_len : List ℕ → ℕ
 number_len bs = if has_hex_front bs then 2 + prefix_len is_hex (drop 2 bs) else prefix_len is_digit bs
 
--- what a text with this first byte begins with
+-- what the rest of a line with this first byte begins with: a token with its length, a blank, the
+-- end, or a bad byte
 unfoldable pub token_front_by_byte : ℕ → List ℕ → Front
 token_front_by_byte c text =
     if c == 35 then front.End
@@ -36,7 +37,7 @@ token_front_by_byte c text =
     else (if is_digit c then front.Token Number (number_len text)
     else front.Bad))))))))))
 
--- what a text begins with
+-- what the rest of a line begins with: a token with its length, a blank, the end, or a bad byte
 abbrev pub token_front_of : List ℕ → Front
 token_front_of [] = front.End
 token_front_of (c ∷ cs) = token_front_by_byte c (c ∷ cs)
@@ -115,24 +116,24 @@ abbrev pub AreTokens : List ℕ → ℕ → ℕ → List Token → Type 0
 AreTokens line low stop [] = AreBlanks line low stop
 AreTokens line low stop (t ∷ ts) = IsNextToken line low t × AreTokens line t.to stop ts
 
--- the line ends, or a comment begins
+-- at this place a line ends, or its comment begins
 abbrev pub IsLineEnd : List ℕ → ℕ → Type 0
 IsLineEnd line stop = (stop ≡ length line) ⊎ ((stop < length line) × (slice_index line stop ≡ 35))
 
--- the whole line from low on is at most `most` tokens
+-- these tokens, at most `most`, are all of a line from low on, up to its end or its comment
 pub record IsCut (line : List ℕ) (low most : ℕ) (ts : List Token) : Type 0 where
   pub stop : ℕ
   pub ends : IsLineEnd line stop
   pub tokens : AreTokens line low stop ts
   pub few : length ts ≤ most
 
--- a byte that begins no token and isn't skipped
+-- the byte at this place of a line begins no token, and isn't skipped
 pub record IsStrayByte (line : List ℕ) (at : ℕ) : Type 0 where
   pub within : at < length line
   pub shown : (is_blank (slice_index line at) || slice_index line at == 35) ≡ false
   pub none : BeginsNoToken (drop at line)
 
--- the first byte of a token after `most` tokens
+-- at this place of a line a token begins after `most` others, which are as many as a line may have
 pub record IsTokenPastLimit (line : List ℕ) (at count most : ℕ) : Type 0 where
   pub full : count ≡ most
   pub kind : TokenKind
@@ -140,7 +141,8 @@ pub record IsTokenPastLimit (line : List ℕ) (at count most : ℕ) : Type 0 whe
   pub some : 0 < len
   pub longest : IsLongestToken kind len (drop at line)
 
--- a line with a byte that can't be taken
+-- a line from low on is tokens up to this place, at which a byte begins no token, or one past the
+-- limit
 pub record IsCutFault (line : List ℕ) (low most at : ℕ) : Type 0 where
   pub before : List Token
   pub tokens : AreTokens line low at before

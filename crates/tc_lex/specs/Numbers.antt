@@ -11,7 +11,7 @@ token_digit_value c = if is_digit c then c - 48 else (c - 55) - (if nat_le 97 c 
 abbrev pub below_2_128 : ℕ → Option ℕ
 below_2_128 n = if nat_lt n (2 ^ 128) then Some n else None
 
--- the number with one more digit
+-- the number of a token with one more digit, if it is below 2^128
 unfoldable pub add_digit : ℕ → Option ℕ → ℕ → Option ℕ
 add_digit base o c = option_and_then (λ n. below_2_128 (n * base + token_digit_value c)) o
 

@@ -61,7 +61,7 @@ abbrev pub sum_operand_value : Shape → List ℕ → Bool → Option ℕ → Va
 sum_operand_value s name minus (Some n) = operand_value_data s name minus n
 sum_operand_value s name minus None = record (operand_value_data s name minus 0) { wide = true }
 
--- the name at this place, with or without a number added
+-- the value that is the name at this token, with or without a number added
 unfoldable pub name_or_sum_at : List PieceData → ℕ → Shape → Shape → ValueData
 name_or_sum_at ps at plain summed =
     if is_token_kind ps at kind.Word
@@ -71,7 +71,7 @@ name_or_sum_at ps at plain summed =
     else bad_operand_value)))
     else bad_operand_value
 
--- the upper or lower half of a symbol, or a symbol
+-- the value that is a symbol, or its upper or lower half, at this token
 unfoldable pub symbol_value_at : List PieceData → ℕ → ValueData
 symbol_value_at ps at =
     if is_token_kind ps (at + 1) kind.Colon
@@ -80,7 +80,7 @@ symbol_value_at ps at =
     else bad_operand_value))
     else name_or_sum_at ps at shape.Word shape.Sum
 
--- the value from this place to the end
+-- the value of an operand from this token to the end: none, a number, a symbol, or a symbol's half
 unfoldable pub operand_value_at : List PieceData → ℕ → ValueData
 operand_value_at ps at =
     if length ps == at then operand_value_data shape.Absent [] false 0
@@ -109,7 +109,7 @@ operand ps =
 abbrev pub is_comma : PieceData → Bool
 is_comma p = kind_index p.kind == 2
 
--- the operands, separated by commas
+-- the operands that a line's tokens spell, separated by commas
 unfoldable pub operands : List PieceData → List OperandData
 operands [] = []
 operands (p ∷ ps) = map operand (slice_split is_comma (p ∷ ps))

@@ -40,7 +40,7 @@ token_text ps i = option_map_or (λ p. p.text) (slice_get ps i) []
 abbrev pub text_in : List ℕ → ℕ → ℕ → List ℕ
 text_in line from to = if nat_le from to && nat_le to (length line) then slice_range line from to else []
 
--- a token with its text
+-- the token of a line with its text, as plain data
 abbrev pub piece_in : List ℕ → Token → PieceData
 piece_in line t = record { kind = t.kind; text = text_in line t.from t.to }
 

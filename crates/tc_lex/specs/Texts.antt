@@ -18,7 +18,7 @@ abbrev pub is_hex_text : List ℕ → Bool
 is_hex_text (z ∷ x ∷ c ∷ cs) = z == 48 && (x == 120 && list_all is_hex (c ∷ cs))
 is_hex_text bs = false
 
--- the texts of each kind of token
+-- the text is that of one token of this kind, apart from how a line is cut
 unfoldable pub is_token_text : TokenKind → List ℕ → Bool
 is_token_text Word text = is_run is_name_first is_name_byte text
 is_token_text Number text = is_run is_digit is_digit text || is_hex_text text

@@ -19,7 +19,8 @@ pub(crate) fn longest_token_at(line: &[u8], at: usize) -> Front
     token_front_by_byte(line[at], &line[at..])
 }
 
-// What the text begins with; `c` is its first byte.
+// What the rest of a source's line begins with: a token with its length, a blank, the end, or a bad
+// byte. `c` is its first byte.
 #[tactic(auto, unfolding(crate::specs::Cut::token_front_by_byte))]
 fn token_front_by_byte(c: u8, text: &[u8]) -> Front
     requires some { 0 < length text.now }

@@ -25,7 +25,8 @@ impl<T, const CAP: usize> Model for Scratch<T, CAP> {
 }
 
 impl<T: Copy + Default, const CAP: usize> Scratch<T, CAP> {
-    /// An empty list.
+    /// An empty list with room for `CAP` elements, as scratch space for the tokens or operands of a
+    /// line.
     pub fn new() -> Self
         ensures { result.items ≡ [] }
     {
@@ -37,7 +38,7 @@ impl<T: Copy + Default, const CAP: usize> Scratch<T, CAP> {
 }
 
 impl<T: Copy, const CAP: usize> Scratch<T, CAP> {
-    /// Whether there is no room left.
+    /// Whether there is no room left in a list of scratch space.
     pub fn is_full(&self) -> bool
         ensures value { result ≡ (length self.now.items == CAP) }
         ensures fits { length self.now.items ≤ CAP }
@@ -45,7 +46,7 @@ impl<T: Copy, const CAP: usize> Scratch<T, CAP> {
         self.len == CAP
     }
 
-    /// The elements.
+    /// The elements of a list of scratch space.
     pub fn as_slice(&self) -> &[T]
         ensures value { result.now ≡ self.now.items }
         ensures fits { length result.now ≤ CAP }
@@ -53,14 +54,14 @@ impl<T: Copy, const CAP: usize> Scratch<T, CAP> {
         &self.cells[..self.len]
     }
 
-    /// Empties the list.
+    /// Empties a list of scratch space for the next line.
     pub fn clear(&mut self)
         ensures { self.new.items ≡ [] }
     {
         self.len = 0;
     }
 
-    /// Adds an element at the end. There must be room.
+    /// Adds an element at the end of a list of scratch space. There must be room.
     pub fn push(&mut self, element: T)
         requires { length self.old.items < CAP }
         ensures items { self.new.items ≡ self.old.items ++ element ∷ [] }

@@ -45,7 +45,7 @@ fn put_operand_before<'a>(ps: &[Piece<'a>], i: usize, out: &mut Scratch<Operand<
     put_operand(&ps[..i], out);
 }
 
-// The tokens after the comma at `i`.
+// The tokens of a line after the comma that is token `i`.
 fn tokens_after<'b, 'a>(ps: &'b [Piece<'a>], i: usize) -> &'b [Piece<'a>]
     requires { i < length ps.now }
     ensures { result.now ≡ drop (i + 1) ps.now }

@@ -14,11 +14,11 @@ abbrev pub global_at_name : {X S : Type 0} → HashMap (Bor (List ℕ)) X S → 
 global_at_name names q = get_by (λ k. bytes_eq q k.now) names
 
 -- ---- the number of symbols with a name
--- for a name in the map, whether several symbols have it
+-- for a name, whether several global symbols have it, as the map says; None if none has
 abbrev pub twice_at : {S : Type 0} → HashMap (Bor (List ℕ)) Definition S → List ℕ → Option Bool
 twice_at names q = option_map (λ d. d.is_twice) (global_at_name names q)
 
--- for a name that n symbols have: None if there are none, else whether there are several
+-- for a name that n global symbols have, whether they are several; None if there are none
 abbrev pub twice_of_count : ℕ → Option Bool
 twice_of_count n = if n == 0 then None else Some (nat_lt 1 n)
 
@@ -26,7 +26,7 @@ twice_of_count n = if n == 0 then None else Some (nat_lt 1 n)
 abbrev pub is_global : SymbolData → Bool
 is_global s = s.kind == global_symbol
 
--- a name and its address
+-- a global symbol of linked objects: its name and its address
 pub record GlobalData : Type 0 where
   pub name : List ℕ
   pub address : ℕ

@@ -8,7 +8,7 @@ use Rattle.tc_link.specs.LayoutLines.{LayoutLineData, entry, entry_in_line, plac
 use Rattle.tc_link.specs.declared.layout_errors.LayoutErr.{LayoutErr}
 use Rattle.tc_link.specs.declared.layout_errors.LayoutErr.TheVariants.{BadLine}
 
--- the entries and places of the lines so far
+-- the draft of a layout: the entries and places of the lines so far
 pub record LayoutDraftData : Type 0 where
   pub entries : List (List ℕ)
   pub places : List PlaceData
@@ -19,7 +19,7 @@ pub record IsLayoutDraft (d : LayoutDraftData) : Type 0 where
   pub few : length d.places ≤ 64
   pub places : InTurn IsPlaceAfter [] d.places
 
--- the entries and places after a further line
+-- the draft of a layout after a further line: the line's entry or place is added
 abbrev pub with_layout_line : LayoutDraftData → Option LayoutLineData → LayoutDraftData
 with_layout_line d line = record {
   entries = d.entries ++ option_to_list (option_and_then entry_in_line line);

@@ -16,7 +16,8 @@ pub data LayoutLineData : Type 0 where
   entry : List ℕ → LayoutLineData
   place : PlaceData → LayoutLineData
 
--- a place at a multiple of 4, with no byte past 2^32
+-- the place of these words of a layout's line, if they are well-formed, its address is a multiple
+-- of 4, and it ends by 2^32
 abbrev pub place_of_words : Option (List ℕ) → Option ℕ → Option ℕ → Option LayoutLineData
 place_of_words (Some section) (Some at) (Some most) = then_some (at % 4 == 0 && nat_le (at + most) (2 ^ 32)) (place (record { section = section; at = at; most = most }))
 place_of_words (Some section) (Some at) None = None
@@ -34,13 +35,13 @@ layout_line_of_words _ = None
 unfoldable pub layout_line_contents : List ℕ → Option LayoutLineData
 layout_line_contents line = layout_line_of_words (line_words line)
 
--- the name in the line of an entry
+-- the name in a layout's line, if the line is an entry
 abbrev pub entry_in_line : LayoutLineData → Option (List ℕ)
 entry_in_line blank = None
 entry_in_line (entry name) = Some name
 entry_in_line (place p) = None
 
--- the place in the line of a place
+-- the place in a layout's line, if the line is one
 abbrev pub place_in_line : LayoutLineData → Option PlaceData
 place_in_line blank = None
 place_in_line (entry name) = None

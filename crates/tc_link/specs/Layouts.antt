@@ -11,12 +11,13 @@ pub record PlaceData : Type 0 where
   pub at : ℕ
   pub most : ℕ
 
--- the name of the symbol at which the program begins, and the places
+-- a layout: the name of the symbol at which the program begins, and the places of sections
 pub record LayoutData : Type 0 where
   pub entry : List ℕ
   pub places : List PlaceData
 
--- a name, an address that is a multiple of 4, and no byte past 2^32
+-- a place of a layout: for sections of a name, at an address that is a multiple of 4, with no byte
+-- past 2^32
 pub record IsPlace (p : PlaceData) : Type 0 where
   pub name : object_name_of p.section ≡ Some p.section
   pub aligned : p.at % 4 ≡ 0

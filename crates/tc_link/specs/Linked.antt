@@ -23,6 +23,6 @@ image_of layout placed = image_with_entry (global_address (globals_of placed) la
 abbrev pub relocated_image_of : LayoutData → List PlacedData → Result ImageData Refusal
 relocated_image_of layout placed = unless_refused (reloc_refusal_in (globals_of placed) placed) (image_of layout placed)
 
--- the image, or the first refusal
+-- the image that linking these objects by the layout gives, or the first refusal
 unfoldable pub image_of_objects : List ObjectData → LayoutData → Result ImageData Refusal
 image_of_objects objects layout = unless_refused (refusal_before_relocs layout objects) (relocated_image_of layout (placed_of layout objects))

@@ -22,7 +22,7 @@ taken_place_size name sections = fold (place_size_with_section name) 0 sections
 abbrev pub AreTaken : List PlaceData → List SectionData → List ℕ → Type 0
 AreTaken places sections sizes = (k : ℕ) (d : PlaceData) → k < length places → slice_index sizes k ≡ taken_place_size (slice_index_or places k d).section sections
 
--- all numbers are at most 2^32
+-- the numbers of used bytes of a layout's places are at most 2^32
 abbrev pub AreSmallPlaceSizes : List ℕ → Type 0
 AreSmallPlaceSizes sizes = (k : ℕ) → slice_index sizes k ≤ 2 ^ 32
 

@@ -12,7 +12,7 @@ use Rattle.tc_link.specs.declared.definitions.Definition.{Definition}
 abbrev pub sections_to_link : List ObjectData → List SectionData
 sections_to_link objects = flat_map (λ o. o.sections) objects
 
--- the address of a section after these sections, and 0 if it has no place
+-- the address at which the linker places a section after these sections, and 0 if it has no place
 abbrev pub base_of : List PlaceData → List SectionData → SectionData → ℕ
 base_of places before s = option_map_or (λ p. p.at + round_up_place_size (taken_place_size s.name before)) (place_of places s.name) 0
 

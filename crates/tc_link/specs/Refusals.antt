@@ -33,7 +33,7 @@ first_refusal_from f n (x ∷ xs) = option_or (f n x) (first_refusal_from f (n +
 abbrev pub first_refusal_over : {A B : Type 0} → (ℕ → A → Option B) → List A → Option B
 first_refusal_over f xs = first_refusal_from f 0 xs
 
--- a global symbol that is defined in two objects
+-- a refusal if the symbol is global and several objects define its name, else None
 abbrev pub repeated_symbol_refusal : List ObjectData → ℕ → SymbolData → Option Refusal
 repeated_symbol_refusal objects number s = then_some (is_global s && nat_lt 1 (globals_named objects s.name)) (twice s.name)
 
@@ -46,7 +46,8 @@ repeated_symbol_refusal_in objects = first_refusal_over (λ _ o. first_refusal_o
 abbrev pub is_used_by_relocs : List Reloc → ℕ → Bool
 is_used_by_relocs relocs number = list_any (λ r. r.symbol == number) relocs
 
--- a symbol that a relocation uses, undefined in its object and global in none
+-- a refusal if a relocation uses the symbol, which is undefined in its object and global in none,
+-- else None
 abbrev pub missing_symbol_refusal : List ObjectData → List Reloc → ℕ → SymbolData → Option Refusal
 missing_symbol_refusal objects relocs number s = then_some (s.kind == undefined_symbol && is_used_by_relocs relocs number && globals_named objects s.name == 0) (missing s.name)
 
@@ -59,7 +60,7 @@ missing_symbol_refusal_in objects = first_refusal_over (λ _ o. first_refusal_ov
 abbrev pub has_symbol : List SymbolData → ℕ → Bool
 has_symbol symbols number = list_any (λ s. not (s.kind == undefined_symbol) && s.section == number) symbols
 
--- a section without a place that has bytes or in which a symbol is defined
+-- a refusal if the section has no place, but has bytes or a symbol defined in it, else None
 abbrev pub no_place_refusal : List PlaceData → List SymbolData → ℕ → SectionData → Option Refusal
 no_place_refusal places symbols number s = then_some ((nat_lt 0 (length s.bytes) || has_symbol symbols number) && not (is_placed places s.name)) (no_place s.name)
 
@@ -67,7 +68,7 @@ no_place_refusal places symbols number s = then_some ((nat_lt 0 (length s.bytes)
 unfoldable pub no_place_refusal_in : List PlaceData → List ObjectData → Option Refusal
 no_place_refusal_in places objects = first_refusal_over (λ _ o. first_refusal_over (no_place_refusal places o.symbols) o.sections) objects
 
--- a section for which there is no room after these sections
+-- a refusal if there is no room for the section after these sections, else None
 abbrev pub no_room_refusal : List PlaceData → List SectionData → SectionData → Option Refusal
 no_room_refusal places before s = then_some (are_places_overfull places (before ++ s ∷ [])) (no_room s.name)
 
@@ -80,7 +81,7 @@ no_room_refusal_after places before (s ∷ ss) = option_or (no_room_refusal plac
 abbrev pub reloc_refusal : List GlobalData → PlacedData → Reloc → Option RelocErr
 reloc_refusal globals p r = reloc_value_refusal r.kind (field_place p r) (reloc_value globals p r)
 
--- a relocation of the object with this number that can't be written
+-- a refusal if this relocation can't be written into the object with this number, else None
 abbrev pub refusal_at : List GlobalData → ℕ → PlacedData → ℕ → Reloc → Option Refusal
 refusal_at globals object p number r = option_map (λ err. reloc object r.section r.offset err) (reloc_refusal globals p r)
 

@@ -25,7 +25,7 @@ symbol_addresses globals p = map (symbol_address globals p.bases) p.object.symbo
 abbrev pub reloc_value : List GlobalData → PlacedData → Reloc → ℕ
 reloc_value globals p r = (option_map_or (symbol_address globals p.bases) (slice_get p.object.symbols r.symbol) 0 + r.addend) % 2 ^ 32
 
--- the bytes with these four at an offset
+-- a section's bytes with these four, a relocation's field, at an offset
 abbrev pub with_relocated_field : List ℕ → ℕ → List ℕ → List ℕ
 with_relocated_field bytes at field = take at bytes ++ (field ++ drop (at + 4) bytes)
 
@@ -56,6 +56,6 @@ sections_with_reloc globals p sections r = with_relocated_item (section_with_rel
 unfoldable pub relocated_sections : List GlobalData → PlacedData → List SectionData
 relocated_sections globals p = fold (sections_with_reloc globals p) p.object.sections p.object.relocs
 
--- all sections, with their relocations written
+-- the sections of all placed objects, with their relocations written
 unfoldable pub relocated_contents : List PlacedData → List SectionData
 relocated_contents placed = flat_map (relocated_sections (globals_of placed)) placed

@@ -12,7 +12,8 @@ use std::alloc::Global;
 use std::collections::HashMap;
 use tc_object::{SymbolRef, UNDEFINED_SYMBOL};
 
-/// The address of an offset in a section of this number.
+/// The address of an offset in the section of this number, if the sections of its object begin at
+/// `bases`.
 pub(crate) fn address_in_section(bases: &[u64], section: u16, offset: u32) -> u32
     ensures { result ≡ address_in_section bases.now section offset }
 {

@@ -39,7 +39,7 @@ impl Draft {
     ghost use Rattle.tc_link.specs.LayoutDrafts.{with_entry, with_layout_line};
     ghost use Rattle.tc_link.specs.declared.layout_errors.LayoutErr.TheVariants.{Twice, TooMany, Overlap};
 
-    /// A draft without lines.
+    /// An empty draft of a layout, before its first line.
     pub(crate) fn new(alloc: Global) -> Draft
         ensures { result ≡ record { entries = []; places = [] } }
     {
@@ -49,7 +49,8 @@ impl Draft {
         }
     }
 
-    /// Adds line `number`, or returns its fault.
+    /// Adds a line of a layout to the draft, or returns the line's fault. `number` is that of the
+    /// line.
     pub(crate) fn add_line(
         &mut self,
         alloc: Global,
@@ -88,7 +89,8 @@ impl Draft {
         }
     }
 
-    /// The layout after `count` lines, or the fault of a layout without an entry.
+    /// Returns the layout of a draft after `count` lines, or a fault at the next line if no line
+    /// was an entry.
     pub(crate) fn finish(self, count: u32) -> Result<Layout, LayoutErr>
         requires { count < 2 ^ 31 }
         ensures ok { IfOk result (λ l. with_entry count self.entries self.places ≡ Ok l) }
@@ -101,7 +103,8 @@ impl Draft {
         }
     }
 
-    // The fault of a place in line `number`, if it has one.
+    // The fault of a place in line `number` of a layout: its section has one already, there are 64,
+    // or it overlaps another.
     fn place_fault(&self, number: u32, section: &str, at: u32, most: u32) -> Option<LayoutErr>
         requires { IsPlace (record { section = section.now; at = at; most = most }) }
         ensures fault { result ≡ line_fault number self.now.entries self.now.places
@@ -122,7 +125,8 @@ impl Draft {
         None
     }
 
-    // Whether some place shares a byte with this one.
+    // Whether a place of the draft of a layout shares a byte with the `most` bytes from address
+    // `at` on.
     fn has_overlapping_place(&self, at: u32, most: u32) -> bool
         ensures { result ≡ list_any (λ q. is_overlapping_place at most q) self.now.places }
     {

@@ -24,7 +24,8 @@ pub(crate) enum Line<'a> {
     },
 }
 
-/// The contents of a line; None if it has none of the forms.
+/// The contents of a layout's line: blank, an entry or a place; None if the line has none of these
+/// forms.
 #[tactic(auto, using(crate::proofs::LineLaws::more), unfolding(crate::specs::LayoutLines::layout_line_contents))]
 pub(crate) fn layout_line_contents(line: &[u8]) -> Option<Line<'_>>
     ensures line { option_map layout_line_data result ≡ layout_line_contents line.now }

@@ -19,7 +19,8 @@ pub(crate) fn round_up_place_size(size: u64) -> u64
     (size + 3) / 4 * 4
 }
 
-// Adds a section to the number of used bytes of its place.
+// Adds a section, from the next multiple of 4 on, to the number of used bytes of its place in the
+// layout.
 pub(crate) fn add_section_size(places: &[Place], sizes: &mut [u64], section: &SectionRef<'_>)
     requires count { length sizes.old ≡ length places.now }
     requires small { AreSmallPlaceSizes sizes.old }

@@ -28,7 +28,8 @@ impl<'a, 'b> Model for Placed<'a, 'b> {
     ghost view = { λ p. record { object = p.object.now; bases = p.bases.items } };
 }
 
-/// The objects with the addresses of their sections, or the first section without room.
+/// Places the sections of all objects: returns the objects with the addresses of their sections, or
+/// the first section without room.
 pub(crate) fn place_objects<'a, 'b>(
     alloc: Global,
     places: &[Place],

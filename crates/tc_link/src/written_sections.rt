@@ -22,7 +22,7 @@ impl<'a> Model for WrittenSection<'a> {
     ghost view = { λ s. record { name = s.name.now; bytes = s.bytes.items } };
 }
 
-// Adds sections to the list.
+// Adds the relocated sections of a further object to the linker's list.
 pub(crate) fn append_written_sections<'a>(
     contents: &mut Vec<WrittenSection<'a>>,
     more: Vec<WrittenSection<'a>>,
@@ -36,7 +36,7 @@ pub(crate) fn append_written_sections<'a>(
     Ok(())
 }
 
-// Sections with copies of their bytes.
+// Copies the sections of an object, so that the linker can write relocations into their bytes.
 pub(crate) fn copies_of_sections<'a>(
     alloc: Global,
     sections: &[SectionRef<'a>],

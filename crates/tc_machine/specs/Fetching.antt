@@ -12,7 +12,7 @@ use Rattle.tc_machine.specs.declared.events.Cause.{Cause}
 use Rattle.tc_machine.specs.declared.events.Cause.TheVariants.{NotListed, NoCode}
 use Rattle.tc_machine.specs.declared.state.Machine.{Machine}
 
--- a byte before others; if it isn't mapped, none
+-- a fetched byte, put before the bytes after it; no bytes at all if it isn't mapped
 abbrev pub prepend_mapped_byte : Option ℕ → List ℕ → List ℕ
 prepend_mapped_byte None bytes = []
 prepend_mapped_byte (Some b) bytes = b ∷ bytes
@@ -22,12 +22,14 @@ unfoldable pub mapped_bytes : ℕ → Memory → ℕ → List ℕ
 mapped_bytes zero m x = []
 mapped_bytes (suc n) m x = prepend_mapped_byte (map.get m x) (mapped_bytes n m ((x + 1) % 2 ^ 32))
 
--- bytes that are the beginning of an instruction are no code; others aren't listed
+-- why a machine dies if the bytes at pc don't decode: no code if they are only the beginning of an
+-- instruction, else not listed
 abbrev pub fetch_failure_cause : DecodeErr → Cause
 fetch_failure_cause Short = NoCode
 fetch_failure_cause _ = NotListed
 
--- what the instruction does, and its length in bytes
+-- what a decoded instruction does, and its length in bytes; if none was decoded, why the machine
+-- dies
 abbrev pub fetched_shape : Result (InstData × ℕ) DecodeErr → Result (Shape × ℕ) Cause
 fetched_shape (Ok found) = Ok (shape_of found.0, found.1)
 fetched_shape (Err e) = Err (fetch_failure_cause e)
@@ -36,7 +38,7 @@ fetched_shape (Err e) = Err (fetch_failure_cause e)
 unfoldable pub fetched_instruction : Machine → Result (Shape × ℕ) Cause
 fetched_instruction m = if m.pc % 2 == 0 then fetched_shape (decoded_of (mapped_bytes 4 m.mem m.pc)) else Err NoCode
 
--- the size of what was fetched
+-- the length in bytes of the instruction that was fetched; 0 if there is none
 abbrev pub fetched_size : Result (Shape × ℕ) Cause → ℕ
 fetched_size (Ok found) = found.1
 fetched_size (Err cause) = 0

@@ -30,7 +30,8 @@ abbrev pub trap : Machine → ℕ → ℕ → ℕ → Machine
 trap m class tin back =
     if_running (save m true) (λ s. record (at_handler_entry m s back (bit_or m.btv (class * 2 ^ 5))) { d = slice_set s.d 15 tin })
 
--- an interrupt: volume 1, interrupts
+-- what an interrupt does (manual, volume 1, interrupts): the upper context is saved, its handler is
+-- entered, CCPN is irq, and pc is BIV with irq in bits 12:5
 abbrev pub interrupt : Machine → ℕ → Machine
 interrupt m irq =
     if_running (save m true) (λ s. record (at_handler_entry m s m.pc (bit_or m.biv (irq * 2 ^ 5))) { ccpn = irq })

@@ -17,7 +17,7 @@ use Rattle.tc_machine.specs.Handlers.{trap}
 
 -- ---- entries of handlers
 
--- the value of an operand
+-- the value of an operand: the word in its register, or the operand's own word
 abbrev pub operand_value : Machine → Arg → ℕ
 operand_value m (Reg r) = reg m r
 operand_value m (Word w) = w
@@ -32,11 +32,12 @@ abbrev pub with_pc_advanced : ℕ → Machine → Machine
 with_pc_advanced n m = record m { pc = machine_address_ahead m.pc n }
 
 -- ---- loads and stores
--- the address of an access
+-- the address of an access: the base plus the offset, or the base alone with post-increment
 abbrev pub access_address : Machine → Arg → ℕ → Bool → ℕ
 access_address m base offset after = if after then operand_value m base else machine_address_ahead (operand_value m base) offset
 
--- post-increment: the base register is increased by the offset
+-- the machine after the post-increment of an access, if it has one: the offset is added to the base
+-- register
 abbrev pub with_base_incremented : Machine → Arg → ℕ → Bool → Machine
 with_base_incremented m (Reg r) offset after = if after then with_reg m r (machine_address_ahead (reg m r) offset) else m
 with_base_incremented m (Word w) offset after = m
@@ -61,7 +62,7 @@ target_of m (target.Reg r) = reg m r / 2 * 2
 abbrev pub with_register_decremented : Machine → ℕ → Bool → Machine
 with_register_decremented m x lowers = if lowers then with_reg m x (machine_address_ahead (reg m x) (2 ^ 32 - 1)) else m
 
--- what an instruction of n bytes does
+-- the machine after an instruction of n bytes that does this (its shape)
 unfoldable pub does : Machine → Event → Shape → ℕ → Machine
 does m e (Compute op dst x y) n = with_pc_advanced n (with_reg m dst (alu_of op (operand_value m x) (operand_value m y)))
 does m e (Scaled dst base index k) n = with_pc_advanced n (with_reg m dst (machine_address_ahead (reg m base) (reg m index * 2 ^ k)))

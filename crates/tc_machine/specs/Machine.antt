@@ -8,7 +8,7 @@ use Rattle.csa_chain.specs.MemoryBytes.{HasBytes}
 use Rattle.tc_machine.specs.declared.events.Event.{Event}
 use Rattle.tc_machine.specs.declared.state.Machine.{Machine}
 
--- register r: 0 to 15 is D, 16 to 31 is A
+-- the word in register r of a machine: 0 to 15 are D0 to D15, 16 to 31 are A0 to A15
 abbrev pub reg : Machine → ℕ → ℕ
 reg m r = if nat_lt r 16 then slice_index m.d r else slice_index m.a (r - 16)
 
@@ -16,7 +16,7 @@ reg m r = if nat_lt r 16 then slice_index m.d r else slice_index m.a (r - 16)
 abbrev pub with_reg : Machine → ℕ → ℕ → Machine
 with_reg m r w = if nat_lt r 16 then record m { d = slice_set m.d r w } else record m { a = slice_set m.a (r - 16) w }
 
--- A10 is the stack pointer, A11 the return address
+-- the stack pointer, A10
 abbrev pub a10 : Machine → ℕ
 a10 m = slice_index m.a 10
 
@@ -28,7 +28,7 @@ a11 m = slice_index m.a 11
 abbrev pub is_interrupt_stack_used : ℕ → Bool
 is_interrupt_stack_used psw = psw / 2 ^ 9 % 2 == 1
 
--- a machine that dies: only its end changes
+-- the machine, dead by this cause: only its end changes
 abbrev pub dead_machine : Cause → Machine → Machine
 dead_machine cause m = record m { end = Dead cause }
 

@@ -14,7 +14,7 @@ use Rattle.tc_machine.specs.declared.events.End.TheVariants.{Running}
 use Rattle.tc_machine.specs.Machine.{is_interrupt_stack_used, IsMachine}
 
 -- ---- the memory is filled
--- the memory with a byte at x, if there is one
+-- the memory with a byte of the image at address x, if the image has one there
 abbrev pub with_image_byte : Memory → ℕ → Option ℕ → Memory
 with_image_byte m x (Some b) = with_byte m x b
 with_image_byte m x None = m
@@ -52,7 +52,8 @@ with_area_links at first n m (suc k) = with_words (with_area_links at first n m 
 abbrev pub start_memory_ranges : List Range → List Range → ℕ → ℕ → List Range
 start_memory_ranges rom ram at n = rom ++ ram ++ record { at = at; len = 64 * n } ∷ []
 
--- a memory of zeros in those ranges, with the image's bytes in rom, and the links
+-- the memory of a start state: zeros in the mapped ranges, the image's bytes in rom, and in each
+-- save area the link of the next one
 pub record IsFilledStartMemory (image : ImageData) (rom ram : List Range) (at n : ℕ) (mem : Memory) : Type 0 where
   pub zeros : Memory
   pub are_zeros : IsMemoryOfZeros (start_memory_ranges rom ram at n) zeros
@@ -79,8 +80,9 @@ AreAreasLinked plan mem =
 abbrev pub HasGlobals : PlanData → List ℕ → Type 0
 HasGlobals plan a = slice_index a 0 ∷ slice_index a 1 ∷ slice_index a 8 ∷ slice_index a 9 ∷ [] ≡ plan.globals
 
--- the machine is in a start state of the image under the plan: pc, the lists of areas, memory and
--- the stated registers. All that isn't stated here can be anything
+-- The machine is in a start state of the image under the plan: pc, the lists of areas, memory and
+-- the stated registers. LCX has the link of the reserve's first area, and PSW.IO is 2. All that
+-- isn't stated here can be anything.
 pub record Starts (image : ImageData) (plan : PlanData) (m : Machine) : Type 0 where
   pub machine : IsMachine m
   pub memory : IsPlanMemory plan m.mem

@@ -11,7 +11,8 @@ use crate::operand_addresses::machine_address_ahead;
 use tc_mem::Mem;
 use tcd_base::sext;
 
-/// Returns the value of a load of `size` bytes from an address, extended to a word.
+/// Returns the word that a load of `size` bytes gives: mapped bytes from memory, others from the
+/// event's input, extended by the sign or by zeros.
 pub(crate) fn load(mem: &Mem, input: u32, addr: u32, size: u8, signed: bool) -> u32
     requires { IsShapeAccessSize size }
     ensures { result ≡ extend_loaded_bytes signed size (loaded_number mem.now input addr size) }
@@ -31,7 +32,8 @@ pub(crate) fn load(mem: &Mem, input: u32, addr: u32, size: u8, signed: bool) -> 
     }
 }
 
-/// Stores the low `n` bytes of a word from an address on.
+/// Stores the low `n` bytes of a word in the machine's memory from an address on. Bytes that aren't
+/// mapped are dropped.
 pub(crate) fn store(mem: &mut Mem, addr: u32, word: u32, n: u8)
     ensures { mem.new ≡ with_bytes mem.old addr word n }
 {
@@ -50,7 +52,8 @@ pub fn is_trapping_access(event: &Event, addr: u32, size: u8) -> bool
     event.aln && addr % u32::from(size) != 0
 }
 
-/// Returns the word at an address.
+/// Returns the word that a load reads at an address, with the input's byte for each byte that isn't
+/// mapped.
 fn load_word_or_input(mem: &Mem, input: u32, addr: u32) -> u32
     ensures { result ≡ loaded_number mem.now input addr 4 }
 {
@@ -60,7 +63,8 @@ fn load_word_or_input(mem: &Mem, input: u32, addr: u32) -> u32
     }
 }
 
-/// Returns the halfword at an address.
+/// Returns the halfword that a load reads at an address, with the input's byte for each byte that
+/// isn't mapped.
 fn load_half_or_input(mem: &Mem, input: u32, addr: u32) -> u16
     ensures { result ≡ loaded_number mem.now input addr 2 }
 {
@@ -70,7 +74,8 @@ fn load_half_or_input(mem: &Mem, input: u32, addr: u32) -> u16
     }
 }
 
-/// Returns the byte at an address, for a load.
+/// Returns the number that a load of one byte reads at an address: the input's lowest byte if none
+/// is mapped.
 #[tactic(auto, unfolding(csa_chain::specs::MemoryBytes::loaded_number))]
 fn load_single_byte(mem: &Mem, input: u32, addr: u32) -> u8
     ensures { result ≡ loaded_number mem.now input addr 1 }
@@ -78,7 +83,8 @@ fn load_single_byte(mem: &Mem, input: u32, addr: u32) -> u8
     load_byte_or_input(mem, input, addr)
 }
 
-/// Returns the word at an address, byte by byte.
+/// Returns the word of a load, read byte by byte: each byte from memory, or from the input if it
+/// isn't mapped.
 #[tactic(auto, unfolding(csa_chain::specs::MemoryBytes::loaded_number))]
 fn load_word_by_bytes(mem: &Mem, input: u32, addr: u32) -> u32
     ensures { result ≡ loaded_number mem.now input addr 4 }
@@ -100,7 +106,8 @@ fn load_byte_or_input(mem: &Mem, input: u32, addr: u32) -> u8
     mem.get(addr).unwrap_or((input % 256) as u8)
 }
 
-/// Returns the halfword at an address, byte by byte.
+/// Returns the halfword of a load, read byte by byte: each byte from memory, or from the input if
+/// it isn't mapped.
 #[tactic(auto, unfolding(csa_chain::specs::MemoryBytes::loaded_number))]
 fn load_half_by_bytes(mem: &Mem, input: u32, addr: u32) -> u16
     ensures { result ≡ loaded_number mem.now input addr 2 }

@@ -44,7 +44,7 @@ fn put_area_word_bytes(mem: &mut Mem, addr: u32, word: u32)
 }
 
 impl Machine {
-    /// Returns the words of the upper or the lower context.
+    /// Returns the 16 words that a save of the machine's upper or lower context writes to an area.
     fn context(&self, upper: bool) -> [u32; 16]
         ensures { result ≡ context_of self.now upper }
     {
@@ -71,7 +71,8 @@ impl Machine {
 }
 
 impl Machine {
-    /// Returns the words of the area that a link names, if it is mapped.
+    /// Returns the 16 words of the context save area that a link names, or `None` if the area isn't
+    /// wholly mapped.
     #[tactic(auto, using(crate::proofs::ContextWords::area_of_words))]
     pub(crate) fn words_of_area(&self, named: u32) -> Option<[u32; 16]>
         requires { named < 2 ^ 20 }

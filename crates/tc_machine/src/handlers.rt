@@ -4,7 +4,8 @@ ghost use Rattle.tc_machine.specs.Handlers.{handler_psw, handler_stack, trap, in
 
 use crate::{End, Machine};
 
-/// Returns PSW in a handler.
+/// Returns PSW at the entry of a handler: IO is 2, IS is 1, PRS and GW are 0, and the other bits
+/// stay.
 fn psw_of_handler(psw: u32) -> u32
     ensures { result ≡ handler_psw psw }
 {
@@ -12,7 +13,8 @@ fn psw_of_handler(psw: u32) -> u32
 }
 
 impl Machine {
-    /// Takes an interrupt (manual, volume 1, interrupts).
+    /// Takes the interrupt of priority `irq` (manual, volume 1, interrupts): saves the upper
+    /// context, and enters its handler with CCPN `irq` and interrupts off.
     pub(crate) fn interrupt(&mut self, irq: u8)
         ensures { self.new ≡ interrupt self.old irq }
     {
@@ -59,7 +61,8 @@ impl Machine {
         }
     }
 
-    /// Enters a handler that returns to the address `back`.
+    /// Enters a handler: sets A11 to the return address `back`, A10, PSW and pc, and turns
+    /// interrupts off.
     fn enter_handler(&mut self, back: u32, entry: u32, stack: u32, psw: u32)
         ensures { self.new ≡ record self.old {
           a = slice_set (slice_set self.old.a 11 back) 10 stack;

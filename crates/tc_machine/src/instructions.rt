@@ -139,7 +139,8 @@ impl Machine {
         }
     }
 
-    /// Executes an operation on two words.
+    /// Executes an arithmetic or logical instruction: writes the result of an operation on two
+    /// operands to a register.
     #[tactic(auto, unfolding(crate::specs::Instructions::does))]
     fn compute(&mut self, op: Op, dst: u8, x: Arg, y: Arg, n: u32)
         requires { IsShape (Shape.Compute op dst x y) }
@@ -150,7 +151,8 @@ impl Machine {
         self.advance(n);
     }
 
-    /// Executes the sum of a base and a shifted index.
+    /// Executes `addsc.a`: writes the sum of a base address and an index that is shifted to the
+    /// left by `k` bits.
     #[tactic(auto, unfolding(crate::specs::Instructions::does))]
     fn compute_scaled(&mut self, dst: u8, base: u8, index: u8, k: u8, n: u32)
         requires { IsShape (Shape.Scaled dst base index k) }

@@ -108,8 +108,8 @@ impl Machine {
         }
     }
 
-    /// Returns word 0 of the area that a word of a chain names. The search in memory begins near
-    /// the last area's place.
+    /// Returns word 0 of the save area that a word of a chain names, or `None` if the area isn't
+    /// wholly mapped. `near` is a hint for the memory.
     #[tactic(auto, using(crate::proofs::WholeAccesses::first_of_area))]
     fn next_chain_word(&self, word: u32, near: &mut usize) -> Option<u32>
         ensures { result ≡

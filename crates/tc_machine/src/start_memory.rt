@@ -12,7 +12,7 @@ use std::alloc::Global;
 use tc_mem::Mem;
 use tcd_base::{NoMemory, Range};
 
-/// Returns the link of the area at an address.
+/// Returns the link of the context save area at an address, for the free list of a start state.
 pub(crate) fn start_area_link(at: u32) -> u32
     ensures { result ≡ link_at at }
 {
@@ -43,7 +43,7 @@ pub(crate) fn start_memory(
     Ok(mem)
 }
 
-/// Returns the mapped ranges: rom, ram and the save areas.
+/// Returns the ranges that the memory of a start state maps: rom, ram and the save areas.
 fn start_memory_ranges(
     alloc: Global,
     rom: &[Range],
@@ -59,7 +59,7 @@ fn start_memory_ranges(
     Ok(ranges)
 }
 
-/// Copies the image's bytes into the ranges.
+/// Copies the image's bytes into these ranges of the memory of a start state.
 fn copy_image(mem: &mut Mem, image: &Image, ranges: &[Range])
     requires { All (λ r. r.at + r.len ≤ 2 ^ 32) ranges.now }
     ensures copied { mem.new ≡ with_image_in_ranges image.now mem.old ranges.now }
@@ -70,7 +70,8 @@ fn copy_image(mem: &mut Mem, image: &Image, ranges: &[Range])
     }
 }
 
-/// Links `n` areas from the address `at` on; `first` is the link of the first.
+/// Links `n` save areas from the address `at` on, for the free list of a start state. `first` is
+/// the link of the first.
 #[tactic(auto, unfolding(crate::specs::Starting::with_area_links, csa_chain::specs::MemoryBytes::with_words))]
 fn link_start_areas(mem: &mut Mem, at: u32, first: u32, n: u32)
     requires areas { at + 64 * n ≤ 2 ^ 32 }
@@ -82,7 +83,7 @@ fn link_start_areas(mem: &mut Mem, at: u32, first: u32, n: u32)
     }
 }
 
-/// Copies the image's bytes into a range.
+/// Copies the image's bytes into one range of the memory of a start state.
 fn copy_image_to_range(mem: &mut Mem, image: &Image, range: &Range)
     requires { range.now.at + range.now.len ≤ 2 ^ 32 }
     ensures copied { mem.new ≡ with_image_in_range image.now mem.old range.now.at range.now.len }
@@ -91,7 +92,8 @@ fn copy_image_to_range(mem: &mut Mem, image: &Image, range: &Range)
     copy_segments(mem, &image.segments, range);
 }
 
-/// Copies the bytes of segments that are in a range, those of the first segment last.
+/// Copies into the memory of a start state the bytes of the image's segments that are in a range,
+/// those of the first segment last.
 fn copy_segments(mem: &mut Mem, segments: &[Segment], range: &Range)
     requires segments { IsTrue (list_all is_segment (map segment_data segments.now)) }
     requires range { range.now.at + range.now.len ≤ 2 ^ 32 }
@@ -105,7 +107,8 @@ fn copy_segments(mem: &mut Mem, segments: &[Segment], range: &Range)
     }
 }
 
-/// Copies the bytes of a segment that are in a range.
+/// Copies into the memory of a start state the bytes of one segment of the image that are in a
+/// range.
 fn copy_segment(mem: &mut Mem, segment: &Segment, range: &Range)
     requires segment { segment.now.at + length segment.now.bytes.items ≤ 2 ^ 32 }
     requires range { range.now.at + range.now.len ≤ 2 ^ 32 }

@@ -28,7 +28,7 @@ unfoldable pub entries_of : List Page → List (ℕ × ℕ)
 entries_of [] = []
 entries_of (p ∷ ps) = page_entries_from p.mapped (p.number * 4096) p.bytes ++ entries_of ps
 
--- the memory of a list of pages
+-- the memory that a list of pages holds: their mapped bytes at their addresses
 unfoldable pub memory_of : List Page → Memory
 memory_of ps = finite.from_entries (entries_of ps)
 
@@ -41,7 +41,7 @@ pub record IsPage (p : Page) : Type 0 where
 abbrev pub page_number_of : Page → ℕ
 page_number_of p = p.number
 
--- pages with ascending numbers
+-- each page is whole, and the numbers of the pages ascend
 pub record ArePages (ps : List Page) : Type 0 where
   pub whole : All IsPage ps
   pub rising : IsStrictlyIncreasing (map page_number_of ps)
@@ -50,7 +50,7 @@ pub record ArePages (ps : List Page) : Type 0 where
 abbrev pub ArePageBytesSmall : List Page → Type 0
 ArePageBytesSmall ps = All (λ p. (k : ℕ) → slice_index p.bytes k < 256) ps
 
--- what holds of the pages of a memory
+-- the pages of a memory: each is whole, their numbers ascend, and their bytes are below 256
 pub record AreMemoryPages (ps : List Page) : Type 0 where
   pub pages : ArePages ps
   pub small : ArePageBytesSmall ps

@@ -82,7 +82,8 @@ pub(crate) fn put_page_word(bytes: &mut [u8; 4096], offset: usize, word: u32)
     bytes[offset + 3] = parts[3];
 }
 
-// Returns the 16 words from an offset on if all are mapped. Their 64 bits are one word.
+// Returns the 16 words of the 64 bytes from an offset of a page on, or `None` unless all 64 are
+// mapped.
 pub(crate) fn page_area(page: &Page, offset: usize) -> Option<[u32; 16]>
     requires aligned { offset % 64 ≡ 0 }
     requires within { offset < 4096 }
@@ -99,8 +100,8 @@ pub(crate) fn page_area(page: &Page, offset: usize) -> Option<[u32; 16]>
     Some(page_area_words(&page.bytes, offset))
 }
 
-// Writes 16 words from an offset on if all are mapped, and returns whether they are. Their 64 bits
-// are one word.
+// Writes 16 words to the 64 bytes from an offset of a page on if all are mapped, and returns
+// whether they are.
 pub(crate) fn put_area(page: &mut Page, offset: usize, words: &[u32; 16]) -> bool
     requires aligned { offset % 64 ≡ 0 }
     requires within { offset < 4096 }
@@ -119,8 +120,8 @@ pub(crate) fn put_area(page: &mut Page, offset: usize, words: &[u32; 16]) -> boo
     mapped
 }
 
-// Returns the first word of the 64 bytes from an offset on if all are mapped. Their 64 bits are one
-// word.
+// Returns the first word of the 64 bytes from an offset of a page on, or `None` unless all 64 are
+// mapped.
 pub(crate) fn page_area_first_word(page: &Page, offset: usize) -> Option<u32>
     requires aligned { offset % 64 ≡ 0 }
     requires within { offset < 4096 }
@@ -197,7 +198,7 @@ pub(crate) fn put_mapped_half(page: &mut Page, offset: usize, half: u16) -> bool
     mapped
 }
 
-// Sets the bits of the bytes that a range has in the page.
+// Marks the bytes that a range has in the page with this number as mapped, in the page's bits.
 pub(crate) fn mark_range(mapped: &mut [u64; 64], number: u32, range: &Range)
     ensures { (k : ℕ) → k < 4096
         → is_page_bit_set mapped.new k
@@ -230,7 +231,7 @@ pub(crate) fn unmapped_page_bits() -> [u64; 64]
     [0; 64]
 }
 
-// Returns the page with this number in which the bytes of the ranges are mapped.
+// Returns the page with this number, all zero, in which the bytes of the ranges are mapped.
 pub(crate) fn page_of(number: u32, ranges: &[Range]) -> Page
     ensures number { result.number ≡ number }
     ensures page { IsPage result }

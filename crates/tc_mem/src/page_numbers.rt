@@ -8,7 +8,8 @@ use crate::page::Page;
 use std::alloc::Global;
 use tcd_base::{NoMemory, Range};
 
-// Returns the place of the page with this number, which is looked for at `near` first.
+// Returns the place of the page with this number in the list of a memory's pages: at `near`, or by
+// binary search.
 pub(crate) fn find_page_near(pages: &[Page], number: u32, near: usize) -> Option<usize>
     requires { IsStrictlyIncreasing (map page_number_of pages.now) }
     ensures within { IfSome result (λ i. i < length pages.now) }
@@ -21,8 +22,8 @@ pub(crate) fn find_page_near(pages: &[Page], number: u32, near: usize) -> Option
     binary_search_page(pages, number)
 }
 
-/// Returns the place of the page with this number. `near` is a hint for pages that are neither in
-/// sequence with the first one nor with the last one.
+/// Returns the place of the page with this number in the list of a memory's pages, or `None`.
+/// `near` is a hint for pages away from both ends.
 pub(crate) fn find_page(pages: &[Page], number: u32, near: usize) -> Option<usize>
     requires { IsStrictlyIncreasing (map page_number_of pages.now) }
     ensures within { IfSome result (λ i. i < length pages.now) }
@@ -47,7 +48,8 @@ pub(crate) fn page_numbers(alloc: Global, ranges: &[Range]) -> Result<Vec<u32>, 
     Ok(numbers)
 }
 
-// Returns the place of the page with this number, by binary search.
+// Returns the place of the page with this number in the list of a memory's pages, by binary search,
+// or `None`.
 fn binary_search_page(pages: &[Page], number: u32) -> Option<usize>
     requires { IsStrictlyIncreasing (map page_number_of pages.now) }
     ensures within { IfSome result (λ i. i < length pages.now) }

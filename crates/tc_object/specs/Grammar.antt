@@ -14,7 +14,7 @@ abbrev pub checked_object_field : {A : Type 0} → ℕ → Bool → Place → A 
 checked_object_field kind good p x = if good then Ok x else field_fault_at kind p
 
 -- ---- names: a field with the length, and a field with the bytes
--- a name's length, from 1 to 64
+-- the length of a name, from 1 to 64, read at this place of an object file
 unfoldable pub name_length_at : Place → Result (ℕ × Place) FormErr
 name_length_at p = u8_at p >>= λ n. checked_object_field 4 (is_name_length n.0) p n
 
@@ -22,22 +22,24 @@ name_length_at p = u8_at p >>= λ n. checked_object_field 4 (is_name_length n.0)
 unfoldable pub name_bytes_at : ℕ → Place → Result (List ℕ × Place) FormErr
 name_bytes_at n p = field_bytes_at n p >>= λ name. checked_object_field 4 (is_object_name name.0) p name
 
--- a name that isn't used yet; the fault of a used one is at its bytes
+-- a name that isn't used yet, read at this place of an object file; the fault of a used one is at
+-- its bytes
 unfoldable pub new_object_name_at : (List ℕ → Bool) → Place → Result (List ℕ × Place) FormErr
 new_object_name_at is_used p = name_length_at p >>= λ n. name_bytes_at n.0 n.1 >>= λ name. checked_object_field 4 (not (is_used name.0)) n.1 name
 
 -- ---- sections
--- a section with a name that isn't used yet
+-- a section read at this place of an object file, with a name that isn't used yet: name, length,
+-- and bytes
 unfoldable pub section_with : (List ℕ → Bool) → Place → Result (SectionData × Place) FormErr
 section_with is_used p =
     new_object_name_at is_used p >>= λ name. u32_at name.1 >>= λ len. field_bytes_at len.0 len.1 >>= λ bytes. Ok (record { name = name.0; bytes = bytes.0 }, bytes.1)
 
--- a section after these, with a name that none of them has
+-- a section read at this place of an object file, with a name that none of these sections has
 unfoldable pub section_after : List SectionData → Place → Result (SectionData × Place) FormErr
 section_after before p = section_with (is_section_name before) p
 
 -- ---- symbols
--- the kind of a symbol or of a relocation, from low to high
+-- the kind of a symbol or of a relocation, from low to high, read at this place of an object file
 unfoldable pub kind_at : ℕ → ℕ → Place → Result (ℕ × Place) FormErr
 kind_at low high p = u8_at p >>= λ k. checked_object_field 4 (nat_le low k.0 && nat_le k.0 high) p k
 
@@ -81,7 +83,7 @@ unfoldable pub reloc_offset_at : List SectionData → List Reloc → ℕ → Pla
 reloc_offset_at sections before section start p =
     u32_at p >>= λ o. checked_object_field 3 (is_after_last_reloc (last_reloc before) section o.0) start o >>= λ o. checked_object_field 4 (nat_le (o.0 + 4) (section_size_at sections section)) p o
 
--- a symbol's number, below the number of symbols
+-- a relocation's symbol, read at this place of an object file: a number below that of the symbols
 unfoldable pub reloc_symbol_at : ℕ → Place → Result (ℕ × Place) FormErr
 reloc_symbol_at symbols p = u16_at p >>= λ s. checked_object_field 4 (nat_lt s.0 symbols) p s
 
@@ -97,11 +99,11 @@ reloc_after sections symbols before p =
 unfoldable pub magic_at : Place → Result (ℕ × Place) FormErr
 magic_at p = u32_at p >>= λ magic. checked_object_field 2 (magic.0 == 0x314F4354) p magic
 
--- the number of sections, at most 64
+-- the number of sections, at most 64, read at this place of an object file
 unfoldable pub section_count_at : Place → Result (ℕ × Place) FormErr
 section_count_at p = u16_at p >>= λ n. checked_object_field 5 (nat_le n.0 64) p n
 
--- n sections, m symbols and k relocations
+-- n sections, m symbols and k relocations, read one after another from this place of an object file
 unfoldable pub parts_at : ℕ → ℕ → ℕ → Place → Result (ObjectData × Place) FormErr
 parts_at n m k p =
     many_fields_at section_after n [] p >>= λ sections. many_fields_at (symbol_after sections.0) m [] sections.1 >>= λ symbols. many_fields_at (reloc_after sections.0 m) k [] symbols.1 >>= λ relocs.

@@ -9,19 +9,20 @@ use Rattle.tc_object.specs.Objects.{SectionData, SymbolData, ObjectData}
 unfoldable pub bytes_of_name : List ℕ → List ℕ
 bytes_of_name name = length name ∷ name
 
--- the name, the length, and the bytes
+-- a section in an object file: its name, the length of its bytes, and the bytes
 unfoldable pub bytes_of_section : SectionData → List ℕ
 bytes_of_section s = bytes_of_name s.name ++ (bytes_of_word (length s.bytes) ++ s.bytes)
 
--- the name, the kind, the section, and the offset
+-- a symbol in an object file: its name, its kind, its section, and its offset
 unfoldable pub bytes_of_symbol : SymbolData → List ℕ
 bytes_of_symbol s = bytes_of_name s.name ++ (s.kind ∷ bytes_of_half s.section ++ bytes_of_word s.offset)
 
--- the section, the offset, the kind, the symbol, and the addend
+-- a relocation in an object file: its section, offset, kind, symbol, and addend
 unfoldable pub bytes_of_reloc : Reloc → List ℕ
 bytes_of_reloc r = bytes_of_half r.section ++ (bytes_of_word r.offset ++ (r.kind ∷ bytes_of_half r.symbol ++ bytes_of_word r.addend))
 
--- the magic word and how many sections, symbols and relocations there are
+-- the header of an object file: the magic word, and the numbers of sections, symbols and
+-- relocations
 unfoldable pub bytes_of_header : ObjectData → List ℕ
 bytes_of_header o = bytes_of_word 0x314F4354 ++ (bytes_of_half (length o.sections) ++ (bytes_of_half (length o.symbols) ++ bytes_of_half (length o.relocs)))
 

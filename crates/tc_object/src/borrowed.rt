@@ -52,7 +52,7 @@ impl<'a> ObjectRef<'a> {
         })
     }
 
-    /// Borrows an object.
+    /// Returns the `ObjectRef` that borrows the names and contents of this object.
     pub fn of(alloc: Global, object: &'a Object) -> Result<ObjectRef<'a>, NoMemory>
         ensures { IfOk result (λ o. o ≡ object.now) }
     {
@@ -85,7 +85,7 @@ impl<'a> ObjectRef<'a> {
     }
 }
 
-// Borrows each section.
+// Borrows the name and the bytes of each section of an object.
 fn borrow_sections(alloc: Global, sections: &[Section]) -> Result<Vec<SectionRef<'_>>, NoMemory>
     ensures { IfOk result (λ parts. parts.items ≡ sections.now) }
 {
@@ -99,7 +99,7 @@ fn borrow_sections(alloc: Global, sections: &[Section]) -> Result<Vec<SectionRef
     Ok(parts)
 }
 
-// Borrows each symbol.
+// Borrows the name of each symbol of an object.
 fn borrow_symbols(alloc: Global, symbols: &[Symbol]) -> Result<Vec<SymbolRef<'_>>, NoMemory>
     ensures { IfOk result (λ parts. parts.items ≡ symbols.now) }
 {

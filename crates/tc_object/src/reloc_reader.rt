@@ -21,7 +21,8 @@ const LAST_KIND: u8 = 7;
 // The size of a relocation in the file.
 const RELOC_BYTES: usize = 13;
 
-/// Reads `count` relocations.
+/// Reads `count` relocations of an object file, each after the ones before it, or returns the first
+/// fault.
 #[inline(never)]
 pub(crate) fn read_relocs(
     alloc: Global,
@@ -144,7 +145,8 @@ fn check_reloc(
     Ok(())
 }
 
-/// Reads the section of the relocation after these.
+/// Reads the section number of the relocation after these: a section of the object, not below that
+/// of the last relocation.
 #[tactic(auto, unfolding(crate::specs::Grammar::reloc_section_at))]
 fn read_reloc_section(
     c: &mut FileCursor<'_>,

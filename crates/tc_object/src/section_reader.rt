@@ -13,7 +13,8 @@ use tcd_base::{
     ABOVE_LIMIT, BAD_VALUE, FileCursor, FormErr, form_err_at, read_bytes, read_u16, read_u32,
 };
 
-/// Reads `count` sections.
+/// Reads `count` sections of an object file, each with a name that no earlier one has, or returns
+/// the first fault.
 pub(crate) fn read_sections<'a>(
     alloc: Global,
     c: &mut FileCursor<'a>,
@@ -55,7 +56,7 @@ pub(crate) fn section_size_at(sections: &[SectionRef<'_>], number: u16) -> usize
     }
 }
 
-/// Reads the section after these.
+/// Reads the next section of an object file, with a name that none of these sections has.
 #[tactic(auto, unfolding(crate::specs::Grammar::section_after, crate::specs::Grammar::section_with))]
 fn read_section<'a>(
     c: &mut FileCursor<'a>,

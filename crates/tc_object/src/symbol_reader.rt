@@ -19,7 +19,8 @@ use tcd_base::{BAD_VALUE, FileCursor, FormErr, form_err_at, read_u16, read_u32};
 // The size of a symbol's kind, section and offset in the file.
 const SYMBOL_BYTES: usize = 7;
 
-/// Reads `count` symbols.
+/// Reads `count` symbols of an object file, each with a name that no earlier one has, or returns
+/// the first fault.
 #[inline(never)]
 pub(crate) fn read_symbols<'a>(
     alloc: Global,
@@ -79,8 +80,8 @@ fn read_symbol_named<'a>(
     Ok(symbol)
 }
 
-/// Reads the symbol of this name field by field. `read_symbol_named` calls it if the file ends within the
-/// symbol, so that the fault is at the first field that is cut off.
+/// Reads the symbol of this name field by field. If the file ends within the symbol, the fault is
+/// at the first field that is cut off.
 #[inline(never)]
 #[tactic(auto, unfolding(crate::specs::Grammar::symbol_named))]
 fn read_symbol_fields<'a>(

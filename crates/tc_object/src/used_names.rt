@@ -11,7 +11,8 @@ use std::alloc::{AllocError, AllocFailed, Global};
 use std::collections::HashMap;
 use tcd_base::{BAD_VALUE, FileCursor, form_err_at};
 
-/// A map without names, with capacity for `count` of them.
+/// An empty map of the symbol names that an object file has used so far, with room for `count` of
+/// them.
 pub(crate) fn no_used_names<'a>(
     alloc: Global,
     count: u16,
@@ -22,7 +23,8 @@ pub(crate) fn no_used_names<'a>(
     Ok(names)
 }
 
-/// Reads a name that isn't used yet, and adds it to the used ones.
+/// Reads the name of a symbol, which no earlier symbol of the object file may have, and adds it to
+/// the used names.
 #[tactic(auto, unfolding(crate::specs::Grammar::new_object_name_at))]
 pub(crate) fn read_new_name<'a>(
     c: &mut FileCursor<'a>,
@@ -44,7 +46,8 @@ pub(crate) fn read_new_name<'a>(
     Ok(name)
 }
 
-/// Adds a name, and returns whether it is new.
+/// Adds a name to the used names of an object file's symbols, and returns whether no earlier symbol
+/// has this name.
 fn add_used_name<'a>(
     names: &mut HashMap<&'a str, ()>,
     name: &'a str,

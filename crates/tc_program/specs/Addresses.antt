@@ -25,7 +25,7 @@ pub record SectionHasAddress (places : List PlaceData) (sources : List (List ℕ
   pub is_place : place_of places data_of.name ≡ Some place
   pub is : base ≡ place.at + round_up_place_size (taken_place_size data_of.name (program_sections (take number sources) ++ take section (sections_in source)))
 
--- a label of a source has an address
+-- a label of a source has this address after linking: that of its section plus its offset there
 pub record LabelHasAddress (places : List PlaceData) (sources : List (List ℕ)) (number : ℕ) (name : List ℕ) (address : ℕ) : Type 0 where
   pub source : List ℕ
   pub is_source : slice_get sources number ≡ Some source
@@ -35,7 +35,7 @@ pub record LabelHasAddress (places : List PlaceData) (sources : List (List ℕ))
   pub begins : SectionHasAddress places sources number label.section base
   pub is : address ≡ (base + label.offset) % 2 ^ 32
 
--- a global label of some source has an address
+-- a global label of this name, which some source defines, has this address after linking
 pub record GlobalHasAddress (places : List PlaceData) (sources : List (List ℕ)) (name : List ℕ) (address : ℕ) : Type 0 where
   pub number : ℕ
   pub stands : LabelHasAddress places sources number name address

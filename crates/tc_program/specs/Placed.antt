@@ -13,13 +13,13 @@ use Rattle.tc_link.specs.PlaceSizes.{taken_place_size}
 use Rattle.tc_program.specs.Addresses.{program_sections, SectionHasAddress, GlobalHasAddress, NameHasAddress}
 
 -- ---- bytes
--- the number to write into the field of a symbol
+-- the number that linking writes into a statement's field for a symbol: the symbol's address plus
+-- the addend
 abbrev pub placed_symbol_value : ℕ → ReferenceData → ℕ
 placed_symbol_value address r = (address + assembled_addend r) % 2 ^ 32
 
--- The bytes of a statement at this address: its data, or its instruction's spelling. If it has a
--- symbol, the field can hold the symbol's address plus the number that is added, and is filled to
--- reach it.
+-- The bytes of a source statement at its address in the linked image. They are its data or
+-- instruction, with the field of a symbol filled to reach the symbol's address plus the addend.
 pub data ArePlacedStatementBytes (places : List PlaceData) (sources : List (List ℕ)) (number : ℕ) (t : StatementData) (at : ℕ) : List ℕ → Type 0 where
   plain : has_unresolved_symbol t.reference ≡ false → ArePlacedStatementBytes places sources number t at t.bytes
   filled :
@@ -36,7 +36,7 @@ pub record StatementIsPlaced (places : List PlaceData) (sources : List (List ℕ
   pub are : ArePlacedStatementBytes places sources number t (base + offset_of ts index t.section) bytes
   pub there : HoldsFrom image (base + offset_of ts index t.section) bytes
 
--- an address within a statement
+-- an address in the linked image is within the bytes of a source statement
 pub record IsInPlacedStatement (places : List PlaceData) (sources : List (List ℕ)) (q : ℕ) : Type 0 where
   pub number : ℕ
   pub source : List ℕ
@@ -50,7 +50,7 @@ pub record IsInPlacedStatement (places : List PlaceData) (sources : List (List �
   pub high : q < base + offset_of (statements_in source) index statement.section + length statement.bytes
 
 -- ---- images
--- an address, and the number of bytes there
+-- the address of a segment in an image linked from sources, and the number of its bytes
 pub record PlacedSpanData : Type 0 where
   pub at : ℕ
   pub size : ℕ

@@ -29,17 +29,20 @@ AreProgramObjects [] (o ∷ os) = ⊥
 AreProgramObjects (x ∷ xs) [] = ⊥
 AreProgramObjects (x ∷ xs) (o ∷ os) = (KeepsRules (lines_in x) (length (lines_in x)) × (o ≡ object_of_draft (draft_in x))) × AreProgramObjects xs os
 
--- in an image linked from such objects, each place with bytes is one segment
+-- law of linking: in an image linked from assembled sources, each place of the layout with bytes is
+-- one segment
 abbrev pub PlacedSegmentsLaw : Type 0
 PlacedSegmentsLaw = (sources : List (List ℕ)) (objects : List ObjectData) (layout : LayoutData) (image : ImageData) → AreProgramObjects sources objects → image_of_objects objects layout ≡ Ok image
     → map placed_segment_span image.segments ≡ filter (λ s. nat_lt 0 s.size) (map (place_span (program_sections sources)) layout.places)
 
--- in an image linked from such objects, the entry is the address of the layout's entry symbol
+-- law of linking: in an image linked from assembled sources, the entry is the address of the
+-- layout's entry symbol
 abbrev pub PlacedEntryLaw : Type 0
 PlacedEntryLaw = (sources : List (List ℕ)) (objects : List ObjectData) (layout : LayoutData) (image : ImageData) → AreProgramObjects sources objects → image_of_objects objects layout ≡ Ok image
     → GlobalHasAddress layout.places sources layout.entry image.entry
 
--- an image linked from such objects by a layout has the bytes of the sources
+-- law of linking: an image linked from assembled sources by a layout has each statement's bytes at
+-- its address
 abbrev pub PlacedLaw : Type 0
 PlacedLaw = (sources : List (List ℕ)) (objects : List ObjectData) (layout : LayoutData) (image : ImageData) → IsLayout layout → AreProgramObjects sources objects → image_of_objects objects layout ≡ Ok image
     → Placed sources layout image
@@ -77,7 +80,8 @@ pub record PlacedJumpReaches (places : List PlaceData) (sources : List (List ℕ
   pub means : NameHasAddress places sources number r.name address
   pub is : (at + short_jump_displacement spells.row spells.fields) % 2 ^ 32 ≡ placed_symbol_value address r
 
--- each statement of the image whose symbol takes no relocation reaches the address of its name
+-- law of linking: each jump or call of 16 bits, which takes no relocation, reaches the address of
+-- its name in the source
 abbrev pub PlacedJumpsLaw : Type 0
 PlacedJumpsLaw = (sources : List (List ℕ)) (objects : List ObjectData) (layout : LayoutData) (number index : ℕ) (source : List ℕ) (t : StatementData) (r : ReferenceData) (base : ℕ)
     → AreProgramObjects sources objects → slice_get sources number ≡ Some source → slice_get (statements_in source) index ≡ Some t → t.reference ≡ Some r → r.kind ≡ 0

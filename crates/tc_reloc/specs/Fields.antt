@@ -9,7 +9,8 @@ use Rattle.tcd_base.specs.Bytes.{word_in_bytes, bytes_of_word}
 abbrev pub reloc_distance : ℕ → ℕ → ℕ
 reloc_distance place value = (value + 2 ^ 32 - place) % 2 ^ 32
 
--- the number in the field
+-- the number that a relocation of this kind writes into its field, for a value and the field's own
+-- address
 unfoldable pub reloc_field_number : ℕ → ℕ → ℕ → ℕ
 reloc_field_number kind place value =
     -- the displacement in halfwords, of 24 bits
@@ -25,7 +26,7 @@ reloc_field_number kind place value =
     -- the whole word
     else value
 
--- the numbers that the field can hold are those below this
+-- the field of a relocation of this kind can hold exactly the numbers below this
 unfoldable pub reloc_field_bound : ℕ → ℕ
 reloc_field_bound kind =
     if kind == rel24 || kind == abs24 then 2 ^ 24
@@ -33,7 +34,7 @@ reloc_field_bound kind =
     else if kind == word32 then 2 ^ 32
     else 2 ^ 16
 
--- a number in the field, and zeros elsewhere
+-- the word with a number in the field of a relocation of this kind, and zeros elsewhere
 unfoldable pub reloc_field_bits : ℕ → ℕ → ℕ
 reloc_field_bits kind k =
     -- form B: k[15:0] in 31:16, k[23:16] in 15:8
@@ -47,7 +48,7 @@ reloc_field_bits kind k =
     -- four bytes
     else k
 
--- the word with zeros in the field
+-- the word with zeros in the field that a relocation of this kind fills
 unfoldable pub bits_outside_reloc_field : ℕ → ℕ → ℕ
 bits_outside_reloc_field kind w =
     if kind == rel24 || kind == abs24 then w % 2 ^ 8

@@ -4,7 +4,8 @@ ghost use Rattle.tc_reloc.specs.Fields.{reloc_field_number, bits_outside_reloc_f
 
 use tc_isa::{ABS24, HI16, LO16, OFFSET16, REL15, REL24};
 
-/// The number that goes into the field.
+/// The number that a relocation of this kind, at address `place`, writes into its field for
+/// `value`.
 #[tactic(auto, unfolding(crate::specs::Fields::reloc_field_number))]
 pub(crate) fn reloc_field_number(kind: u8, place: u32, value: u32) -> u32
     ensures { result ≡ reloc_field_number kind place value }
@@ -19,7 +20,7 @@ pub(crate) fn reloc_field_number(kind: u8, place: u32, value: u32) -> u32
     }
 }
 
-/// The bits outside the field.
+/// The word with zeros in the field that a relocation of this kind fills.
 #[tactic(auto, unfolding(crate::specs::Fields::bits_outside_reloc_field))]
 pub(crate) fn bits_outside_reloc_field(kind: u8, word: u32) -> u32
     ensures { result ≡ bits_outside_reloc_field kind word }
@@ -33,7 +34,8 @@ pub(crate) fn bits_outside_reloc_field(kind: u8, word: u32) -> u32
     }
 }
 
-/// The word with this number in the field and zeros elsewhere.
+/// The word with this number in the field that a relocation of this kind fills, and zeros
+/// elsewhere.
 #[tactic(auto, unfolding(crate::specs::Fields::reloc_field_bits, crate::specs::Fields::reloc_field_bound))]
 pub(crate) fn reloc_field_bits(kind: u8, content: u32) -> u32
     requires { content < reloc_field_bound kind }

@@ -17,7 +17,8 @@ pub enum RelocErr {
     Segment,
 }
 
-/// The first reason why this kind can't take the value at the place, if there is one.
+/// The first reason why a relocation of this kind at address `place` can't take the value, if there
+/// is one.
 #[tactic(auto, unfolding(crate::specs::Refusals::reloc_value_refusal))]
 pub(crate) fn reloc_value_refusal(kind: u8, place: u32, value: u32) -> Option<RelocErr>
     ensures { result ≡ reloc_value_refusal kind place value }

@@ -31,8 +31,8 @@ pub(crate) enum Effect {
     Unknown,
 }
 
-/// Counts the areas in use anew along their chain. If there are none, consecutive areas begin at
-/// the first free one.
+/// Counts the save areas in use by a walk along their chain. They are known to be consecutive only
+/// if there are none.
 pub(crate) fn count_areas_in_use(m: &Machine) -> AreasUsed
     ensures { IsAreaCountOf result m.now }
 {
@@ -44,8 +44,8 @@ pub(crate) fn count_areas_in_use(m: &Machine) -> AreasUsed
     }
 }
 
-/// Returns the effect of an event on the areas in use, which is known of more events if they are
-/// consecutive. The machine runs before it and after it.
+/// Returns the effect of an event on the save areas in use: more is known if they are consecutive.
+/// The machine runs before and after the event.
 pub(crate) fn area_effect_of_event(
     m: &Machine,
     event: &Event,
@@ -179,7 +179,8 @@ fn area_effect_of_load(m: &Machine, event: &Event, used: AreasUsed, addr: u32, s
     }
 }
 
-/// Returns the effect of a store that may trap.
+/// Returns the effect of a store on the areas in use: that of a save of a context if the store
+/// traps, else that of its bytes.
 fn area_effect_of_store_or_trap(
     m: &Machine,
     event: &Event,
@@ -221,7 +222,8 @@ fn area_effect_of_other(m: &Machine, event: &Event, shape: Shape, used: AreasUse
     }
 }
 
-/// Returns the effect of a store: none, if it misses all areas in use.
+/// Returns the effect on the areas in use of a store that doesn't trap: none, only if the store
+/// misses all of them, or unknown.
 fn area_effect_of_store(m: &Machine, used: AreasUsed, addr: u32, size: u8) -> Effect
     requires counted { IsAreaCountOf used m.now }
     requires row { used.in_row ≡ true }

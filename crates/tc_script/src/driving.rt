@@ -73,7 +73,8 @@ fn is_machine_running(m: &Machine) -> bool
     }
 }
 
-/// Returns the event of a turn; `found` is what the bytes at pc do.
+/// Returns the event of turn `t` of a script, whose input is what the ports answer; `found` is what
+/// the bytes at pc do.
 fn event_of_turn<F: Fn(u32, u32) -> u32>(
     ports: &Ports<F>,
     m: &Machine,

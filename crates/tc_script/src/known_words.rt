@@ -30,7 +30,7 @@ fn known_word_place(word: u32) -> usize
 }
 
 impl KnownWords {
-    /// Returns a cache without words.
+    /// Returns the cache of decoded words with which the run of a script begins: without words.
     pub(crate) fn new() -> KnownWords
         ensures { All IsKnownWord result.words }
     {
@@ -50,8 +50,8 @@ impl KnownWords {
         }
     }
 
-    /// Returns the place of the table that holds what the bytes at pc do. If none does yet, the
-    /// bytes are decoded into it.
+    /// Returns the place in the cache of decoded words that holds what the bytes at pc do, after
+    /// decoding them if no place does yet.
     pub(crate) fn find_or_decode_at_pc(&mut self, m: &Machine) -> usize
         requires { All IsKnownWord self.old.words }
         ensures place { result < 1024 }
@@ -71,7 +71,8 @@ impl KnownWords {
         place
     }
 
-    /// Decodes the bytes at pc into a place of the table, for the word that they are, or for none.
+    /// Decodes the bytes at pc into a place of the cache, as what this word does, or as an entry
+    /// that names no word.
     #[inline(never)]
     fn decode_into(&mut self, m: &Machine, place: usize, word: Option<u32>)
         requires place { place < 1024 }

@@ -55,7 +55,8 @@ impl<F: Fn(u32, u32) -> u32> Ports<F> {
             .any(|device| device.range.holds(addr, u32::from(size)))
     }
 
-    /// Returns the closure's answer.
+    /// Returns what the closure answers for an address of a peripheral at the event with number
+    /// `t`.
     pub(crate) fn ask(&self, addr: u32, t: u32) -> u32
         requires { F.pre self.now.answer addr t }
         ensures { F.post self.now.answer addr t result }

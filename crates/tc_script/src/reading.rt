@@ -69,7 +69,8 @@ impl Draft {
         }
     }
 
-    /// Reads a line and applies its statement.
+    /// Reads line `number` of a script and applies its statement to the draft, or returns the
+    /// line's error.
     fn read_line(&mut self, plan: &Plan, number: u32, line: &[u8]) -> Result<(), ScriptErr>
         requires { length self.old.script.bounds ≡ length plan.now.devices }
         ensures read { GivesScriptDraft result self.new
@@ -82,7 +83,8 @@ impl Draft {
         }
     }
 
-    /// Applies a statement.
+    /// Applies the statement of a script's line to the draft: adds turns, or sets bounds or the
+    /// trap of misaligned accesses.
     #[tactic(auto, unfolding(crate::specs::ScriptText::script_draft_after_statement))]
     fn apply_statement(&mut self, plan: &Plan, line: u32, said: Statement) -> Result<(), ScriptErr>
         requires ordered { HasOrderedBounds said }
@@ -115,7 +117,8 @@ impl Draft {
         }
     }
 
-    /// Adds `count` turns with this interrupt.
+    /// Adds `count` turns with this interrupt, or returns `TooMany` if the script would then have
+    /// more than 100,000 turns.
     fn add_turns(&mut self, line: u32, count: u32, irq: u8) -> Result<(), ScriptErr>
         ensures turns { GivesScriptDraft result self.new (with_turns line count irq self.old) }
         ensures devices { length self.new.script.bounds ≡ length self.old.script.bounds }

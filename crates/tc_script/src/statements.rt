@@ -18,7 +18,7 @@ pub(crate) enum Statement {
     In { device: u32, lo: u32, hi: u32 },
 }
 
-/// Returns the statement of a script's line.
+/// Returns the statement of a script's line, or None if the line has no statement's form.
 #[tactic(auto, using(crate::proofs::Inside::more_words_say_nothing, crate::proofs::Inside::one_ordered, crate::proofs::Inside::three_ordered), unfolding(crate::specs::Statements::script_statement_of))]
 pub(crate) fn script_statement_in(line: &[u8]) -> Option<Statement>
     ensures said { result ≡ script_statement_of (line_words line.now) }

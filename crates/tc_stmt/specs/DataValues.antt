@@ -13,7 +13,8 @@ use Rattle.tc_stmt.specs.Items.{ItemData, bytes, zeros}
 abbrev pub is_value_within_width : ℕ → Bool → ℕ → Bool
 is_value_within_width bits minus size = if minus then nat_le size (2 ^ bits / 2) else nat_lt size (2 ^ bits)
 
--- the least rule that a value of this many bytes breaks; 15 is none
+-- the least rule that a value of `.byte`, `.half` or `.word`, of this many bytes, breaks; 15 is
+-- none
 unfoldable pub value_rule : ℕ → OperandData → ℕ
 value_rule width o =
     if o.is_memory then wrong_operands
@@ -22,7 +23,8 @@ value_rule width o =
     else (if is_symbol_operand (shape_index o.value.shape) then (if width == 4 then symbol_rule o.value else min misplaced_symbol (symbol_rule o.value))
     else (if is_half_operand (shape_index o.value.shape) then min misplaced_symbol (symbol_rule o.value) else wrong_operands))))
 
--- the item for a value of this many bytes: the lowest byte first, and zeros if it breaks a rule
+-- the item for a value of `.byte`, `.half` or `.word`, of this many bytes: the lowest byte first,
+-- and zeros if it breaks a rule
 unfoldable pub value_item : ℕ → OperandData → ItemData
 value_item width o =
     if not (value_rule width o == no_rule) then zeros width
@@ -41,6 +43,6 @@ space_rule o =
 unfoldable pub space_item : OperandData → ItemData
 space_item o = zeros (if space_rule o == no_rule then o.value.size else 0)
 
--- the least rule that values break; no values break rule 3
+-- the least rule that the values of `.byte`, `.half` or `.word` break; no values break rule 3
 unfoldable pub values_rule : ℕ → List OperandData → ℕ
 values_rule width os = fold (λ rule o. min rule (value_rule width o)) (if length os == 0 then wrong_operands else no_rule) os

@@ -25,7 +25,7 @@ unfoldable pub displacement_rule : RowData → Bool → ℕ → ℕ
 displacement_rule r minus size =
     min (if is_far_displacement r.form (bounds r.form).k minus size then (if is_long r then wide_number else far_target) else no_rule) (if is_odd_displacement size then odd_displacement else no_rule)
 
--- the fields with a displacement of this many bytes
+-- a row's fields after a jump's displacement of this many bytes fills one of them, or breaks a rule
 unfoldable pub with_displacement : RowData → Bool → ℕ → RowFieldsData → RowFieldsData
 with_displacement r minus size acc =
     if displacement_rule r minus size == no_rule then with_value K (operand_number_modulo (bounds r.form).k minus (size / 2)) acc else with_rule (displacement_rule r minus size) acc
@@ -35,6 +35,6 @@ with_displacement r minus size acc =
 unfoldable pub target_operand_relocation : RowData → ℕ
 target_operand_relocation r = if is_long r then (if is_b_form r.form then rel24 else rel15) else 0
 
--- a displacement can be negative, except in SBR rows
+-- the displacement of a jump or call of this form can be negative: in all forms but SBR
 unfoldable pub is_two_way : Form → Bool
 is_two_way form = not (is_sbr_form form)

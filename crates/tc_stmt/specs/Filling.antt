@@ -21,7 +21,8 @@ use Rattle.tc_stmt.specs.Items.{ReferenceData}
 use Rattle.tc_stmt.specs.Displacements.{target_operand_relocation, with_displacement}
 use Rattle.tc_stmt.specs.declared.row_fields.RowFields.{RowFields}
 
--- a register of the data bank (false) or the address bank (true), else rule 4
+-- a row's fields with a register of the data bank (false) or the address bank (true) in one of
+-- them; another name breaks rule 4
 unfoldable pub put_register : Bool → Field → List ℕ → RowFieldsData → RowFieldsData
 put_register bank field name acc =
     if register_by_name name / 16 == (if bank then 1 else 0) then with_value field (register_by_name name % 16) acc else with_rule wrong_register acc
@@ -33,7 +34,8 @@ is_within_field_bound signed bound minus size =
     then (if minus then nat_le size (bound / 2) else nat_lt size (bound / 2))
     else (if minus then size == 0 else nat_lt size bound)
 
--- a number that fits its field in an instruction of this form, else rule 5
+-- a row's fields with a number in one of them, whose bound depends on the form; a number that
+-- doesn't fit breaks rule 5
 unfoldable pub put_number : Form → Bool → Field → Bool → ℕ → RowFieldsData → RowFieldsData
 put_number form signed field minus size acc =
     if is_within_field_bound signed (field_of field (bounds form)) minus size then with_value field (operand_number_modulo (field_of field (bounds form)) minus size) acc else with_rule wide_number acc
@@ -42,11 +44,13 @@ put_number form signed field minus size acc =
 abbrev pub reference : ℕ → ValueData → ReferenceData
 reference kind v = record { kind = kind; name = v.name; minus = v.minus; size = v.size }
 
--- a symbol in a place that takes one
+-- a row's fields with an operand's symbol noted, in a place that takes one, or with the rule that
+-- the symbol breaks
 unfoldable pub with_symbol : ℕ → ValueData → RowFieldsData → RowFieldsData
 with_symbol kind v acc = if symbol_rule v == no_rule then record acc { reference = Some (reference kind v) } else with_rule (symbol_rule v) acc
 
--- a symbol in a place that takes none
+-- a row's fields after an operand's symbol in a place that takes none: rule 10 is broken, or a
+-- smaller one
 abbrev pub with_misplaced : ValueData → RowFieldsData → RowFieldsData
 with_misplaced v acc = with_rule (min misplaced_symbol (symbol_rule v)) acc
 
@@ -62,7 +66,8 @@ half_operand_relocation r s =
     then (if is_named_row r (codes "movh") || is_named_row r (codes "movh.a") || is_named_row r (codes "addih") || is_named_row r (codes "addih.a") then hi16 else 0)
     else (if is_named_row r (codes "addi") then lo16 else (if is_bol_form r.form then offset16 else 0))
 
--- a value as a constant
+-- a row's fields after an operand's value as a constant, which may break a rule; None if the value
+-- has another form
 unfoldable pub fill_constant : RowData → Bool → Field → ValueData → RowFieldsData → Option RowFieldsData
 fill_constant r signed field v acc =
     if is_number_operand v.shape then Some (put_number r.form signed field v.minus v.size acc)
@@ -71,8 +76,8 @@ fill_constant r signed field v acc =
     else (if is_half_operand (shape_index v.shape) then (if half_operand_relocation r v.shape == 0 then Some (with_misplaced v acc) else Some (with_symbol (half_operand_relocation r v.shape) v acc))
     else None)))
 
--- `[BASE]` or `[BASE+]`, with an offset if the row has one: base plus offset and post-increment
--- (TriCore 1 Architecture Manual V1.3, volume 1, addressing modes)
+-- A row's fields after `[BASE]` or `[BASE+]`, with an offset if the row has one; None if the
+-- operand has another form. Source: TriCore 1 Architecture Manual V1.3, volume 1, addressing modes.
 unfoldable pub fill_memory : RowData → Bool → Bool → OperandData → RowFieldsData → Option RowFieldsData
 fill_memory r plus offset o acc =
     if o.is_memory && (if o.plus then plus else not plus)
@@ -80,8 +85,8 @@ fill_memory r plus offset o acc =
     else (if offset then fill_constant r true K o.value (put_register true S2 o.base acc) else None))
     else None
 
--- A value as the target of a jump or call: a displacement from the instruction, or a symbol. A
--- displacement of 2^128 bytes or more doesn't fit any row.
+-- A row's fields after a value as the target of a jump or call: a displacement from the
+-- instruction, or a symbol. A displacement of 2^128 bytes or more doesn't fit any row.
 unfoldable pub fill_target : RowData → ValueData → RowFieldsData → Option RowFieldsData
 fill_target r v acc =
     if is_sum_operand v.shape && bytes_eq v.name (codes ".")
@@ -90,7 +95,8 @@ fill_target r v acc =
     else (if is_half_operand (shape_index v.shape) then Some (with_misplaced v acc)
     else None))
 
--- the field of an absolute address, which has zeros between its segment and its field, else rule 5
+-- a row's fields with an absolute address in the constant; an address that the field can't hold
+-- breaks rule 5
 unfoldable pub put_absolute : Form → Bool → ℕ → RowFieldsData → RowFieldsData
 put_absolute form minus size acc =
     if (minus && not (size == 0)) || nat_le (2 ^ 32) size then with_rule wide_number acc
@@ -98,7 +104,8 @@ put_absolute form minus size acc =
     then (if size / 2 ^ 14 % 2 ^ 14 == 0 then with_value K (size / 2 ^ 28 * 2 ^ 14 + size % 2 ^ 14) acc else with_rule wide_number acc)
     else (if size / 2 ^ 21 % 2 ^ 7 == 0 && size % 2 == 0 then with_value K (size / 2 ^ 28 * 2 ^ 20 + size % 2 ^ 21 / 2) acc else with_rule wide_number acc))
 
--- a value as an absolute address: a number, or a symbol in the rows of jumps and calls
+-- a row's fields after a value as an absolute address: a number, or a symbol in rows of jumps and
+-- calls; None for another form
 unfoldable pub fill_absolute : RowData → ValueData → RowFieldsData → Option RowFieldsData
 fill_absolute r v acc =
     if is_number_operand v.shape then Some (put_absolute r.form v.minus v.size acc)
@@ -107,16 +114,17 @@ fill_absolute r v acc =
     else (if is_half_operand (shape_index v.shape) then Some (with_misplaced v acc)
     else None)))
 
--- a value as a register: a name
+-- a row's fields after a value that names a register; None if the value is no name
 unfoldable pub fill_register : Bool → Field → ValueData → RowFieldsData → Option RowFieldsData
 fill_register bank field v acc = if is_name_operand v.shape then Some (put_register bank field v.name acc) else None
 
--- The value a10, the stack pointer, which no field holds. Source: manual, volume 1, general purpose
--- and system registers.
+-- A row's fields after the value a10, the stack pointer, which no field holds; another name breaks
+-- rule 4. Source: manual, volume 1, general purpose and system registers.
 unfoldable pub fill_a10 : ValueData → RowFieldsData → Option RowFieldsData
 fill_a10 v acc = if is_name_operand v.shape then (if bytes_eq v.name (codes "a10") then Some acc else Some (with_rule wrong_register acc)) else None
 
--- an operand without brackets
+-- a row's fields after an operand without brackets, by what the row wants there; None if the
+-- operand has another form
 unfoldable pub fill_plain : RowData → Want → ValueData → RowFieldsData → Option RowFieldsData
 fill_plain r (Reg bank field) v acc = fill_register bank field v acc
 fill_plain r A10 v acc = fill_a10 v acc
@@ -125,19 +133,21 @@ fill_plain r Target v acc = fill_target r v acc
 fill_plain r Absolute v acc = fill_absolute r v acc
 fill_plain r (Memory plus offset) v acc = None
 
--- the operand that the row wants here
+-- a row's fields after an operand, by what the row wants there; None if the operand has another
+-- form
 unfoldable pub fill : RowData → Want → OperandData → RowFieldsData → Option RowFieldsData
 fill r (Memory plus offset) o acc = fill_memory r plus offset o acc
 fill r w o acc = if o.is_memory then None else fill_plain r w o.value acc
 
--- all operands, each at its own place
+-- a row's fields after all operands of a statement, each by what the row wants there; None if their
+-- number or a form differs
 unfoldable pub fill_operands : RowData → List Want → List OperandData → RowFieldsData → Option RowFieldsData
 fill_operands r [] [] acc = Some acc
 fill_operands r [] (o ∷ os) acc = None
 fill_operands r (w ∷ ws) [] acc = None
 fill_operands r (w ∷ ws) (o ∷ os) acc = option_and_then (fill_operands r ws os) (fill r w o acc)
 
--- registers that must differ break rule 12 if they are equal
+-- a row's fields, with rule 12 noted if the row's registers must differ and are equal
 abbrev pub check_registers_apart : RowData → RowFieldsData → RowFieldsData
 check_registers_apart r f = if are_registers_apart r f.fields then f else with_rule equal_registers f
 

@@ -63,12 +63,13 @@ values_line width os = line_data (values_rule width os) (map (value_item width) 
 unfoldable pub size_of_name : List ℕ → ℕ
 size_of_name name = option_map_or (λ r. if is_long r then 4 else 2) (find (λ r. bytes_eq r.name name) listed) 0
 
--- an instruction; if it breaks a rule, zeros in the size of the instructions with its name
+-- the meaning of a line that is an instruction: its item; if a rule is broken, zeros in the size of
+-- instructions with its name
 abbrev pub code_line : List ℕ → Result (ℕ × RowFieldsData) ℕ → LineData
 code_line name (Ok found) = line_data no_rule (code found.0 found.1.fields found.1.reference ∷ [])
 code_line name (Err rule) = line_data rule (zeros (size_of_name name) ∷ [])
 
--- a statement: a directive, or an instruction
+-- the meaning of a line that is a statement with these operands: a directive, or an instruction
 unfoldable pub statement_line : List ℕ → List OperandData → LineData
 statement_line name os =
     if bytes_eq name (codes ".section") then named_line section os
@@ -80,7 +81,8 @@ statement_line name os =
     else code_line name (statement name os))))))
 
 -- ---- lines
--- the tokens from a place on: nothing, or a Word and operands
+-- the meaning of a line's tokens from this place on: nothing, or a statement's name and its
+-- operands; other tokens break rule 1
 unfoldable pub line_from : List PieceData → ℕ → LineData
 line_from ps at =
     if length ps == at then line_data no_rule []
@@ -95,7 +97,7 @@ has_label ps = is_token_kind ps 0 kind.Word && is_token_kind ps 1 kind.Colon
 abbrev pub line_with_label : List ℕ → LineData → LineData
 line_with_label name l = line_data l.rule (label name ∷ l.items)
 
--- a label, if the line begins with one, and what follows it
+-- the meaning of a line with these tokens: its label, if the line begins with one, and what follows
 unfoldable pub tokens_line : List PieceData → LineData
 tokens_line ps = if has_label ps then line_with_label (token_text ps 0) (line_from ps 2) else line_from ps 0
 

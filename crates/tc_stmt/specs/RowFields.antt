@@ -18,11 +18,11 @@ pub record RowFieldsData : Type 0 where
 abbrev pub row_fields_of : RowFields → RowFieldsData
 row_fields_of f = record { fields = f.fields; rule = f.rule; reference = option_map reference_of f.reference }
 
--- the state before the first operand: zero fields, no rule broken, no symbol
+-- a row's fields before the first operand: zeros, no rule broken, no symbol
 abbrev pub no_fields : RowFieldsData
 no_fields = record { fields = fields 0 0 0 0 0; rule = no_rule; reference = None }
 
--- the state after a rule is broken: the least rule counts
+-- a row's fields with a further broken rule noted: the least one counts
 abbrev pub with_rule : ℕ → RowFieldsData → RowFieldsData
 with_rule rule acc = record acc { rule = min acc.rule rule }
 

@@ -21,7 +21,7 @@ are_next_rows i [] ns = true
 are_next_rows i (r ∷ rs) [] = false
 are_next_rows i (r ∷ rs) (n ∷ ns) = nat_lt i n && are_rows_without_key (n - (i + 1)) (name_key r.name) rs && are_next_rows (i + 1) rs ns
 
--- no row before each place has the key
+-- the index of first rows is right: no row before the place for a key, from k on, has this key
 abbrev pub are_first_rows : ℕ → List RowData → List ℕ → Bool
 are_first_rows k rs [] = true
 are_first_rows k rs (n ∷ ns) = are_rows_without_key n k rs && are_first_rows (k + 1) rs ns

@@ -15,7 +15,8 @@ use Rattle.tc_stmt.specs.Filling.{fields_of_row}
 abbrev pub start_tally : Tally
 start_tally = record { named = false; fits = false; least = no_rule }
 
--- the row's fields if the statement fits it, else the tally after the row
+-- a row tried for a statement: the row's fields if the statement fits the row, else the tally of
+-- the rows tried
 unfoldable pub after_row : List ℕ → List OperandData → RowData → Tally → Result RowFieldsData Tally
 after_row name os r t =
     if bytes_eq r.name name

@@ -8,7 +8,7 @@ use Rattle.tc_stmt.specs.declared.want.Field.TheVariants.{C, S1, S2, N, K}
 use Rattle.tc_stmt.specs.declared.want.Want.{Want}
 use Rattle.tc_stmt.specs.declared.want.Want.TheVariants.{Reg, A10, Number, Target, Absolute, Memory}
 
--- the words of the operand texts
+-- the operand that a row wants, from its text in the row's operands, as `Ds1`, `sk4` or `[As2]sk`
 unfoldable pub want_of : List ℕ → Want
 want_of text =
     if bytes_eq text (codes "Dc") then Reg false C

@@ -14,7 +14,8 @@ use crate::{shape_index, symbol_rule};
 use std::alloc::AllocError;
 use tc_lex::Operand;
 
-/// The least rule that a value of `width` bytes breaks, or no rule.
+/// The least rule that a value of `.byte`, `.half` or `.word` breaks, or no rule. `width` is its
+/// number of bytes.
 #[tactic(auto, unfolding(crate::specs::DataValues::value_rule))]
 pub(crate) fn value_rule(width: u8, o: &Operand<'_>) -> u8
     requires { (width ≡ 1) ⊎ ((width ≡ 2) ⊎ (width ≡ 4)) }
@@ -46,8 +47,8 @@ pub(crate) fn value_rule(width: u8, o: &Operand<'_>) -> u8
     }
 }
 
-/// The item for a value of `width` bytes; `rule` is the least rule that the value breaks, or no
-/// rule. If it breaks one, its bytes are zeros.
+/// The item that a value of `.byte`, `.half` or `.word` adds to its source: `width` bytes, which
+/// are zeros if the value breaks `rule`.
 #[tactic(auto, unfolding(crate::specs::DataValues::value_item))]
 pub(crate) fn value_item<'a>(rule: u8, width: u8, o: &Operand<'a>) -> Item<'a>
     requires rule { rule ≡ value_rule width (operand_of o.now) }
@@ -156,7 +157,7 @@ fn is_value_within_width(width: u8, minus: bool, size: u128) -> bool
     }
 }
 
-// A number of at most 32 bits, modulo 2^32, as little-endian bytes.
+// The four bytes of a data value, the lowest first: `size` modulo 2^32, or its negative if `minus`.
 fn data_word_bytes(minus: bool, size: u32) -> [u8; 4]
     ensures { result ≡ four_bytes (operand_number_modulo (2 ^ 32) minus size) }
 {

@@ -152,7 +152,7 @@ fn add_label<'a>(name: &'a [u8], items: &mut Vec<Item<'a>>) -> Result<(), AllocE
     Ok(())
 }
 
-// Adds no item, and returns the rule.
+// Returns the rule of a line that adds no item to its source.
 fn add_no_item(rule: u8, items: &mut Vec<Item<'_>>) -> Result<u8, AllocError>
     ensures { AddsLine (line_data rule []) result items.old.items items.new.items }
 {
@@ -271,7 +271,8 @@ fn space_line<'a>(os: &[Operand<'a>], items: &mut Vec<Item<'a>>) -> Result<u8, A
     space_operand_line(&os[0], items)
 }
 
-/// Reads the line of an instruction; if it breaks a rule, its item is zeros.
+/// Reads the line of an instruction: adds its item, or zeros of its size if a rule is broken, and
+/// returns that rule.
 fn code_line<'a>(
     name: &[u8],
     os: &[Operand<'a>],
@@ -301,7 +302,8 @@ fn only_operand_name<'a>(os: &[Operand<'a>]) -> Option<&'a [u8]>
     }
 }
 
-// Adds one item, and returns the rule.
+// Adds one item of a line to those of its source, and returns the rule that the line breaks, or no
+// rule.
 fn add_item<'a>(rule: u8, item: Item<'a>, items: &mut Vec<Item<'a>>) -> Result<u8, AllocError>
     ensures { AddsLine (line_data rule
         (item_of item.entry ∷ [])) result items.old.items items.new.items }

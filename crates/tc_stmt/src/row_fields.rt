@@ -72,7 +72,7 @@ pub(crate) fn no_fields<'a>() -> RowFields<'a>
     }
 }
 
-/// Notes that a rule is broken. The least one counts.
+/// Notes among a row's fields that an operand breaks a rule. The least rule counts.
 pub(crate) fn break_rule(rule: u8, acc: &mut RowFields<'_>)
     ensures { row_fields_of acc.new ≡ with_rule rule (row_fields_of acc.old) }
 {

@@ -189,7 +189,8 @@ pub(crate) fn next_rows() -> &'static [u8]
     &NEXT
 }
 
-/// A row number such that no earlier row has the key of this name.
+/// The first row to try in the search for a statement's row: no earlier row has the key of this
+/// name.
 pub(crate) fn first_row(first: &[u8], name: &[u8]) -> usize
     ensures { (rows : List RowData) → are_first_rows 0 rows first.now ≡ true
         → are_rows_without_key result (name_key name.now) rows ≡ true }
@@ -202,7 +203,8 @@ pub(crate) fn first_row(first: &[u8], name: &[u8]) -> usize
     }
 }
 
-/// A row number after `i` such that no row between them has the key of this name.
+/// The row to try after row `i` in the search for a statement's row: no row between them has the
+/// key of this name.
 pub(crate) fn next_row(rows: &[Row], next: &[u8], i: usize, name: &[u8]) -> usize
     requires place { i < length rows.now }
     requires next { are_next_rows 0 (map row_of rows.now) next.now ≡ true }
@@ -224,7 +226,7 @@ pub(crate) fn find_row<'a>(rows: &'a [Row], name: &[u8]) -> Option<&'a Row>
     rows.iter().find(|r| r.name.as_bytes() == name)
 }
 
-// The first row of an instruction's name.
+// The first row of the instruction table with this name, if an instruction has it.
 pub(crate) fn row_of_name(name: &[u8]) -> Option<&'static Row>
     ensures { option_map (λ r. row_of r.now) result ≡ find (λ r. bytes_eq r.name name.now) listed }
 {
@@ -240,7 +242,7 @@ fn name_key(name: &[u8]) -> usize
     (front + 9 * name_byte_at(name, 2) + 7 * name_byte_at(name, 3) + name.len()) % 256
 }
 
-// The byte at this place, and 0 after the end.
+// The byte of a statement's or a row's name at this place, and 0 after the end.
 fn name_byte_at(text: &[u8], i: usize) -> usize
     ensures value { result ≡ slice_index text.now i }
     ensures small { result < 256 }

@@ -69,7 +69,8 @@ fn source_line_before(rest: &[u8], i: usize) -> &[u8]
     &rest[..i]
 }
 
-// Reads the next line, with two lists as scratch space.
+// Reads the next line of a source, and adds the line and its items to the lists. Two other lists
+// are scratch space.
 #[inline(always)]
 fn add_source_line<'a>(
     line: &'a [u8],

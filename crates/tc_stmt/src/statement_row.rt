@@ -27,8 +27,8 @@ pub fn statement<'a>(name: &[u8], os: &[Operand<'a>]) -> Result<(u8, RowFields<'
     search_statement_row(rows(), wants(), first_rows(), next_rows(), name, os)
 }
 
-/// The row of a statement with its fields, or the least rule that the statement breaks. The search
-/// visits only rows with the key of the name.
+/// Searches the instruction table for a statement's row: returns the row with its fields, or the
+/// least rule broken. Only rows with the name's key are visited.
 fn search_statement_row<'a>(
     rows: &[Row],
     wants: &[&[Want]],
@@ -61,7 +61,8 @@ fn search_statement_row<'a>(
     Err(tally_rule(so_far))
 }
 
-/// Tries a row: fills its fields if the statement fits it, else returns the tally after it.
+/// Tries a row for a statement: fills the row's fields if the statement fits, else returns the
+/// tally of the rows tried.
 #[tactic(auto, unfolding(crate::specs::StatementRow::after_row))]
 fn try_statement_row<'a>(
     row: &Row,
@@ -82,8 +83,8 @@ fn try_statement_row<'a>(
     }
 }
 
-// Tries a row with this name: fills its fields if the statement fits, else returns the tally after
-// it.
+// Tries a row that has the statement's name: fills its fields if the operands fit, else returns the
+// tally of the rows tried.
 #[inline(never)]
 #[tactic(auto, unfolding(crate::specs::StatementRow::after_row))]
 fn try_row_of_name<'a>(

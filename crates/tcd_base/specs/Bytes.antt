@@ -1,7 +1,7 @@
 -- Numbers in lists of bytes, little-endian as in the ELF specification (ELFDATA2LSB).
 use Rattle.std.specs.Prelude.{◌+◌, ◌*◌, ◌/◌, ◌%◌, ℕ, List, ◌∷◌, slice_index, ◌^◌, ◌<◌, []}
 
--- the two bytes from a place on, as a number
+-- a little-endian halfword in a list of bytes, as a number: the two bytes from a place on
 abbrev pub half_in_bytes : List ℕ → ℕ → ℕ
 half_in_bytes bytes place = slice_index bytes place + slice_index bytes (place + 1) * 256
 
@@ -9,11 +9,11 @@ half_in_bytes bytes place = slice_index bytes place + slice_index bytes (place +
 abbrev pub word_in_bytes : List ℕ → ℕ → ℕ
 word_in_bytes bytes place = slice_index bytes place + slice_index bytes (place + 1) * 256 + slice_index bytes (place + 2) * 65536 + slice_index bytes (place + 3) * 16777216
 
--- the two low bytes of a number
+-- the two low bytes of a number, the lowest first
 abbrev pub bytes_of_half : ℕ → List ℕ
 bytes_of_half x = x % 256 ∷ x / 256 % 256 ∷ []
 
--- the four low bytes of a number
+-- the four low bytes of a number, the lowest first
 abbrev pub bytes_of_word : ℕ → List ℕ
 bytes_of_word x = x % 256 ∷ x / 256 % 256 ∷ x / 65536 % 256 ∷ x / 16777216 % 256 ∷ []
 

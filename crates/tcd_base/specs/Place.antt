@@ -1,7 +1,7 @@
 -- What callers see of a cursor.
 use Rattle.std.specs.Prelude.{ℕ, List, ◌++◌, length}
 
--- bytes, and the place of the first byte that wasn't taken yet
+-- what callers see of a cursor: its bytes, and the place of the first byte that wasn't taken yet
 pub record Place : Type 0 where
   pub bytes : List ℕ
   pub place : ℕ

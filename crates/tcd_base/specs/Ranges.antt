@@ -16,7 +16,7 @@ abbrev pub IsInOneRange : ℕ → ℕ → List Range → Type 0
 IsInOneRange x n [] = ⊥
 IsInOneRange x n (r ∷ rs) = IsWithinRange x n r ⊎ IsInOneRange x n rs
 
--- the test of IsWithinRange
+-- the test of IsWithinRange: the n addresses from x on are inside the range
 abbrev pub is_within_range : ℕ → ℕ → Range → Bool
 is_within_range x n r = nat_le r.at x && nat_le (x + n) (range_end r)
 
@@ -24,6 +24,6 @@ is_within_range x n r = nat_le r.at x && nat_le (x + n) (range_end r)
 abbrev pub is_address_in_ranges : List Range → ℕ → Bool
 is_address_in_ranges ranges q = list_any (λ r. nat_le r.at q && nat_lt q (r.at + r.len)) ranges
 
--- len bytes at an address
+-- the range of len addresses from an address on
 abbrev pub range : ℕ → ℕ → Range
 range at len = record { at = at; len = len }

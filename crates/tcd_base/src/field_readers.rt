@@ -5,7 +5,7 @@ ghost use Rattle.tcd_base.specs.FieldReaders.{ReadsField, u8_at, u16_at, u32_at,
 use crate::errors::{SHORT, form_err_at};
 use crate::{FileCursor, FormErr};
 
-/// Reads a field of one byte.
+/// Reads a field of one byte at the cursor of a file; the fault is `SHORT` if the file ends before.
 #[tactic(auto, unfolding(crate::specs::FieldReaders::u8_at))]
 pub fn read_u8(c: &mut FileCursor<'_>) -> Result<u8, FormErr>
     ensures { ReadsField result c.old c.new u8_at }
@@ -17,7 +17,8 @@ pub fn read_u8(c: &mut FileCursor<'_>) -> Result<u8, FormErr>
     }
 }
 
-/// Reads a field of two bytes, little-endian.
+/// Reads a little-endian field of two bytes at the cursor of a file; the fault is `SHORT` if the
+/// file ends before.
 #[tactic(auto, unfolding(crate::specs::FieldReaders::u16_at))]
 pub fn read_u16(c: &mut FileCursor<'_>) -> Result<u16, FormErr>
     ensures { ReadsField result c.old c.new u16_at }
@@ -29,7 +30,8 @@ pub fn read_u16(c: &mut FileCursor<'_>) -> Result<u16, FormErr>
     }
 }
 
-/// Reads a field of four bytes, little-endian.
+/// Reads a little-endian field of four bytes at the cursor of a file; the fault is `SHORT` if the
+/// file ends before.
 #[tactic(auto, unfolding(crate::specs::FieldReaders::u32_at))]
 pub fn read_u32(c: &mut FileCursor<'_>) -> Result<u32, FormErr>
     ensures { ReadsField result c.old c.new u32_at }
@@ -41,7 +43,8 @@ pub fn read_u32(c: &mut FileCursor<'_>) -> Result<u32, FormErr>
     }
 }
 
-/// Reads a field of `n` bytes.
+/// Reads a field of `n` bytes at the cursor of a file; the fault is `SHORT` if the file ends
+/// before.
 #[tactic(auto, unfolding(crate::specs::FieldReaders::field_bytes_at))]
 pub fn read_bytes<'a>(c: &mut FileCursor<'a>, n: usize) -> Result<&'a [u8], FormErr>
     ensures read { MatchResult result (λ r. field_bytes_at n c.old ≡ Ok (r.now, c.new))

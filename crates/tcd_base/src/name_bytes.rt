@@ -49,7 +49,8 @@ pub fn are_name_bytes(bytes: &[u8]) -> bool
     bytes.iter().all(|c| is_name_byte(*c))
 }
 
-// Returns the table with the fact that it agrees with the definition.
+// Returns the table that says of each byte whether a name can have it after its first, as
+// `is_name_byte` does.
 #[tactic(auto, unfolding(crate::specs::NameBytes::is_name_byte, crate::specs::NameBytes::is_name_first))]
 fn name_byte_table() -> &'static [bool; 256]
     ensures count { length result.now ≡ 256 }

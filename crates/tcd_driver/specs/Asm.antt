@@ -12,7 +12,7 @@ pub record AsmNames : Type 0 where
   pub source : List ℕ
   pub object : List ℕ
 
--- the report with an object that is written under this name
+-- the report of `asm`: the object is written under this name, and the line has its size
 abbrev pub WritesObject : List ℕ → ObjectData → Report → Type 0
 WritesObject name object report = report ≡ report_with_file name (bytes_of_object object) (assembled_object_line (length (bytes_of_object object)))
 

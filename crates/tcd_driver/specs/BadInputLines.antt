@@ -30,11 +30,11 @@ use Rattle.tc_asm.specs.Rules.{IsFirstBrokenLine}
 unfoldable pub bad_words_line : List ℕ
 bad_words_line = codes "bad words" ++ 10 ∷ []
 
--- the bytes are no executable, and this is the line of their first fault
+-- the bad-input line on bytes that are no executable: it has their first fault
 abbrev pub IsNoImage : List ℕ → List ℕ → Type 0
 IsNoImage bytes line = (e : ImageErr) × (image_of_file bytes ≡ Err e) × (line ≡ bad_elf_line e)
 
--- the bytes are no plan, and this is the line of their first fault
+-- the bad-input line on bytes that are no plan: it has their first fault
 abbrev pub IsNoPlan : List ℕ → List ℕ → Type 0
 IsNoPlan bytes line = (e : PlanErr) × AnswersPlan bytes (Err e) × (e ≢ NoMemory) × (line ≡ bad_plan_line e)
 
@@ -42,11 +42,11 @@ IsNoPlan bytes line = (e : PlanErr) × AnswersPlan bytes (Err e) × (e ≢ NoMem
 abbrev pub IsNoCert : List ℕ → List ℕ → Type 0
 IsNoCert bytes line = (e : FormErr) × (certificate_of bytes ≡ Err e) × (line ≡ codes "bad cert " ++ (decimal e.kind ++ (codes " at " ++ (decimal e.at ++ 10 ∷ []))))
 
--- the bytes are no turn script for the plan, and this is the line of their first fault
+-- the bad-input line on bytes that are no turn script for the plan: it has their first fault
 abbrev pub IsNoScript : PlanData → List ℕ → List ℕ → Type 0
 IsNoScript plan bytes line = (e : ScriptErr) × (script_of plan bytes ≡ Err e) × (line ≡ bad_script_line e)
 
--- the bytes are no layout, and this is the line of their first fault
+-- the bad-input line on bytes that are no layout: it has their first fault
 abbrev pub IsNoLayout : List ℕ → List ℕ → Type 0
 IsNoLayout bytes line = (e : LayoutErr) × (layout_of bytes ≡ Err e) × (line ≡ bad_layout_line e)
 
@@ -75,11 +75,11 @@ bad_tasks_line task.NoRoom = codes "bad tasks 5" ++ 10 ∷ []
 bad_tasks_line task.OnIsp = codes "bad tasks 6" ++ 10 ∷ []
 bad_tasks_line task.Count = codes "bad tasks 7" ++ 10 ∷ []
 
--- the bytes are no cells of the plan, and this is the line of their first fault
+-- the bad-input line on bytes that are no cells of the plan: it has their first fault
 abbrev pub AreNoCells : PlanData → List ℕ → List ℕ → Type 0
 AreNoCells plan bytes line = (e : CellsErr) × cells.IsResultOfCellText plan bytes (Err e) × (line ≡ bad_cells_line e)
 
--- the bytes are no tasks of the plan, and this is the line of their first fault
+-- the bad-input line on bytes that are no tasks of the plan: it has their first fault
 abbrev pub AreNoTasks : PlanData → List ℕ → List ℕ → Type 0
 AreNoTasks plan bytes line = (e : TasksErr) × tasks.IsResultOfTaskText plan (text_lines bytes) (Err e) × (line ≡ bad_tasks_line e)
 

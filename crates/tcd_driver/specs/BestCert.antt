@@ -68,7 +68,7 @@ MakesBestCert image plan (Ok made) = IsAcceptedBestCert image plan made.0 × (ma
 MakesBestCert image plan (Err (make_err.Refused rule key addr)) = HasNoBestCert image plan rule key addr
 MakesBestCert image plan (Err make_err.NoMemory) = Unit {0}
 
--- the report that no certificate is made: the rule, with its place
+-- a command's report that no certificate is made: the rule that fails, with its address and frame
 abbrev pub IsNoCertReport : MakeErr → Report → Type 0
 IsNoCertReport (make_err.Refused rule key addr) report = report ≡ says Refused (refused_line rule key addr)
 IsNoCertReport make_err.NoMemory report = ⊥

@@ -64,7 +64,8 @@ pub record BootgenNames : Type 0 where
   pub at : ℕ
   pub source : List ℕ
 
--- the boot sequence is written as a source: the listing of the image whose only segment it is
+-- the report of `bootgen`: the boot sequence is written as a source, the listing of the image whose
+-- only segment is the sequence
 abbrev pub WritesBootSource : ℕ → ℕ → List ℕ → PlanData → Report → Type 0
 WritesBootSource entry at source plan report = report ≡ report_with_file source (listing_of (boot_image_of plan entry at)) generated_boot_line
 

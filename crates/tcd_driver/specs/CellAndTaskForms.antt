@@ -12,7 +12,8 @@ use Rattle.task_chains.specs.declared.task_lists.TasksErr.{TasksErr}
 use Rattle.tcd_forms.specs.Lines.{too_long_cells_line, too_long_tasks_line}
 use Rattle.tcd_driver.specs.BadInputLines.{bad_cells_line, bad_tasks_line}
 
--- a file of cells for a plan
+-- the form of files of cells for a plan: the limit in bytes, the cells that the bytes are, and the
+-- lines on bad files
 abbrev pub cells_form : PlanData → FormSeen (List Cell)
 cells_form p = record {
   limit = 2 ^ 24;
@@ -21,7 +22,8 @@ cells_form p = record {
   IsBad = λ bytes text. (e : CellsErr) × IsResultOfCellText p bytes (Err e) × (text ≡ bad_cells_line e);
 }
 
--- a file of tasks for a plan
+-- the form of files of tasks for a plan: the limit in bytes, the tasks that the bytes are, and the
+-- lines on bad files
 abbrev pub tasks_form : PlanData → FormSeen TasksData
 tasks_form p = record {
   limit = 2 ^ 24;

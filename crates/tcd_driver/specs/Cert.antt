@@ -19,8 +19,8 @@ pub record CertNames : Type 0 where
   pub plan : List ℕ
   pub cert : List ℕ
 
--- The report on an image and a plan. Either no certificate is accepted, and the line says why. Or
--- the best one is written under this name, and every run is safe with its need.
+-- The report of `cert` on an image and a plan. Either no certificate is accepted, and the line says
+-- why. Or the best one is written under this name, and every run is safe with its need.
 pub data IsCertReport (name : List ℕ) (image : ImageData) (plan : PlanData) (report : Report) : Type 0 where
   refused :
       (rule : ℕ) (key : Key) (addr : ℕ) → HasNoBestCert image plan rule key addr → report ≡ says Refused (refused_line rule key addr)

@@ -26,8 +26,8 @@ pub record IsCfgText (image : ImageData) (plan : PlanData) (text : List ℕ) : T
   pub graph : IsGraph image plan cert text
   pub edges : LinesHaveAllEdges image plan cert graph.lines
 
--- the report on an image and a plan: no certificate is accepted, and the line says why; or the text
--- is the graph of the best one
+-- the report of `cfg`: no certificate is accepted, and the line says why; or the text is the graph
+-- of the best one
 pub data IsCfgReport (image : ImageData) (plan : PlanData) (told : Report) : Type 0 where
   refused : (rule : ℕ) (key : Key) (addr : ℕ) → HasNoBestCert image plan rule key addr → told ≡ says Refused (refused_line rule key addr) → IsCfgReport image plan told
   drawn : (text : List ℕ) → IsCfgText image plan text → told ≡ says Done text → IsCfgReport image plan told

@@ -18,8 +18,8 @@ pub record CheckNames : Type 0 where
   pub plan : List ℕ
   pub cert : List ℕ
 
--- The verdict on an image, a plan and a certificate. Either the certificate isn't accepted, and the
--- line has its first fault. Or it is accepted, and every run is safe with its need.
+-- The verdict of `check` on a certificate. Either it isn't accepted, and the line has its first
+-- fault. Or it is accepted, and every run is safe with its need.
 pub data IsCheckVerdict (image : ImageData) (plan : PlanData) (cert : CertData) (report : Report) : Type 0 where
   refused :
       (rule : ℕ) (key : Key) (addr : ℕ) → IsFirstFault image plan cert rule key addr → report ≡ says Refused (refused_line rule key addr)

@@ -20,9 +20,9 @@ use Rattle.tcd_reading.specs.declared.status.Status.TheVariants.{Done, Refused}
 use Rattle.std.specs.Bool.{then_some}
 use Rattle.std.specs.Option.{option_and_then}
 
--- The report on an image of this number of functions and its plan. Either no certificate of format
--- 1 is accepted, and the line says why. Or the least one is made, every run is safe with its need,
--- and the line has the numbers of its nodes and points.
+-- The report of `gen` on its image and plan. Either no certificate of format 1 is accepted, and the
+-- line says why. Or the least one is made, every run is safe with its need, and the line counts its
+-- nodes and points.
 pub data IsGenReport (functions : ℕ) (image : ImageData) (plan : PlanData) (report : Report) : Type 0 where
   refused :
       (rule : ℕ) (key : Key) (addr : ℕ) → NoneAccepted image plan 1 → IsRefusal image plan 1 rule key addr → report ≡ says Refused (refused_line rule key addr)

@@ -38,7 +38,8 @@ use Rattle.depth_maker.specs.Answers.{NoneAccepted}
 use Rattle.tcd_driver.specs.BestCert.{IsLeastOfItsFormat, NoCertIsAccepted}
 
 -- ---- files
--- the name was held, and its bytes are at most `most` and of this form
+-- what headlines say of a file that a command reads: the name was held, and its bytes are at most
+-- `most` and of this form
 pub record HoldsFile (m : FileMap) (name : List ℕ) (most : ℕ) (HasForm : List ℕ → Type 0) : Type 0 where
   pub bytes : List ℕ
   pub held : get m name ≡ Some bytes
@@ -71,7 +72,8 @@ pub data IsBadFile (m : FileMap) (name : List ℕ) (most : ℕ) (too_long_line :
   too_long : (bytes : List ℕ) → get m name ≡ Some bytes → most < length bytes → line ≡ too_long_line → IsBadFile m name most too_long_line HasFault line
   faulty : HoldsFile m name most (λ bytes. HasFault bytes line) → IsBadFile m name most too_long_line HasFault line
 
--- an executable and its plan
+-- what headlines say of the first two files of most commands: the names hold an executable and its
+-- plan
 pub record AreFirmwareFiles (before : FileMap) (elf_name plan_name : List ℕ) (image : ImageData) (plan : PlanData) : Type 0 where
   pub elf_file : HoldsImage before elf_name image
   pub plan_file : HoldsPlan before plan_name plan
@@ -83,7 +85,8 @@ pub record AreCheckFiles (before : FileMap) (elf_name plan_name cert_name : List
   pub plan_file : HoldsPlan before plan_name plan
   pub cert_file : HoldsCert before cert_name cert
 
--- at the end the name holds these bytes, and each other name holds what it held before
+-- what headlines say of a command's one output file: the name holds these bytes, and each other
+-- name what it held before
 pub record IsOnlyFileWritten (before after : FileMap) (name bytes : List ℕ) : Type 0 where
   pub written : get after name ≡ Some bytes
   pub others : (other : List ℕ) → other ≢ name → get after other ≡ get before other

@@ -19,9 +19,8 @@ pub record ReportNames : Type 0 where
   pub plan : List ℕ
   pub cert : List ℕ
 
--- The report on an image, a plan and a certificate. Either the certificate isn't accepted, and the
--- line has its first fault. Or it is accepted, every run is safe with its need, and the text is its
--- report.
+-- The answer of `report` on a certificate. Either it isn't accepted, and the line has its first
+-- fault. Or it is accepted, every run is safe with its need, and the text is its report.
 pub data IsReportOrRefusal (image : ImageData) (plan : PlanData) (cert : CertData) (told : Report) : Type 0 where
   refused :
       (rule : ℕ) (key : Key) (addr : ℕ) → IsFirstFault image plan cert rule key addr → told ≡ says Refused (refused_line rule key addr)

@@ -26,8 +26,8 @@ abbrev pub script_run_line : PlanData → ScriptData → Machine → List ℕ
 script_run_line plan script m =
     run_line (length (script_events plan script m)) (driven_peak m (script_events plan script m)) (stepping.run m (script_events plan script m))
 
--- the machine is started, with 0 for everything that the plan leaves open, and runs the script's
--- events, which fit the plan
+-- the report of `run`: the machine starts with 0 for all that the plan leaves open, and runs the
+-- script's events, which fit the plan
 pub data IsRunReport (image : ImageData) (plan : PlanData) (script : ScriptData) (report : Report) : Type 0 where
   ran :
       (m : Machine) → StartsInZeros image plan m → AllFit plan m (script_events plan script m) → report ≡ says Done (script_run_line plan script m)

@@ -34,7 +34,7 @@ pub record ShipNames : Type 0 where
 abbrev pub objects_of_sources : List SourceData → List ObjectData
 objects_of_sources sources = map (λ s. s.object) sources
 
--- the texts of sources
+-- the texts of the sources that `ship` reads
 abbrev pub texts_of_sources : List SourceData → List (List ℕ)
 texts_of_sources sources = map (λ s. s.text) sources
 
@@ -44,9 +44,9 @@ pub record IsImageOfSources (layout : LayoutData) (sources : List SourceData) (i
   pub linked_is : image_of_objects (objects_of_sources sources) layout ≡ Ok image
   pub placed : Placed (texts_of_sources sources) layout image
 
--- The report on an image and a plan. Either no certificate is accepted, and the line says why. Or
--- two files are written: the image, whose bytes read back as it, and the best certificate; and
--- every run is safe with its need.
+-- The report of `ship` on an image and a plan. Either no certificate is accepted, and the line says
+-- why. Or two files are written: the image, whose bytes read back as it, and the best certificate;
+-- and every run is safe with its need.
 pub data IsImageShipReport (elf cert : List ℕ) (plan : PlanData) (image : ImageData) (report : Report) : Type 0 where
   refused :
       (rule : ℕ) (key : Key) (addr : ℕ) → HasNoBestCert image plan rule key addr → report ≡ says Refused (refused_line rule key addr)
@@ -58,8 +58,8 @@ pub data IsImageShipReport (elf cert : List ℕ) (plan : PlanData) (image : Imag
       (certified_line (certified_need image plan c) (plan.areas - plan.reserve))
       → IsImageShipReport elf cert plan image report
 
--- the report on a plan, a layout and sources: the objects can't be linked, or it is the report on
--- their image
+-- the report of `ship` on a plan, a layout and sources: the objects can't be linked, or it is the
+-- report on their image
 pub data IsShipReport (elf cert : List ℕ) (plan : PlanData) (layout : LayoutData) (sources : List SourceData) (report : Report) : Type 0 where
   unlinked :
       (r : Refusal) → image_of_objects (objects_of_sources sources) layout ≡ Err r → report ≡ says BadInput (bad_link_line r)
@@ -84,6 +84,6 @@ pub record AreSourcesOfObjects (sources : List SourceData) (objects : List Objec
   pub objects_are : objects ≡ objects_of_sources sources
   pub assembled : AreProgramObjects (texts_of_sources sources) (objects_of_sources sources)
 
--- the report on sources, with the names of the two files to write
+-- the report of `ship` on sources, with the names of the two files to write as the code has them
 abbrev pub IsShipmentReport : Shipment → PlanData → LayoutData → List SourceData → Report → Type 0
 IsShipmentReport s plan layout sources = IsShipReport s.elf.now s.cert.now plan layout sources

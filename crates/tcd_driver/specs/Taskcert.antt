@@ -49,25 +49,26 @@ pub data HasNoTaskCert (view : ImageData) (plan : PlanData) (tasks : TasksData) 
       (cert : CertData) (key : Key) (addr : ℕ) → IsCert cert → IsMade view plan 2 cert → IsRule17Fault view plan tasks cert key addr → NoneKeepsTaskApart view plan tasks
       → HasNoTaskCert view plan tasks 17 key addr
 
--- this is the least certificate of format 2 that is accepted for the task's view, and it is judged
--- well
+-- this is the least certificate of format 2 for task u's view, accepted for it, and keeps the tasks
+-- apart (K17)
 pub record IsLeastTaskCert (image : ImageData) (plan : PlanData) (tasks : TasksData) (u : ℕ) (cert : CertData) : Type 0 where
   pub made : IsMade (view_image_of image tasks u) (view_plan_of plan tasks u) 2 cert
   pub judged : IsSoundTaskCert image plan tasks cert u
 
 -- ---- all tasks
 -- the certificates that `taskcert` has made, those of the first tasks: each is the least of format
--- 2 for its task's view, and judged well
+-- 2 for its task's view
 abbrev pub AreLeastTaskCerts : ImageData → PlanData → TasksData → List CertData → Type 0
 AreLeastTaskCerts image plan tasks certs = (u : ℕ) → u < length certs → IsLeastTaskCert image plan tasks u (cert_of_task certs u)
 
--- task u is the first for which no certificate is judged well
+-- task u is the first for which `taskcert` finds no certificate that is accepted and keeps the
+-- tasks apart
 pub record IsFirstUncertifiedTask (image : ImageData) (plan : PlanData) (tasks : TasksData) (u rule : ℕ) (key : Key) (addr : ℕ) : Type 0 where
   pub task : u < count tasks
   pub before : (w : ℕ) → w < u → (cert : CertData) × IsLeastTaskCert image plan tasks w cert
   pub uncertified : HasNoTaskCert (view_image_of image tasks u) (view_plan_of plan tasks u) tasks rule key addr
 
--- a file for each certificate, under its name
+-- the files that `taskcert` writes: each certificate under its name
 unfoldable pub cert_files : List (List ℕ) → List CertData → List ReportFile
 cert_files (name ∷ names) (cert ∷ certs) = record { name = name; bytes = bytes_of_cert cert } ∷ cert_files names certs
 cert_files _ _ = []

@@ -46,8 +46,8 @@ pub data IsTaskRefused (image : ImageData) (plan : PlanData) (tasks : TasksData)
       (key : Key) (addr : ℕ) → Accepts (view_image_of image tasks u) (view_plan_of plan tasks u) cert
       → IsRule17Fault (view_image_of image tasks u) (view_plan_of plan tasks u) tasks cert key addr → IsTaskRefused image plan tasks cert u 17 key addr
 
--- what the command `tasks` answers for one task: its certificate is judged well, with this need; or
--- it is refused
+-- the verdict of `tasks` on one task's certificate: accepted for its view and apart from the
+-- others, with this need; or refused
 abbrev pub IsVerdictOnTask : ImageData → PlanData → TasksData → CertData → ℕ → Verdict → Type 0
 IsVerdictOnTask image plan tasks cert u (Yes n) =
     IsSoundTaskCert image plan tasks cert u × (n ≡ certified_need (view_image_of image tasks u) (view_plan_of plan tasks u) cert)
@@ -63,7 +63,8 @@ counted_needs_of_tasks image plan tasks certs = need_of_task image plan tasks (c
 abbrev pub sum_of_needs : ImageData → PlanData → TasksData → List CertData → ℕ
 sum_of_needs image plan tasks certs = sum_over_chains (count tasks) (counted_needs_of_tasks image plan tasks certs)
 
--- the certificates of the tasks below n are judged well
+-- the certificate of each task below n is accepted for the task's view and keeps the tasks apart
+-- (K17)
 abbrev pub AreFirstTasksJudged : ImageData → PlanData → TasksData → List CertData → ℕ → Type 0
 AreFirstTasksJudged image plan tasks certs n = (u : ℕ) → u < n → IsSoundTaskCert image plan tasks (cert_of_task certs u) u
 
@@ -73,8 +74,8 @@ pub record IsFirstRefusedTaskCert (image : ImageData) (plan : PlanData) (tasks :
   pub before : AreFirstTasksJudged image plan tasks certs u
   pub refused : IsTaskRefused image plan tasks (cert_of_task certs u) u rule key addr
 
--- what the command `tasks` finds for all certificates: the sum of the tasks' needs, or the first
--- task that is refused
+-- what `tasks` finds for all certificates: the sum of the tasks' needs, or the first task whose
+-- certificate is refused
 abbrev pub IsTallyOfTasks : ImageData → PlanData → TasksData → List CertData → Tally → Type 0
 IsTallyOfTasks image plan tasks certs (Sum n) = AreFirstTasksJudged image plan tasks certs (count tasks) × (n ≡ sum_of_needs image plan tasks certs)
 IsTallyOfTasks image plan tasks certs (Against u rule key addr) = IsFirstRefusedTaskCert image plan tasks certs u rule key addr
@@ -98,7 +99,8 @@ pub data IsTasksVerdict (image : ImageData) (plan : PlanData) (tasks : TasksData
       → IsTasksVerdict image plan tasks certs report
 
 -- ---- what is read
--- reads this if there are as many names as tasks; else that is printed, and nothing more is read
+-- what `tasks` or `taskcert` reads next if it has as many names as tasks; else nothing more is
+-- read, and the bad count printed
 abbrev pub tasks_reading_if : Bool → Reading → Reading
 tasks_reading_if true reading = reading
 tasks_reading_if false reading = answer (λ report. report ≡ says BadInput (bad_tasks_line Count))

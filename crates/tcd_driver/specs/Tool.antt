@@ -55,14 +55,14 @@ pub record CannotFail (call : ToolCall) (before : FileMap) (asks : List InputReq
 abbrev pub CanEnd : (FileMap → List ℕ → Type 0) → Type 0
 CanEnd Holds = (after : FileMap) × (printed : List ℕ) × Holds after printed
 
--- the status is one of three, and each exactly if this can hold
+-- a call's status is Done, Refused or BadInput, and each exactly if a call can end so
 pub record IsDecidedStatus (status : Status) (IfDone IfRefused IfBad : FileMap → List ℕ → Type 0) : Type 0 where
   pub one : (status ≡ Done) ⊎ ((status ≡ Refused) ⊎ (status ≡ BadInput))
   pub done : (status ≡ Done) ↔ CanEnd IfDone
   pub refused : (status ≡ Refused) ↔ CanEnd IfRefused
   pub bad_input : (status ≡ BadInput) ↔ CanEnd IfBad
 
--- the text is one with which a call may end: `bad words`, or that of one of three ends
+-- a text that a call may print: `bad words`, or that of one of its three ends
 pub data MayPrintText (IfDone IfRefused IfBad : FileMap → List ℕ → Type 0) (text : List ℕ) : Type 0 where
   of_bad_words : text ≡ codes "bad words" ++ 10 ∷ [] → MayPrintText IfDone IfRefused IfBad text
   when_done : (after : FileMap) → IfDone after text → MayPrintText IfDone IfRefused IfBad text
@@ -80,7 +80,7 @@ pub record CommandSays (call : ToolCall) (words : List (List ℕ)) (asks : List 
       (before : FileMap) → call.words ≡ words → CannotFail call before asks (MayPrintText (IfDone before) (IfRefused before) (BadInputOf asks before))
       → call.status ≢ NoMemory → call.status ≢ BadWords → IsDecidedStatus call.status (IfDone before) (IfRefused before) (BadInputOf asks before)
 
--- a command that refuses nothing
+-- for a command that refuses nothing: no files and no text belong to a refusal
 abbrev pub NeverRefuses : FileMap → FileMap → List ℕ → Type 0
 NeverRefuses before after printed = ⊥
 

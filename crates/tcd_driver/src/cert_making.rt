@@ -48,7 +48,7 @@ pub(crate) fn make_best_cert(
     }
 }
 
-/// The report that no certificate is made: the rule, with its place.
+/// Reports that no certificate is made: the rule that fails first, with its address and frame.
 pub(crate) fn report_no_cert(alloc: Global, e: MakeErr) -> Outcome
     ensures { IsReportOutcome (IsNoCertReport e) ⊥ result }
 {

@@ -124,7 +124,8 @@ pub(crate) enum Command<'a> {
     },
 }
 
-/// The command that arguments ask for. No memory is allocated.
+/// Returns the command that the program's arguments ask for, or `None` if they are no command. No
+/// memory is allocated.
 pub(crate) fn parse_command(words: &[String]) -> Option<Command<'_>>
     ensures is { option_map command_of_value result ≡ command (map string_bytes words.now) }
     ensures limits { IfSome result CommandKeepsLimits }
@@ -141,7 +142,8 @@ pub(crate) fn parse_command(words: &[String]) -> Option<Command<'_>>
     }
 }
 
-// The command `link` with its objects.
+// Returns the command `link` if the program's arguments ask for it: a layout, the image, and 1 to
+// 65,532 objects.
 fn link_command(words: &[String]) -> Option<Command<'_>>
     ensures is { option_map command_of_value result ≡ link_command_of (map string_bytes words.now) }
     ensures limits { IfSome result CommandKeepsLimits }
@@ -158,7 +160,8 @@ fn link_command(words: &[String]) -> Option<Command<'_>>
     }
 }
 
-// The command `ship` with its sources.
+// Returns the command `ship` if the program's arguments ask for it: a plan, a layout, the image,
+// its certificate, and 1 to 65,530 sources.
 fn ship_command(words: &[String]) -> Option<Command<'_>>
     ensures is { option_map command_of_value result ≡ ship_command_of (map string_bytes words.now) }
     ensures limits { IfSome result CommandKeepsLimits }
@@ -178,7 +181,8 @@ fn ship_command(words: &[String]) -> Option<Command<'_>>
     }
 }
 
-// The commands `tasks` and `taskcert` with their certificates.
+// Returns the command `tasks` or `taskcert` if the program's arguments ask for one: an image, a
+// plan, its tasks, and certificates.
 fn tasks_command(words: &[String]) -> Option<Command<'_>>
     ensures is { option_map command_of_value result
         ≡ tasks_command_of (map string_bytes words.now) }
@@ -205,7 +209,8 @@ fn tasks_command(words: &[String]) -> Option<Command<'_>>
     }
 }
 
-// A command with a fixed number of arguments.
+// Returns the command with one to four arguments after its verb that the program's arguments ask
+// for, or `None`.
 fn fixed_arity_command(words: &[String]) -> Option<Command<'_>>
     ensures is { option_map command_of_value result
         ≡ fixed_arity_command_of (map string_bytes words.now) }
@@ -233,30 +238,31 @@ fn fixed_arity_command(words: &[String]) -> Option<Command<'_>>
     }
 }
 
-// Whether the verb and the number of objects are those of `link`.
+// Returns true if the verb of the program's arguments is `link`, and they name 1 to 65,532 objects.
 fn is_link(verb: &str, objects: &[String]) -> bool
     ensures { result ≡ is_link verb.now (map string_bytes objects.now) }
 {
     verb == "link" && !objects.is_empty() && objects.len() <= MOST_OBJECTS
 }
 
-// Whether the verb and the number of sources are those of `ship`, with different names for the two
-// files to write.
+// Returns true if the arguments' verb is `ship`, the two files to write have different names, and 1
+// to 65,530 sources are named.
 fn is_ship(verb: &str, elf: &str, cert: &str, sources: &[String]) -> bool
     ensures { result ≡ is_ship verb.now elf.now cert.now (map string_bytes sources.now) }
 {
     verb == "ship" && elf != cert && !sources.is_empty() && sources.len() <= MOST_SOURCES
 }
 
-// Whether the verb and the number of certificates are those of `tasks`.
+// Returns true if the verb of the program's arguments is `tasks`, and they name 1 to 65,531
+// certificates.
 fn is_tasks(verb: &str, certs: &[String]) -> bool
     ensures { result ≡ is_tasks verb.now (map string_bytes certs.now) }
 {
     verb == "tasks" && !certs.is_empty() && certs.len() <= MOST_CERTS
 }
 
-// Whether the verb and the number of certificates are those of `taskcert`, with different names for
-// all certificates.
+// Returns true if the verb of the program's arguments is `taskcert`, and they name 1 to 65,531
+// certificates, all different.
 fn is_taskcert(verb: &str, certs: &[String]) -> bool
     ensures { result ≡ is_taskcert verb.now (map string_bytes certs.now) }
 {
@@ -266,7 +272,7 @@ fn is_taskcert(verb: &str, certs: &[String]) -> bool
         && are_distinct_names(certs)
 }
 
-// A command with one argument after its verb.
+// Returns the command with one argument after its verb: `dis` or `gen`, or `None` for other verbs.
 fn command_of_one<'a>(verb: &str, word: &'a str) -> Option<Command<'a>>
     ensures is { option_map command_of_value result ≡ command_of_one verb.now word.now }
     ensures limits { IfSome result CommandKeepsLimits }
@@ -280,7 +286,7 @@ fn command_of_one<'a>(verb: &str, word: &'a str) -> Option<Command<'a>>
     }
 }
 
-// A command with two arguments after its verb.
+// Returns the command with two arguments after its verb: `asm` or `cfg`, or `None` for other verbs.
 fn command_of_two<'a>(verb: &str, first: &'a str, second: &'a str) -> Option<Command<'a>>
     ensures is { option_map command_of_value result
         ≡ command_of_two verb.now first.now second.now }
@@ -301,7 +307,8 @@ fn command_of_two<'a>(verb: &str, first: &'a str, second: &'a str) -> Option<Com
     }
 }
 
-// A command with three arguments after its verb.
+// Returns the command with three arguments after its verb: `check`, `cert`, `report` or `run`, or
+// `None` for other verbs.
 fn command_of_three<'a>(
     verb: &str,
     elf: &'a str,
@@ -341,7 +348,8 @@ fn command_of_three<'a>(
     }
 }
 
-// A command with four arguments after its verb.
+// Returns the command with four arguments after its verb: `cells`, `cellcert`, `boot` or `bootgen`,
+// or `None` for other verbs.
 fn command_of_four<'a>(
     verb: &str,
     first: &'a str,
@@ -376,7 +384,7 @@ fn command_of_four<'a>(
     }
 }
 
-// The command `gen` with this argument after its verb.
+// Returns the command `gen`, or `None` if its argument isn't a number of functions from 1 to 500.
 fn gen_command<'a>(word: &str) -> Option<Command<'a>>
     ensures is { option_map command_of_value result
         ≡ option_map generate (gen_function_count word.now) }
@@ -386,7 +394,8 @@ fn gen_command<'a>(word: &str) -> Option<Command<'a>>
     Some(Command::Gen { functions })
 }
 
-// The number of functions, if it is in the range of `gen`.
+// Returns the number of functions of the image that `gen` generates, or `None` if it isn't 1 to
+// 500.
 fn gen_count_in_range(n: u32) -> Option<u32>
     ensures is { result ≡ then_some (nat_le 1 n && nat_le n 500) n }
     ensures limits { IfSome result (λ n. (1 ≤ n) × (n ≤ 500)) }
@@ -398,7 +407,8 @@ fn gen_count_in_range(n: u32) -> Option<u32>
     }
 }
 
-// The command `boot` with these arguments after its verb.
+// Returns the command `boot` with these arguments, or `None` if the address isn't eight upper-case
+// hex digits.
 fn boot_command<'a>(elf: &'a str, plan: &'a str, cert: &'a str, at: &str) -> Option<Command<'a>>
     ensures is { option_map command_of_value result
         ≡ boot_command_of elf.now plan.now cert.now at.now }
@@ -413,7 +423,8 @@ fn boot_command<'a>(elf: &'a str, plan: &'a str, cert: &'a str, at: &str) -> Opt
     })
 }
 
-// The command `bootgen` with these arguments after its verb.
+// Returns the command `bootgen` with these arguments, or `None` for a bad number, or a boot
+// sequence that passes 2^32.
 fn bootgen_command<'a>(plan: &'a str, entry: &str, at: &str, source: &'a str) -> Option<Command<'a>>
     ensures is { option_map command_of_value result
         ≡ bootgen_command_of plan.now entry.now at.now source.now }

@@ -4,8 +4,8 @@ ghost use Rattle.std.specs.List.{list_any};
 ghost use Rattle.std.specs.Str.{bytes_eq};
 ghost use Rattle.tcd_driver.specs.DistinctNames.{are_distinct_names};
 
-/// Whether no name is there twice, by comparing each pair: seven names at most make sense, so many
-/// names may take time, but no memory.
+/// Returns true if no name of a file is there twice. Comparing each pair takes no memory, and seven
+/// names at most make sense.
 pub(crate) fn are_distinct_names(names: &[String]) -> bool
     ensures { result ≡ are_distinct_names (map string_bytes names.now) }
 {

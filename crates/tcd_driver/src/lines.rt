@@ -13,7 +13,7 @@ use tcd_forms::{append_to_printed_line, copy_printed_line};
 use tcd_text::hex_word;
 use value_cells::CellsErr;
 
-// The line for arguments that are no command.
+// Returns the printed line for arguments that are no command.
 #[tactic(auto, unfolding(crate::specs::BadInputLines::bad_words_line))]
 pub(crate) fn bad_words_line() -> &'static [u8]
     ensures { result.now ≡ bad_words_line }
@@ -21,7 +21,7 @@ pub(crate) fn bad_words_line() -> &'static [u8]
     b"bad words\n"
 }
 
-// The line on a boot sequence that is refused.
+// Returns the printed line on a boot sequence that `boot` refuses: the number of the reason.
 #[tactic(auto, unfolding(crate::specs::Boot::refused_boot_line))]
 pub(crate) fn refused_boot_line(alloc: Global, e: BootErr) -> Result<Vec<u8>, NoMemory>
     ensures { IfOk result (λ line. line.items ≡ refused_boot_line e) }
@@ -65,7 +65,8 @@ pub(crate) fn bad_tasks_line(alloc: Global, e: TasksErr) -> Result<Vec<u8>, NoMe
     }
 }
 
-// The line on a byte that differs from the boot sequence, with its address.
+// Returns the printed line of `boot` on the first byte that differs from the boot sequence, with
+// its address.
 pub(crate) fn boot_difference_line(alloc: Global, addr: u32) -> Result<Vec<u8>, NoMemory>
     ensures { IfOk result
         (λ line. line.items ≡ codes "refused boot 4 at " ++ (hex_word addr ++ 10 ∷ [])) }

@@ -25,7 +25,8 @@ use Rattle.tc_link.specs.declared.layout_errors.LayoutErr.{LayoutErr}
 use Rattle.tcd_reading.specs.Inputs.{FormSeen}
 use Rattle.tcd_forms.specs.Lines.{too_long_elf_line, bad_elf_line, too_long_plan_line, bad_plan_line, too_long_cert_line, bad_cert_line, too_long_script_line, bad_script_line, too_long_source_line, bad_source_line, too_long_layout_line, bad_layout_line, too_long_object_line, bad_object_line}
 
--- an executable
+-- the form of executable files: the limit in bytes, the image that the bytes are, and the lines on
+-- bad files
 abbrev pub elf_form : FormSeen ImageData
 elf_form = record {
   limit = 2 ^ 24;
@@ -34,7 +35,8 @@ elf_form = record {
   IsBad = λ bytes text. (e : ImageErr) × (image_of_file bytes ≡ Err e) × (text ≡ bad_elf_line e);
 }
 
--- a plan
+-- the form of plan files: the limit in bytes, the plan that the bytes give, and the lines on bad
+-- files
 abbrev pub plan_form : FormSeen PlanData
 plan_form = record {
   limit = 2 ^ 24;
@@ -43,7 +45,8 @@ plan_form = record {
   IsBad = λ bytes text. (e : PlanErr) × AnswersPlan bytes (Err e) × (e ≢ plan.NoMemory) × (text ≡ bad_plan_line e);
 }
 
--- a certificate
+-- the form of certificate files: the limit in bytes, the certificate that the bytes are, and the
+-- lines on bad files
 abbrev pub cert_form : FormSeen CertData
 cert_form = record {
   limit = 2 ^ 30;
@@ -52,7 +55,8 @@ cert_form = record {
   IsBad = λ bytes text. (e : FormErr) × (certificate_of bytes ≡ Err e) × (text ≡ bad_cert_line e);
 }
 
--- a turn script for a plan
+-- the form of turn script files for a plan: the limit in bytes, the script that the bytes are, and
+-- the lines on bad files
 abbrev pub script_form : PlanData → FormSeen ScriptData
 script_form p = record {
   limit = 2 ^ 24;
@@ -66,8 +70,8 @@ pub record IsSource (bytes : List ℕ) (object : ObjectData) : Type 0 where
   pub keeps : KeepsRules (lines_in bytes) (length (lines_in bytes))
   pub is : object ≡ object_of_draft (draft_from_lines (symbols_of (lines_in bytes)) (lines_in bytes))
 
--- A single source, whose value is its object. For a source that breaks a rule, the line has the
--- least bad line and the least rule there.
+-- The form of the one source file of `asm`, whose value is its object. For a source that breaks a
+-- rule, the line has the least bad line and the least rule there.
 abbrev pub source_form : FormSeen ObjectData
 source_form = record {
   limit = 2 ^ 24;
@@ -76,12 +80,13 @@ source_form = record {
   IsBad = λ bytes text. (line : ℕ) × (rule : ℕ) × IsFirstBrokenLine (lines_in bytes) line rule × (text ≡ bad_source_line 0 rule line);
 }
 
--- a source and its object
+-- the text of a source file, and the object that it is assembled to
 pub record SourceData : Type 0 where
   pub text : List ℕ
   pub object : ObjectData
 
--- a source among several, with its place among them
+-- the form of a source file among several, with its place among them: the value is its text and its
+-- object
 abbrev pub placed_source_form : ℕ → FormSeen SourceData
 placed_source_form place = record {
   limit = 2 ^ 24;
@@ -90,7 +95,8 @@ placed_source_form place = record {
   IsBad = λ bytes text. (line : ℕ) × (rule : ℕ) × IsFirstBrokenLine (lines_in bytes) line rule × (text ≡ bad_source_line place rule line);
 }
 
--- a layout
+-- the form of layout files: the limit in bytes, the layout that the bytes are, and the lines on bad
+-- files
 abbrev pub layout_form : FormSeen LayoutData
 layout_form = record {
   limit = 2 ^ 24;
@@ -99,7 +105,8 @@ layout_form = record {
   IsBad = λ bytes text. (e : LayoutErr) × (layout_of bytes ≡ Err e) × (text ≡ bad_layout_line e);
 }
 
--- an object among several, with its place among them
+-- the form of an object file among several, with its place among them: the limit in bytes, the
+-- object, and the lines on bad files
 abbrev pub object_form : ℕ → FormSeen ObjectData
 object_form place = record {
   limit = 2 ^ 24;

@@ -41,11 +41,11 @@ line_end_at_two i j = codes " at " ++ (decimal i ++ (codes " " ++ (decimal j ++ 
 unfoldable pub line_end_at_key : PlanKey → List ℕ
 line_end_at_key key = codes " key " ++ (unwrap_or (slice_get key_texts key.0) [] ++ 10 ∷ [])
 
--- the line for an executable above its limit
+-- the printed line for an executable with more bytes than its form allows
 unfoldable pub too_long_elf_line : List ℕ
 too_long_elf_line = codes "bad elf 0" ++ 10 ∷ []
 
--- why a file is no executable: the number of the fault, 1 to 7
+-- the printed line on why a file is no executable: the number of the fault, 1 to 7
 unfoldable pub bad_elf_line : ImageErr → List ℕ
 bad_elf_line elf.Short = codes "bad elf 1" ++ 10 ∷ []
 bad_elf_line elf.NotElf32Le = codes "bad elf 2" ++ 10 ∷ []
@@ -56,11 +56,11 @@ bad_elf_line elf.TooLarge = codes "bad elf 6" ++ 10 ∷ []
 bad_elf_line (elf.Overlap i j) = codes "bad elf 7" ++ line_end_at_two i j
 bad_elf_line elf.NoMemory = []
 
--- the line for a plan above its limit
+-- the printed line for a plan with more bytes than its form allows
 unfoldable pub too_long_plan_line : List ℕ
 too_long_plan_line = codes "bad plan 0" ++ 10 ∷ []
 
--- why a file is no plan: the number of the fault, 1 to 8
+-- the printed line on why a file is no plan: the number of the fault, 1 to 8
 unfoldable pub bad_plan_line : PlanErr → List ℕ
 bad_plan_line plan.NotJson = codes "bad plan 1" ++ 10 ∷ []
 bad_plan_line (plan.Missing key) = codes "bad plan 2" ++ line_end_at_key key
@@ -72,27 +72,28 @@ bad_plan_line plan.BadVector = codes "bad plan 7" ++ 10 ∷ []
 bad_plan_line (plan.Overlap i j) = codes "bad plan 8" ++ line_end_at_two i j
 bad_plan_line plan.NoMemory = []
 
--- the line for a certificate above its limit
+-- the printed line for a certificate with more bytes than its form allows
 unfoldable pub too_long_cert_line : List ℕ
 too_long_cert_line = codes "bad cert 0" ++ 10 ∷ []
 
--- why a file is no certificate: the number of the fault, and its offset in the file
+-- the printed line on why a file is no certificate: the number of the fault, and its offset in the
+-- file
 unfoldable pub bad_cert_line : FormErr → List ℕ
 bad_cert_line e = codes "bad cert " ++ (decimal e.kind ++ line_end_at_one e.at)
 
--- a rule that fails, with the address and the frame
+-- the printed line on a rule of certificates that fails, with the address and the frame
 unfoldable pub refused_line : ℕ → Key → ℕ → List ℕ
 refused_line rule key addr = codes "refused K" ++ (decimal rule ++ (codes " at " ++ (hex_word addr ++ (codes " in " ++ line_end_at_frame key))))
 
--- the needed CSAs, and those of the plan
+-- the printed line on an accepted certificate: the needed CSAs, and those of the plan
 unfoldable pub certified_line : ℕ → ℕ → List ℕ
 certified_line need areas = codes "certified " ++ (decimal need ++ (codes " of " ++ (decimal areas ++ (codes " areas" ++ 10 ∷ []))))
 
--- the line for a turn script above its limit
+-- the printed line for a turn script with more bytes than its form allows
 unfoldable pub too_long_script_line : List ℕ
 too_long_script_line = codes "bad script 0" ++ 10 ∷ []
 
--- why a file is no turn script: the number of the fault, and its line
+-- the printed line on why a file is no turn script: the number of the fault, and its line
 unfoldable pub bad_script_line : ScriptErr → List ℕ
 bad_script_line (script.BadLine n) = codes "bad script 1" ++ line_end_at_one n
 bad_script_line (script.NoSource n) = codes "bad script 2" ++ line_end_at_one n
@@ -116,11 +117,13 @@ unfoldable pub run_end_text : End → ℕ → List ℕ
 run_end_text Running pc = codes "running" ++ 10 ∷ []
 run_end_text (Dead cause) pc = codes "dead " ++ (death_cause_text cause ++ (codes " at " ++ (hex_word pc ++ 10 ∷ [])))
 
--- a run: its events, the peak of CSAs in use, and the state of the machine at its end
+-- the printed line of `run`: the events, the peak of CSAs in use, and the state of the machine at
+-- its end
 unfoldable pub run_line : ℕ → ℕ → Machine → List ℕ
 run_line events peak m = codes "events " ++ (decimal events ++ (codes " peak " ++ (decimal peak ++ (codes " " ++ run_end_text m.end m.pc))))
 
--- the line for the source at this place, if it is above its limit; `asm` has one source, at place 0
+-- the printed line for the source at this place, if it has more bytes than its form allows; `asm`
+-- has one source, at place 0
 unfoldable pub too_long_source_line : ℕ → List ℕ
 too_long_source_line place = codes "bad source 0" ++ line_end_at_one place
 
@@ -129,15 +132,15 @@ too_long_source_line place = codes "bad source 0" ++ line_end_at_one place
 unfoldable pub bad_source_line : ℕ → ℕ → ℕ → List ℕ
 bad_source_line place rule line = codes "bad source " ++ (decimal rule ++ line_end_at_two place line)
 
--- an object that was written, with its size in bytes
+-- the printed line of `asm` on an object that was written, with its size in bytes
 unfoldable pub assembled_object_line : ℕ → List ℕ
 assembled_object_line bytes = codes "object " ++ (decimal bytes ++ (codes " bytes" ++ 10 ∷ []))
 
--- the line for a layout above its limit
+-- the printed line for a layout with more bytes than its form allows
 unfoldable pub too_long_layout_line : List ℕ
 too_long_layout_line = codes "bad layout 0" ++ 10 ∷ []
 
--- why a file is no layout: the number of the fault, and its line
+-- the printed line on why a file is no layout: the number of the fault, and its line
 unfoldable pub bad_layout_line : LayoutErr → List ℕ
 bad_layout_line (layout.BadLine n) = codes "bad layout 1" ++ line_end_at_one n
 bad_layout_line (layout.Twice n) = codes "bad layout 2" ++ line_end_at_one n
@@ -145,25 +148,27 @@ bad_layout_line (layout.TooMany n) = codes "bad layout 3" ++ line_end_at_one n
 bad_layout_line (layout.Overlap n) = codes "bad layout 4" ++ line_end_at_one n
 bad_layout_line layout.NoMemory = []
 
--- the line for the object at this place, if it is above its limit
+-- the printed line for the object at this place, if it has more bytes than its form allows
 unfoldable pub too_long_object_line : ℕ → List ℕ
 too_long_object_line place = codes "bad object 0" ++ line_end_at_one place
 
--- why the file at this place is no object: the number of the fault, and its offset in the file
+-- the printed line on why the file at this place is no object: the number of the fault, and its
+-- offset in the file
 unfoldable pub bad_object_line : ℕ → FormErr → List ℕ
 bad_object_line place e = codes "bad object " ++ (decimal e.kind ++ line_end_at_two place e.at)
 
--- the number that the line of a link prints for why a field can't be filled
+-- the number that a `bad link` line prints for why a relocation doesn't fit its field
 unfoldable pub reloc_fault_number : RelocErr → ℕ
 reloc_fault_number Odd = 1
 reloc_fault_number FarOff = 2
 reloc_fault_number Segment = 3
 
--- the end of a printed line that tells a name
+-- the end of a printed line that names a symbol or a section
 unfoldable pub line_end_at_name : List ℕ → List ℕ
 line_end_at_name name = codes " name " ++ (name ++ 10 ∷ [])
 
--- why objects can't be linked; a relocation is named by its object, section and offset
+-- the printed line on why objects can't be linked; a relocation is named by its object, section and
+-- offset
 unfoldable pub bad_link_line : Refusal → List ℕ
 bad_link_line (twice name) = codes "bad link 1" ++ line_end_at_name name
 bad_link_line (missing name) = codes "bad link 2" ++ line_end_at_name name
@@ -173,25 +178,26 @@ bad_link_line (reloc object section offset err) =
     codes "bad link 5 at " ++ (decimal object ++ (codes " " ++ (decimal section ++ (codes " " ++ (decimal offset ++ (codes " " ++ (decimal (reloc_fault_number err) ++ 10 ∷ [])))))))
 bad_link_line no_entry = codes "bad link 6" ++ 10 ∷ []
 
--- an image that was written, with its size in bytes
+-- the printed line of `link` on an image that was written, with its size in bytes
 unfoldable pub linked_image_line : ℕ → List ℕ
 linked_image_line bytes = codes "image " ++ (decimal bytes ++ (codes " bytes" ++ 10 ∷ []))
 
--- the printed line for a file of cells above its limit
+-- the printed line for a file of cells with more bytes than its form allows
 unfoldable pub too_long_cells_line : List ℕ
 too_long_cells_line = codes "bad cells 0" ++ 10 ∷ []
 
--- the printed line for a file of tasks above its limit
+-- the printed line for a file of tasks with more bytes than its form allows
 unfoldable pub too_long_tasks_line : List ℕ
 too_long_tasks_line = codes "bad tasks 0" ++ 10 ∷ []
 
 -- ---- boot sequences, cells, tasks and generated images
--- a boot sequence: its events, the needed CSAs, and those of the plan
+-- the printed line of `boot` on a certified boot sequence: its events, the needed CSAs, and those
+-- of the plan
 unfoldable pub boots_line : ℕ → ℕ → ℕ → List ℕ
 boots_line events need areas =
     codes "boot " ++ (decimal events ++ (codes " events certified " ++ (decimal need ++ (codes " of " ++ (decimal areas ++ (codes " areas" ++ 10 ∷ []))))))
 
--- a boot sequence was written as a source
+-- the printed line of `bootgen` on a boot sequence that was written as a source
 unfoldable pub generated_boot_line : List ℕ
 generated_boot_line = codes "boot 56 instructions" ++ 10 ∷ []
 
@@ -206,11 +212,12 @@ certified_cells_line need areas count =
 unfoldable pub refused_switch_line : ℕ → List ℕ
 refused_switch_line addr = codes "refused switch at " ++ (hex_word addr ++ 10 ∷ [])
 
--- a printed line with the number of a task before its line feed
+-- a printed line on a certificate with the number of its task before the line feed
 unfoldable pub line_with_task : List ℕ → ℕ → List ℕ
 line_with_task line u = take (length line - 1) line ++ (codes " of task " ++ (decimal u ++ 10 ∷ []))
 
--- a rule that fails in a task's certificate, with the address, the frame, and the task
+-- the printed line on a rule that fails in a task's certificate, with the address, the frame, and
+-- the task
 abbrev pub refused_task_line : ℕ → Key → ℕ → ℕ → List ℕ
 refused_task_line rule key addr u = line_with_task (refused_line rule key addr) u
 
@@ -224,8 +231,8 @@ unfoldable pub certified_tasks_line : ℕ → ℕ → ℕ → List ℕ
 certified_tasks_line sum areas n =
     codes "certified " ++ (decimal sum ++ (codes " of " ++ (decimal areas ++ (codes " areas in " ++ (decimal n ++ (codes " tasks" ++ 10 ∷ []))))))
 
--- a generated image: its functions, the nodes and points of its certificate, the needed CSAs, and
--- those of the plan
+-- the printed line of `gen`: the image's functions, its certificate's nodes and points, the needed
+-- CSAs, and those of the plan
 unfoldable pub generated_line : ℕ → ℕ → ℕ → ℕ → ℕ → List ℕ
 generated_line functions nodes points need areas =
     codes "functions "

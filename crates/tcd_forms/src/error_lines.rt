@@ -29,7 +29,7 @@ pub fn copy_printed_line(alloc: Global, text: &[u8]) -> Result<Vec<u8>, NoMemory
     Ok(Vec::from_slice(alloc, text)?)
 }
 
-/// The line for an executable above its limit.
+/// Returns the printed line for an executable with more bytes than its form allows.
 #[tactic(auto, unfolding(crate::specs::Lines::too_long_elf_line))]
 pub fn too_long_elf_line() -> &'static [u8]
     ensures { result.now ≡ too_long_elf_line }
@@ -37,7 +37,7 @@ pub fn too_long_elf_line() -> &'static [u8]
     b"bad elf 0\n"
 }
 
-/// The line for a plan above its limit.
+/// Returns the printed line for a plan with more bytes than its form allows.
 #[tactic(auto, unfolding(crate::specs::Lines::too_long_plan_line))]
 pub fn too_long_plan_line() -> &'static [u8]
     ensures { result.now ≡ too_long_plan_line }
@@ -45,7 +45,7 @@ pub fn too_long_plan_line() -> &'static [u8]
     b"bad plan 0\n"
 }
 
-/// The line for a certificate above its limit.
+/// Returns the printed line for a certificate with more bytes than its form allows.
 #[tactic(auto, unfolding(crate::specs::Lines::too_long_cert_line))]
 pub fn too_long_cert_line() -> &'static [u8]
     ensures { result.now ≡ too_long_cert_line }
@@ -53,7 +53,7 @@ pub fn too_long_cert_line() -> &'static [u8]
     b"bad cert 0\n"
 }
 
-/// The line for a turn script above its limit.
+/// Returns the printed line for a turn script with more bytes than its form allows.
 #[tactic(auto, unfolding(crate::specs::Lines::too_long_script_line))]
 pub fn too_long_script_line() -> &'static [u8]
     ensures { result.now ≡ too_long_script_line }
@@ -61,7 +61,7 @@ pub fn too_long_script_line() -> &'static [u8]
     b"bad script 0\n"
 }
 
-/// The line for a layout above its limit.
+/// Returns the printed line for a layout with more bytes than its form allows.
 #[tactic(auto, unfolding(crate::specs::Lines::too_long_layout_line))]
 pub fn too_long_layout_line() -> &'static [u8]
     ensures { result.now ≡ too_long_layout_line }
@@ -69,7 +69,7 @@ pub fn too_long_layout_line() -> &'static [u8]
     b"bad layout 0\n"
 }
 
-/// The line for a file of cells above its limit.
+/// Returns the printed line for a file of cells with more bytes than its form allows.
 #[tactic(auto, unfolding(crate::specs::Lines::too_long_cells_line))]
 pub fn too_long_cells_line() -> &'static [u8]
     ensures { result.now ≡ too_long_cells_line }
@@ -77,7 +77,7 @@ pub fn too_long_cells_line() -> &'static [u8]
     b"bad cells 0\n"
 }
 
-/// The line for a file of tasks above its limit.
+/// Returns the printed line for a file of tasks with more bytes than its form allows.
 #[tactic(auto, unfolding(crate::specs::Lines::too_long_tasks_line))]
 pub fn too_long_tasks_line() -> &'static [u8]
     ensures { result.now ≡ too_long_tasks_line }
@@ -85,7 +85,7 @@ pub fn too_long_tasks_line() -> &'static [u8]
     b"bad tasks 0\n"
 }
 
-/// The line that says why a file is no executable.
+/// Returns the printed line on why a file is no executable. An error means that memory ran out.
 #[tactic(auto, unfolding(crate::specs::Lines::bad_elf_line, crate::specs::Lines::line_end_at_one, crate::specs::Lines::line_end_at_two))]
 pub fn bad_elf_line(alloc: Global, e: ImageErr) -> Result<Vec<u8>, NoMemory>
     ensures line { IfOk result (λ line. line.items ≡ bad_elf_line e) }
@@ -103,7 +103,7 @@ pub fn bad_elf_line(alloc: Global, e: ImageErr) -> Result<Vec<u8>, NoMemory>
     }
 }
 
-/// The line that says why a file is no plan.
+/// Returns the printed line on why a file is no plan. An error means that memory ran out.
 #[tactic(auto, unfolding(crate::specs::Lines::bad_plan_line, crate::specs::Lines::line_end_at_two))]
 pub fn bad_plan_line(alloc: Global, e: PlanErr) -> Result<Vec<u8>, NoMemory>
     requires { HasPrintedKey e }
@@ -123,7 +123,8 @@ pub fn bad_plan_line(alloc: Global, e: PlanErr) -> Result<Vec<u8>, NoMemory>
     }
 }
 
-/// The line that says why a file is no certificate.
+/// Returns the printed line on why a file is no certificate: the number of the fault, and its
+/// offset.
 #[tactic(auto, unfolding(crate::specs::Lines::bad_cert_line, crate::specs::Lines::line_end_at_one))]
 pub fn bad_cert_line(alloc: Global, e: FormErr) -> Result<Vec<u8>, NoMemory>
     ensures { IfOk result (λ line. line.items ≡ bad_cert_line e) }
@@ -133,7 +134,7 @@ pub fn bad_cert_line(alloc: Global, e: FormErr) -> Result<Vec<u8>, NoMemory>
     Ok(format!(in alloc; "bad cert {kind} at {at}\n")?.into_bytes())
 }
 
-/// The line that says why a file is no turn script.
+/// Returns the printed line on why a file is no turn script: the number of the fault, and its line.
 #[tactic(auto, unfolding(crate::specs::Lines::bad_script_line, crate::specs::Lines::line_end_at_one))]
 pub fn bad_script_line(alloc: Global, e: ScriptErr) -> Result<Vec<u8>, NoMemory>
     ensures line { IfOk result (λ line. line.items ≡ bad_script_line e) }
@@ -148,8 +149,8 @@ pub fn bad_script_line(alloc: Global, e: ScriptErr) -> Result<Vec<u8>, NoMemory>
     }
 }
 
-/// The line on a source that breaks a rule: the place of the source, the least bad line and the
-/// least rule there.
+/// Returns the printed line on a source that breaks a rule: its place, the first bad line, and the
+/// least rule broken there.
 #[tactic(auto, unfolding(crate::specs::Lines::bad_source_line, crate::specs::Lines::line_end_at_two))]
 pub fn bad_source_line(alloc: Global, place: u32, rule: u8, line: u32) -> Result<Vec<u8>, NoMemory>
     ensures { IfOk result (λ text. text.items ≡ bad_source_line place rule line) }
@@ -157,7 +158,7 @@ pub fn bad_source_line(alloc: Global, place: u32, rule: u8, line: u32) -> Result
     Ok(format!(in alloc; "bad source {rule} at {place} {line}\n")?.into_bytes())
 }
 
-/// The line that says why a file is no layout.
+/// Returns the printed line on why a file is no layout: the number of the fault, and its line.
 #[tactic(auto, unfolding(crate::specs::Lines::bad_layout_line, crate::specs::Lines::line_end_at_one))]
 pub fn bad_layout_line(alloc: Global, e: LayoutErr) -> Result<Vec<u8>, NoMemory>
     ensures line { IfOk result (λ line. line.items ≡ bad_layout_line e) }
@@ -172,7 +173,8 @@ pub fn bad_layout_line(alloc: Global, e: LayoutErr) -> Result<Vec<u8>, NoMemory>
     }
 }
 
-/// The line for the source at this place, if it is above its limit.
+/// Returns the printed line for the source at this place, if it has more bytes than its form
+/// allows.
 #[tactic(auto, unfolding(crate::specs::Lines::too_long_source_line, crate::specs::Lines::line_end_at_one))]
 pub fn too_long_source_line(alloc: Global, place: u32) -> Result<Vec<u8>, NoMemory>
     ensures { IfOk result (λ line. line.items ≡ too_long_source_line place) }
@@ -180,7 +182,8 @@ pub fn too_long_source_line(alloc: Global, place: u32) -> Result<Vec<u8>, NoMemo
     Ok(format!(in alloc; "bad source 0 at {place}\n")?.into_bytes())
 }
 
-/// The line for the object at this place, if it is above its limit.
+/// Returns the printed line for the object at this place, if it has more bytes than its form
+/// allows.
 #[tactic(auto, unfolding(crate::specs::Lines::too_long_object_line, crate::specs::Lines::line_end_at_one))]
 pub fn too_long_object_line(alloc: Global, place: u32) -> Result<Vec<u8>, NoMemory>
     ensures { IfOk result (λ line. line.items ≡ too_long_object_line place) }
@@ -188,7 +191,8 @@ pub fn too_long_object_line(alloc: Global, place: u32) -> Result<Vec<u8>, NoMemo
     Ok(format!(in alloc; "bad object 0 at {place}\n")?.into_bytes())
 }
 
-/// The line that says why the file at this place is no object.
+/// Returns the printed line on why the file at this place is no object: the number of the fault,
+/// and its offset.
 #[tactic(auto, unfolding(crate::specs::Lines::bad_object_line, crate::specs::Lines::line_end_at_two))]
 pub fn bad_object_line(alloc: Global, place: u32, e: FormErr) -> Result<Vec<u8>, NoMemory>
     ensures { IfOk result (λ line. line.items ≡ bad_object_line place e) }
@@ -198,7 +202,7 @@ pub fn bad_object_line(alloc: Global, place: u32, e: FormErr) -> Result<Vec<u8>,
     Ok(format!(in alloc; "bad object {kind} at {place} {offset}\n")?.into_bytes())
 }
 
-/// The line that says why objects can't be linked.
+/// Returns the printed line on why objects can't be linked. An error means that memory ran out.
 #[tactic(auto, unfolding(crate::specs::Lines::bad_link_line))]
 pub fn bad_link_line(alloc: Global, e: LinkErr) -> Result<Vec<u8>, NoMemory>
     ensures line { IfOk result (λ line. IfSome (refusal_of e) (λ r. line.items ≡ bad_link_line r)) }
@@ -225,7 +229,8 @@ pub fn bad_link_line(alloc: Global, e: LinkErr) -> Result<Vec<u8>, NoMemory>
     }
 }
 
-// The line of a rejection that names a key of the plan.
+// Returns the printed line on why a file is no plan, if it names a key: the start of the line, then
+// the key.
 #[tactic(auto, unfolding(crate::specs::Lines::line_end_at_key))]
 fn bad_plan_key_line(alloc: Global, front: &str, key: PlanKey) -> Result<Vec<u8>, NoMemory>
     requires { key.0 < length key_texts }
@@ -235,7 +240,7 @@ fn bad_plan_key_line(alloc: Global, front: &str, key: PlanKey) -> Result<Vec<u8>
     Ok(format!(in alloc; "{front} key {text}\n")?.into_bytes())
 }
 
-// The line of a rejection to link that names a symbol or a section.
+// Returns the printed line on why objects can't be linked, if it names a symbol or a section.
 #[tactic(auto, unfolding(crate::specs::Lines::line_end_at_name))]
 fn bad_link_name_line(alloc: Global, front: &str, name: &str) -> Result<Vec<u8>, NoMemory>
     ensures { IfOk result (λ line. line.items ≡ front.now ++ line_end_at_name name.now) }
@@ -243,7 +248,8 @@ fn bad_link_name_line(alloc: Global, front: &str, name: &str) -> Result<Vec<u8>,
     Ok(format!(in alloc; "{front} name {name}\n")?.into_bytes())
 }
 
-/// The number that the line of a link prints for why a field can't be filled.
+/// Returns the number, 1 to 3, that a `bad link` line prints for why a relocation doesn't fit its
+/// field.
 #[tactic(auto, unfolding(crate::specs::Lines::reloc_fault_number))]
 fn reloc_fault_number(err: RelocErr) -> u8
     ensures { result ≡ reloc_fault_number err }

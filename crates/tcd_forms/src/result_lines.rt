@@ -12,7 +12,8 @@ use tc_machine::{Cause, End, Machine};
 use tcd_base::NoMemory;
 use tcd_text::hex_word;
 
-/// The line on a boot sequence: its events, the needed CSAs, and those of the plan.
+/// Returns the printed line of `boot` on a certified boot sequence: its events, the needed CSAs,
+/// and those of the plan.
 #[tactic(auto, unfolding(crate::specs::Lines::boots_line))]
 pub fn boots_line(alloc: Global, events: u32, need: u32, areas: u32) -> Result<Vec<u8>, NoMemory>
     ensures { IfOk result (λ line. line.items ≡ boots_line events need areas) }
@@ -21,7 +22,7 @@ pub fn boots_line(alloc: Global, events: u32, need: u32, areas: u32) -> Result<V
     Ok(text.into_bytes())
 }
 
-/// The line on a boot sequence that was written.
+/// Returns the printed line of `bootgen` on a boot sequence that was written as a source.
 #[tactic(auto, unfolding(crate::specs::Lines::generated_boot_line))]
 pub fn generated_boot_line() -> &'static [u8]
     ensures { result.now ≡ generated_boot_line }
@@ -29,8 +30,8 @@ pub fn generated_boot_line() -> &'static [u8]
     b"boot 56 instructions\n"
 }
 
-/// The line with the needed CSAs, those of the plan, and the number of cells that must keep their
-/// bounds.
+/// Returns the printed line on certified cells: the needed CSAs, those of the plan, and the number
+/// of cells in their bounds.
 #[tactic(auto, unfolding(crate::specs::Lines::certified_cells_line))]
 pub fn certified_cells_line(
     alloc: Global,
@@ -45,7 +46,8 @@ pub fn certified_cells_line(
     Ok(text.into_bytes())
 }
 
-/// The line with the CSAs that all tasks need together, and those of the plan.
+/// Returns the printed line on certified tasks: the CSAs that they need together, those of the
+/// plan, and the number of tasks.
 #[tactic(auto, unfolding(crate::specs::Lines::certified_tasks_line))]
 pub fn certified_tasks_line(
     alloc: Global,
@@ -59,8 +61,8 @@ pub fn certified_tasks_line(
     Ok(text.into_bytes())
 }
 
-/// The line on a generated image: its functions, the nodes and points of its certificate, and the
-/// needed CSAs.
+/// Returns the printed line of `gen`: the image's functions, its certificate's nodes and points,
+/// and the needed CSAs.
 #[tactic(auto, unfolding(crate::specs::Lines::generated_line))]
 pub fn generated_line(
     alloc: Global,
@@ -80,7 +82,7 @@ pub fn generated_line(
     Ok(text.into_bytes())
 }
 
-/// The line with the needed CSAs, and those of the plan.
+/// Returns the printed line on an accepted certificate: the needed CSAs, and those of the plan.
 #[tactic(auto, unfolding(crate::specs::Lines::certified_line))]
 pub fn certified_line(alloc: Global, need: u32, areas: u32) -> Result<Vec<u8>, NoMemory>
     ensures { IfOk result (λ line. line.items ≡ certified_line need areas) }
@@ -88,7 +90,8 @@ pub fn certified_line(alloc: Global, need: u32, areas: u32) -> Result<Vec<u8>, N
     Ok(format!(in alloc; "certified {need} of {areas} areas\n")?.into_bytes())
 }
 
-/// The line on a run: its events, the peak of CSAs in use, and the state of the machine at its end.
+/// Returns the printed line of `run`: the events, the peak of CSAs in use, and whether the machine
+/// runs or how it died.
 #[tactic(auto, unfolding(crate::specs::Lines::run_line, crate::specs::Lines::run_end_text))]
 pub fn run_line(alloc: Global, events: u32, peak: u32, m: &Machine) -> Result<Vec<u8>, NoMemory>
     ensures { IfOk result (λ line. line.items ≡ run_line events peak m.now) }
@@ -107,7 +110,7 @@ pub fn run_line(alloc: Global, events: u32, peak: u32, m: &Machine) -> Result<Ve
     Ok(line)
 }
 
-/// The line on an object that was written, with its size in bytes.
+/// Returns the printed line of `asm` on an object that was written, with its size in bytes.
 #[tactic(auto, unfolding(crate::specs::Lines::assembled_object_line))]
 pub fn assembled_object_line(alloc: Global, bytes: &[u8]) -> Result<Vec<u8>, NoMemory>
     ensures { IfOk result (λ text. text.items ≡ assembled_object_line (length bytes.now)) }
@@ -116,7 +119,7 @@ pub fn assembled_object_line(alloc: Global, bytes: &[u8]) -> Result<Vec<u8>, NoM
     Ok(format!(in alloc; "object {size} bytes\n")?.into_bytes())
 }
 
-/// The line on an image that was written, with its size in bytes.
+/// Returns the printed line of `link` on an image that was written, with its size in bytes.
 #[tactic(auto, unfolding(crate::specs::Lines::linked_image_line))]
 pub fn linked_image_line(alloc: Global, bytes: &[u8]) -> Result<Vec<u8>, NoMemory>
     ensures { IfOk result (λ text. text.items ≡ linked_image_line (length bytes.now)) }
@@ -125,7 +128,7 @@ pub fn linked_image_line(alloc: Global, bytes: &[u8]) -> Result<Vec<u8>, NoMemor
     Ok(format!(in alloc; "image {size} bytes\n")?.into_bytes())
 }
 
-/// The line on a rule that fails, with the address and the frame.
+/// Returns the printed line on a rule of certificates that fails, with the address and the frame.
 #[tactic(auto, unfolding(crate::specs::Lines::refused_line, crate::specs::Lines::line_end_at_frame))]
 pub fn refused_line(alloc: Global, rule: u8, key: Key, addr: u32) -> Result<Vec<u8>, NoMemory>
     ensures { IfOk result (λ line. line.items ≡ refused_line rule key addr) }
@@ -142,7 +145,8 @@ pub fn refused_line(alloc: Global, rule: u8, key: Key, addr: u32) -> Result<Vec<
     Ok(line)
 }
 
-/// The line for an image without the switch routine at this address.
+/// Returns the printed line for an image without the tasks' switch routine, with the first address
+/// that differs.
 #[tactic(auto, unfolding(crate::specs::Lines::refused_switch_line))]
 pub fn refused_switch_line(alloc: Global, addr: u32) -> Result<Vec<u8>, NoMemory>
     ensures { IfOk result (λ line. line.items ≡ refused_switch_line addr) }
@@ -172,7 +176,7 @@ pub fn refused_task_line(
     Ok(line)
 }
 
-/// The line for tasks whose needs together exceed the CSAs of the plan.
+/// Returns the printed line on tasks whose needs together exceed the CSAs of the plan.
 #[tactic(auto, unfolding(crate::specs::Lines::refused_sum_line))]
 pub fn refused_sum_line(alloc: Global, sum: u64, areas: u32) -> Result<Vec<u8>, NoMemory>
     ensures { IfOk result (λ line. line.items ≡ refused_sum_line sum areas) }

@@ -8,7 +8,7 @@ use Rattle.std.specs.Str.Parse.{digits_value}
 use Rattle.serde_json.specs.Data.{Data, null, boolean, number, string, array, object, Items, no_items, item, Members, no_members, member}
 use Rattle.serde_json.specs.Find.{get, as_array, as_object, as_str, as_u64}
 
--- the elements of an array
+-- the elements of a JSON array, as a list
 abbrev pub json_array_elements : Items → List Data
 json_array_elements no_items = []
 json_array_elements (item d ds) = d ∷ json_array_elements ds
@@ -34,7 +34,7 @@ json_elements_at name d = option_map json_array_elements (option_and_then as_arr
 abbrev pub is_json_text : List ℕ → Data → Bool
 is_json_text text d = option_map_or (λ s. bytes_eq s text) (as_str d) false
 
--- a number below 2 ^ 32
+-- the number, if it is a word: below 2 ^ 32
 abbrev pub json_word : ℕ → Option ℕ
 json_word n = if nat_lt n (2 ^ 32) then Some n else None
 
@@ -46,7 +46,7 @@ is_json_hex c = nat_lt (digit_value c) 16
 abbrev pub json_hex_word : List ℕ → Option ℕ
 json_hex_word digits = if nat_le 1 (length digits) && nat_le (length digits) 8 && list_all is_json_hex digits then Some (digits_value 16 digits) else None
 
--- `0x` and 1 to 8 hex digits
+-- the number that a JSON text spells: `0x` and 1 to 8 hex digits
 abbrev pub json_text_word : List ℕ → Option ℕ
 json_text_word (a ∷ b ∷ digits) = if a == 48 && b == 120 then json_hex_word digits else None
 json_text_word cs = None
@@ -60,11 +60,11 @@ json_number_of (string s) = json_text_word s
 json_number_of (array ds) = None
 json_number_of (object ms) = None
 
--- the number at a key
+-- the number at a key of a JSON object, if there is one
 abbrev pub json_number_at : List ℕ → Data → Option ℕ
 json_number_at name d = option_and_then json_number_of (get name d)
 
--- the number at a key, 0 if there is none
+-- the number at a key of a JSON object, 0 if there is none
 abbrev pub json_word_at : List ℕ → Data → ℕ
 json_word_at name d = unwrap_or (json_number_at name d) 0
 

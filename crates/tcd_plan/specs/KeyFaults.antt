@@ -17,7 +17,7 @@ abbrev pub may_key_be_absent : ValueForm → Bool
 may_key_be_absent CoreText = true
 may_key_be_absent _ = false
 
--- an object lacks a key
+-- an object of a plan's document lacks the key of this row, and the key may not be absent
 abbrev pub lacks_key : KeyRow → Data → Bool
 lacks_key r o = not (may_key_be_absent r.form) && is_none (get r.name o)
 

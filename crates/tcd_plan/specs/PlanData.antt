@@ -12,8 +12,9 @@ use Rattle.std.specs.Option.{option_map_or, option_or}
 use Rattle.tcd_plan.specs.declared.plans.PlanErr.{PlanErr}
 use Rattle.tcd_plan.specs.declared.plans.PlanErr.TheVariants.{Overlap}
 
--- a plan: the board's memory and peripherals, the save areas, the start state, the interrupts, and
--- the traps
+-- a plan: rom, ram and peripherals (devices), the save areas from csa_at on, of which the last
+-- `reserve` must never be used, the start state, the interrupts' priorities, whether system calls
+-- can occur (sys), and whether misaligned accesses can trap (aln)
 pub record PlanData : Type 0 where
   pub rom : List Range
   pub ram : List Range
@@ -159,8 +160,8 @@ first_given_refusal (o ∷ os) = option_or o (first_given_refusal os)
 abbrev pub key_unless : Bool → ℕ → Option PlanKey
 key_unless few key = if few then None else Some (refused_key key)
 
--- the limits that a plan's data passes: the keys of the arrays with too many elements, or with too
--- many bytes in their ranges
+-- for each array in a plan's data its key, if the array has too many elements, or too many bytes in
+-- its ranges
 abbrev pub exceeded_limits : PlanData → List (Option PlanKey)
 exceeded_limits p =
     key_unless (are_ranges_few p.rom) 1 ∷
@@ -169,7 +170,8 @@ exceeded_limits p =
     key_unless (nat_le (length p.irqs) 32) 20 ∷
     []
 
--- the first limit that a plan's data passes, if there is one
+-- the key of the first array in a plan's data with too many elements, or with too many bytes in its
+-- ranges
 unfoldable pub first_oversized_array : PlanData → Option PlanKey
 first_oversized_array p = first_given_refusal (exceeded_limits p)
 

@@ -32,11 +32,11 @@ plan_device_of o = record { range = plan_range_of o; lo = json_word_at (codes "l
 abbrev pub irq_of : Data → ℕ
 irq_of q = unwrap_or (json_number_of q) 0
 
--- the version of the core, V13 if the key is absent
+-- the version of the core in a plan's document; V13 if the key is absent
 abbrev pub core_of : Data → Core
 core_of d = if is_present_and_passing (is_json_text (codes "1.6")) (get (codes "core") d) then V16 else V13
 
--- the words of A0, A1, A8 and A9
+-- the words of A0, A1, A8 and A9 at the start, in a plan's document
 abbrev pub plan_globals_of : Data → List ℕ
 plan_globals_of d = map (λ name. json_word_in (codes "globals") name d) (codes "a0" ∷ codes "a1" ∷ codes "a8" ∷ codes "a9" ∷ [])
 
@@ -67,7 +67,7 @@ plan_in d = record {
 abbrev pub refusal_if : Bool → PlanErr → Option PlanErr
 refusal_if b e = if b then Some e else None
 
--- the refusals that apply, in the order of their numbers
+-- the refusals of a plan's document that apply, in the order of their numbers
 abbrev pub refusals : Data → List (Option PlanErr)
 refusals d =
     refusal_if (not (is_object d)) NotJson ∷
@@ -80,11 +80,11 @@ refusals d =
     plan_range_overlap (plan_in d) ∷
     []
 
--- the first refusal, if there is one
+-- the first refusal of a plan's document, if there is one
 unfoldable pub plan_refusal : Data → Option PlanErr
 plan_refusal d = first_given_refusal (refusals d)
 
--- the plan, or the first refusal
+-- the plan in a document, or the first refusal
 abbrev pub plan_of : Data → Result PlanData PlanErr
 plan_of d = option_map_or Err (plan_refusal d) (Ok (plan_in d))
 
@@ -106,7 +106,7 @@ AnswersPlan bytes (Err BadVector) = GivesPlan bytes (Err BadVector)
 AnswersPlan bytes (Err (Overlap i j)) = GivesPlan bytes (Err (Overlap i j))
 AnswersPlan bytes (Ok p) = GivesPlan bytes (Ok p)
 
--- a refusal by the reader of plans names no key, or a key that has a printed text
+-- a refusal by the reader of plans names no key, or a key that has a text to print
 abbrev pub HasPrintedKey : PlanErr → Type 0
 HasPrintedKey (Missing key) = key.0 < length key_texts
 HasPrintedKey (Unknown key) = key.0 < length key_texts

@@ -12,7 +12,7 @@ use Rattle.tcd_plan.specs.declared.key_table.ValueForm.TheVariants.{Ranges, Obje
 abbrev pub is_present_and_passing : {T : Type 0} → (T → Bool) → Option T → Bool
 is_present_and_passing test o = option_map_or test o false
 
--- ascending numbers from above `low` up to 255
+-- the form of the value of a plan's key `irqs`: ascending numbers above `low`, up to 255
 abbrev pub are_irqs_above : ℕ → List Data → Bool
 are_irqs_above low [] = true
 are_irqs_above low (d ∷ ds) = is_present_and_passing (λ q. nat_lt low q && nat_lt q 256 && are_irqs_above q ds) (json_number_of d)
@@ -21,7 +21,7 @@ are_irqs_above low (d ∷ ds) = is_present_and_passing (λ q. nat_lt low q && na
 abbrev pub is_trap_text : Data → Bool
 is_trap_text d = is_json_text (codes "sys") d || is_json_text (codes "aln") d
 
--- a list of `sys` and `aln` without repeats
+-- the form of the value of a plan's key `traps`: `sys` and `aln`, each at most once
 abbrev pub are_traps : List Data → Bool
 are_traps ds = list_all is_trap_text ds && nat_le (count_by (is_json_text (codes "sys")) ds) 1 && nat_le (count_by (is_json_text (codes "aln")) ds) 1
 
@@ -29,7 +29,7 @@ are_traps ds = list_all is_trap_text ds && nat_le (count_by (is_json_text (codes
 abbrev pub is_range_len : ℕ → ℕ → Bool
 is_range_len at len = nat_lt 0 len && (len % 4 == 0) && nat_le (at + len) (2 ^ 32)
 
--- `1.3` or `1.6`, or absent
+-- the form of the value of a plan's key `core`: `1.3` or `1.6`, or absent
 abbrev pub is_core_text : Option Data → Bool
 is_core_text o = option_map_or (λ d. is_json_text (codes "1.3") d || is_json_text (codes "1.6") d) o true
 

@@ -26,7 +26,7 @@ pub fn is_json_text(value: &Value, text: &str) -> bool
     }
 }
 
-/// Returns the number at a key, or 0 if there is none.
+/// Returns the number at a key of a JSON object, or 0 if there is none.
 pub fn json_word_at(value: &Value, name: &str) -> u32
     ensures { result ≡ json_word_at name.now (view value.now) }
 {
@@ -43,7 +43,7 @@ pub fn json_word_in(value: &Value, outer: &str, name: &str) -> u32
     }
 }
 
-/// Returns the number at a key.
+/// Returns the number at a key of a JSON object, or `None` if there is none.
 pub fn json_number_at(value: &Value, name: &str) -> Option<u32>
     ensures { result ≡ json_number_at name.now (view value.now) }
 {

@@ -276,7 +276,7 @@ static HOLDERS: [Holder; 7] = [
     Holder::Globals,
 ];
 
-/// Returns the rows of the table, in the order of the keys' numbers.
+/// Returns the rows of the table of a plan's keys, in the order of the keys' numbers.
 #[tactic(auto, unfolding(crate::specs::KeyRows::key_rows))]
 pub fn key_table_rows() -> &'static [Row]
     ensures rows { map row_of result.now ≡ key_rows }

@@ -13,7 +13,8 @@ use arrayvec::ArrayVec;
 use serde_json::Value;
 use tcd_base::Range;
 
-/// Returns the first array with too many elements, or with too many bytes in its ranges.
+/// Returns the key of a plan's first array with too many elements, or with too many bytes in its
+/// ranges.
 #[tactic(auto, unfolding(crate::specs::PlanReader::plan_in, crate::specs::PlanData::first_oversized_array))]
 pub fn first_oversized_array(value: &Value) -> Option<PlanKey>
     ensures { result ≡ first_oversized_array (plan_in (view value.now)) }

@@ -11,7 +11,7 @@ use arrayvec::ArrayVec;
 use serde_json::Value;
 use tcd_base::{Core, Range};
 
-/// Reads a range.
+/// Reads a range of a plan from an object of its document: `at` and `len`.
 pub fn plan_range_of(object: &Value) -> Range
     ensures { result ≡ plan_range_of (view object.now) }
 {
@@ -21,7 +21,7 @@ pub fn plan_range_of(object: &Value) -> Range
     }
 }
 
-/// Appends the ranges of the objects.
+/// Appends the ranges of a plan that these objects of its document give.
 pub fn push_ranges<const N: usize>(ranges: &mut ArrayVec<Range, N>, objects: &[Value])
     requires { length ranges.old.items + length objects.now ≤ N }
     ensures { ranges.new.items ≡ ranges.old.items ++ map plan_range_of (map view objects.now) }
@@ -31,7 +31,7 @@ pub fn push_ranges<const N: usize>(ranges: &mut ArrayVec<Range, N>, objects: &[V
     }
 }
 
-/// Reads the ranges of the objects.
+/// Reads the ranges of a plan's rom or ram from the objects of its document.
 pub fn ranges_of(objects: &[Value]) -> ArrayVec<Range, 16>
     requires { length objects.now ≤ 16 }
     ensures { result.items ≡ map plan_range_of (map view objects.now) }
@@ -41,7 +41,7 @@ pub fn ranges_of(objects: &[Value]) -> ArrayVec<Range, 16>
     ranges
 }
 
-/// Reads the peripherals of the objects.
+/// Reads the peripherals of a plan from the objects of its document.
 pub fn devices_of(objects: &[Value]) -> ArrayVec<Device, 16>
     requires { length objects.now ≤ 16 }
     ensures { result.items ≡ map plan_device_of (map view objects.now) }
@@ -53,7 +53,7 @@ pub fn devices_of(objects: &[Value]) -> ArrayVec<Device, 16>
     devices
 }
 
-/// Reads the priorities of the interrupts.
+/// Reads the priorities of a plan's interrupts from the elements of the document's `irqs`.
 pub fn irqs_of(places: &[Value]) -> ArrayVec<u8, 32>
     requires few { length places.now ≤ 32 }
     requires bytes { All (λ q. irq_of q < 2 ^ 8) (map view places.now) }
@@ -66,7 +66,7 @@ pub fn irqs_of(places: &[Value]) -> ArrayVec<u8, 32>
     irqs
 }
 
-/// Reads the version of the core, which is `V13` if the key is absent.
+/// Reads the version of the core from a plan's document. It is `V13` if the key is absent.
 pub fn core_of(value: &Value) -> Core
     ensures { result ≡ core_of (view value.now) }
 {
@@ -76,7 +76,7 @@ pub fn core_of(value: &Value) -> Core
     }
 }
 
-/// Reads the words of A0, A1, A8 and A9.
+/// Reads the words of A0, A1, A8 and A9 at the start from a plan's document.
 pub fn plan_globals_of(value: &Value) -> [u32; 4]
     ensures { result ≡ plan_globals_of (view value.now) }
 {
@@ -100,7 +100,8 @@ pub(crate) fn areas_range(value: &Value) -> Range
     }
 }
 
-/// Reads a peripheral of the plan: its range, and the bounds of its words.
+/// Reads a peripheral of a plan from an object of its document: its range, and the bounds of its
+/// words.
 fn plan_device_of(object: &Value) -> Device
     ensures { result ≡ plan_device_of (view object.now) }
 {

@@ -115,14 +115,14 @@ pub record EndsInAllCasesByLaw (reading : Reading) (files files' : FilesSeen) (s
       → ((report : Report) → ReadingSays reading files.held report → length report.text ≤ n)
       → (report : Report) → ReadingSays reading files.held report → (result ≡ report.status) ⊎ (result ≡ NoMemory)
 
--- a command with this reading that ends, ends so, if files and sink reveal their contents
+-- guard law of a command that ends, if files and sink reveal their contents: it ends so
 abbrev pub EndingLaw : Reading → Type 0
 EndingLaw reading =
     (files files' : FilesSeen) (sink sink' : SinkSeen) (result : Status) (m : FileMap) (text : List ℕ)
     → files.held ≡ Some m → sink.written ≡ Some text → Ends reading files files' sink sink' result
     → EndsByLaw reading files files' sink sink' m text result
 
--- a command with this reading that ends, ends so in all cases
+-- guard law of a command that ends, whether or not files and sink reveal their contents: it ends so
 abbrev pub EndingLawInAllCases : Reading → Type 0
 EndingLawInAllCases reading =
     (files files' : FilesSeen) (sink sink' : SinkSeen) (result : Status)

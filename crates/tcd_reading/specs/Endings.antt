@@ -42,7 +42,7 @@ pub data IsEndingWithReport (report : Report) (files files' : FilesSeen) (sink s
       → (IsTrue files.steady → ⊥) → IsEndingWithReport report files files' sink sink' result
   no_memory : result ≡ status.NoMemory → sink' ≡ sink → ReportWritingStopped files.held files'.held report.writes → IsEndingWithReport report files files' sink sink' result
 
--- the views of the files and of the sink don't change
+-- a command ends without effect: the views of the files and of the sink don't change
 pub record FilesAndSinkStay (files files' : FilesSeen) (sink sink' : SinkSeen) : Type 0 where
   pub files_stay : files' ≡ files
   pub sink_stays : sink' ≡ sink
@@ -59,8 +59,8 @@ FinishesOutcome (Err (stop.BadInput line)) files files' sink sink' result = Fini
 FinishesOutcome (Err stop.Unread) files files' sink sink' result = FilesAndSinkStay files files' sink sink' × (result ≡ status.Fault)
 FinishesOutcome (Err stop.NoMemory) files files' sink sink' result = FilesAndSinkStay files files' sink sink' × (result ≡ status.NoMemory)
 
--- A report was written and printed. Or a file couldn't be read, so the files aren't sure of all
--- needed inputs. Or memory ran out before anything was written or printed.
+-- How a command has ended. A report was written and printed; or a file couldn't be read, so the
+-- files aren't sure of all needed inputs; or memory ran out before anything was written or printed.
 pub data HasEnded (reading : Reading) (files files' : FilesSeen) (sink sink' : SinkSeen) (result : Status) : Type 0 where
   reported : (report : Report) → ReadingSays reading files.held report → IsEndingWithReport report files files' sink sink' result → HasEnded reading files files' sink sink' result
   unread :

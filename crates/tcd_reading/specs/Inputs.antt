@@ -14,11 +14,13 @@ pub record FormSeen (A : Type 0) : Type 1 where
   pub Is : List ℕ → A → Type 0
   pub IsBad : List ℕ → List ℕ → Type 0
 
--- the file of this name has this value
+-- the files hold an input of a command: the file of this name is within its form's limit, and has
+-- this value
 abbrev pub HoldsInput : {A : Type 0} → FormSeen A → Option FileMap → List ℕ → A → Type 0
 HoldsInput form held name x = (bytes : List ℕ) × ReadsFile held name bytes × (length bytes ≤ form.limit) × form.Is bytes x
 
--- The input of this name is held: its bytes are within its form's limit, and have this value.
+-- The files are known to hold an input of a command: the bytes of this name are within its form's
+-- limit, and have this value.
 pub record MapHoldsInput {A : Type 0} (form : FormSeen A) (m : FileMap) (name : List ℕ) (x : A) : Type 0 where
   pub bytes : List ℕ
   pub held : get m name ≡ Some bytes
@@ -31,8 +33,8 @@ pub data MapHoldsBadInput {A : Type 0} (form : FormSeen A) (m : FileMap) (name l
   above_limit : (bytes : List ℕ) → get m name ≡ Some bytes → form.limit < length bytes → line ≡ form.too_long_line → MapHoldsBadInput form m name line
   without_value : (bytes : List ℕ) → get m name ≡ Some bytes → length bytes ≤ form.limit → form.IsBad bytes line → MapHoldsBadInput form m name line
 
--- why an input of a command is rejected when it is read: this is the line for a file above its
--- form's limit, or one of the lines for a file that isn't in its form
+-- why an input file of a command is rejected, with the line: the file is above its form's limit, or
+-- isn't in its form
 pub data IsInputRejection {A : Type 0} (form : FormSeen A) (held : Option FileMap) (name text : List ℕ) : Type 0 where
   long : IsFileTooLong held name form.limit → text ≡ form.too_long_line → IsInputRejection form held name text
   bad : (bytes : List ℕ) → ReadsFile held name bytes → length bytes ≤ form.limit → form.IsBad bytes text → IsInputRejection form held name text
@@ -43,8 +45,8 @@ pub data Reading : Type 1 where
   answer : (Report → Type 0) → Reading
   input : (A : Type 0) → FormSeen A → List ℕ → (A → Reading) → Reading
 
--- the files of these names, each with the form for its place in the list, and then the rest of the
--- reading
+-- the input files of these names are read in order, each in the form for its place, and then the
+-- rest is read
 abbrev pub each : (A : Type 0) → (ℕ → FormSeen A) → ℕ → List (List ℕ) → (List A → Reading) → Reading
 each A form place [] next = next []
 each A form place (name ∷ names) next = input A (form place) name (λ x. each A form (place + 1) names (λ xs. next (x ∷ xs)))

@@ -22,6 +22,6 @@ abbrev pub AreInputsPresentInTurn : Reading → FileMap → Type 0
 AreInputsPresentInTurn (answer IsReport) m = Unit {0}
 AreInputsPresentInTurn (input A form name next) m = ((bytes : List ℕ) × (get m name ≡ Some bytes)) × ((x : A) → MapHoldsInput form m name x → AreInputsPresentInTurn (next x) m)
 
--- guard law of a command: these are all inputs that it needs
+-- guard law of a command: if these inputs are there, the files hold all inputs that it needs
 abbrev pub NeededInputsLaw : Reading → Type 0
 NeededInputsLaw reading = (m : FileMap) → AreInputsPresentInTurn reading m → HoldsNeededInputs reading (Some m)

@@ -9,7 +9,7 @@ pub record ReportFile : Type 0 where
   pub name : List ℕ
   pub bytes : List ℕ
 
--- a status, the text to print, and the files to write before it
+-- the report of a command: a status, the text to print, and the files to write before it
 pub record Report : Type 0 where
   pub status : Status
   pub text : List ℕ
@@ -20,15 +20,15 @@ pub record Report : Type 0 where
 abbrev pub IsReportStatus : Status → Type 0
 IsReportStatus s = (s ≡ Done) ⊎ ((s ≡ Refused) ⊎ (s ≡ BadInput))
 
--- a text with its status, and nothing to write
+-- a command's report that writes nothing: a status and a text to print
 abbrev pub says : Status → List ℕ → Report
 says status text = record { status = status; text = text; writes = [] }
 
--- a report with one file to write
+-- a command's report that is done, with one file to write
 abbrev pub report_with_file : List ℕ → List ℕ → List ℕ → Report
 report_with_file name bytes text = record { status = Done; text = text; writes = record { name = name; bytes = bytes } ∷ [] }
 
--- a report with two files to write, in this order
+-- a command's report that is done, with two files to write in this order
 abbrev pub report_with_two_files : ReportFile → ReportFile → List ℕ → Report
 report_with_two_files first second text = record { status = Done; text = text; writes = first ∷ second ∷ [] }
 
@@ -38,7 +38,7 @@ abbrev pub with_report_files : Option FileMap → List ReportFile → Option Fil
 with_report_files held [] = held
 with_report_files held (w ∷ ws) = with_report_files (files_after_write held w.name w.bytes) ws
 
--- several files to write, one after another, and the text on them
+-- a command's report that is done, with several files to write, one after another
 abbrev pub report_with_files : List ReportFile → List ℕ → Report
 report_with_files writes text = record { status = Done; text = text; writes = writes }
 

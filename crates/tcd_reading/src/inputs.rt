@@ -36,7 +36,8 @@ pub trait Form {
         ensures stops { IfErr result (IsBadInputStop ((form self.now).IsBad bytes.items) ⊥) };
 }
 
-/// Reads the input of this form from a file.
+/// Reads a command's input file of this form and returns its value. A file that is too long, faulty
+/// or unreadable stops the command.
 pub fn read_input<I: Form, F: Files>(
     form: &I,
     alloc: Global,
@@ -57,7 +58,8 @@ pub fn read_input<I: Form, F: Files>(
     }
 }
 
-// Why a command stops at a file that wasn't read: it is too large, or reading failed.
+// Returns why a command stops at an input file that wasn't read: the file is too long, reading
+// failed, or memory ran out.
 fn stop_for_file_error<I: Form>(form: &I, alloc: Global, e: FileErr) -> Stop
     ensures { IsBadInputStop (λ t. (e ≡ FileErr.TooLong) × (t ≡ (I.form form.now).too_long_line))
         (e ≡ FileErr.Failed) result }

@@ -17,15 +17,15 @@ impl AnyCommand for Brand {
     ghost reading = { answer (λ _. ⊥) };
 }
 
-/// How a command ends, in plain equations: its status, the files after it, and the printed text.
-/// Each holds for files and sinks that reveal their contents; a part holds for all of them.
+/// Guard laws of how a command ends, in plain equations: its status, the files after it, and the
+/// printed text.
 pub fn ending_laws<C: AnyCommand>()
     ensures told { EndingLaw C.reading }
     ensures anyhow { EndingLawInAllCases C.reading }
 {}
 
-/// The reports of a command, whatever number of files it reads, and the files that it needs, in
-/// plain equations.
+/// Guard laws of a command's reports and of the files that it needs, in plain equations, whatever
+/// number of files it reads.
 pub fn reading_laws<C: AnyCommand>()
     ensures says { ReportLaw C.reading }
     ensures asks { NeededInputsLaw C.reading }

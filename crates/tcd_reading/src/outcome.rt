@@ -97,7 +97,7 @@ impl From<NoMemory> for Stop {
 /// The outcome of a command, before a file is written or a text printed.
 pub type Outcome = Result<Report, Stop>;
 
-/// A report with one file to write.
+/// Returns a command's report that is done, with one file to write and a text to print.
 pub fn report_with_file(
     alloc: Global,
     name: &str,
@@ -115,7 +115,8 @@ pub fn report_with_file(
     })
 }
 
-/// A report with two files to write, in this order.
+/// Returns a command's report that is done, with two files to write in this order and a text to
+/// print.
 pub fn report_with_two_files(
     alloc: Global,
     first: Write,
@@ -134,8 +135,8 @@ pub fn report_with_two_files(
     })
 }
 
-/// Writes the files of an outcome, and then prints its text. After the first file, memory is only
-/// allocated for writing the next files.
+/// Ends a command: writes the files of its outcome, then prints its text, and returns the status.
+/// After the first file, only writing the next files allocates memory.
 pub fn finish_outcome<F: Files, S: Sink>(
     alloc: Global,
     outcome: Outcome,
@@ -156,7 +157,8 @@ pub fn finish_outcome<F: Files, S: Sink>(
     }
 }
 
-/// The stop at an input that isn't in its form, with the line that is printed, if it could be made.
+/// Returns the stop of a command at an input that isn't in its form, with the printed line, or the
+/// stop for lack of memory.
 pub fn bad_input_stop(line: Result<Vec<u8>, NoMemory>) -> Stop
     ensures stops { IsBadInputStop (λ t. IsOkAnd line (λ l. t ≡ l.items)) ⊥ result }
     ensures sure { IsOk line → result ≢ Stop.NoMemory }
@@ -167,7 +169,7 @@ pub fn bad_input_stop(line: Result<Vec<u8>, NoMemory>) -> Stop
     }
 }
 
-/// Writes the files of a report in order, up to the first failure.
+/// Writes the files of a command's report in order, up to the first failure.
 fn write_report_files<F: Files>(
     alloc: Global,
     writes: &[Write],

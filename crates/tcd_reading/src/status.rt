@@ -53,7 +53,7 @@ pub fn print_with_status<S: Sink>(out: &mut S, text: &[u8], status: Status) -> S
     }
 }
 
-// The status after a write that failed.
+// Returns the status of a command after a write of its output files failed: no memory, or a fault.
 pub(crate) fn status_of_failed_write(e: FileErr) -> Status
     ensures memory { e ≡ FileErr.NoMemory → result ≡ Status.NoMemory }
     ensures fault { e ≢ FileErr.NoMemory → result ≡ Status.Fault }

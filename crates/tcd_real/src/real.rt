@@ -94,8 +94,8 @@ impl<'a, R: Print> Sink for Stdout<'a, R> {
     }
 }
 
-// Reads bytes until the room is full or the file ends, and returns their number. An error gives
-// `None`.
+// Reads from an open file until the room is full or the file ends, and returns the number of bytes
+// read. `None` means that reading failed.
 fn read_until_full<R: Read>(file: &mut R, room: &mut [u8]) -> Option<usize> {
     let mut filled = 0;
     while filled < room.len() {
@@ -108,8 +108,8 @@ fn read_until_full<R: Read>(file: &mut R, room: &mut [u8]) -> Option<usize> {
     Some(filled)
 }
 
-// Writes all bytes, and returns whether that worked. It stops at an error, or at a write that takes
-// no byte.
+// Writes all bytes to an open file or to standard output. Returns false after an error, or if a
+// write takes no byte.
 fn write_all_bytes<W: Write>(out: &mut W, bytes: &[u8]) -> bool {
     let mut rest = bytes;
     while !rest.is_empty() {

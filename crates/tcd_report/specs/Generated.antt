@@ -18,7 +18,7 @@ use Rattle.elf_image.specs.Images.{ImageData, SegmentData}
 unfoldable pub generated_code : List ℕ → Fields → List ℕ
 generated_code name f = option_map_or (λ r. spelling r f) (find (λ r. bytes_eq r.name name) listed) []
 
--- the address of function i: each function has 32 bytes
+-- the address of function i of a generated image: each function has 32 bytes
 abbrev pub generated_function_address : ℕ → ℕ
 generated_function_address i = 0x80008000 + 32 * i
 
@@ -65,17 +65,17 @@ zero_padded_bytes size bytes = bytes ++ replicate (size - length bytes) 0
 unfoldable pub generated_vectors : ℕ → List ℕ
 generated_vectors n = flat_map (λ j. zero_padded_bytes 320 (generated_handler n (10 * j + 10))) (range_with_len 0 15) ++ generated_handler n 160
 
--- the handler of system calls
+-- the handler of system calls in a generated image: it only returns
 unfoldable pub generated_system_call_handler : List ℕ
 generated_system_call_handler = generated_code (codes "rfe16") (fields 0 0 0 0 0)
 
 -- ---- functions
--- a call of function i, if i is below n
+-- in a generated image of n functions, a call of function i, if i is below n
 abbrev pub call_if_below : ℕ → ℕ → ℕ → List ℕ
 call_if_below n at i = if nat_lt i n then call_from at (generated_function_address i) else []
 
--- function i: it reserves eight bytes of stack, stores a word there, and calls the functions 2i + 1
--- and 2i + 2, if there are any
+-- function i of a generated image: reserves stack, stores a word there, and calls functions 2i + 1
+-- and 2i + 2, if any
 unfoldable pub generated_function_code : ℕ → ℕ → List ℕ
 generated_function_code n i =
     generated_code (codes "sub16.a") (fields 0 0 0 0 8)
@@ -83,16 +83,17 @@ generated_function_code n i =
     ++ (call_if_below n (generated_function_address i + 4) (2 * i + 1)
     ++ (call_if_below n (generated_function_address i + 8) (2 * i + 2) ++ generated_code (codes "ret16") (fields 0 0 0 0 0))))
 
--- the functions, each except the last with zeros up to 32 bytes
+-- the functions of a generated image, each except the last with zeros up to 32 bytes
 unfoldable pub generated_functions : ℕ → List ℕ
 generated_functions n = flat_map (λ i. zero_padded_bytes 32 (generated_function_code n i)) (range_with_len 0 (n - 1)) ++ generated_function_code n (n - 1)
 
 -- ---- the image
--- these bytes at an address
+-- a segment of a generated image: these bytes at an address
 abbrev pub generated_segment : ℕ → List ℕ → SegmentData
 generated_segment at bytes = record { at = at; bytes = bytes }
 
--- the main program, the table, the vectors, the handler of system calls, and the functions
+-- the segments of a generated image: the main program, the table, the vectors, the handler of
+-- system calls, and the functions
 abbrev pub generated_segments : ℕ → List SegmentData
 generated_segments n =
     generated_segment 0x80000000 generated_main_code ∷ generated_segment 0x80000100 (generated_function_table n) ∷ generated_segment 0x80002140 (generated_vectors n) ∷ generated_segment 0x800040c0 generated_system_call_handler ∷

@@ -28,21 +28,21 @@ use Rattle.cfg_recover.specs.declared.local_rules.Located.{Located}
 use Rattle.tcd_report.specs.declared.judged.Judged.{Judged}
 
 -- ---- lines
--- what a line says: the way of a step, or the address where a point goes on after an entered frame
--- returns
+-- what a line of the graph says: the way of a step, or the address where a point goes on after an
+-- entered frame returns
 pub data Arrow : Type 0 where
   goes : EdgeWay → Arrow
   back : ℕ → Arrow
 
--- the front of each line of a node: its key
+-- the front of each line of a node in the graph: its key
 abbrev pub key_front : Key → List ℕ
 key_front key = key_text key ++ codes ": "
 
--- the front of each line of a point: that of its node, and the point's address
+-- the front of each line of a point in the graph: that of its node, and the point's address
 abbrev pub line_front : Key → ℕ → List ℕ
 line_front key p = key_front key ++ (hex_word p ++ 32 ∷ [])
 
--- the end of a line: its word, and an address
+-- the end of a line of the graph: its word, and an address
 abbrev pub line_end_to : List ℕ → ℕ → List ℕ
 line_end_to word q = word ++ (hex_word q ++ 10 ∷ [])
 
@@ -57,22 +57,22 @@ way_end (aln q) = line_end_to (codes "aln ") q
 way_end ret = codes "ret" ++ 10 ∷ []
 way_end rfe = codes "rfe" ++ 10 ∷ []
 
--- the end of an arrow's line
+-- the end of the graph's line for an arrow
 abbrev pub arrow_end : Arrow → List ℕ
 arrow_end (goes w) = way_end w
 arrow_end (back q) = line_end_to (codes "back ") q
 
--- a line: the key, the point's address, and the arrow
+-- a line of the graph: the key, the point's address, and the arrow
 abbrev pub graph_line : Key → ℕ → Arrow → List ℕ
 graph_line key p a = line_front key p ++ arrow_end a
 
 -- ---- the arrows of a point
--- the address in the frame that a duty leads to
+-- for the graph's `to` lines: the address in the frame that a duty leads to, as a list
 abbrev pub jump_target_of_duty : Duty → List ℕ
 jump_target_of_duty (jump q t) = q ∷ []
 jump_target_of_duty _ = []
 
--- the entry that a duty asks for
+-- for the graph's lines: the entry of the frame that a duty asks to enter, as a list
 abbrev pub entry_of_duty : Duty → List ℕ
 entry_of_duty (enter k t) = k.entry ∷ []
 entry_of_duty _ = []
@@ -91,12 +91,12 @@ misaligned_rule = 10
 abbrev pub interrupt_rule : ℕ
 interrupt_rule = 11
 
--- the entries that the duties of a rule ask for, in their order
+-- for the graph's lines: the entries that the duties of a rule ask for, in their order
 abbrev pub entries_by_rule : ℕ → List Owed → List ℕ
 entries_by_rule rule ds = flat_map (λ d. if d.rule == rule then entry_of_duty d.duty else []) ds
 
--- the address where the frame goes on after the node of a key, if that node is there and has an
--- exit
+-- for the graph's `back` lines: the address where the frame goes on after the node of a key, if
+-- that node has an exit
 abbrev pub return_address_of_duty : CertData → Duty → List ℕ
 return_address_of_duty cert (resume k q) = if option_map_or (λ n. is_some n.exit) (find_node k cert.nodes) false then q ∷ [] else []
 return_address_of_duty cert _ = []
@@ -106,21 +106,24 @@ abbrev pub unique_addresses : List ℕ → List ℕ
 unique_addresses [] = []
 unique_addresses (x ∷ xs) = x ∷ filter (λ y. not (y == x)) (unique_addresses xs)
 
--- the arrow of a return, if the instruction is one
+-- the arrow of a point's own return in the graph, if the instruction is one
 abbrev pub return_arrow_of : Shape → List Arrow
 return_arrow_of shape.Ret = goes ret ∷ []
 return_arrow_of shape.Rfe = goes rfe ∷ []
 return_arrow_of _ = []
 
--- the addresses in the frame that the duties of a point lead to, ascending
+-- the addresses on the graph's `to` lines of a point, by its duties: those in the frame that they
+-- lead to, ascending
 abbrev pub sorted_jump_targets_of : List Owed → List ℕ
 sorted_jump_targets_of ds = sorted_set_of (flat_map (λ d. jump_target_of_duty d.duty) ds)
 
--- the entries of the called functions, ascending
+-- the addresses on the graph's `call` lines of a point, by its duties: the entries of the called
+-- functions, ascending
 abbrev pub called_entries_of : List Owed → List ℕ
 called_entries_of ds = sorted_set_of (entries_by_rule call_rule ds)
 
--- the addresses where the frame goes on after an entered frame returns, each once
+-- the addresses on the graph's `back` lines of a point, by its duties: where the frame goes on
+-- after an entered frame returns, each once
 abbrev pub unique_return_addresses_of : CertData → List Owed → List ℕ
 unique_return_addresses_of cert ds = unique_addresses (flat_map (λ d. return_address_of_duty cert d.duty) ds)
 
@@ -129,7 +132,8 @@ unique_return_addresses_of cert ds = unique_addresses (flat_map (λ d. return_ad
 abbrev pub system_call_rule : ℕ
 system_call_rule = 12
 
--- the entry of the handler of system calls
+-- the address on the graph's `sys` line of a point, by its duties: the entry of the handler of
+-- system calls
 abbrev pub system_call_entries_of : List Owed → List ℕ
 system_call_entries_of ds = unique_addresses (entries_by_rule system_call_rule ds)
 
@@ -143,7 +147,7 @@ misaligned_entries_of ds = unique_addresses (entries_by_rule misaligned_rule ds)
 abbrev pub interrupt_entries_of : List Owed → List ℕ
 interrupt_entries_of ds = unique_addresses (entries_by_rule interrupt_rule ds)
 
--- the arrows of a point, by its duties and its instruction
+-- the arrows of a point in the graph, by its duties and its instruction
 unfoldable pub arrows_of : CertData → List Owed → Shape → List Arrow
 arrows_of cert ds shape =
     map (λ q. goes (to q)) (sorted_jump_targets_of ds)
@@ -154,14 +158,14 @@ arrows_of cert ds shape =
     ++ (map (λ q. goes (irq q)) (interrupt_entries_of ds) ++ return_arrow_of shape)))))
 
 -- ---- the graph
--- the lines of a point
+-- the lines of a point in the graph: one for each of its arrows
 pub record ArePointLines (image : ImageData) (plan : PlanData) (cert : CertData) (key : Key) (point : Point) (lines : List (List ℕ)) : Type 0 where
   pub shape : Shape
   pub size : ℕ
   pub code : IsCode image plan point.addr shape size
   pub are : lines ≡ map (graph_line key point.addr) (arrows_of cert (duties_of (limits_in plan cert) image plan key point.addr point.state shape size) shape)
 
--- one part for each element, in order
+-- each element of a list, as a node or a point, has its part of the graph's lines, in order
 abbrev pub AreLineParts : {A : Type 0} → (A → List (List ℕ) → Type 0) → List A → List (List (List ℕ)) → Type 0
 AreLineParts Has [] [] = Unit {0}
 AreLineParts Has [] (p ∷ ps) = ⊥
@@ -174,15 +178,15 @@ pub record AreJoinedLines {A : Type 0} (Has : A → List (List ℕ) → Type 0) 
   pub each : AreLineParts Has xs parts
   pub are : lines ≡ flat_map (λ p. p) parts
 
--- the lines of a node: those of its points
+-- the lines of a node in the graph: those of its points
 abbrev pub AreNodeLines : ImageData → PlanData → CertData → NodeData → List (List ℕ) → Type 0
 AreNodeLines image plan cert node lines = AreJoinedLines (ArePointLines image plan cert node.key) node.points lines
 
--- the lines of the graph: those of the nodes
+-- the lines of the graph of a certificate: those of its nodes
 abbrev pub AreGraphLines : ImageData → PlanData → CertData → List (List ℕ) → Type 0
 AreGraphLines image plan cert lines = AreJoinedLines (AreNodeLines image plan cert) cert.nodes lines
 
--- the text of the graph
+-- the text is the graph of a certificate: the lines of its nodes, one after another
 pub record IsGraph (image : ImageData) (plan : PlanData) (cert : CertData) (text : List ℕ) : Type 0 where
   pub lines : List (List ℕ)
   pub are : AreGraphLines image plan cert lines
@@ -198,12 +202,12 @@ with_unique_address xs x = if list_any (λ y. y == x) xs then xs else xs ++ x �
 abbrev pub jump_targets_of : List Owed → List ℕ
 jump_targets_of ds = flat_map (λ d. jump_target_of_duty d.duty) ds
 
--- the address where the frame goes on after an entered frame returns, once for each entered node
--- with an exit
+-- for the graph's `back` lines: the address where the frame goes on after an entered frame returns,
+-- once for each entered node with an exit
 abbrev pub return_addresses_of : CertData → List Owed → List ℕ
 return_addresses_of cert ds = flat_map (λ d. return_address_of_duty cert d.duty) ds
 
--- the functions that an instruction of this shape calls
+-- for the graph's `call` lines: the functions that an instruction of this shape calls
 abbrev pub call_targets_of : PlanData → State → ℕ → Shape → List ℕ
 call_targets_of plan s p (Call target) = unwrap_or (targets_of plan s p target) []
 call_targets_of plan s p _ = []
@@ -212,7 +216,8 @@ call_targets_of plan s p _ = []
 abbrev pub entries_of_kind : ℕ → List Key → List ℕ
 entries_of_kind kind keys = flat_map (λ k. if k.kind == kind then k.entry ∷ [] else []) keys
 
--- the address where a frame goes on after these frames, once for each whose node has an exit
+-- for the graph's `back` lines: the address where a frame goes on after these frames, once for each
+-- whose node has an exit
 abbrev pub return_addresses_after : CertData → ℕ → List Key → List ℕ
 return_addresses_after cert q keys = flat_map (λ k. return_address_of_duty cert (resume k q)) keys
 
@@ -226,11 +231,11 @@ pub record AreEdges (cert : CertData) (ds : List Owed) (w : Edges) : Type 0 wher
   pub aln : w.aln.items ≡ misaligned_entries_of ds
   pub irq : w.irq.entries.items ≡ interrupt_entries_of ds
 
--- one line with this front and word for each address
+-- lines of the graph with this front and word, one for each address
 abbrev pub lines_to : List ℕ → List ℕ → List ℕ → List ℕ
 lines_to front word targets = flat_map (λ q. front ++ line_end_to word q) targets
 
--- the lines of a point with this front, except that of its own return
+-- the text of a point's lines in the graph with this front, except that of its own return
 abbrev pub edge_lines_text : List ℕ → Edges → List ℕ
 edge_lines_text front w =
     lines_to front (codes "to ") w.to.items
@@ -240,12 +245,12 @@ edge_lines_text front w =
     ++ (lines_to front (codes "aln ") w.aln.items
     ++ lines_to front (codes "irq ") w.irq.entries.items))))
 
--- the line of a return, if the instruction is one
+-- the text of the graph's line of a point's own return, if the instruction is one
 abbrev pub return_line_text : List ℕ → Shape → List ℕ
 return_line_text front Ret = front ++ (codes "ret" ++ 10 ∷ [])
 return_line_text front Rfe = front ++ (codes "rfe" ++ 10 ∷ [])
 return_line_text front _ = []
 
--- the successors of a point in its frame, by its instruction
+-- the successors of a point in its frame, by its instruction, as duties for the graph
 abbrev pub successors_at : Judged → Point → Located → List Owed
 successors_at j point found = successor_duties_of j.bounds.now j.image.now j.plan.now point.addr point.state found.shape found.size

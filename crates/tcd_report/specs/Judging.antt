@@ -12,6 +12,6 @@ pub record IsAcceptedWithLimits (j : Judged) : Type 0 where
   pub limits : j.bounds.now ≡ limits_in j.plan.now j.cert.now
   pub accepted : Accepts j.image.now j.plan.now j.cert.now
 
--- all duties of a point
+-- all duties of a point of an accepted certificate, from which the graph and the report are made
 abbrev pub duties_at : Judged → Key → Point → Located → List Owed
 duties_at j key point found = duties_of j.bounds.now j.image.now j.plan.now key point.addr point.state found.shape found.size

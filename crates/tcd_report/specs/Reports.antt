@@ -15,11 +15,11 @@ use Rattle.tcd_report.specs.declared.reports.longest_by_priority.LongestCalls.{L
 use Rattle.tcd_report.specs.Texts.{key_text}
 use Rattle.tcd_report.specs.Reports.Longest.{priorities_of, IsLongestCallChain}
 
--- a number of the report
+-- a number in the report's JSON
 abbrev pub reported_count : ℕ → Data
 reported_count n = number (unsigned n)
 
--- a node: its key, its need, and the number of its points
+-- a node in the report's JSON: its key, its need, and the number of its points
 abbrev pub reported_node : NodeData → Data
 reported_node n = object (member (codes "key") (string (key_text n.key)) (member (codes "need") (reported_count n.need) (member (codes "points") (reported_count (length n.points)) no_members)))
 
@@ -28,8 +28,8 @@ reported_node n = object (member (codes "key") (string (key_text n.key)) (member
 abbrev pub longest_calls_data : LongestCalls → Data
 longest_calls_data r = object (member (codes "longest") (reported_count r.longest) (member (codes "prio") (reported_count r.prio) no_members))
 
--- the whole: the CSAs, the longest call chains, the certified need, the nodes in the order of their
--- frames, and the reserve
+-- the whole report as a JSON object: the CSAs, the longest call chains, the certified need, the
+-- nodes, and the reserve
 abbrev pub report_object_data : ℕ → Data → ℕ → Data → ℕ → Data
 report_object_data areas calls certified nodes reserve =
     object
@@ -41,7 +41,7 @@ report_object_data areas calls certified nodes reserve =
 abbrev pub all_longest_calls_data : List LongestCalls → Data
 all_longest_calls_data rows = array (items_of (map longest_calls_data rows))
 
--- the nodes
+-- the nodes in the report's JSON: an array in the order of their frames
 abbrev pub nodes_data : List NodeData → Data
 nodes_data nodes = array (items_of (map reported_node nodes))
 

@@ -18,7 +18,8 @@ is_word_separator c = c == 32
 abbrev pub line_words : List ℕ → List (List ℕ)
 line_words line = slice_split is_word_separator line
 
--- these are the words of a line: one to four of them, or more
+-- the `Words` of a line are these, in order: one to four of them, or `More` for a line of more than
+-- four
 abbrev pub AreLineWords : List (List ℕ) → Words → Type 0
 AreLineWords words (One a) = words ≡ a.now ∷ []
 AreLineWords words (Two a b) = words ≡ a.now ∷ b.now ∷ []
@@ -26,7 +27,7 @@ AreLineWords words (Three a b c) = words ≡ a.now ∷ b.now ∷ c.now ∷ []
 AreLineWords words (Four a b c d) = words ≡ a.now ∷ b.now ∷ c.now ∷ d.now ∷ []
 AreLineWords words More = 4 < length words
 
--- a line that isn't empty
+-- whether a line of a text isn't empty
 abbrev pub is_nonempty_line : List ℕ → Bool
 is_nonempty_line [] = false
 is_nonempty_line (c ∷ cs) = true

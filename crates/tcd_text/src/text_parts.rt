@@ -3,7 +3,7 @@ ghost use Rattle.std.specs.Prelude.{◌≡◌, ◌≤◌, ◌+◌, ◌++◌, OnO
 
 use tcd_base::NoMemory;
 
-/// Appends a text to another.
+/// Appends a text to a growing `String`. An error means that memory ran out.
 pub fn append_str(text: &mut String, more: &str) -> Result<(), NoMemory>
     ensures { OnOk result (string_bytes text.new ≡ string_bytes text.old ++ more.now) }
 {
@@ -11,7 +11,7 @@ pub fn append_str(text: &mut String, more: &str) -> Result<(), NoMemory>
     Ok(())
 }
 
-/// Returns the bytes of a text before the place at which it is cut.
+/// Returns the bytes of a text before the place of a separator, such as the line feed after a line.
 pub(crate) fn cut_text_before(text: &[u8], place: usize) -> &[u8]
     requires { place ≤ length text.now }
     ensures { result.now ≡ take place text.now }
@@ -19,7 +19,8 @@ pub(crate) fn cut_text_before(text: &[u8], place: usize) -> &[u8]
     &text[..place]
 }
 
-/// Returns the bytes of a text after the byte at which it is cut. At its end there are none.
+/// Returns the bytes of a text after the separator at a place, such as the line feed after a line.
+/// At the text's end there are none.
 pub(crate) fn cut_text_after(text: &[u8], place: usize) -> &[u8]
     requires { place ≤ length text.now }
     ensures { result.now ≡ drop (place + 1) text.now }

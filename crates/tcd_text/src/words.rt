@@ -23,7 +23,7 @@ pub(crate) fn find_blank(text: &[u8]) -> Option<usize>
     text.iter().position(|c| *c == b' ')
 }
 
-/// Returns the words of a line, separated by one blank each.
+/// Returns the words of a line, separated by one blank each: up to four of them, or `More`.
 pub fn words_in(line: &[u8]) -> Words<'_>
     ensures { AreLineWords (line_words line.now) result }
 {

@@ -65,7 +65,8 @@ abbrev pub IsErrOfCellLine : PlanData → List Cell → List ℕ → ℕ → Cel
 IsErrOfCellLine plan cells line n (BadLine k) = (k ≡ n) × (IsCellLine line → ⊥)
 IsErrOfCellLine plan cells line n e = IsSomeAnd (cell_of line) (λ c. IsErrOfCell plan cells c n e)
 
--- some line, counted from 1, has this error, and those before it are read
+-- the error of a text of cells: that of the first bad line, counted from 1; the lines before name
+-- cells of the plan
 pub record IsErrOfCellText (plan : PlanData) (lines : List (List ℕ)) (e : CellsErr) : Type 0 where
   pub before : List (List ℕ)
   pub line : List ℕ

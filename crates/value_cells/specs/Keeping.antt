@@ -71,7 +71,7 @@ pub record IsRule16NodeFault (b : Limits) (image : ImageData) (plan : PlanData) 
   pub breaks : KeepsCellsAtPoint b image plan cells point → ⊥
   pub least : (other : Point) → Contains node.points other → (KeepsCellsAtPoint b image plan cells other → ⊥) → p ≤ other.addr
 
--- each access from a member of a value keeps one cell
+-- a store whose address can be any word of `at` keeps this cell, if it touches the cell
 abbrev pub StoreKeepsCell : Val → ℕ → Val → Cell → Type 0
 StoreKeepsCell at size v c = (x : ℕ) → IsMember x at → TouchesCell x size c → KeepsCell v size x c
 
@@ -83,6 +83,6 @@ AreWithinCellBounds v lo hi = (w : ℕ) → IsMember w v → (lo ≤ w) × (w �
 abbrev pub FitsCell : Val → ℕ → Cell → Type 0
 FitsCell v size c = (size ≡ 4) × AreWithinCellBounds v c.lo c.hi
 
--- if x is one of the addresses, it is the cell's, and the store fits
+-- x is no possible address of a store, or is the cell's address, and the store fits the cell
 abbrev pub IsCellKept : Val → Bool → ℕ → ℕ → Type 0
 IsCellKept at fits cell x = IsMember x at → IsTrue fits × (x ≡ cell)

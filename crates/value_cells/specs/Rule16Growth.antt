@@ -18,7 +18,7 @@ CellFaultsGrow =
     → lower.version ≡ upper.version → Accepts image plan lower → Accepts image plan upper → IsBelowAt (known_in lower) (known_in upper)
     → BreaksCells image plan cells lower k p → BreaksCells image plan cells upper k p
 
--- So the lower one keeps the cells if the upper does.
+-- If a certificate keeps the cells, each one below it does too, if both are accepted under a plan.
 abbrev pub LesserKeepsCells : Type 0
 LesserKeepsCells =
     (image : ImageData) (plan : PlanData) (cells : List Cell) (lower upper : CertData) → IsPlan plan → IsCert lower → IsCert upper

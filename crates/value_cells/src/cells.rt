@@ -66,7 +66,7 @@ impl Cells {
         self.list.as_slice()
     }
 
-    // Returns an empty list.
+    // Returns a list without cells, for a plan that matters to the contract alone.
     fn new(plan: &Plan) -> Cells
         ensures none { result ≡ [] }
         ensures cells { AreCells plan.now result }

@@ -50,7 +50,8 @@ pub fn cells_fault(image: &Image, plan: &Plan, cells: &Cells, cert: &Cert) -> Op
     None
 }
 
-/// Returns the first address of a node's points at which K16 fails.
+/// Returns the first address of a node's points at which K16, the rule on cells, fails, or None if
+/// the rule holds at all of them.
 fn node_cells_fault<'a>(
     rule: &CellsRule,
     codes: &mut KnownCodes,

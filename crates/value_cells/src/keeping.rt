@@ -54,7 +54,8 @@ fn fits_cell(size: u8, stored: &Val, cell: &Cell) -> bool
     size == 4 && is_within_cell_bounds(stored, cell.lo, cell.hi)
 }
 
-/// Returns whether x is no address of the value, or is the cell's, and the store fits the cell.
+/// Returns whether a store keeps a cell if begun at `x`: `x` is none of its possible addresses, or
+/// is the cell's, and the store fits.
 fn is_cell_kept(x: u32, at: &Val, fits: bool, cell: u32) -> bool
     requires { IsWellFormed at.now }
     ensures { IsTrue result ↔ IsCellKept at.now fits cell x }

@@ -25,7 +25,8 @@ pub(crate) struct CellsRule<'a> {
     pub(crate) cells: &'a [Cell],
 }
 
-/// Returns whether the instruction at an address, with this state before it, keeps the cells.
+/// Returns whether K16 holds of the instruction at an address: if a possible store touches a cell,
+/// its whole word is stored, within bounds.
 pub(crate) fn keeps_rule_16(rule: &CellsRule, codes: &mut KnownCodes, addr: u32, s: &State) -> bool
     requires values { AreValues rule.now.bounds.now s.now.regs }
     requires cells { All (λ c. c.at + 4 ≤ 2 ^ 32) rule.now.cells.now }

@@ -4,12 +4,12 @@ use Rattle.value_domain.specs.declared.values.Val.{Val}
 use Rattle.value_domain.specs.Limits.{Limits}
 use Rattle.value_domain.specs.Values.{cover}
 
--- the cover of the words, or none if there are no words
+-- the meet of abstract values by its words: their cover, or none if there are no words
 abbrev pub cover_if_any : Limits → List ℕ → Option Val
 cover_if_any b [] = None
 cover_if_any b (x ∷ xs) = Some (cover b (x ∷ xs))
 
--- the value of a meet, or none if nothing was found
+-- the value of a meet of abstract values, or none if no common member was found
 abbrev pub value_if_found : Bool → Val → Option Val
 value_if_found true v = Some v
 value_if_found false v = None

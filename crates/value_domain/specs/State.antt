@@ -17,18 +17,20 @@ AreValues b vs = (r : ℕ) → r < length vs → IsValue b (slice_index_or vs r 
 abbrev pub AreBelow : List Val → List Val → Type 0
 AreBelow vs ws = (r : ℕ) → r < length vs → IsBelow (slice_index_or vs r any_val) (slice_index_or ws r any_val)
 
--- equally many flags, and each of the first list implies the one at its place in the second
+-- equally many flags of saved lower contexts, and each of the first list implies the one at its
+-- place in the second
 abbrev pub FlagsImpliedBy : List Bool → List Bool → Type 0
 FlagsImpliedBy [] [] = Unit {0}
 FlagsImpliedBy [] (y ∷ ys) = ⊥
 FlagsImpliedBy (x ∷ xs) [] = ⊥
 FlagsImpliedBy (x ∷ xs) (y ∷ ys) = (IsTrue x → IsTrue y) × FlagsImpliedBy xs ys
 
--- the context of the upper state covers that of a state
+-- the context of the upper state (IE, least CCPN, lower) covers that of a state
 abbrev pub CoversContext : State → State → Type 0
 CoversContext upper s = (IsTrue s.ie → IsTrue upper.ie) × (upper.ccpn ≤ s.ccpn) × (IsTrue upper.lower → IsTrue s.lower)
 
--- the upper state covers a state
+-- the upper state covers a state: by the values of registers, the context, and the flags of saved
+-- lower contexts
 pub record Covers (upper s : State) : Type 0 where
   pub regs : AreBelow s.regs upper.regs
   pub context : CoversContext upper s
@@ -40,13 +42,13 @@ joined_regs b [] ws = []
 joined_regs b (v ∷ vs) [] = []
 joined_regs b (v ∷ vs) (w ∷ ws) = join_of b v w ∷ joined_regs b vs ws
 
--- the flags of two states' locals, each set if both have it
+-- the flags of two states' saved lower contexts, each set only if both states have it set
 abbrev pub joined_locals : List Bool → List Bool → List Bool
 joined_locals [] ys = []
 joined_locals (x ∷ xs) [] = []
 joined_locals (x ∷ xs) (y ∷ ys) = (x && y) ∷ joined_locals xs ys
 
--- the least state that covers both
+-- the join of two states: the least state that covers both
 abbrev pub state_join_of : Limits → State → State → State
 state_join_of b s t = record {
   regs = joined_regs b s.regs t.regs;
@@ -56,14 +58,15 @@ state_join_of b s t = record {
   locals = record { items = joined_locals s.locals.items t.locals.items };
 }
 
--- the least state that covers both; none if they have different numbers of locals
+-- the join of two states, the least that covers both; none if they have different numbers of saved
+-- lower contexts
 abbrev pub joined_states : Limits → State → State → Option State
 joined_states b s t = if length s.locals.items == length t.locals.items then Some (state_join_of b s t) else None
 
--- the places of the lower registers D0..D7 and A2..A7 among the values of a state
+-- the place i among a state's 27 register values is that of a lower register: D0..D7 or A2..A7
 abbrev pub is_lower_slot : ℕ → Bool
 is_lower_slot i = nat_lt i 8 || (nat_le 16 i && nat_lt i 22)
 
--- a state that knows nothing
+-- the state to return if none can be read: no registers, and no saved lower contexts
 abbrev pub no_state : State
 no_state = record { regs = []; ie = false; ccpn = 0; lower = false; locals = record { items = [] } }

@@ -17,7 +17,7 @@ IsMember x (Span lo last step) = (lo ≤ x) × (x ≤ last) × (step ≤ alignme
 abbrev pub first_in_span : ℕ → ℕ → ℕ
 first_in_span lo step = (lo + (2 ^ step - 1)) / 2 ^ step
 
--- the number of multiples of 2 ^ step in lo..=last
+-- the number of members of a Span: of multiples of 2 ^ step in lo..=last
 abbrev pub span_len : ℕ → ℕ → ℕ → ℕ
 span_len lo last step = (last / 2 ^ step + 1) - first_in_span lo step
 
@@ -30,7 +30,8 @@ abbrev pub members : Val → List ℕ
 members (Set ws) = ws
 members (Span lo last step) = range lo last step
 
--- a Set of ascending words, or a Span of more than 64
+-- an abstract value is well-formed: a Set of 1 to 128 ascending words, or a Span of more than 64
+-- members
 abbrev pub IsWellFormed : Val → Type 0
 IsWellFormed (Set ws) = AreWords ws
 IsWellFormed (Span lo last step) = (step ≤ 2) × (64 < span_len lo last step) × (last < 2 ^ 32)
@@ -47,7 +48,7 @@ value_of_words b ws =
 unfoldable pub cover : Limits → List ℕ → Val
 cover b xs = value_of_words b (sorted_set_of xs)
 
--- a value is the cover of its members
+-- an abstract value is in the lattice of these limits: well-formed, and the cover of its members
 pub record IsValue (b : Limits) (v : Val) : Type 0 where
   pub well : IsWellFormed v
   pub own : cover b (members v) ≡ v
@@ -73,15 +74,15 @@ is_any_span lo last step = lo == 0 && last == 4294967295 && step == 0
 abbrev pub word_val : ℕ → Val
 word_val w = Set (w ∷ [])
 
--- a value's least member
+-- an abstract value's least member
 abbrev pub low : Val → ℕ
 low v = least (members v)
 
--- a value's greatest member
+-- an abstract value's greatest member
 abbrev pub high : Val → ℕ
 high v = greatest (members v)
 
--- a value's step: the greatest up to 2 such that 2 ^ step divides each of its members
+-- an abstract value's step: the greatest up to 2 such that 2 ^ step divides each of its members
 abbrev pub step : Val → ℕ
 step v = step_of_set (members v)
 

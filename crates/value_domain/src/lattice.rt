@@ -25,7 +25,8 @@ pub struct Extent {
     pub step: u8,
 }
 
-/// Returns the extent of the words of a Set, by which the lattice compares and joins values.
+/// Returns the extent of a Set's words: the least, the greatest, and the step. The lattice compares
+/// and joins abstract values by extents.
 pub(crate) fn set_extent(words: &[u32]) -> Extent
     requires { AreWords words.now }
     ensures { IsExtent words.now result.least result.greatest result.step }
@@ -37,7 +38,8 @@ pub(crate) fn set_extent(words: &[u32]) -> Extent
     }
 }
 
-/// Returns the extent of a Span, by which the lattice compares and joins values.
+/// Returns the extent of a Span: its least and its greatest member, and its step. The lattice
+/// compares and joins abstract values by extents.
 pub(crate) fn span_extent(lo: u32, last: u32, step: u8) -> Extent
     requires { IsWellFormed (Span lo last step) }
     ensures { IsExtent (range lo last step) result.least result.greatest result.step }
@@ -50,8 +52,8 @@ pub(crate) fn span_extent(lo: u32, last: u32, step: u8) -> Extent
     }
 }
 
-/// Overwrites a value with the Span from the greatest threshold that is at most `least` to the
-/// least one above `greatest`.
+/// Overwrites an abstract value with the Span of this step between thresholds: from the one at or
+/// below `least` to before the one above `greatest`.
 pub fn write_span(b: &Bounds, least: u32, greatest: u32, step: u8, out: &mut Val)
     ensures { out.new
         ≡ Span (floor b.now.thresholds least) (above b.now.thresholds greatest - 1) step }
@@ -61,7 +63,7 @@ pub fn write_span(b: &Bounds, least: u32, greatest: u32, step: u8, out: &mut Val
     set_span(out, lo, last, step);
 }
 
-/// Widens a value to the least one that holds the word too.
+/// Joins a word into an abstract value, which becomes the least one that holds the word too.
 pub fn join_word(b: &Bounds, v: &mut Val, x: u32)
     requires { IsValue b.now v.old }
     ensures cover { v.new ≡ cover b.now (x ∷ members v.old) }
@@ -71,7 +73,7 @@ pub fn join_word(b: &Bounds, v: &mut Val, x: u32)
     insert_or_widen(b, v, x);
 }
 
-/// Widens a value to the least one that holds the words too.
+/// Joins words into an abstract value, which becomes the least one that holds these words too.
 pub fn join_word_list(b: &Bounds, v: &mut Val, words: &[u32])
     requires { IsValue b.now v.old }
     ensures cover { v.new ≡ cover b.now (members v.old ++ words.now) }
@@ -88,8 +90,8 @@ pub fn join_word_list(b: &Bounds, v: &mut Val, words: &[u32])
     }
 }
 
-/// Returns the extent of these words and those of another extent together. The lattice's least
-/// value that holds both has this extent.
+/// Returns the extent of these words and those of another extent together. The join of an abstract
+/// value and the words has this extent.
 pub fn extent_with_words(e: &Extent, words: &[u32]) -> Extent
     ensures { (xs : List ℕ) → IsExtent xs e.now.least e.now.greatest e.now.step
         → IsExtent (xs ++ words.now) result.least result.greatest result.step }
@@ -109,7 +111,7 @@ pub fn extent_with_words(e: &Extent, words: &[u32]) -> Extent
     }
 }
 
-/// Returns the least value that holds the words.
+/// Returns the least abstract value that holds the words.
 pub fn cover_words(b: &Bounds, words: &[u32]) -> Val
     requires { 1 ≤ length words.now }
     ensures cover { result ≡ cover b.now words.now }
@@ -120,7 +122,7 @@ pub fn cover_words(b: &Bounds, words: &[u32]) -> Val
     out
 }
 
-/// Overwrites a value with the least one that holds the words.
+/// Overwrites an abstract value with the least one that holds the words.
 pub fn write_cover_words(b: &Bounds, words: &[u32], out: &mut Val)
     requires { 1 ≤ length words.now }
     ensures cover { out.new ≡ cover b.now words.now }
@@ -131,7 +133,7 @@ pub fn write_cover_words(b: &Bounds, words: &[u32], out: &mut Val)
     join_word_list(b, out, words);
 }
 
-/// Returns the least value that holds both.
+/// Returns the join of two abstract values: the least value that holds the members of both.
 pub fn join(b: &Bounds, v: &Val, w: &Val) -> Val
     requires left { IsValue b.now v.now }
     requires right { IsValue b.now w.now }
@@ -143,7 +145,8 @@ pub fn join(b: &Bounds, v: &Val, w: &Val) -> Val
     out
 }
 
-/// Widens a value to the least one that holds the other too.
+/// Joins the abstract value `w` into `v`, which becomes the least value that holds the members of
+/// both.
 pub fn join_into(b: &Bounds, v: &mut Val, w: &Val)
     requires left { IsValue b.now v.old }
     requires right { IsValue b.now w.now }
@@ -157,7 +160,8 @@ pub fn join_into(b: &Bounds, v: &mut Val, w: &Val)
     }
 }
 
-/// Returns true if each member of `v` is a member of `w`.
+/// Returns true if the abstract value `v` is below `w` in the lattice: each member of `v` is a
+/// member of `w`.
 pub fn leq(v: &Val, w: &Val) -> bool
     requires left { IsWellFormed v.now }
     requires right { IsWellFormed w.now }
@@ -172,8 +176,8 @@ pub fn leq(v: &Val, w: &Val) -> bool
     }
 }
 
-/// Returns true if a value of this extent is below this Span: the Span holds its least and its
-/// greatest member, and its step is no smaller than the Span's.
+/// Returns true if an abstract value of this extent is below this Span: all of its members are in
+/// `lo..=last`, and its step isn't smaller.
 pub fn is_extent_in_span(e: &Extent, lo: u32, last: u32, step: u8) -> bool
     ensures { IsTrue result ↔ ((lo ≤ e.now.least) × (e.now.greatest ≤ last) × (step ≤ e.now.step)) }
 {
@@ -190,7 +194,7 @@ pub fn is_value(b: &Bounds, v: &Val) -> bool
     }
 }
 
-/// Returns the least value that holds the multiples of `2 ^ step` in `first..=last`.
+/// Returns the least abstract value that holds the multiples of `2 ^ step` in `first..=last`.
 pub fn cover(b: &Bounds, first: u32, last: u32, step: u8) -> Val
     requires step { step ≤ 2 }
     requires some { 1 ≤ span_len first last step }
@@ -218,7 +222,7 @@ pub fn write_cover(b: &Bounds, first: u32, last: u32, step: u8, out: &mut Val)
     }
 }
 
-/// Returns the extent of a value, by which the lattice compares and joins values.
+/// Returns the extent of an abstract value: its least and its greatest member, and its step.
 pub fn extent_of(v: &Val) -> Extent
     requires { IsWellFormed v.now }
     ensures { IsExtent (members v.now) result.least result.greatest result.step }
@@ -229,8 +233,8 @@ pub fn extent_of(v: &Val) -> Extent
     }
 }
 
-/// Returns the first place from `k` on in a Set's ascending words whose word is at least `x`, or
-/// their number if there is none. The lattice's order of two Sets is tested by it.
+/// Returns the first place from `k` on in a Set's ascending words whose word is at least `x`; the
+/// number of words if none is.
 pub(crate) fn lower_bound_from(words: &[u32], k: usize, x: u32) -> usize
     requires start { k ≤ length words.now }
     ensures start { k ≤ result }
@@ -253,8 +257,8 @@ fn extent_step(words: &[u32]) -> u8
     alignment_log2(bitwise_or_of_words(words))
 }
 
-/// Returns the bits that are set in at least one of these words, from which the step of the words'
-/// extent in the lattice follows.
+/// Returns the bitwise or of these words, whose trailing zero bits give the step of the words'
+/// extent in the lattice.
 fn bitwise_or_of_words(words: &[u32]) -> u32
     ensures { sets.alignment_log2 result ≡ step_of_set words.now }
 {
@@ -265,7 +269,8 @@ fn bitwise_or_of_words(words: &[u32]) -> u32
     bits
 }
 
-/// Widens a value to the lattice's least one that holds the word too.
+/// Joins a word into an abstract value: a member changes nothing, a Set with room gets the word,
+/// any other value becomes a Span.
 fn insert_or_widen(b: &Bounds, v: &mut Val, x: u32)
     requires { IsValue b.now v.old }
     ensures { v.new ≡ cover b.now (x ∷ members v.old) }
@@ -300,7 +305,8 @@ fn write_span_with_word(b: &Bounds, e: &Extent, x: u32, out: &mut Val)
     );
 }
 
-/// Widens a Span to the lattice's least value that holds these words too.
+/// Joins words into a Span: overwrites the Span with the lattice's least value that holds these
+/// words too.
 fn widen_span(b: &Bounds, v: &mut Val, words: &[u32])
     requires span { IsNone (words_of v.old) }
     requires value { IsValue b.now v.old }
@@ -310,7 +316,8 @@ fn widen_span(b: &Bounds, v: &mut Val, words: &[u32])
     write_span(b, e.least, e.greatest, e.step, v);
 }
 
-/// Widens a value to the lattice's least one that holds the words of a Set too.
+/// Joins a Set's words into an abstract value, which becomes the lattice's least one that holds
+/// them too.
 fn join_set(b: &Bounds, v: &mut Val, words: &Words)
     requires left { IsValue b.now v.old }
     requires right { IsValue b.now (Set words.now) }
@@ -323,7 +330,8 @@ fn join_set(b: &Bounds, v: &mut Val, words: &Words)
     }
 }
 
-/// Widens a value to the lattice's least one that holds the members of a Span too.
+/// Joins a Span's members into an abstract value, which becomes the lattice's least one that holds
+/// them too.
 fn join_span(b: &Bounds, v: &mut Val, lo: u32, last: u32, step: u8)
     requires left { IsValue b.now v.old }
     requires right { IsValue b.now (Span lo last step) }
@@ -353,7 +361,8 @@ fn join_set_with_set(b: &Bounds, v: &mut Val, words: &Words)
     }
 }
 
-/// Overwrites a value with the least one that holds an ascending list of words.
+/// Overwrites an abstract value with the least one that holds an ascending list of words: their Set
+/// if few, else a Span.
 fn write_ascending(b: &Bounds, words: &[u32], out: &mut Val)
     requires some { 1 ≤ length words.now }
     requires rising { IsAscending words.now }
@@ -366,7 +375,8 @@ fn write_ascending(b: &Bounds, words: &[u32], out: &mut Val)
     write_span(b, words[0], words[words.len() - 1], extent_step(words), out);
 }
 
-/// Returns true if each member of `v` is a multiple of `2 ^ step` in `lo..=last`.
+/// Returns true if the abstract value `v` is below a Span: each of its members is a multiple of `2
+/// ^ step` in `lo..=last`.
 fn is_below_span(v: &Val, lo: u32, last: u32, step: u8) -> bool
     requires left { IsWellFormed v.now }
     requires step { step ≤ 2 }
@@ -379,7 +389,8 @@ fn is_below_span(v: &Val, lo: u32, last: u32, step: u8) -> bool
     is_extent_in_span(&e, lo, last, step)
 }
 
-/// Returns true if each of the words is one of the others. Both lists ascend and are walked once.
+/// Returns true if a Set is below another in the lattice: each of its words is one of the other's.
+/// Both lists ascend and are walked once.
 fn is_set_below_set(own: &[u32], words: &[u32]) -> bool
     requires own { IsAscending own.now }
     requires words { IsAscending words.now }
@@ -395,7 +406,8 @@ fn is_set_below_set(own: &[u32], words: &[u32]) -> bool
     true
 }
 
-/// Returns true if each multiple of `2 ^ step` in `lo..=last` is one of the ascending words.
+/// Returns true if a Span is below a Set in the lattice: each of its members is one of the Set's
+/// ascending words.
 fn is_span_below_set(lo: u32, last: u32, step: u8, words: &[u32]) -> bool
     requires step { step ≤ 2 }
     requires words { IsAscending words.now }

@@ -7,8 +7,8 @@ use crate::lattice::{join_word, write_cover};
 use crate::values::{span_len, is_member, is_word_in_span, set_word};
 use crate::{Bounds, Val};
 
-/// Overwrites `out` with the cover of the members that are multiples of `2 ^ step` in `lo..=last`.
-/// Returns false if there are none; then `out` may be any value.
+/// Overwrites `out` with the meet of an abstract value and a Span: the cover of their common
+/// members. Returns false if there are none; then `out` may be any value.
 pub fn write_meet(b: &Bounds, v: &Val, lo: u32, last: u32, step: u8, out: &mut Val) -> bool
     requires value { IsValue b.now v.now }
     requires step { step ≤ 2 }
@@ -26,8 +26,8 @@ pub fn write_meet(b: &Bounds, v: &Val, lo: u32, last: u32, step: u8, out: &mut V
     }
 }
 
-/// Overwrites `out` with the cover of the words that are members of `v`. Returns false if there are
-/// none; then `out` may be any value.
+/// Overwrites `out` with the meet of an abstract value and a Set: the cover of the words that are
+/// members of `v`. Returns false if there are none; then `out` may be any value.
 pub fn write_meet_with_words(b: &Bounds, words: &[u32], v: &Val, out: &mut Val) -> bool
     requires { IsWellFormed v.now }
     ensures kept { value_if_found result out.new
@@ -44,8 +44,8 @@ pub fn write_meet_with_words(b: &Bounds, words: &[u32], v: &Val, out: &mut Val) 
     found
 }
 
-/// Overwrites `out` with the cover of the words that are in this Span. Returns false if there are
-/// none; then `out` may be any value.
+/// Overwrites `out` with the meet of a Set and a Span: the cover of the words that are in the Span.
+/// Returns false if there are none; then `out` may be any value.
 fn write_meet_of_set(b: &Bounds, words: &[u32], lo: u32, last: u32, step: u8, out: &mut Val) -> bool
     ensures meet { value_if_found result out.new
         ≡ cover_if_any b.now (filter (is_in_span lo last step) words.now) }
@@ -61,8 +61,8 @@ fn write_meet_of_set(b: &Bounds, words: &[u32], lo: u32, last: u32, step: u8, ou
     found
 }
 
-/// Overwrites `out` with the cover of the multiples of `2 ^ step` in `lo..=last`. Returns false if
-/// there are none.
+/// Overwrites `out` with the meet of two Spans, whose common members are the multiples of `2 ^
+/// step` in `lo..=last`. Returns false if there are none.
 fn write_meet_of_span(b: &Bounds, lo: u32, last: u32, step: u8, out: &mut Val) -> bool
     requires { step ≤ 2 }
     ensures meet { value_if_found result out.new ≡ cover_if_any b.now (range lo last step) }
@@ -75,7 +75,8 @@ fn write_meet_of_span(b: &Bounds, lo: u32, last: u32, step: u8, out: &mut Val) -
     true
 }
 
-/// Widens a value by a word. If nothing was found before, the value becomes that of the word alone.
+/// Joins a found word into a meet of abstract values. If nothing was found before, the meet becomes
+/// the Set of the word alone.
 fn add_word_to_meet(b: &Bounds, found: bool, out: &mut Val, x: u32)
     requires { IfSome (value_if_found found out.old) (IsValue b.now) }
     ensures more { (xs : List ℕ) → value_if_found found out.old ≡ cover_if_any b.now xs

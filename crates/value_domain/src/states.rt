@@ -40,7 +40,7 @@ impl State {
     }
 }
 
-/// Returns a copy of the values of a state's registers.
+/// Returns a copy of the abstract values of a state's 27 registers.
 fn copy_regs(regs: &[Val; 27]) -> [Val; 27]
     ensures { result ≡ regs.now }
 {
@@ -51,7 +51,8 @@ fn copy_regs(regs: &[Val; 27]) -> [Val; 27]
     copy
 }
 
-/// Returns true if each run that a state allows is allowed by the upper one.
+/// Returns true if the abstract state `upper` covers `s`: each machine that `s` allows, `upper`
+/// allows too.
 pub fn covers(upper: &State, s: &State) -> bool
     requires upper { AreWellFormed upper.now.regs }
     requires state { AreWellFormed s.now.regs }
@@ -66,7 +67,7 @@ pub fn covers(upper: &State, s: &State) -> bool
     are_regs_below(&s.regs, &upper.regs)
 }
 
-/// Returns true if the context of a state covers this one.
+/// Returns true if the context of an abstract state (IE, least CCPN, `lower`) covers this one.
 pub fn covers_context(upper: &State, ie: bool, ccpn: u8, lower: bool) -> bool
     ensures { IsTrue result
         ↔ ((IsTrue ie → IsTrue upper.now.ie) × (upper.now.ccpn ≤ ccpn)
@@ -75,8 +76,8 @@ pub fn covers_context(upper: &State, ie: bool, ccpn: u8, lower: bool) -> bool
     flag_implies(ie, upper.ie) && upper.ccpn <= ccpn && flag_implies(upper.lower, lower)
 }
 
-/// Returns true if two states have equally many flags of locals, and each of `flags` implies the
-/// one at its place in `others`.
+/// Returns true if two states have equally many saved lower contexts, and each flag of `flags`
+/// implies the one at its place in `others`.
 pub fn are_flags_implied(flags: &[bool], others: &[bool]) -> bool
     ensures { IsTrue result ↔ FlagsImpliedBy flags.now others.now }
 {
@@ -91,7 +92,8 @@ pub fn are_flags_implied(flags: &[bool], others: &[bool]) -> bool
     true
 }
 
-/// Returns the least state that covers both, or `None` if they have different numbers of locals.
+/// Returns the join of two abstract states: the least that covers both, or `None` if they have
+/// different numbers of saved lower contexts.
 pub fn join_states(b: &Bounds, s: &State, t: &State) -> Option<State>
     requires left { AreValues b.now s.now.regs }
     requires right { AreValues b.now t.now.regs }
@@ -109,7 +111,7 @@ pub fn join_states(b: &Bounds, s: &State, t: &State) -> Option<State>
     })
 }
 
-/// Returns a copy of the flags of a state's locals. Mostly there are none.
+/// Returns a copy of the flags of an abstract state's saved lower contexts. Mostly there are none.
 #[inline(always)]
 pub fn copy_locals(locals: &ArrayVec<bool, 8>) -> ArrayVec<bool, 8>
     ensures { result ≡ locals.now }
@@ -121,7 +123,8 @@ pub fn copy_locals(locals: &ArrayVec<bool, 8>) -> ArrayVec<bool, 8>
     copy
 }
 
-/// Returns the flags that are set in both lists.
+/// Returns the join of the flags of two states' saved lower contexts: those that are set in both
+/// lists.
 pub fn join_locals(s: &[bool], t: &[bool]) -> ArrayVec<bool, 8>
     requires same { length s.now ≡ length t.now }
     requires few { length s.now ≤ 8 }
@@ -135,8 +138,7 @@ pub fn join_locals(s: &[bool], t: &[bool]) -> ArrayVec<bool, 8>
     out
 }
 
-/// Returns true if the value of each register is below that of the same register in the other
-/// state.
+/// Returns true if each register's abstract value in one state is below that in the other state.
 fn are_regs_below(low: &[Val; 27], high: &[Val; 27]) -> bool
     requires low { AreWellFormed low.now }
     requires high { AreWellFormed high.now }
@@ -150,14 +152,14 @@ fn are_regs_below(low: &[Val; 27], high: &[Val; 27]) -> bool
     true
 }
 
-/// Returns true if the first flag of a state implies the second.
+/// Returns true if one flag of an abstract state implies the other.
 fn flag_implies(a: bool, b: bool) -> bool
     ensures { IsTrue result ↔ (IsTrue a → IsTrue b) }
 {
     if a { b } else { true }
 }
 
-/// Returns the least values that hold those of both states, register by register.
+/// Returns the joins of the registers' abstract values in two states, register by register.
 fn join_regs(b: &Bounds, s: &[Val; 27], t: &[Val; 27]) -> [Val; 27]
     requires left { AreValues b.now s.now }
     requires right { AreValues b.now t.now }
@@ -172,7 +174,7 @@ fn join_regs(b: &Bounds, s: &[Val; 27], t: &[Val; 27]) -> [Val; 27]
     out
 }
 
-/// Returns true if a local's flag is set in both states.
+/// Returns true if the flag of a saved lower context is set in both of two joined states.
 fn are_both_flags_set(a: bool, b: bool) -> bool
     ensures { result ≡ (a && b) }
 {

@@ -102,7 +102,7 @@ impl Words {
         self.words.push(x);
     }
 
-    /// Inserts a word at its place.
+    /// Inserts a word at its place among a Set's ascending words, which have room for one more.
     pub fn put(&mut self, x: u32)
         requires room { length self.old < 128 }
         requires absent { ¬ Among x self.old }
@@ -182,7 +182,7 @@ impl Val {
     ghost use Rattle.value_domain.specs.Values.{any_val, words_of};
     ghost use Rattle.value_domain.specs.declared.values.Val.TheVariants.{Set};
 
-    /// Returns the value that holds all words.
+    /// Returns the abstract value that holds all words of 32 bits.
     pub fn any() -> Val
         ensures { result ≡ any_val }
     {
@@ -200,7 +200,7 @@ impl Val {
         Val::Set(Words::one(x))
     }
 
-    /// Returns the words of a Set; of a Span, `None`.
+    /// Returns the words of an abstract value that is a Set; of a Span, `None`.
     pub fn words(&self) -> Option<&[u32]>
         ensures { option_map (λ s. s.now) result ≡ words_of self.now }
     {
@@ -257,8 +257,8 @@ pub fn set_word(out: &mut Val, x: u32)
     }
 }
 
-// `replace_span_by_word`, `replace_span_by_words` and `replace_set_by_span` write all bytes of a value.
-// Each is a function of its own, so that its callers need no stack for a value.
+// `replace_span_by_word`, `replace_span_by_words` and `replace_set_by_span` write all bytes of a
+// value. Each is a function of its own, so that its callers need no stack for a value.
 
 /// Overwrites a Span with the Set of one word.
 #[inline(never)]
@@ -314,7 +314,7 @@ pub fn alignment_log2(x: u32) -> u8
     }
 }
 
-/// Returns true if the word is a member of the value.
+/// Returns true if the word is a member of the abstract value.
 pub fn member(x: u32, v: &Val) -> bool
     requires { IsWellFormed v.now }
     ensures { IsTrue result ↔ IsMember x v.now }
@@ -325,14 +325,14 @@ pub fn member(x: u32, v: &Val) -> bool
     }
 }
 
-/// Returns true if a value is a Set.
+/// Returns true if an abstract value is a Set, not a Span.
 pub fn is_set(v: &Val) -> bool
     ensures { IsTrue result ↔ IsSome (words_of v.now) }
 {
     v.words().is_some()
 }
 
-/// Overwrites a value with the one that holds all words.
+/// Overwrites an abstract value with the one that holds all words.
 #[inline(always)]
 pub fn write_any(out: &mut Val)
     ensures { out.new ≡ any_val }
@@ -340,7 +340,7 @@ pub fn write_any(out: &mut Val)
     set_span(out, 0, u32::MAX, 0);
 }
 
-/// Returns true if two values are equal.
+/// Returns true if two abstract values are equal: both Sets of the same words, or the same Span.
 pub(crate) fn are_values_equal(v: &Val, w: &Val) -> bool
     ensures { IsTrue result ↔ (v.now ≡ w.now) }
 {
@@ -353,14 +353,14 @@ pub(crate) fn are_values_equal(v: &Val, w: &Val) -> bool
     }
 }
 
-/// Returns true if a Span has all words.
+/// Returns true if a Span holds all words of 32 bits.
 pub(crate) fn is_all_words(lo: u32, last: u32, step: u8) -> bool
     ensures { IsTrue result ↔ ((lo ≡ 0) × (last ≡ 4294967295) × (step ≡ 0)) }
 {
     lo == 0 && last == u32::MAX && step == 0
 }
 
-/// Returns the number of multiples of `2 ^ step` in a range.
+/// Returns the number of multiples of `2 ^ step` in `lo..=last`: the members of a Span.
 pub fn span_len(lo: u32, last: u32, step: u8) -> u64
     requires { step ≤ 2 }
     ensures { result ≡ span_len lo last step }
@@ -376,7 +376,7 @@ pub(crate) fn is_word_in_span(lo: u32, last: u32, step: u8, x: u32) -> bool
     lo <= x && x <= last && step <= alignment_log2(x)
 }
 
-/// Returns true if the word is a member of the value, which needn't be well-formed.
+/// Returns true if the word is a member of the abstract value, which needn't be well-formed.
 pub(crate) fn is_member(x: u32, v: &Val) -> bool
     ensures { result ≡ spec.is_member x v.now }
 {
@@ -386,7 +386,7 @@ pub(crate) fn is_member(x: u32, v: &Val) -> bool
     }
 }
 
-/// Returns true if a value is this Span.
+/// Returns true if an abstract value is the Span with these ends and this step.
 #[inline(always)]
 pub fn is_equal_span(v: &Val, lo: u32, last: u32, step: u8) -> bool
     ensures { IsTrue result ↔ (v.now ≡ Span lo last step) }

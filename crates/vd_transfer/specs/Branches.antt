@@ -16,17 +16,19 @@ use Rattle.value_domain.specs.Meets.{cover_if_any}
 use Rattle.vd_transfer.specs.Registers.{reg_of, arg_of, set_reg, write_reg, set_arg, is_operand_register}
 use Rattle.tc_isa.specs.declared.shapes.Cond.TheVariants as cond
 
--- a state, if the side is possible
+-- the state on a side of a branch, or none if the side isn't possible
 abbrev pub state_if_possible : Bool → State → Option State
 state_if_possible true s = Some s
 state_if_possible false s = None
 
--- the register is narrowed to the members that are possible, if there are any
+-- on a side of a branch, the state whose register is narrowed to this value; none if no member is
+-- possible
 abbrev pub side_with_register : State → ℕ → Option Val → Option State
 side_with_register s x None = None
 side_with_register s x (Some z) = Some (set_reg s x z)
 
--- both operands are narrowed to the members that are possible, if each has any
+-- on a side of a branch, the state whose two operands are narrowed to these values; none if one has
+-- no possible member
 abbrev pub side_with_operands : State → ℕ → Arg → Option Val → Option Val → Option State
 side_with_operands s x y None w = None
 side_with_operands s x y (Some v) None = None
@@ -41,7 +43,7 @@ state_on_side b p cond x y s side =
     (cover_if_any b (kept_left cond side (members (reg_of p s x)) (members (arg_of p s y))))
     (cover_if_any b (kept_right cond side (members (reg_of p s x)) (members (arg_of p s y))))
 
--- a loop decrements its register by 1, on both sides
+-- a loop instruction decrements its counter register by 1, on both sides of its branch
 abbrev pub with_decremented_counter : Limits → PlanData → ℕ → Bool → Option State → Option State
 with_decremented_counter b p x lowers None = None
 with_decremented_counter b p x lowers (Some s) = Some (if lowers then write_reg s x (value_of b Sub (reg_of p s x) (word_val 1)) else s)
@@ -51,7 +53,7 @@ unfoldable pub refine_of : Limits → PlanData → Shape → State → Bool → 
 refine_of b p (Branch cond x y by lowers) s side = with_decremented_counter b p x lowers (state_on_side b p cond x y s side)
 refine_of b p _ s side = None
 
--- the condition goes to the side for a word and itself
+-- a branch that compares a word with itself goes to this side
 unfoldable pub goes_to_side_if_equal : Cond → Bool → Bool
 goes_to_side_if_equal cond.Eq side = side
 goes_to_side_if_equal cond.Ne side = not side

@@ -44,7 +44,7 @@ no_put = record { at = None; value = any_val }
 abbrev pub put_of_register : ℕ → Val → Put
 put_of_register r v = record { at = slot r; value = v }
 
--- the change that keeps the whole state
+-- the identity change of a state, which keeps the whole state
 abbrev pub identity_change_of : State → Change
 identity_change_of s = record {
   base = Same;
@@ -57,6 +57,6 @@ identity_change_of s = record {
   locals = s.locals;
 }
 
--- the change that keeps the whole state, with the values of another change at no place
+-- the identity change of a state, with the values of another change at no place
 abbrev pub identity_change_over : Change → State → Change
 identity_change_over c s = record (identity_change_of s) { first = record c.first { at = None }; second = record c.second { at = None }; third = record c.third { at = None } }

@@ -14,7 +14,7 @@ use Rattle.vd_transfer.specs.Operations.{value_of}
 use Rattle.vd_transfer.specs.Registers.{reg_of, arg_of, write_reg}
 use Rattle.value_domain.specs.State.{is_lower_slot}
 
--- the base register is increased by the offset, if the access does that
+-- the state after the access increased its base register by the offset, if the access does that
 abbrev pub state_with_increased_base : Limits → PlanData → State → Arg → ℕ → Bool → State
 state_with_increased_base b p s (Reg r) offset after = if after then write_reg s r (value_of b Add (reg_of p s r) (word_val offset)) else s
 state_with_increased_base b p s (Word w) offset after = s

@@ -15,11 +15,12 @@ abbrev pub word_of : (ℕ → ℕ) → Arg → ℕ
 word_of word (Reg r) = word r
 word_of word (Word w) = w
 
--- the address of an access
+-- the address that a load or a store computes from the words of registers
 abbrev pub access_word : (ℕ → ℕ) → Arg → ℕ → Bool → ℕ
 access_word word base offset after = if after then word_of word base else (word_of word base + offset) % 2 ^ 32
 
--- the base register increased by the offset
+-- the words of registers after the access increased its base register by the offset, if the access
+-- does that
 abbrev pub words_with_increased_base : (ℕ → ℕ) → Arg → ℕ → Bool → ℕ → ℕ
 words_with_increased_base word (Reg r) offset after = if after then words_with_register word r ((word r + offset) % 2 ^ 32) else word
 words_with_increased_base word (Word w) offset after = word

@@ -14,11 +14,11 @@ use Rattle.vd_transfer.specs.declared.refinement.Interval.{Interval}
 abbrev pub interval_words : StridedInterval → List ℕ
 interval_words r = range r.first r.last r.step
 
--- the multiples of 2 ^ step from the first word to the last
+-- the strided interval of the multiples of 2 ^ step from the first word to the last
 abbrev pub interval : ℕ → ℕ → ℕ → StridedInterval
 interval first last step = record { first = first; last = last; step = step }
 
--- all words that are multiples of 2 ^ s
+-- the strided interval of all words that are multiples of 2 ^ s
 abbrev pub whole : ℕ → StridedInterval
 whole s = interval 0 (2 ^ 32 - 1) s
 
@@ -26,14 +26,14 @@ whole s = interval 0 (2 ^ 32 - 1) s
 abbrev pub whole_interval_words : ℕ → List ℕ
 whole_interval_words s = interval_words (whole s)
 
--- sums of a..=b and c..=d of step m, modulo 2 ^ 32
+-- the strided interval of the sums of a..=b and c..=d of step m, modulo 2 ^ 32
 unfoldable pub sums : ℕ → ℕ → ℕ → ℕ → ℕ → StridedInterval
 sums a b c d m =
     if nat_lt (b + d) (2 ^ 32) then interval (a + c) (b + d) m
     else if nat_le (2 ^ 32) (a + c) then interval (a + c - 2 ^ 32) (b + d - 2 ^ 32) m
     else whole m
 
--- differences, modulo 2 ^ 32
+-- the strided interval of the differences of a..=b and c..=d of step m, modulo 2 ^ 32
 unfoldable pub differences : ℕ → ℕ → ℕ → ℕ → ℕ → StridedInterval
 differences a b c d m =
     if nat_le d a then interval (a - d) (b - c) m
@@ -65,7 +65,8 @@ shift_by_count shift a b p (Set []) = whole 0
 shift_by_count shift a b p (Set (x ∷ y ∷ ys)) = whole 0
 shift_by_count shift a b p (Span lo last s) = whole 0
 
--- the interval that a row covers, by the bounds e and f of its operands
+-- the strided interval that covers an operation's results, by the extents e and f of its operands;
+-- a shift goes by the count w
 unfoldable pub result_interval : Op → Extent → Extent → Val → StridedInterval
 result_interval Second e f w = whole 0
 result_interval Add e f w = sums e.least e.greatest f.least f.greatest (min e.step f.step)
@@ -87,7 +88,7 @@ result_interval GeU e f w = whole 0
 result_interval Sh e f w = shift_by_count shifts e.least e.greatest e.step w
 result_interval Sha e f w = shift_by_count signed_shifts e.least e.greatest e.step w
 
--- the bounds of a value
+-- the extent of an abstract value: its least and its greatest member, and its step
 abbrev pub extent_of_value : Val → Extent
 extent_of_value v = record { least = low v; greatest = high v; step = step v }
 

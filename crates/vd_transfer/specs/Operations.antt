@@ -11,7 +11,7 @@ use Rattle.value_domain.specs.Limits.{Limits}
 use Rattle.value_domain.specs.Values.{IsMember, cover, members}
 use Rattle.vd_transfer.specs.Intervals.{extent_of_value, interval_words, result_interval}
 
--- an operation on values has only the results 1 and 0, as comparisons have
+-- the operation is a comparison, whose only results are 1 and 0
 unfoldable pub is_comparison : Op → Bool
 is_comparison Second = false
 is_comparison Add = false
@@ -33,22 +33,24 @@ is_comparison GeU = true
 is_comparison Sh = false
 is_comparison Sha = false
 
--- the set that a row covers: the second operand, a truth value, or an interval
+-- the words that cover the results of an operation on a Span: 0 and 1 for a comparison, else an
+-- interval by the extents
 abbrev pub results_by_extents_of : Bool → Op → Val → Val → List ℕ
 results_by_extents_of true op v w = 0 ∷ 1 ∷ []
 results_by_extents_of false op v w = interval_words (result_interval op (extent_of_value v) (extent_of_value w) w)
 
--- the set that an operation's row gives, if an operand is a Span
+-- the words that cover the results of an operation on a Span, by the extents of both operands
 unfoldable pub results_by_extents : Op → Val → Val → List ℕ
 results_by_extents Second v w = members w
 results_by_extents op v w = results_by_extents_of (is_comparison op) op v w
 
--- the results of all pairs
+-- the results of an operation on all pairs of words of two lists
 unfoldable pub results_of_pairs : Op → List ℕ → List ℕ → List ℕ
 results_of_pairs op [] ys = []
 results_of_pairs op (x ∷ xs) ys = map (alu_of op x) ys ++ results_of_pairs op xs ys
 
--- the words that an operation's value covers
+-- the words that the value of an operation covers: the results of all pairs for two Sets, else what
+-- the extents give
 unfoldable pub results : Op → Val → Val → List ℕ
 results op (Set xs) (Set ys) = results_of_pairs op xs ys
 results op (Set xs) (Span lo last s) = results_by_extents op (Set xs) (Span lo last s)
@@ -58,6 +60,7 @@ results op (Span lo last s) w = results_by_extents op (Span lo last s) w
 abbrev pub value_of : Limits → Op → Val → Val → Val
 value_of b op v w = cover b (results op v w)
 
--- each of the results of an operation that were met is a member of the operation's value
+-- each of these results of an operation, which were added lately, is a member of the operation's
+-- value
 abbrev pub HasMembers : Val → List ℕ → Type 0
 HasMembers v ms = (k : ℕ) → k < length ms → IsMember (slice_index ms k) v

@@ -37,6 +37,6 @@ pub record IsSoundAndMonotone (rel : Relation) : Type 0 where
       → Among x (signed_related_words rel vs ws)
   pub signed_monotone : (vs ws vs2 ws2 : List ℕ) → Within vs vs2 → Within ws ws2 → Within (signed_related_words rel vs ws) (signed_related_words rel vs2 ws2)
 
--- refinement by each relation keeps this law
+-- refinement by each relation is sound and monotone
 abbrev pub RefinementIsSoundAndMonotone : Type 0
 RefinementIsSoundAndMonotone = (rel : Relation) → IsSoundAndMonotone rel

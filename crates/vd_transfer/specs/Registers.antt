@@ -11,7 +11,7 @@ use Rattle.value_domain.specs.Values.{any_val, word_val}
 use Rattle.tc_isa.specs.declared.shapes.Shape.{Shape}
 use Rattle.tc_isa.specs.declared.shapes.Shape.TheVariants.{Compute, Scaled, Load, Store, Branch, Mfcr, Mtcr}
 
--- the place of a register's value in a state
+-- the place of a register among the 27 values of a state, if there is one
 unfoldable pub slot : ℕ → Option ℕ
 slot r =
     if nat_lt r 16 then Some r
@@ -20,7 +20,7 @@ slot r =
     else if nat_le 28 r && nat_le r 31 then Some (r - 5)
     else None
 
--- the value of a register that a state has no place for
+-- the fixed value of a register that a state has no place for: the plan's word, or any word for A11
 abbrev pub fixed_value_of : PlanData → ℕ → Val
 fixed_value_of p r = if r == 27 then any_val else word_val (global_of p r)
 
@@ -29,11 +29,11 @@ abbrev pub register_value_at : PlanData → State → ℕ → Option ℕ → Val
 register_value_at p s r (Some i) = slice_index_or s.regs i any_val
 register_value_at p s r None = fixed_value_of p r
 
--- the value of a register
+-- the abstract value of a register: the state's, or the fixed one
 abbrev pub reg_of : PlanData → State → ℕ → Val
 reg_of p s r = register_value_at p s r (slot r)
 
--- the value of an operand
+-- the abstract value of an instruction's operand: a register's, or the Set of the constant
 abbrev pub arg_of : PlanData → State → Arg → Val
 arg_of p s (Reg r) = reg_of p s r
 arg_of p s (Word w) = word_val w

@@ -37,7 +37,7 @@ is_related AtMost x y = nat_le x y
 unfoldable pub related_words : Relation → List ℕ → List ℕ → List ℕ
 related_words rel vs ws = filter (λ x. list_any (λ y. is_related rel x y) ws) vs
 
--- x is in the relation to low or to high (equality needs more)
+-- x is in the relation to some word from low to high; for equality this is only an upper bound
 unfoldable pub MayBeRelated : Relation → ℕ → ℕ → ℕ → Type 0
 MayBeRelated Same low high x = low ≤ x
 MayBeRelated Other low high x = (x < high) ⊎ (low < x)

@@ -18,7 +18,8 @@ use Rattle.vd_transfer.specs.EffectsOnWords.{ie_after, word_of, access_word, wor
 use Rattle.vd_transfer.specs.Branches.{refine_of}
 use Rattle.vd_transfer.specs.Holding.{Holds}
 
--- limits, a plan, and a state whose 27 registers have values
+-- what the laws of soundness suppose: limits, a plan, and a state whose 27 registers have values of
+-- the lattice
 pub record IsSoundSetting (b : Limits) (p : PlanData) (s : State) : Type 0 where
   pub limits : AreLimits b
   pub plan : IsPlan p

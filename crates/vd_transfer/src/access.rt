@@ -21,8 +21,8 @@ pub(crate) struct Addressing {
 }
 
 impl Addressing {
-    /// Returns how the address of a load or a store is computed: from this base and offset, or from
-    /// the base alone if `after`.
+    /// Returns how a load or a store computes its address: as `base + offset`, or as `base` alone
+    /// if the base is increased `after`wards.
     pub(crate) fn new(base: Arg, offset: u32, after: bool) -> Addressing
         ensures { result ≡ record { base = base; offset = offset; after = after } }
     {
@@ -34,7 +34,8 @@ impl Addressing {
     }
 }
 
-/// Overwrites a value with the addresses of an access of this shape.
+/// Overwrites an abstract value with the addresses that a load or store of this shape may access in
+/// a state.
 #[tactic(auto, unfolding(crate::specs::EffectsOnStates::address_of))]
 pub fn write_address(b: &Bounds, plan: &Plan, shape: Shape, s: &State, out: &mut Val)
     requires shape { IsShape shape }
@@ -60,7 +61,8 @@ pub fn write_address(b: &Bounds, plan: &Plan, shape: Shape, s: &State, out: &mut
     }
 }
 
-/// Returns the addresses of an access of this shape.
+/// Returns the addresses that a load or store of this shape may access in a state, as an abstract
+/// value.
 #[inline(always)]
 pub fn address_by_shape(b: &Bounds, plan: &Plan, shape: Shape, s: &State) -> Val
     requires shape { IsShape shape }
@@ -73,7 +75,7 @@ pub fn address_by_shape(b: &Bounds, plan: &Plan, shape: Shape, s: &State) -> Val
     out
 }
 
-/// Overwrites a value with the addresses of an access with this addressing.
+/// Overwrites an abstract value with the addresses of a load or store by its base and offset.
 fn write_access_addresses(b: &Bounds, plan: &Plan, s: &State, at: Addressing, out: &mut Val)
     requires base { IsArg at.base }
     requires values { AreValues b.now s.now.regs }

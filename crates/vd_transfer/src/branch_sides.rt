@@ -32,7 +32,7 @@ pub(crate) struct Comparison {
     pub(crate) y: Arg,
 }
 
-/// Returns the relation between the operands on a side of a condition.
+/// Returns the relation that the operands of a branch are in if its condition goes to this side.
 #[tactic(auto, unfolding(crate::specs::Relations::relation_of))]
 pub(crate) fn relation_on_side(cond: Cond, side: bool) -> Relation
     ensures { result ≡ relation_of cond side }
@@ -69,7 +69,7 @@ pub(crate) fn relation_on_side(cond: Cond, side: bool) -> Relation
     }
 }
 
-/// Returns true if the condition of a branch goes to the side for a word and itself.
+/// Returns true if a branch that compares a word with itself goes to this side.
 #[tactic(auto, unfolding(crate::specs::Branches::goes_to_side_if_equal))]
 fn is_side_taken_by_equal_words(cond: Cond, side: bool) -> bool
     ensures { result ≡ goes_to_side_if_equal cond side }
@@ -80,7 +80,7 @@ fn is_side_taken_by_equal_words(cond: Cond, side: bool) -> bool
     }
 }
 
-/// Returns true if a condition goes to the side for two words.
+/// Returns true if a branch that compares the words `x` and `y` goes to this side.
 fn is_side_taken(cond: Cond, side: bool, x: u32, y: u32) -> bool
     ensures { result ≡ condition_goes_to_side cond side x y }
 {
@@ -93,8 +93,8 @@ fn is_side_taken(cond: Cond, side: bool, x: u32, y: u32) -> bool
 
 // The functions below write the change of a side into the caller's `Change`, whatever it held.
 
-/// Writes the change on a side of a branch: the register keeps the members that are possible.
-/// Returns false if there are none.
+/// Writes the change on a side of a branch: the left register keeps the members that are possible
+/// there. Returns false if there are none.
 pub(crate) fn narrow_side_register(
     b: &Bounds,
     test: Comparison,
@@ -120,8 +120,8 @@ pub(crate) fn narrow_side_register(
     true
 }
 
-/// Writes the change on a side of a branch into `c`, whatever it held. Returns false if the side
-/// isn't possible.
+/// Writes into `c` how a branch changes a state on one of its sides, whatever `c` held. Returns
+/// false if the side isn't possible.
 #[tactic(auto, unfolding(crate::specs::Branches::refine_of))]
 pub fn change_on(
     b: &Bounds,
@@ -152,7 +152,8 @@ pub fn change_on(
     }
 }
 
-/// Writes the change on a side of a branch, and returns whether the side is possible.
+/// Writes into `c` how a branch with this comparison changes a state on a side; a loop also
+/// decrements its counter. Returns false if the side isn't possible.
 fn change_by_comparison(
     b: &Bounds,
     plan: &Plan,
@@ -175,8 +176,8 @@ fn change_by_comparison(
     true
 }
 
-/// Writes the change on a side of a condition, and returns whether the side is possible. A
-/// comparison of two constants changes nothing.
+/// Writes into `c` how a branch's comparison narrows its operands on a side. Returns false if the
+/// side isn't possible. Two constants stay as they are.
 fn narrow_on_side(b: &Bounds, plan: &Plan, test: Comparison, s: &State, c: &mut Change) -> bool
     requires operands { (test.x < 32) × IsArg test.y }
     requires values { AreValues b.now s.now.regs }
@@ -203,7 +204,8 @@ fn narrow_on_side(b: &Bounds, plan: &Plan, test: Comparison, s: &State, c: &mut 
     }
 }
 
-/// Decrements the register of a loop by 1.
+/// Decrements the counter register of a loop instruction by 1 in a changed state, if the branch is
+/// one.
 fn decrement_loop_counter(b: &Bounds, plan: &Plan, x: u8, lowers: bool, s: &State, c: &mut Change)
     requires register { x < 32 }
     requires values { AreValues b.now (state_after s.now c.old).regs }
@@ -217,8 +219,8 @@ fn decrement_loop_counter(b: &Bounds, plan: &Plan, x: u8, lowers: bool, s: &Stat
     }
 }
 
-/// Narrows operands by the state's own values if it has them. Returns false if the side isn't
-/// possible.
+/// Narrows the operands of a branch on a side, by the state's own values if there are any. Returns
+/// false if the side isn't possible.
 fn narrow_side_by_values(
     b: &Bounds,
     plan: &Plan,
@@ -250,7 +252,8 @@ fn narrow_side_by_values(
     }
 }
 
-/// Narrows the register of a comparison with a constant. Returns false if no member is possible.
+/// Narrows the register that a branch compares with a constant to the members possible on a side.
+/// Returns false if there are none.
 fn narrow_side_by_constant(
     b: &Bounds,
     test: Comparison,
@@ -303,7 +306,7 @@ fn narrow_side_of_built(
     refine_both_operands(b, test, s, &v, &build_arg(b, plan, s, test.y), c)
 }
 
-/// Decrements a register by 1.
+/// Decrements the counter register of a loop instruction by 1 in a changed state.
 #[inline(never)]
 fn decrement_register(b: &Bounds, plan: &Plan, x: u8, s: &State, c: &mut Change)
     requires register { x < 32 }

@@ -16,8 +16,7 @@ use tc_isa::{Inst, shape};
 use tcd_plan::Plan;
 use value_domain::{Bounds, State, Val, copy_locals};
 
-/// Returns the addresses that a load or a store may access in a point's state, as one value that is
-/// built here from its instruction.
+/// Returns the addresses that a load or a store may access in a state, as one abstract value.
 pub fn address(b: &Bounds, plan: &Plan, inst: &Inst, s: &State) -> Val
     requires { AreValues b.now s.now.regs }
     ensures address { result ≡ address_of b.now plan.now (shape_of inst.now) s.now }

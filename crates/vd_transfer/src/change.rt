@@ -52,8 +52,8 @@ pub(crate) fn empty_put() -> Put
     }
 }
 
-/// Returns the put of a register's value. It changes nothing if a state has no value for the
-/// register.
+/// Returns the put that a change needs to write a register's abstract value. If a state has no
+/// place for the register, nothing changes.
 #[inline(always)]
 pub fn put_register(r: u8, v: Val) -> Put
     ensures { result ≡ put_of_register r v }
@@ -64,7 +64,7 @@ pub fn put_register(r: u8, v: Val) -> Put
     }
 }
 
-/// Returns the change that keeps the whole state.
+/// Returns the change that keeps a whole abstract state.
 #[inline(always)]
 pub fn identity_change(s: &State) -> Change
     ensures kept { result ≡ identity_change_of s.now }
@@ -86,7 +86,7 @@ impl Change {
     ghost use Rattle.std.specs.Prelude.{◌≡◌};
     ghost use Rattle.vd_transfer.specs.Changes.{identity_change_over, state_after};
 
-    /// Overwrites a change with the one that keeps the whole state.
+    /// Overwrites a change with the identity, which keeps a whole abstract state.
     pub fn keep(&mut self, s: &State)
         ensures kept { self.new ≡ identity_change_over self.old s.now }
         ensures same { state_after s.now self.new ≡ s.now }
@@ -102,8 +102,8 @@ impl Change {
     }
 }
 
-/// Puts a register's value at its place, if a state has one. Clears the mark that the lower
-/// registers are those of the entry, if the register is one of them.
+/// Sets the destination of a change's put: a register's place in a state. For a lower register,
+/// clears the mark that those are the entry's.
 #[inline(always)]
 pub(crate) fn set_put_destination(put: &mut Put, mark: &mut bool, r: u8)
     ensures put { put.new ≡ record put.old { at = slot r } }
@@ -114,7 +114,8 @@ pub(crate) fn set_put_destination(put: &mut Put, mark: &mut bool, r: u8)
     *mark = *mark && !lower;
 }
 
-/// Completes a change with its last put: the third value goes to a register.
+/// Sets the destination of a change's third and last put: a register, whose value the put has
+/// already.
 #[inline(always)]
 pub(crate) fn set_last_put_destination(b: &Bounds, s: &State, c: &mut Change, r: u8)
     requires values { AreValues b.now (state_after s.now c.old).regs }

@@ -10,8 +10,8 @@ use crate::registers::{fixed_register_value, is_lower_slot, slot_of};
 use tcd_plan::Plan;
 use value_domain::{Bounds, State, Val};
 
-/// Returns the value of a changed state at a place. `any` is the value that holds all words; it is
-/// returned for what is unknown.
+/// Returns the value at a place of a state after a change, which isn't built. `any`, which holds
+/// all words, is returned for what is unknown.
 #[inline(always)]
 pub fn changed_value<'a>(s: &'a State, c: &'a Change, any: &'a Val, i: usize) -> &'a Val
     requires place { i < 27 }
@@ -31,7 +31,7 @@ pub fn changed_value<'a>(s: &'a State, c: &'a Change, any: &'a Val, i: usize) ->
     base_value_at(s, c.base, any, i)
 }
 
-/// Returns the value of a register in a changed state.
+/// Returns the value of a register after a change of a state, which isn't built.
 pub(crate) fn changed_reg(b: &Bounds, plan: &Plan, s: &State, c: &Change, r: u8) -> Val
     requires register { r < 32 }
     requires values { AreValues b.now (state_after s.now c.now).regs }
@@ -46,7 +46,7 @@ pub(crate) fn changed_reg(b: &Bounds, plan: &Plan, s: &State, c: &Change, r: u8)
     }
 }
 
-/// Returns true if this put of a change is at this place of the changed state.
+/// Returns true if this put of a change writes the value at this place of a state.
 #[inline(always)]
 fn is_put_at(put: &Put, i: usize) -> bool
     ensures { IsTrue result ↔ (put.now.at ≡ Some i) }
@@ -57,7 +57,8 @@ fn is_put_at(put: &Put, i: usize) -> bool
     }
 }
 
-/// Returns the value that a change starts from at a place.
+/// Returns the value at a place of a state before the puts of a change: the state's own, or `any`
+/// if forgotten.
 #[inline(always)]
 fn base_value_at<'a>(s: &'a State, base: Base, any: &'a Val, i: usize) -> &'a Val
     requires place { i < 27 }

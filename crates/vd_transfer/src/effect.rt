@@ -28,7 +28,7 @@ pub(crate) struct ScaledAddress {
 
 // Each function below writes into the caller's `Change`, which isn't moved.
 
-/// Writes the change of a state by an instruction that puts the result of an operation into a
+/// Writes the change of a state by an instruction that computes an operation of two operands into a
 /// register.
 pub(crate) fn effect_of_operation(
     b: &Bounds,
@@ -51,8 +51,8 @@ pub(crate) fn effect_of_operation(
     operate(b, plan, s, of, &mut c.second.value);
 }
 
-/// Writes the change by an instruction that computes a scaled address: a base plus a shifted index
-/// goes to a register.
+/// Writes the change of a state by an instruction that computes a scaled address: the base plus a
+/// shifted index goes to a register.
 #[inline(never)]
 pub(crate) fn effect_of_scaled_address(
     b: &Bounds,
@@ -112,8 +112,8 @@ pub(crate) fn effect_on_base(b: &Bounds, plan: &Plan, s: &State, at: Addressing,
     }
 }
 
-/// Writes the change by a load: the base is increased if the access does that, and what was loaded,
-/// the third value, goes to a register.
+/// Writes the change of a state by a load: the loaded value, the third put of `c`, goes to a
+/// register. The base may be increased.
 pub(crate) fn effect_of_load(
     b: &Bounds,
     plan: &Plan,
@@ -134,7 +134,8 @@ pub(crate) fn effect_of_load(
     set_last_put_destination(b, s, c, dst);
 }
 
-/// Writes the value that holds all words to a register.
+/// Writes the change of a state by an instruction whose result is unknown, as MFCR's: the register
+/// may have any word.
 pub(crate) fn effect_of_any_value(b: &Bounds, s: &State, dst: u8, c: &mut Change)
     requires { AreValues b.now s.now.regs }
     ensures write { state_after s.now c.new ≡ write_reg s.now dst any_val }
@@ -146,7 +147,8 @@ pub(crate) fn effect_of_any_value(b: &Bounds, s: &State, dst: u8, c: &mut Change
     write_any(&mut c.second.value);
 }
 
-/// Saves a lower context: the mark that the lower registers are those of the entry becomes a local.
+/// Writes the change of a state by saving a lower context (SVLCX): the mark that its registers are
+/// those of the entry becomes a local.
 pub(crate) fn effect_of_lower_save(s: &State, c: &mut Change)
     requires { length s.now.locals.items < 8 }
     ensures { state_after s.now c.new ≡ state_after_lower_save s.now }
@@ -166,7 +168,8 @@ pub(crate) fn effect_of_bisr(s: &State, number: u8, c: &mut Change)
     c.ccpn = number;
 }
 
-/// Writes the change by an instruction that restores the last lower context.
+/// Writes the change of a state by RSLCX, which restores the last saved lower context: the lower
+/// registers become unknown.
 pub(crate) fn effect_of_lower_restore(b: &Bounds, s: &State, c: &mut Change)
     requires some { 1 ≤ length s.now.locals.items }
     requires values { AreValues b.now s.now.regs }
@@ -181,7 +184,7 @@ pub(crate) fn effect_of_lower_restore(b: &Bounds, s: &State, c: &mut Change)
     c.base = Base::Forgotten;
 }
 
-/// Writes the change by ENABLE or DISABLE: it only sets IE.
+/// Writes the change of a state by ENABLE or DISABLE: only IE is set.
 pub(crate) fn effect_on_ie(s: &State, ie: bool, c: &mut Change)
     ensures { state_after s.now c.new ≡ record s.now { ie = ie } }
 {

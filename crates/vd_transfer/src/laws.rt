@@ -3,21 +3,21 @@ ghost use Rattle.vd_transfer.specs.Soundness.{AddressIsSound, BranchIsSound, Res
 ghost use Rattle.vd_transfer.specs.OperationLaws.{OperationsAreSound, OperationsAreMonotone};
 ghost use Rattle.vd_transfer.specs.Refinement.{RefinementIsSoundAndMonotone};
 
-/// The laws of operations: each result is a member of the operation's value, and smaller operands
-/// give a smaller value.
+/// The laws of operations on abstract values: they are sound, so each result is a member, and
+/// monotone, so smaller operands give a smaller value.
 pub fn operation_laws()
     ensures sound { OperationsAreSound }
     ensures monotone { OperationsAreMonotone }
 {}
 
-/// The laws of refinement, by unsigned and by signed comparisons: it keeps each word for which the
-/// relation holds, and it grows with both sets.
+/// The laws of refinement by signed and unsigned comparisons. Sound: each word for which the
+/// relation holds is kept. Monotone: fewer words give fewer.
 pub fn refinement_laws()
     ensures { RefinementIsSoundAndMonotone }
 {}
 
-/// The laws of effects: if a state holds the words of registers, the changed state holds the words
-/// after the instruction. The side that a branch takes is possible.
+/// The laws of effects: they are sound. If a state holds the machine's registers, the changed state
+/// holds them after the instruction; a side that a branch takes is possible.
 pub fn effect_laws()
     ensures transfer { TransferIsSound }
     ensures restore { RestoreIsSound }

@@ -20,7 +20,8 @@ pub(crate) struct Operation {
     pub(crate) y: Arg,
 }
 
-/// Returns the place of an operand's value in a state, if a state has one.
+/// Returns the place of an operand's value among a state's 27 registers, or `None` for a constant
+/// or a fixed register.
 pub(crate) fn operand_slot(a: Arg) -> Option<usize>
     ensures { result ≡ arg_slot a }
 {
@@ -30,7 +31,8 @@ pub(crate) fn operand_slot(a: Arg) -> Option<usize>
     }
 }
 
-/// Returns the value of an operand in place, if a state has one for it.
+/// Returns the abstract value of an operand, borrowed from the state, or `None` if the state has
+/// none: a constant or a fixed register.
 #[inline(always)]
 pub(crate) fn arg_in_state<'a>(b: &Bounds, plan: &Plan, s: &'a State, a: Arg) -> Option<&'a Val>
     requires operand { IsArg a }
@@ -44,7 +46,8 @@ pub(crate) fn arg_in_state<'a>(b: &Bounds, plan: &Plan, s: &'a State, a: Arg) ->
     }
 }
 
-/// Returns the word of an operand that has only one word and isn't one of the plan's registers.
+/// Returns the word of an operand that can have only one: a constant, or a state's register whose
+/// value is a Set of one word.
 #[inline(always)]
 pub fn arg_word(b: &Bounds, plan: &Plan, s: &State, a: Arg) -> Option<u32>
     requires operand { IsArg a }
@@ -62,7 +65,7 @@ pub fn arg_word(b: &Bounds, plan: &Plan, s: &State, a: Arg) -> Option<u32>
     }
 }
 
-/// Returns the value of a constant.
+/// Returns the abstract value of an operand that is a constant: the Set of one word.
 #[inline(always)]
 pub(crate) fn constant_operand(b: &Bounds, w: u32) -> Val
     ensures word { result ≡ word_val w }
@@ -72,8 +75,8 @@ pub(crate) fn constant_operand(b: &Bounds, w: u32) -> Val
     Val::one(w)
 }
 
-/// Returns the value of an operand. It is a function of its own, so that a caller that needs none
-/// built needs no stack for it.
+/// Returns the abstract value of an instruction's operand. This is a function of its own, so that a
+/// caller that needs none built needs no stack for one.
 #[inline(never)]
 pub(crate) fn build_arg(b: &Bounds, plan: &Plan, s: &State, a: Arg) -> Val
     requires operand { IsArg a }
@@ -87,7 +90,7 @@ pub(crate) fn build_arg(b: &Bounds, plan: &Plan, s: &State, a: Arg) -> Val
     }
 }
 
-/// Overwrites a value with that of an operand.
+/// Overwrites an abstract value with that of an instruction's operand.
 pub(crate) fn write_arg(b: &Bounds, plan: &Plan, s: &State, a: Arg, out: &mut Val)
     requires operand { IsArg a }
     requires values { AreValues b.now s.now.regs }
@@ -100,7 +103,7 @@ pub(crate) fn write_arg(b: &Bounds, plan: &Plan, s: &State, a: Arg, out: &mut Va
     }
 }
 
-/// Returns true if the operand is this register.
+/// Returns true if the right operand of a comparison is the left register itself.
 pub(crate) fn is_register_operand(x: u8, y: Arg) -> bool
     ensures { result ≡ is_operand_register x y }
 {
@@ -110,7 +113,7 @@ pub(crate) fn is_register_operand(x: u8, y: Arg) -> bool
     }
 }
 
-/// Overwrites a value with that of one word.
+/// Overwrites an abstract value with the Set of one word, as a constant operand has.
 #[inline(always)]
 pub(crate) fn write_constant(b: &Bounds, x: u32, out: &mut Val)
     ensures word { out.new ≡ word_val x }
@@ -120,8 +123,8 @@ pub(crate) fn write_constant(b: &Bounds, x: u32, out: &mut Val)
     set_word(out, x);
 }
 
-/// Overwrites a value with that of an operand that has to be built. It is a function of its own, so
-/// that its callers need no stack for a value.
+/// Overwrites an abstract value with that of an operand that has to be built. This is a function of
+/// its own, so that its callers need no stack for a value.
 #[inline(never)]
 fn write_built_arg(b: &Bounds, plan: &Plan, s: &State, a: Arg, out: &mut Val)
     requires operand { IsArg a }

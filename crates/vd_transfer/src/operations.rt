@@ -16,7 +16,8 @@ use value_domain::{
     write_cover_words, write_span,
 };
 
-/// Overwrites a value with that of an operation.
+/// Overwrites `out` with the abstract value of an operation: the least one that holds the results
+/// on the members of `v` and `w`.
 pub fn write_operation(b: &Bounds, op: Op, v: &Val, w: &Val, out: &mut Val)
     requires left { IsValue b.now v.now }
     requires right { IsValue b.now w.now }
@@ -32,9 +33,8 @@ pub fn write_operation(b: &Bounds, op: Op, v: &Val, w: &Val, out: &mut Val)
     }
 }
 
-/// Overwrites a value with that of an operation. If the operands are one word each, it is computed
-/// directly; else by the state's own values if it has them. What has to build a value is a function
-/// of its own.
+/// Overwrites `out` with the abstract value of an operation on an instruction's operands. Single
+/// words are computed directly; a value that the state has isn't copied.
 pub(crate) fn operate(b: &Bounds, plan: &Plan, s: &State, of: Operation, out: &mut Val)
     requires operands { IsArg of.x × IsArg of.y }
     requires values { AreValues b.now s.now.regs }
@@ -52,7 +52,7 @@ pub(crate) fn operate(b: &Bounds, plan: &Plan, s: &State, of: Operation, out: &m
     }
 }
 
-/// Returns true if an operation gives 1 or 0.
+/// Returns true if an operation is a comparison, whose only results are 1 and 0.
 #[tactic(auto, unfolding(crate::specs::Operations::is_comparison))]
 pub(crate) fn is_comparison(op: Op) -> bool
     ensures { result ≡ is_comparison op }
@@ -63,8 +63,8 @@ pub(crate) fn is_comparison(op: Op) -> bool
     }
 }
 
-/// Writes the cover of the results of all pairs: directly if there is one pair, one by one if there
-/// are few.
+/// Writes the abstract value of an operation on two Sets: the cover of the results of all pairs of
+/// words. Few pairs are computed one by one.
 fn write_results_of_pairs(b: &Bounds, op: Op, xs: &[u32], ys: &[u32], out: &mut Val)
     requires left { 1 ≤ length xs.now }
     requires right { 1 ≤ length ys.now }
@@ -84,7 +84,8 @@ fn write_results_of_pairs(b: &Bounds, op: Op, xs: &[u32], ys: &[u32], out: &mut 
     write_results_of_many_pairs(b, op, xs, ys, out);
 }
 
-/// Writes the value that the operation's row in the table of operations gives.
+/// Writes the abstract value of an operation on a Span: the cover of an interval that both
+/// operands' extents give, or of 0 and 1.
 fn write_results_by_extents(b: &Bounds, op: Op, v: &Val, w: &Val, out: &mut Val)
     requires left { IsValue b.now v.now }
     requires right { IsValue b.now w.now }
@@ -105,7 +106,8 @@ fn write_results_by_extents(b: &Bounds, op: Op, v: &Val, w: &Val, out: &mut Val)
     }
 }
 
-/// Writes the cover of the results of all pairs, added one by one.
+/// Writes the abstract value of an operation on two small Sets: the results of all pairs of words
+/// are joined one by one.
 fn write_results_of_few_pairs(b: &Bounds, op: Op, xs: &[u32], ys: &[u32], out: &mut Val)
     requires left { 1 ≤ length xs.now }
     requires right { 1 ≤ length ys.now }
@@ -119,8 +121,8 @@ fn write_results_of_few_pairs(b: &Bounds, op: Op, xs: &[u32], ys: &[u32], out: &
     }
 }
 
-/// Writes the cover of the results of all pairs, row by row. While they are a Set, each is looked
-/// up; later only their extent counts. A table keeps the words that were added lately.
+/// Writes the abstract value of an operation on two large Sets, row by row. A Set looks up each
+/// result, a Span only needs their extent. A table keeps the results that were added lately.
 #[inline(never)]
 fn write_results_of_many_pairs(b: &Bounds, op: Op, xs: &[u32], ys: &[u32], out: &mut Val)
     requires left { 1 ≤ length xs.now }
@@ -147,7 +149,7 @@ fn write_results_of_many_pairs(b: &Bounds, op: Op, xs: &[u32], ys: &[u32], out: 
     }
 }
 
-/// Adds the results of a word with each of the others to a value.
+/// Joins the results of an operation on a word with each of the others into an abstract value.
 fn join_results_of_word(b: &Bounds, v: &mut Val, op: Op, x: u32, ys: &[u32])
     requires { IsValue b.now v.old }
     ensures cover { v.new ≡ cover b.now (members v.old ++ map (alu_of op x) ys.now) }
@@ -158,8 +160,8 @@ fn join_results_of_word(b: &Bounds, v: &mut Val, op: Op, x: u32, ys: &[u32])
     }
 }
 
-/// Fills the row with the results of a word and each of the others. Each operation has a loop of
-/// its own.
+/// Fills a row with the results of an operation on a word and each of the others. Each operation
+/// has a loop of its own.
 fn fill_result_row(op: Op, x: u32, ys: &[u32], row: &mut [u32])
     requires { length row.old ≡ length ys.now }
     ensures { row.new ≡ map (alu_of op x) ys.now }
@@ -187,9 +189,8 @@ fn fill_result_row(op: Op, x: u32, ys: &[u32], row: &mut [u32])
     }
 }
 
-/// Adds words to a value, eight at a time, except eight that were added together lately. `met` has
-/// some of the value's words, those added lately; `eights` has words that were added eight at a
-/// time.
+/// Joins results of an operation into a Set, eight at a time, except eight that were joined
+/// together lately. `met` keeps words joined lately, `eights` words joined eight at a time.
 fn join_result_row(
     b: &Bounds,
     v: &mut Val,
@@ -223,7 +224,8 @@ fn join_result_row(
     }
 }
 
-/// Adds the results of all pairs to a Span, by the extent of all.
+/// Joins the results of an operation on all pairs of words into a Span, by the extent of all
+/// results.
 fn widen_by_results(b: &Bounds, v: &mut Val, op: Op, xs: &[u32], ys: &[u32], row: &mut [u32])
     requires span { IsNone (words_of v.old) }
     requires value { IsValue b.now v.old }
@@ -251,16 +253,16 @@ fn fill_result_row_by(op: Op, x: u32, ys: &[u32], row: &mut [u32])
     }
 }
 
-/// Returns where an operation on two sets looks up a result, among those that it added lately: a
-/// hash of the word, below 512.
+/// Returns the slot, below 512, of an operation's result in the table of results that were added
+/// lately: a hash of the word.
 fn recent_result_slot(z: u32) -> usize
     ensures { result < 512 }
 {
     (z.wrapping_mul(0x9683_8B77) >> 23) as usize
 }
 
-/// Adds eight words to a value, and notes that they were added together. It is a function of its
-/// own, so that its callers need no stack for it.
+/// Joins eight results of an operation into an abstract value, and notes that they were added
+/// together. This is a function of its own, so that its callers need no stack.
 #[inline(never)]
 fn join_eight_results(
     b: &Bounds,
@@ -286,7 +288,7 @@ fn join_eight_results(
     }
 }
 
-/// Adds a word, except one that was added lately.
+/// Joins a result of an operation into an abstract value, unless the result was added lately.
 #[inline(always)]
 fn join_result(b: &Bounds, v: &mut Val, met: &mut [u32; 512], z: u32)
     requires value { IsValue b.now v.old }
@@ -303,8 +305,8 @@ fn join_result(b: &Bounds, v: &mut Val, met: &mut [u32; 512], z: u32)
     met[k] = z;
 }
 
-/// Writes the value of an operation on two operands. A value that the state has isn't copied; any
-/// other is built first.
+/// Writes the abstract value of an operation on an instruction's operands. A value that the state
+/// has isn't copied; any other is built first.
 fn operate_on_own_values(b: &Bounds, plan: &Plan, s: &State, of: Operation, out: &mut Val)
     requires operands { IsArg of.x × IsArg of.y }
     requires values { AreValues b.now s.now.regs }
@@ -321,8 +323,8 @@ fn operate_on_own_values(b: &Bounds, plan: &Plan, s: &State, of: Operation, out:
     }
 }
 
-/// Writes the value of an operation, as `operate` does, if the right operand has to be built. `v`
-/// is the left one.
+/// Writes the abstract value of an operation, as `operate` does, if the right operand has to be
+/// built. `v` is the left one.
 #[inline(never)]
 fn operate_on_built_right(b: &Bounds, plan: &Plan, s: &State, of: Operation, v: &Val, out: &mut Val)
     requires operand { IsArg of.y }
@@ -334,8 +336,8 @@ fn operate_on_built_right(b: &Bounds, plan: &Plan, s: &State, of: Operation, v: 
     write_operation(b, of.op, v, &build_arg(b, plan, s, of.y), out);
 }
 
-/// Writes the value of an operation on two operands, if the state has no value of the left one: it
-/// is built first.
+/// Writes the abstract value of an operation, as `operate` does, if the left operand has to be
+/// built.
 #[inline(never)]
 fn operate_on_built_left(b: &Bounds, plan: &Plan, s: &State, of: Operation, out: &mut Val)
     requires operands { IsArg of.x × IsArg of.y }

@@ -38,7 +38,8 @@ pub struct Interval {
 
 pub(crate) const NONE: Interval = Interval { lo: 1, last: 0 };
 
-/// Returns the words that are in a relation to some word from `low` to `high`, as two intervals.
+/// Returns two intervals that together have the words in a relation to some word from `low` to
+/// `high`, to which refinement narrows an operand.
 #[tactic(auto, unfolding(crate::specs::Relations::MayBeRelated))]
 pub(crate) fn related_intervals(rel: Relation, low: u32, high: u32) -> (Interval, Interval)
     ensures { (x : ℕ) → x < 2 ^ 32 → (IsInInterval result.0 x ⊎ IsInInterval result.1 x)
@@ -69,8 +70,8 @@ pub fn refine_by_relation(b: &Bounds, rel: Relation, v: &Val, w: &Val, out: &mut
     }
 }
 
-/// Widens a value by the members of `v` in an interval. If nothing was found before, the value
-/// becomes the cover of these members. Returns false if nothing is found, before or now.
+/// Joins the members of `v` in an interval into a refined value. If nothing was found before, the
+/// value becomes their cover. Returns false if nothing is found, before or now.
 pub(crate) fn join_members_in_interval(
     b: &Bounds,
     v: &Val,
@@ -96,8 +97,8 @@ pub(crate) fn join_members_in_interval(
     }
 }
 
-/// Overwrites `out` with the cover of the members of `v` for which some member of `w` makes the
-/// condition go to the side. Returns false if there are none; then `out` may be any value.
+/// Overwrites `out` with a branch's left operand, refined: the cover of the members of `v` with
+/// which the branch may go to the side. Returns false if there are none.
 pub(crate) fn refine_left_operand(
     b: &Bounds,
     test: Comparison,
@@ -119,7 +120,8 @@ pub(crate) fn refine_left_operand(
     }
 }
 
-/// Narrows both operands to the members that are possible. Returns false if one has none.
+/// Refines both operands of a branch on a side to the members that are possible there. Returns
+/// false if an operand has none.
 pub(crate) fn refine_both_operands(
     b: &Bounds,
     test: Comparison,
@@ -148,7 +150,7 @@ pub(crate) fn refine_both_operands(
     true
 }
 
-/// Returns the words that are in the relation Less to `high`, as an interval.
+/// Returns the interval of the words below `high`, those in the relation Less to `high`.
 fn words_below(high: u32) -> Interval
     ensures { (x : ℕ) → IsInInterval result x ↔ (x < high) }
 {
@@ -162,7 +164,7 @@ fn words_below(high: u32) -> Interval
     }
 }
 
-/// Returns the words that are in the relation AtLeast to `low`, as an interval.
+/// Returns the interval of the words from `low` on, those in the relation AtLeast to `low`.
 fn words_from(low: u32) -> Interval
     ensures { (x : ℕ) → x < 2 ^ 32 → IsInInterval result x ↔ (low ≤ x) }
 {
@@ -172,7 +174,7 @@ fn words_from(low: u32) -> Interval
     }
 }
 
-/// Returns the words that are in the relation More to `low`, as an interval.
+/// Returns the interval of the words above `low`, those in the relation More to `low`.
 fn words_past(low: u32) -> Interval
     ensures { (x : ℕ) → x < 2 ^ 32 → IsInInterval result x ↔ (low < x) }
 {
@@ -186,7 +188,8 @@ fn words_past(low: u32) -> Interval
     }
 }
 
-/// Overwrites `out` with the cover of the members of both. Returns false if there are none.
+/// Refines by equality: overwrites `out` with the cover of the members of both values. Returns
+/// false if there are none.
 fn refine_to_common(b: &Bounds, v: &Val, w: &Val, out: &mut Val) -> bool
     requires left { IsValue b.now v.now }
     requires right { IsValue b.now w.now }
@@ -216,8 +219,8 @@ fn refine_by_intervals(b: &Bounds, rel: Relation, v: &Val, w: &Val, out: &mut Va
     join_members_in_interval(b, v, second, found, out)
 }
 
-/// Widens a value by the members of `v` in an interval. It is a function of its own, so that its
-/// callers need no stack for a value.
+/// Joins the members of `v` in an interval into a refined value. This is a function of its own, so
+/// that its callers need no stack for a value.
 #[inline(never)]
 fn join_refined_members(b: &Bounds, v: &Val, i: Interval, out: &mut Val)
     requires value { IsValue b.now v.now }
@@ -234,8 +237,8 @@ fn join_refined_members(b: &Bounds, v: &Val, i: Interval, out: &mut Val)
     join_into(b, out, &others);
 }
 
-/// Overwrites `out` with the cover of the members of `w` for which some member of `v` makes the
-/// condition go to the side. Returns false if there are none; then `out` may be any value.
+/// Overwrites `out` with a branch's right operand, refined: the cover of the members of `w` with
+/// which the branch may go to the side. Returns false if there are none.
 fn refine_right_operand(b: &Bounds, test: Comparison, v: &Val, w: &Val, out: &mut Val) -> bool
     requires left { IsValue b.now v.now }
     requires right { IsValue b.now w.now }

@@ -10,7 +10,8 @@ use value_domain::{A10_SLOT, Bounds, State, Val};
 /// The number of A10, the stack pointer, among registers.
 pub const A10: u8 = 26;
 
-/// Returns the place of a register's value in a state, if a state has one.
+/// Returns the place of a register among the 27 values of a state, or `None` for A0, A1, A8, A9 and
+/// A11.
 #[tactic(auto, unfolding(crate::specs::Registers::slot))]
 #[inline(always)]
 pub(crate) fn slot_of(r: u8) -> Option<usize>
@@ -30,7 +31,7 @@ pub(crate) fn slot_of(r: u8) -> Option<usize>
     }
 }
 
-/// Returns the word of a register's value that is a Set of one word, or `None` for any other value.
+/// Returns the word of an abstract value that is a Set of one word, or `None` for any other value.
 #[inline(always)]
 pub fn singleton_word(v: &Val) -> Option<u32>
     ensures { IfSome result (λ w. v.now ≡ word_val w) }
@@ -48,8 +49,8 @@ pub fn singleton_word(v: &Val) -> Option<u32>
     }
 }
 
-/// Returns the value of a register: the state's, or the plan's for A0, A1, A8 and A9. The value of
-/// A11 is unknown.
+/// Returns a register's abstract value: the state's, or the plan's constant for A0, A1, A8 and A9.
+/// A11 may have any word.
 #[inline(always)]
 pub fn reg(plan: &Plan, s: &State, r: u8) -> Val
     requires { r < 32 }
@@ -61,7 +62,8 @@ pub fn reg(plan: &Plan, s: &State, r: u8) -> Val
     }
 }
 
-/// Returns the value of a register without a place in a state: the plan's, or any for A11.
+/// Returns the abstract value of a register that states have no place for: the plan's word for A0,
+/// A1, A8 and A9, any for A11.
 #[inline(always)]
 pub(crate) fn fixed_register_value(plan: &Plan, r: u8) -> Val
     ensures { result ≡ fixed_value_of plan.now r }
@@ -81,7 +83,8 @@ pub(crate) fn fixed_register_value(plan: &Plan, r: u8) -> Val
     Val::one(plan.globals[i])
 }
 
-/// Returns the value of a register, which is one of the plan's lattice at the limits of the format.
+/// Returns a register's abstract value, as `reg` does; the value is in the lattice if all values of
+/// the state are.
 #[inline(always)]
 pub(crate) fn reg_value(b: &Bounds, plan: &Plan, s: &State, r: u8) -> Val
     requires register { r < 32 }
@@ -94,7 +97,8 @@ pub(crate) fn reg_value(b: &Bounds, plan: &Plan, s: &State, r: u8) -> Val
     reg(plan, s, r)
 }
 
-/// Returns the value of a register in place, if a state has one for it.
+/// Returns a register's abstract value, borrowed from the state, or `None` if the state has no
+/// place for the register.
 #[inline(always)]
 pub(crate) fn reg_in_state<'a>(b: &Bounds, plan: &Plan, s: &'a State, r: u8) -> Option<&'a Val>
     requires register { r < 32 }
@@ -110,7 +114,7 @@ pub(crate) fn reg_in_state<'a>(b: &Bounds, plan: &Plan, s: &'a State, r: u8) -> 
     }
 }
 
-/// Returns true if the register whose value has this place in a state is a lower one: D0..D7 or
+/// Returns true if the place `i` among the values of a state is that of a lower register: D0..D7 or
 /// A2..A7.
 pub fn is_lower_slot(i: usize) -> bool
     ensures { result ≡ is_lower_slot i }

@@ -34,14 +34,14 @@ pub fn refine_by_signed_relation(b: &Bounds, rel: Relation, v: &Val, w: &Val, ou
     join_members_in_interval(b, v, fourth, three, out)
 }
 
-/// Returns a word's position in the signed order.
+/// Returns a word's place in the signed order of all words: 80000000 is at 0, 0 is at 2^31.
 pub(crate) fn place_in_signed_order(x: u32) -> u32
     ensures { result ≡ signed_order_place x }
 {
     x.wrapping_add(1 << 31)
 }
 
-/// Returns true if a condition is of the signed order.
+/// Returns true if the condition of a branch compares words in the signed order.
 #[tactic(auto, unfolding(crate::specs::Signs::is_signed_condition))]
 pub(crate) fn is_signed_condition(cond: Cond) -> bool
     ensures { result ≡ is_signed_condition cond }
@@ -52,7 +52,7 @@ pub(crate) fn is_signed_condition(cond: Cond) -> bool
     }
 }
 
-/// Returns the least and the greatest member in the signed order.
+/// Returns the least and the greatest member of an abstract value in the signed order.
 fn signed_range(v: &Val) -> (u32, u32)
     requires { IsWellFormed v.now }
     ensures { IsSignedRange (members v.now) result.0 result.1 }

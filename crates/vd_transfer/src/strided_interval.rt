@@ -22,7 +22,8 @@ const ANY: StridedInterval = StridedInterval {
     step: 0,
 };
 
-/// Returns the multiples that a row covers.
+/// Returns the strided interval that covers the results of an operation, by the extents of its
+/// operands. A shift goes by the count `w`.
 #[tactic(auto, unfolding(crate::specs::Intervals::result_interval))]
 pub(crate) fn result_interval(op: Op, e: &Extent, f: &Extent, w: &Val) -> StridedInterval
     requires left { e.now.least ≤ e.now.greatest }
@@ -49,7 +50,7 @@ pub(crate) fn result_interval(op: Op, e: &Extent, f: &Extent, w: &Val) -> Stride
     }
 }
 
-/// Returns the interval of the sums of two extents, modulo 2^32.
+/// Returns the strided interval of all sums of two extents of abstract values, modulo 2^32.
 #[tactic(auto, unfolding(crate::specs::Intervals::sums))]
 fn sum_interval(e: &Extent, f: &Extent) -> StridedInterval
     requires left { e.now.least ≤ e.now.greatest }
@@ -81,7 +82,7 @@ fn sum_interval(e: &Extent, f: &Extent) -> StridedInterval
     }
 }
 
-/// Returns the interval of the differences of two extents, modulo 2^32.
+/// Returns the strided interval of all differences of two extents of abstract values, modulo 2^32.
 #[tactic(auto, unfolding(crate::specs::Intervals::differences))]
 fn difference_interval(e: &Extent, f: &Extent) -> StridedInterval
     requires left { e.now.least ≤ e.now.greatest }
@@ -114,7 +115,8 @@ fn difference_interval(e: &Extent, f: &Extent) -> StridedInterval
     }
 }
 
-/// Returns the interval of an extent shifted by the six bits `n`, filled with zeros.
+/// Returns the strided interval of an extent shifted by the six bits `n`, filled with zeros, as SH
+/// does.
 #[tactic(auto, unfolding(crate::specs::Intervals::shifts))]
 fn shift_interval(e: &Extent, n: u8) -> StridedInterval
     requires count { n < 64 }
@@ -148,7 +150,8 @@ fn shift_interval(e: &Extent, n: u8) -> StridedInterval
     }
 }
 
-/// Returns the interval of an extent shifted by the six bits `n`, filled with the sign bit.
+/// Returns the strided interval of an extent shifted by the six bits `n`, filled with the sign bit,
+/// as SHA does.
 #[tactic(auto, unfolding(crate::specs::Intervals::signed_shifts))]
 fn signed_shift_interval(e: &Extent, n: u8) -> StridedInterval
     requires count { n < 64 }

@@ -6,9 +6,8 @@ ghost use Rattle.frame_places.specs.declared.needs.row.NeedRow.{NeedRow};
 use crate::needs::row::{NeedRow, need_by_row};
 use std::alloc::{AllocError, Global};
 
-/// Makes one pass over the rows: raises needs that are too low, and returns whether there were any.
-/// The last row is first, since the rows of entered frames mostly come after those of the frames
-/// that enter them.
+/// Makes one pass over the rows, the last one first: raises the needs of frames that are too low.
+/// Returns whether any need changed.
 fn raise_low_needs(needs: &mut [u32], rows: &[NeedRow], cap: u32) -> bool
     requires cap { cap < 2 ^ 16 }
     requires nodes { length needs.old < 2 ^ 16 }
@@ -25,7 +24,7 @@ fn raise_low_needs(needs: &mut [u32], rows: &[NeedRow], cap: u32) -> bool
     changed
 }
 
-/// Makes passes until nothing changes.
+/// Raises the needs of frames, pass by pass over the rows, until no need changes.
 fn raise_needs_until_met(needs: &mut [u32], rows: &[NeedRow], cap: u32)
     requires cap { cap < 2 ^ 16 }
     requires nodes { length needs.old < 2 ^ 16 }
@@ -38,7 +37,8 @@ fn raise_needs_until_met(needs: &mut [u32], rows: &[NeedRow], cap: u32)
     while raise_low_needs(needs, rows, cap) {}
 }
 
-/// Raises the need of one row's node if it is too low, and returns whether it was.
+/// Raises the need of a row's frame to what the row asks for, if lower, and returns whether the
+/// need changed.
 fn raise_need_by_row(needs: &mut [u32], row: &NeedRow, cap: u32) -> bool
     requires cap { cap < 2 ^ 16 }
     requires nodes { length needs.old < 2 ^ 16 }
@@ -60,7 +60,8 @@ fn raise_need_by_row(needs: &mut [u32], row: &NeedRow, cap: u32) -> bool
 /// that they enter.
 const FEW: u32 = 4;
 
-/// Returns the least needs, or `None` if some need has to be above the cap.
+/// Returns the least needs, by numbers of frames, that meet all rows, or `None` if some need has to
+/// be above the cap.
 pub fn least_needs(
     alloc: Global,
     nodes: usize,
@@ -80,8 +81,8 @@ pub fn least_needs(
     }
 }
 
-/// Returns the least needs if a few passes find them. If a frame is recursive, needs rise to the
-/// cap in many passes.
+/// Returns the least needs if four passes over the rows find them within the cap, else `None`, as
+/// mostly with a recursive frame.
 pub fn needs_by_few_passes(
     alloc: Global,
     nodes: usize,
@@ -104,8 +105,8 @@ pub fn needs_by_few_passes(
     }
 }
 
-/// Returns the first node whose need is above the cap, if there is one: then the least needs aren't
-/// all within the cap.
+/// Returns the number of the first frame whose need is above the cap, or `None` if all needs are
+/// within the cap.
 fn first_need_above(needs: &[u32], cap: u32) -> Option<usize>
     ensures { MatchOption result
         (EachIndex needs.now (λ k. slice_index needs.now k ≤ cap))
@@ -114,7 +115,8 @@ fn first_need_above(needs: &[u32], cap: u32) -> Option<usize>
     needs.iter().position(|need| *need > cap)
 }
 
-/// Makes a few passes, and returns whether the last one changed nothing.
+/// Raises the needs of frames by up to four passes over the rows. Returns true if the last pass
+/// changed no need.
 fn raise_needs_in_few_passes(needs: &mut [u32], rows: &[NeedRow], cap: u32) -> bool
     requires cap { cap < 2 ^ 16 }
     requires nodes { length needs.old < 2 ^ 16 }

@@ -6,8 +6,8 @@ use crate::needs::reach::{FrameEdge, predecessors};
 use indexmap::IndexMap;
 use std::alloc::{AllocError, Global};
 
-/// Returns a rank for each node: below the ranks of all nodes that it enters, or 0 if it leads to a
-/// node that is reached from itself. Nobody relies on that: `are_ranks_rising` tells.
+/// Returns a topological rank for each node of the graph of entries: below the ranks of nodes
+/// entered, or 0 if a cycle is reached.
 pub fn node_ranks(
     alloc: Global,
     nodes: usize,
@@ -39,7 +39,7 @@ pub fn node_ranks(
     Ok(ranks)
 }
 
-/// Returns the number that a list has for a node. A node without a number has 0.
+/// Returns the number that a list has at a node's index, as a rank, or 0 past the end.
 pub fn number_or_zero(numbers: &[usize], node: usize) -> usize
     ensures { result ≡ slice_index numbers.now node }
 {
@@ -49,8 +49,8 @@ pub fn number_or_zero(numbers: &[usize], node: usize) -> usize
     }
 }
 
-/// Returns true only if each edge goes to a node of a higher rank. Then no node is reached from one
-/// that it enters.
+/// Returns true only if each edge leads to a node of higher rank: then the graph of entries is
+/// acyclic, and no frame recursive.
 pub(crate) fn are_ranks_rising(ranks: &[usize], edges: &[FrameEdge]) -> bool
     ensures { IsTrue result → (k : ℕ) → IsRecursiveNode edges.now k → ⊥ }
 {
@@ -62,8 +62,8 @@ pub(crate) fn are_ranks_rising(ranks: &[usize], edges: &[FrameEdge]) -> bool
     true
 }
 
-/// Takes a node, which has its rank now, off those that its sources enter, and queues the sources
-/// for which none is left.
+/// Counts a ranked node off the nodes that its predecessors enter, and queues each predecessor with
+/// none left: a step of a topological sort.
 fn queue_predecessors(
     sources: &IndexMap<usize, Vec<usize>>,
     node: usize,

@@ -14,7 +14,8 @@ pub struct FrameEdge {
     pub into: usize,
 }
 
-/// Returns the edges of the rows, each once.
+/// Returns the edges of the graph of entries, each once: from a row's frame to each frame that its
+/// point enters.
 pub fn frame_edges(
     alloc: Global,
     rows: &[NeedRow],
@@ -28,7 +29,8 @@ pub fn frame_edges(
     Ok(edges)
 }
 
-/// Marks the nodes from which this one is reached.
+/// Returns a mark for each node of the graph of entries: true for the nodes from which `node` is
+/// reached.
 pub fn nodes_reaching(
     alloc: Global,
     nodes: usize,
@@ -43,8 +45,7 @@ pub fn nodes_reaching(
     nodes_reaching_by_predecessors(alloc, nodes, &sources, node)
 }
 
-/// Returns whether one of these nodes of the graph of entries is marked, as one from which the
-/// given node is reached.
+/// Returns whether one of these nodes of the graph of entries is marked.
 pub fn has_marked_node(marks: &[bool], nodes: &[usize]) -> bool
     ensures { IsTrue result ↔ ((t : ℕ) × Contains nodes.now t × IsNodeMarked marks.now t) }
 {
@@ -56,8 +57,8 @@ pub fn has_marked_node(marks: &[bool], nodes: &[usize]) -> bool
     false
 }
 
-/// Returns the recursive node of the graph that is first in this order. A node is recursive if it
-/// is reached from one that it enters. If the ranks rise along each edge, none is.
+/// Returns the first node, by these orders, on a cycle of the graph of entries, or `None`, as when
+/// ranks rise along all edges.
 pub fn first_recursive_node(
     alloc: Global,
     orders: &[u64],
@@ -78,8 +79,7 @@ pub fn first_recursive_node(
     Ok(first)
 }
 
-/// Adds the edges of a node to the graph of entries, one to each node that it enters, which is thus
-/// reached from it.
+/// Adds to the graph of entries an edge from a node to each node that its row enters.
 fn add_edges(
     edges: &mut IndexSet<FrameEdge>,
     node: usize,
@@ -93,8 +93,7 @@ fn add_edges(
     Ok(())
 }
 
-/// Returns the sources of each node of the graph: the nodes that enter it, so that it is reached
-/// from them.
+/// Returns the predecessors of each node of the graph of entries: the nodes that enter the node.
 pub(crate) fn predecessors(
     alloc: Global,
     edges: &[FrameEdge],
@@ -108,7 +107,8 @@ pub(crate) fn predecessors(
     Ok(sources)
 }
 
-/// Marks the nodes from which this one is reached, by the sources of each.
+/// Returns true marks for the nodes from which `node` is reached, found backwards by the
+/// predecessors of each node.
 fn nodes_reaching_by_predecessors(
     alloc: Global,
     nodes: usize,
@@ -127,7 +127,7 @@ fn nodes_reaching_by_predecessors(
     Ok(marks)
 }
 
-/// Adds the source of an edge to those of the node that it enters.
+/// Adds the source of an edge of the graph of entries to the predecessors of its target.
 fn add_predecessor(
     alloc: Global,
     sources: &mut IndexMap<usize, Vec<usize>>,
@@ -145,7 +145,8 @@ fn add_predecessor(
     Ok(())
 }
 
-/// Marks all nodes of the graph from which a queued node is reached along edges.
+/// Marks all nodes of the graph of entries from which a queued node is reached, and empties the
+/// queue.
 fn mark_all_reaching_nodes(
     marks: &mut [bool],
     work: &mut Vec<usize>,
@@ -162,8 +163,7 @@ fn mark_all_reaching_nodes(
     Ok(())
 }
 
-/// Marks these nodes of the graph, from which a given node is reached, and queues those that had no
-/// mark.
+/// Marks these nodes of the graph of entries, and queues those that weren't marked.
 fn mark_reaching_nodes(
     marks: &mut [bool],
     work: &mut Vec<usize>,
@@ -178,7 +178,7 @@ fn mark_reaching_nodes(
     Ok(())
 }
 
-/// Marks a node, and queues it if it had no mark.
+/// Marks a node of the graph of entries, and queues the node if there was no mark.
 fn mark_reaching_node(
     marks: &mut [bool],
     work: &mut Vec<usize>,
@@ -195,7 +195,7 @@ fn mark_reaching_node(
     Ok(())
 }
 
-/// Returns whether the node is marked. A number without a node isn't.
+/// Returns whether a node of the graph of entries is marked; false for a number without a node.
 fn is_marked_node(marks: &[bool], node: usize) -> bool
     ensures { result ≡ slice_index_or marks.now node false }
 {
@@ -205,8 +205,8 @@ fn is_marked_node(marks: &[bool], node: usize) -> bool
     }
 }
 
-/// Returns the first in order of the nodes that are reached from themselves along edges of the
-/// graph, up to this node by number. `first` is that of the nodes before it.
+/// Returns the first recursive node, by these orders, among the nodes up to `node`; `first` is that
+/// of the nodes before.
 fn first_recursive_node_up_to(
     alloc: Global,
     orders: &[u64],
@@ -233,7 +233,7 @@ fn first_recursive_node_up_to(
     }
 }
 
-/// Returns whether the node is reached from one that it enters.
+/// Returns whether a node lies on a cycle of the graph of entries, so that its frame is recursive.
 fn is_recursive_node(
     alloc: Global,
     nodes: usize,
@@ -250,8 +250,7 @@ fn is_recursive_node(
     Ok(has_marked_successor(marks.as_slice(), edges, node))
 }
 
-/// Returns whether the node of the graph enters a marked one, from which the node that is looked
-/// for is reached.
+/// Returns whether a node of the graph of entries has an edge to a marked node.
 fn has_marked_successor(marks: &[bool], edges: &[FrameEdge], node: usize) -> bool
     requires { AreEdgesBetween edges.now (length marks.now) }
     ensures { IsTrue result ↔ HasMarkedSuccessor marks.now edges.now node }

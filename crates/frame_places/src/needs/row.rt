@@ -14,7 +14,8 @@ pub struct NeedRow {
     pub into: Vec<usize>,
 }
 
-/// Returns the need that one row asks for, at most one more than the cap.
+/// Returns the need that a row asks for: the areas held, or one and an entered frame's need more,
+/// at most `cap + 1`.
 pub(crate) fn need_by_row(needs: &[u32], row: &NeedRow, cap: u32) -> u32
     requires cap { cap < 2 ^ 16 }
     requires held { row.now.held < 2 ^ 8 }

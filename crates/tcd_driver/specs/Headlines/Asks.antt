@@ -41,7 +41,8 @@ pub data InputRequirement : Type 0 where
   are_linked_sources : (layout_name : List ℕ) (names : List (List ℕ)) → InputRequirement
   is_cert_per_task : (plan_name tasks_name : List ℕ) (names : List (List ℕ)) → InputRequirement
 
--- this is asked of each of these files, which have places from this one on, and then the rest
+-- this is required of each of these input files, which have places from this one on, and then the
+-- rest
 abbrev pub require_each : (ℕ → List ℕ → InputRequirement) → ℕ → List (List ℕ) → List InputRequirement → List InputRequirement
 require_each ask place [] rest = rest
 require_each ask place (name ∷ names) rest = ask place name ∷ require_each ask (place + 1) names rest
@@ -58,11 +59,11 @@ HoldsCells m name plan list = HoldsFile m name (2 ^ 24) (λ bytes. cells.IsResul
 abbrev pub HoldsTasks : FileMap → List ℕ → PlanData → TasksData → Type 0
 HoldsTasks m name plan list = HoldsFile m name (2 ^ 24) (λ bytes. tasks.IsResultOfTaskText plan (text_lines bytes) (Ok list))
 
--- a layout and sources are held, and this is what their objects are linked to
+-- the names hold this layout, and these sources with the objects that they are assembled to
 abbrev pub HoldLayoutAndSources : FileMap → List ℕ → List (List ℕ) → LayoutData → List SourceData → Type 0
 HoldLayoutAndSources m layout_name names layout sources = HoldsLayout m layout_name layout × HoldEachFile m (2 ^ 24) IsSourceText names sources
 
--- the input is as it is asked
+-- a command's input meets this requirement
 abbrev pub IsGoodInput : FileMap → InputRequirement → Type 0
 IsGoodInput m (is_elf name) = (image : ImageData) × HoldsImage m name image
 IsGoodInput m (is_plan name) = (plan : PlanData) × HoldsPlan m name plan
@@ -82,8 +83,8 @@ IsGoodInput m (are_linked_sources layout_name names) =
 IsGoodInput m (is_cert_per_task plan_name tasks_name names) =
     (plan : PlanData) × (list : TasksData) × HoldsPlan m plan_name plan × HoldsTasks m tasks_name plan list × (length names ≡ count list)
 
--- the input is bad, and this line says why: the file has too many bytes, or a fault; the objects
--- can't be linked; or there are fewer certificates than tasks, or more
+-- a command's input fails this requirement, and this line says why: a bad file, objects that can't
+-- be linked, or a wrong number of certificates
 abbrev pub IsBadInputWith : FileMap → InputRequirement → List ℕ → Type 0
 IsBadInputWith m (is_elf name) line = IsBadFile m name (2 ^ 24) (codes "bad elf 0" ++ 10 ∷ []) IsNoImage line
 IsBadInputWith m (is_plan name) line = IsBadFile m name (2 ^ 24) (codes "bad plan 0" ++ 10 ∷ []) IsNoPlan line
@@ -107,7 +108,7 @@ IsBadInputWith m (is_cert_per_task plan_name tasks_name names) line =
     (plan : PlanData) × (list : TasksData) × HoldsPlan m plan_name plan × HoldsTasks m tasks_name plan list × (length names ≢ count list)
     × (line ≡ codes "bad tasks 7" ++ 10 ∷ [])
 
--- the file of which something is asked is there
+-- the file that a requirement of a command is about is there
 abbrev pub IsInputPresent : FileMap → InputRequirement → Type 0
 IsInputPresent m (is_elf name) = IsSome (get m name)
 IsInputPresent m (is_plan name) = IsSome (get m name)
@@ -120,12 +121,12 @@ IsInputPresent m (are_cells plan_name name) = IsSome (get m name)
 IsInputPresent m (are_tasks plan_name name) = IsSome (get m name)
 IsInputPresent m ask = Unit {0}
 
--- each file of which something is asked is there
+-- each file that these requirements of a command are about is there
 abbrev pub AreInputsPresent : FileMap → List InputRequirement → Type 0
 AreInputsPresent m [] = Unit {0}
 AreInputsPresent m (ask ∷ asks) = IsInputPresent m ask × AreInputsPresent m asks
 
--- one of these is bad, and this line says why; all before it are good
+-- one of a command's requirements fails, and this line says why; all before it are met
 abbrev pub IsFirstBadInput : FileMap → List InputRequirement → List ℕ → Type 0
 IsFirstBadInput m [] line = ⊥
 IsFirstBadInput m (ask ∷ asks) line = IsBadInputWith m ask line ⊎ (IsGoodInput m ask × IsFirstBadInput m asks line)

@@ -34,8 +34,8 @@ pub record HeadlineOfBoot (elf_name plan_name cert_name at_word : List ℕ) (bef
       ++ (decimal (53 + 3 * plan.areas) ++ (codes " events certified " ++ (decimal need ++ (codes " of " ++ (decimal (plan.areas - plan.reserve) ++ (codes " areas" ++ 10 ∷ []))))))
   pub stays : after ≡ before
 
--- the certificate is accepted, but the boot sequence isn't at the address, or may not run, for this
--- reason
+-- a reason why `boot` refuses: the certificate is accepted, but the boot sequence isn't at the
+-- address, or may not run
 pub record IsBootSequenceRefused (elf_name plan_name cert_name at_word : List ℕ) (before after : FileMap) (printed : List ℕ) : Type 0 where
   pub image : ImageData
   pub plan : PlanData

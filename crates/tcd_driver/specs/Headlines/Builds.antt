@@ -30,7 +30,7 @@ pub record HeadlineOfAsm (source_name object_name : List ℕ) (before after : Fi
   pub prints : printed ≡ codes "object " ++ (decimal (length (bytes_of_object object)) ++ (codes " bytes" ++ 10 ∷ []))
 
 -- ---- link
--- the bytes are this object
+-- the bytes of a file that `link` reads are this object
 abbrev pub IsObjectText : List ℕ → ObjectData → Type 0
 IsObjectText bytes object = object_of bytes ≡ Ok object
 
@@ -38,7 +38,7 @@ IsObjectText bytes object = object_of bytes ≡ Ok object
 abbrev pub HoldsLayout : FileMap → List ℕ → LayoutData → Type 0
 HoldsLayout m name layout = HoldsFile m name (2 ^ 24) (λ bytes. layout_of bytes ≡ Ok layout)
 
--- a layout, and objects
+-- the files that `link` reads: the names hold this layout and these objects
 pub record AreLinkFiles (before : FileMap) (layout_name : List ℕ) (object_names : List (List ℕ)) (layout : LayoutData) (objects : List ObjectData) : Type 0 where
   pub layout_file : HoldsLayout before layout_name layout
   pub object_files : HoldEachFile before (2 ^ 24) IsObjectText object_names objects

@@ -19,7 +19,8 @@ use Rattle.tcd_driver.specs.Headlines.{HoldsFile, AreFirmwareFiles, HoldsCert, I
 use Rattle.depth_maker.specs.Answers.{NoneAccepted}
 use Rattle.tcd_driver.specs.BestCert.{IsLeastOfItsFormat}
 
--- an executable, a plan, and its cells
+-- the files that `cells` and `cellcert` read first: the names hold an executable, a plan, and its
+-- cells
 pub record AreCellFiles (before : FileMap) (elf_name plan_name cells_name : List ℕ) (image : ImageData) (plan : PlanData) (list : List Cell) : Type 0 where
   pub firmware : AreFirmwareFiles before elf_name plan_name image plan
   pub cells_file : HoldsFile before cells_name (2 ^ 24) (λ bytes. IsResultOfCellText plan bytes (Ok list))

@@ -25,7 +25,8 @@ use Rattle.tcd_driver.specs.Headlines.{HoldsFile, AreFirmwareFiles, HoldEachFile
 use Rattle.depth_maker.specs.Answers.{NoneAccepted}
 use Rattle.tcd_driver.specs.BestCert.{IsLeastOfItsFormat}
 
--- an executable, a plan, and its tasks
+-- the files that `tasks` and `taskcert` read first: the names hold an executable, a plan, and its
+-- tasks
 pub record AreTaskFiles (before : FileMap) (elf_name plan_name tasks_name : List ℕ) (image : ImageData) (plan : PlanData) (list : TasksData) : Type 0 where
   pub firmware : AreFirmwareFiles before elf_name plan_name image plan
   pub tasks_file : HoldsFile before tasks_name (2 ^ 24) (λ bytes. IsResultOfTaskText plan (text_lines bytes) (Ok list))
@@ -56,7 +57,8 @@ sum_of_task_needs image plan list certs = sum_over_chains (count list) (need_of_
 abbrev pub refused_switch_line_text : ℕ → List ℕ
 refused_switch_line_text address = codes "refused switch at " ++ (hex_word address ++ 10 ∷ [])
 
--- the line of a refusal, with the task
+-- in the headlines of tasks: the line of a refusal by a task's certificate, with the rule, the
+-- frame, and the task
 abbrev pub refused_task_line_text : ℕ → Key → ℕ → ℕ → List ℕ
 refused_task_line_text rule frame address u = refused_text rule frame address ++ (codes " of task " ++ (decimal u ++ 10 ∷ []))
 
@@ -120,7 +122,7 @@ pub record RefusalByTasks (elf_name plan_name tasks_name : List ℕ) (cert_names
   pub fault : IsTasksFault image plan list certs printed
   pub stays : after ≡ before
 
--- the names hold the bytes of these certificates, one by one
+-- in the headline of `taskcert`: the names hold the bytes of these certificates, one by one
 abbrev pub HoldTaskCerts : FileMap → List (List ℕ) → List CertData → Type 0
 HoldTaskCerts m [] [] = Unit {0}
 HoldTaskCerts m [] (cert ∷ certs) = ⊥

@@ -8,7 +8,7 @@ use tcd_base::Files;
 use tcd_forms::{SourceFile, assembled_object_line};
 use tcd_reading::{Outcome, Stop, read_input, report_with_file};
 
-/// Reads a source and assembles it.
+/// The command `asm`: reads a source file, and returns the outcome with its object to write.
 #[inline(never)]
 pub(crate) fn assemble_file<F: Files>(
     alloc: Global,
@@ -23,7 +23,7 @@ pub(crate) fn assemble_file<F: Files>(
     object_report(alloc, object, &made)
 }
 
-// The report with an object to write under this name.
+// Returns the report of `asm`: the object to write under this name, and the line with its size.
 fn object_report(alloc: Global, name: &str, object: &Object) -> Outcome
     ensures { IsReportOutcome (WritesObject name.now object.now) ⊥ result }
 {

@@ -13,8 +13,8 @@ use tcd_forms::{CertFile, ElfFile, PlanFile, boots_line, refused_line};
 use tcd_plan::Plan;
 use tcd_reading::{Outcome, Report, Status, read_input};
 
-/// Reads the three files, and reports whether the certificate is accepted and the boot sequence is
-/// at this address.
+/// The command `boot`: reads three files, and reports whether the certificate is accepted and the
+/// boot sequence is at the address.
 #[inline(never)]
 pub(crate) fn check_boot_files<F: Files>(
     alloc: Global,

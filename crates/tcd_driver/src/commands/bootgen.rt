@@ -10,7 +10,8 @@ use tcd_forms::{PlanFile, copy_printed_line, generated_boot_line};
 use tcd_plan::Plan;
 use tcd_reading::{Outcome, read_input, report_with_file};
 
-/// Reads a plan, and makes the source of the boot sequence at this address for this entry.
+/// The command `bootgen`: reads a plan, and returns the outcome with the source of its boot
+/// sequence to write.
 #[inline(never)]
 pub(crate) fn generate_boot_source<F: Files>(
     alloc: Global,
@@ -34,7 +35,8 @@ pub(crate) fn generate_boot_source<F: Files>(
     bootgen_report(alloc, &board, entry, at, source)
 }
 
-// The report with the source of a boot sequence to write under this name.
+// Returns the report of `bootgen`: the source of the plan's boot sequence, to write under this
+// name.
 fn bootgen_report(alloc: Global, plan: &Plan, entry: u32, at: u32, source: &str) -> Outcome
     requires { at + 224 ≤ 2 ^ 32 }
     ensures { IsReportOutcome (WritesBootSource entry at source.now plan.now) ⊥ result }

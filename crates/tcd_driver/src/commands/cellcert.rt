@@ -13,7 +13,8 @@ use tcd_plan::Plan;
 use tcd_reading::{Outcome, Report, Status, read_input, report_with_file};
 use value_cells::{CELLS_RULE, Cells, cells_fault, with_cells};
 
-/// Reads an executable, a plan and its cells, and makes their certificate.
+/// The command `cellcert`: reads an executable, a plan and its cells, and returns the outcome with
+/// their certificate to write.
 #[inline(never)]
 pub(crate) fn certify_cells<F: Files>(
     alloc: Global,
@@ -38,8 +39,8 @@ pub(crate) fn certify_cells<F: Files>(
     make_cells_cert(alloc, cert, &image, &board, &words)
 }
 
-// Makes the certificate of format 2 under the plan with cells. Reports it with the file to write,
-// if it keeps the cells.
+// Makes the least certificate of format 2 under the plan with cells. Reports the file to write, or
+// the rule that refuses it.
 fn make_cells_cert(alloc: Global, name: &str, image: &Image, plan: &Plan, cells: &Cells) -> Outcome
     requires { AreCells plan.now cells.now }
     ensures { IsReportOutcome (IsCellcertReport name.now image.now plan.now cells.now) ⊥ result }

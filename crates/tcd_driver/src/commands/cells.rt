@@ -14,8 +14,8 @@ use tcd_plan::Plan;
 use tcd_reading::{Outcome, Report, Status, read_input};
 use value_cells::{CELLS_RULE, Cells, cells_fault, with_cells};
 
-/// Reads the four files, and reports whether the certificate is accepted under the plan with cells,
-/// and keeps the cells.
+/// The command `cells`: reads four files, and reports whether the certificate is accepted under the
+/// plan with cells and keeps their bounds.
 #[inline(never)]
 pub(crate) fn check_cells<F: Files>(
     alloc: Global,

@@ -10,7 +10,8 @@ use tcd_forms::{ElfFile, PlanFile, certified_line};
 use tcd_plan::Plan;
 use tcd_reading::{Outcome, read_input, report_with_file};
 
-/// Reads an executable and a plan, and makes their certificate.
+/// The command `cert`: reads an executable and a plan, and returns the outcome with their best
+/// certificate to write.
 #[inline(never)]
 pub(crate) fn certify_executable<F: Files>(
     alloc: Global,
@@ -28,7 +29,8 @@ pub(crate) fn certify_executable<F: Files>(
     certify_image(alloc, cert, &image, &board)
 }
 
-/// Makes the best certificate of an image, and reports it with its file to write.
+/// Makes the best certificate of an image under a plan, and reports its file to write, or why none
+/// is accepted.
 fn certify_image(alloc: Global, name: &str, image: &Image, plan: &Plan) -> Outcome
     ensures { IsReportOutcome (IsCertReport name.now image.now plan.now) ⊥ result }
 {

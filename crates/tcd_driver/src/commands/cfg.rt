@@ -14,7 +14,8 @@ use tcd_plan::Plan;
 use tcd_reading::{Outcome, Report, Status, read_input};
 use tcd_report::graph;
 
-/// Reads an executable and a plan, and reports the graph of their certificate.
+/// The command `cfg`: reads an executable and a plan, and reports the control flow graph of their
+/// best certificate.
 #[inline(never)]
 pub(crate) fn draw_files<F: Files>(alloc: Global, elf: &str, plan: &str, files: &mut F) -> Outcome
     ensures { IsCommandOutcome (cfg_reading (record { elf = elf.now; plan = plan.now }))
@@ -25,7 +26,8 @@ pub(crate) fn draw_files<F: Files>(alloc: Global, elf: &str, plan: &str, files: 
     draw_graph(alloc, &image, &board)
 }
 
-// Makes the certificate, and reports its graph.
+// Makes the best certificate of an image, and reports its control flow graph, or why none is
+// accepted.
 fn draw_graph(alloc: Global, image: &Image, plan: &Plan) -> Outcome
     ensures { IsReportOutcome (IsCfgReport image.now plan.now) ⊥ result }
 {
@@ -38,7 +40,7 @@ fn draw_graph(alloc: Global, image: &Image, plan: &Plan) -> Outcome
     }
 }
 
-// The graph of the best certificate.
+// Returns the text that `cfg` prints, as bytes: the control flow graph of the best certificate.
 #[inline(never)]
 fn cfg_command_text(
     alloc: Global,

@@ -11,7 +11,8 @@ use tcd_forms::{CertFile, ElfFile, PlanFile, certified_line, refused_line};
 use tcd_plan::Plan;
 use tcd_reading::{Outcome, Report, Status, read_input};
 
-/// Reads the three files, and reports whether the certificate is accepted.
+/// The command `check`: reads an executable, a plan and a certificate, and reports whether the
+/// certificate is accepted.
 #[inline(never)]
 pub(crate) fn check_files<F: Files>(
     alloc: Global,
@@ -30,7 +31,8 @@ pub(crate) fn check_files<F: Files>(
     check_verdict(alloc, &image, &board, &proof)
 }
 
-// Checks the certificate, and reports the verdict.
+// Checks a certificate for an image and a plan. Reports the certified need, or the first rule that
+// fails.
 fn check_verdict(alloc: Global, image: &Image, plan: &Plan, cert: &Cert) -> Outcome
     ensures { IsReportOutcome (IsCheckVerdict image.now plan.now cert.now) ⊥ result }
 {

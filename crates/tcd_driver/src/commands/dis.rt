@@ -9,7 +9,7 @@ use tcd_base::Files;
 use tcd_forms::ElfFile;
 use tcd_reading::{Outcome, Report, Status, read_input};
 
-/// Reads an executable, and reports its listing.
+/// The command `dis`: reads an executable, and reports its listing.
 #[inline(never)]
 pub(crate) fn disassemble_file<F: Files>(alloc: Global, elf: &str, files: &mut F) -> Outcome
     ensures { IsCommandOutcome (dis_reading elf.now) (F.seen files.old) (F.seen files.new) result }
@@ -18,7 +18,7 @@ pub(crate) fn disassemble_file<F: Files>(alloc: Global, elf: &str, files: &mut F
     listing_report(alloc, &image)
 }
 
-// The report with the listing of an image.
+// Returns the report of `dis`: the listing of an image, to print.
 fn listing_report(alloc: Global, image: &Image) -> Outcome
     ensures { IsReportOutcome (IsDisReport image.now) ⊥ result }
 {

@@ -14,7 +14,8 @@ use tcd_plan::{Plan, PlanErr};
 use tcd_reading::{Outcome, Report, Status, Stop};
 use tcd_report::{generated_plan_text, image_of_functions};
 
-/// Generates the image with this number of functions and its plan, and certifies them.
+/// The command `gen`: generates the image with this number of functions and its plan, and reports
+/// their certificate's size and need.
 #[inline(never)]
 pub(crate) fn certify_generated_image(alloc: Global, functions: u32) -> Outcome
     requires { (1 ≤ functions) × (functions ≤ 500) }
@@ -46,7 +47,8 @@ fn report_generated_image(alloc: Global, functions: u32, image: &Image, plan: &P
     }
 }
 
-/// The cause of an error in reading a plan that the program generated: memory ran out.
+/// Asserts that reading the plan that `gen` generated fails only because memory ran out. Does
+/// nothing else.
 fn assert_plan_out_of_memory(e: PlanErr)
     requires { e ≡ plan_error.NoMemory }
 {

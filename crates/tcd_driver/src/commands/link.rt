@@ -15,7 +15,8 @@ use tcd_base::Files;
 use tcd_forms::{LayoutFile, ObjectFile, bad_link_line, linked_image_line};
 use tcd_reading::{Outcome, Report, Status, Stop, read_input, report_with_file};
 
-/// Reads a layout and objects, and links the objects by the layout.
+/// The command `link`: reads a layout and objects, and returns the outcome with the linked
+/// executable to write.
 #[inline(never)]
 pub(crate) fn link_files<F: Files>(
     alloc: Global,
@@ -37,7 +38,7 @@ pub(crate) fn link_files<F: Files>(
     link_object_files(alloc, image, &places, objects, files)
 }
 
-// Reads the objects, and links them by this layout.
+// Reads the object files that `link` names, and links the objects by this layout.
 fn link_object_files<F: Files>(
     alloc: Global,
     name: &str,
@@ -67,7 +68,7 @@ fn link_object_files<F: Files>(
     link_and_report(alloc, name, layout, &parts)
 }
 
-// Links the objects, and reports the image or the rejection.
+// Links objects by a layout. Reports the image to write, or why the objects can't be linked.
 fn link_and_report(alloc: Global, name: &str, layout: &Layout, objects: &[ObjectRef<'_>]) -> Outcome
     requires { length objects.now ≤ 65535 }
     ensures { IsReportOutcome (IsLinkReport name.now layout.now objects.now) ⊥ result }
@@ -78,7 +79,7 @@ fn link_and_report(alloc: Global, name: &str, layout: &Layout, objects: &[Object
     }
 }
 
-// The report with an image to write under this name.
+// Returns the report of `link`: the image to write under this name, and the line with its size.
 fn linked_image_report(alloc: Global, name: &str, image: &Image) -> Outcome
     ensures { IsReportOutcome (WritesImage name.now image.now) ⊥ result }
 {

@@ -15,7 +15,8 @@ use tcd_plan::Plan;
 use tcd_reading::{Outcome, Report, Status, read_input};
 use tcd_report::report as chain_report;
 
-/// Reads the three files, and prints the report of the certificate if it is accepted.
+/// The command `report`: reads an executable, a plan and a certificate, and reports on the
+/// certificate if accepted.
 #[inline(never)]
 pub(crate) fn report_on_cert<F: Files>(
     alloc: Global,
@@ -34,7 +35,8 @@ pub(crate) fn report_on_cert<F: Files>(
     check_and_report(alloc, &image, &board, &proof)
 }
 
-// Checks the certificate, and makes its report.
+// Checks a certificate. Reports its needs and longest call chains as JSON, or the first rule that
+// fails.
 fn check_and_report(alloc: Global, image: &Image, plan: &Plan, cert: &Cert) -> Outcome
     ensures { IsReportOutcome (IsReportOrRefusal image.now plan.now cert.now) ⊥ result }
 {
@@ -50,7 +52,7 @@ fn check_and_report(alloc: Global, image: &Image, plan: &Plan, cert: &Cert) -> O
     }
 }
 
-// The report of an accepted certificate as bytes.
+// Returns the text that `report` prints, as bytes: the JSON report of an accepted certificate.
 #[inline(never)]
 fn report_command_text(
     alloc: Global,

@@ -12,7 +12,8 @@ use tcd_forms::{ElfFile, PlanFile, ScriptFile, run_line};
 use tcd_plan::Plan;
 use tcd_reading::{Outcome, Report, Status, read_input};
 
-/// Reads the three files, runs the machine by the script, and reports how the run ended.
+/// The command `run`: reads three files, runs the machine by the turn script, and reports how the
+/// run ended.
 #[inline(never)]
 pub(crate) fn run_script_file<F: Files>(
     alloc: Global,
@@ -32,7 +33,8 @@ pub(crate) fn run_script_file<F: Files>(
     run_script(alloc, &image, &board, &turns)
 }
 
-// Starts the machine, runs it by the script, and reports how the run ended.
+// Starts the machine, runs it by a turn script, and reports its events, its peak of areas, and its
+// end.
 fn run_script(alloc: Global, image: &Image, plan: &Plan, script: &Script) -> Outcome
     requires { FitsPlan plan.now script.now }
     ensures { IsReportOutcome (IsRunReport image.now plan.now script.now) ⊥ result }

@@ -25,7 +25,8 @@ pub(crate) struct Shipment<'a> {
     pub(crate) sources: &'a [String],
 }
 
-/// Reads a plan, a layout and sources, and makes the image of the sources and its certificate.
+/// The command `ship`: reads a plan, a layout and sources, and returns the outcome with their image
+/// and its certificate to write.
 #[inline(never)]
 pub(crate) fn ship_files<F: Files>(alloc: Global, names: &Shipment<'_>, files: &mut F) -> Outcome
     requires { length names.now.sources.now ≤ 65535 }
@@ -38,7 +39,8 @@ pub(crate) fn ship_files<F: Files>(alloc: Global, names: &Shipment<'_>, files: &
     ship_sources(alloc, names, &plan, &layout, files)
 }
 
-// Reads the sources, and keeps only their objects.
+// Assembles the source files that `ship` names, keeps only their objects, and then links and
+// certifies them.
 fn ship_sources<F: Files>(
     alloc: Global,
     names: &Shipment<'_>,
@@ -65,7 +67,8 @@ fn ship_sources<F: Files>(
     ship_objects(alloc, names, plan, layout, &objects)
 }
 
-// Links the objects of the sources, and certifies the image.
+// Links the objects of the sources that `ship` names. Certifies the image, or reports why they
+// can't be linked.
 fn ship_objects(
     alloc: Global,
     names: &Shipment<'_>,
@@ -84,7 +87,8 @@ fn ship_objects(
     }
 }
 
-// Certifies the image, and reports both files to write.
+// Makes the best certificate of the image that `ship` linked. Reports both files to write, or why
+// none is accepted.
 fn ship_image(alloc: Global, names: &Shipment<'_>, plan: &Plan, image: &Image) -> Outcome
     ensures { IsReportOutcome (IsImageShipReport names.now.elf.now names.now.cert.now plan.now image.now) ⊥
         result }

@@ -21,7 +21,8 @@ use tcd_forms::{
 use tcd_plan::Plan;
 use tcd_reading::{Outcome, Report, Status, Stop, Write, read_input};
 
-/// Reads an executable, a plan and its tasks, and makes a certificate for each task.
+/// The command `taskcert`: reads an executable, a plan and its tasks, and returns the outcome with
+/// a certificate to write for each task.
 #[inline(never)]
 pub(crate) fn certify_tasks<F: Files>(
     alloc: Global,
@@ -50,7 +51,8 @@ pub(crate) fn certify_tasks<F: Files>(
     }
 }
 
-// Makes a certificate for each task, and reports them with the files to write.
+// Makes the certificate of each task for `taskcert`. Reports the files to write, or why the tasks
+// are refused.
 fn certify_all_tasks(
     alloc: Global,
     image: &Image,
@@ -120,7 +122,8 @@ fn make_each_task_cert(
     Ok((writes, sum))
 }
 
-// Makes the least certificate of format 2 for a task's view, and checks that it keeps K17.
+// Makes the least certificate of format 2 for task `u`'s view, and checks that it keeps the tasks
+// apart (K17).
 fn make_task_cert(
     alloc: Global,
     image: &Image,
@@ -139,7 +142,7 @@ fn make_task_cert(
     make_task_view_cert(alloc, &view, &view_plan(plan, tasks, u), tasks)
 }
 
-/// Adds the certificate of a task to the files to write.
+/// Appends a task's certificate, under its name, to the files that `taskcert` writes.
 fn add_task_cert_file(
     alloc: Global,
     writes: &mut Vec<Write>,
@@ -153,7 +156,8 @@ fn add_task_cert_file(
     Ok(())
 }
 
-/// Makes the least certificate of format 2 of a task's view, and checks that it keeps K17.
+/// Makes the least certificate of format 2 for a task's view of the image, and checks that it keeps
+/// the tasks apart (K17).
 fn make_task_view_cert(
     alloc: Global,
     view: &Image,

@@ -41,8 +41,8 @@ pub(crate) enum Tally {
     },
 }
 
-/// Reads an executable, a plan, its tasks and a certificate for each, and reports whether all runs
-/// of the tasks are certified.
+/// The command `tasks`: reads an executable, a plan, its tasks and a certificate for each, and
+/// reports whether all runs of the tasks are certified.
 #[inline(never)]
 pub(crate) fn check_tasks<F: Files>(
     alloc: Global,
@@ -75,7 +75,7 @@ pub(crate) fn task_need_to_count(u: usize, need: u32) -> u32
     if u == 0 { need } else { need.max(2) }
 }
 
-/// The report that there aren't as many names of certificates as tasks.
+/// Reports bad input: `tasks` or `taskcert` names more or fewer certificates than there are tasks.
 pub(crate) fn report_wrong_cert_count(alloc: Global) -> Outcome
     ensures { IsReportOutcome (λ r. r ≡ says BadInput (bad_tasks_line Count)) ⊥ result }
 {
@@ -83,7 +83,8 @@ pub(crate) fn report_wrong_cert_count(alloc: Global) -> Outcome
     Ok(Report::of(alloc, Status::BadInput, line))
 }
 
-// Reads the certificates if there are as many as tasks, and reports the verdict.
+// Reads the certificate of each task and reports the verdict of `tasks`, or that there are more or
+// fewer names than tasks.
 fn read_task_certs<F: Files>(
     alloc: Global,
     image: &Image,
@@ -104,7 +105,7 @@ fn read_task_certs<F: Files>(
     }
 }
 
-/// Reads a certificate for each task, and reports the verdict on the tasks.
+/// Reads the certificate of each task, and reports the verdict of `tasks`.
 fn read_each_task_cert<F: Files>(
     alloc: Global,
     image: &Image,
@@ -131,8 +132,8 @@ fn read_each_task_cert<F: Files>(
     tasks_verdict(alloc, image, plan, tasks, &certs)
 }
 
-// Reports the verdict on the switch routine, on each task's certificate, and on the sum of the
-// needs.
+// Reports the verdict of `tasks`: on the switch routine, on each task's certificate, and on the sum
+// of the needs.
 fn tasks_verdict(
     alloc: Global,
     image: &Image,
@@ -170,7 +171,8 @@ fn tasks_verdict(
     }
 }
 
-// Judges the certificate of each task.
+// Checks each task's certificate for `tasks`: returns the sum of their needs, or the first task
+// whose certificate is refused.
 fn judge_tasks(
     alloc: Global,
     image: &Image,
@@ -201,7 +203,8 @@ fn judge_tasks(
     Ok(Tally::Sum(sum))
 }
 
-// Judges the certificate of a task for its view: by the rules of all certificates, and then by K17.
+// Checks a certificate for task `u`'s view by the rules of all certificates, then whether the tasks
+// are kept apart (K17).
 fn judge_task(
     alloc: Global,
     image: &Image,

@@ -20,7 +20,7 @@ abbrev pub IsEdgeOnLine : List (List ℕ) → Machine → Event → List RunFram
 IsEdgeOnLine lines m e [] = ⊥
 IsEdgeOnLine lines m e (f ∷ fs) = Contains lines (graph_line f.key (edge_of_step m e).at (goes (edge_of_step m e).way))
 
--- this holds for each step of every run from every start state
+-- of each step of every run from every start state, the edge is on one of these lines of the graph
 abbrev pub LinesHaveAllEdges : ImageData → PlanData → CertData → List (List ℕ) → Type 0
 LinesHaveAllEdges image plan cert lines =
     (m : Machine) (es : List Event) (e : Event) → Starts image plan m → AllFit plan m es → Fits plan (run m es) e

@@ -6,7 +6,7 @@ use Rattle.cfg_recover.specs.Entries.{irqs_of, irq_key}
 use Rattle.tcd_report.specs.declared.graphs.handlers.Handlers.{Handlers}
 use Rattle.tcd_report.specs.Graphs.{unique_addresses, lines_to}
 
--- these are the lines of handlers with these entries, all with the same front, of this length
+-- the graph's `irq` lines of handlers with these entries, all with the same front, of this length
 pub record HasHandlerLines (size : ℕ) (entries lines : List ℕ) : Type 0 where
   pub front : List ℕ
   pub sized : length front ≡ size
@@ -23,6 +23,6 @@ pub record KnowsHandlers (plan : PlanData) (known : Handlers) : Type 0 where
   pub entries : (s : State) → s.ie ≡ known.ie → s.ccpn ≡ known.ccpn → known.entries.items ≡ unique_addresses (irq_entry_vectors plan (irqs_of plan s))
   pub lines : HasHandlerLines known.front known.entries.items known.lines.items
 
--- lines with a front written at a place
+-- the graph's `irq` lines of handlers with a front written at a place
 abbrev pub with_handler_front : List ℕ → ℕ → List ℕ → List ℕ
 with_handler_front lines at front = take at lines ++ (front ++ drop (at + length front) lines)

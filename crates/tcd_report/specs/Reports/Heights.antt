@@ -10,7 +10,7 @@ use Rattle.depth_cert.specs.Certs.{CertData}
 use Rattle.tcd_report.specs.Reports.Calls.{CallsAt, HasCallChain}
 use Rattle.depth_cert.specs.Keys.{key_eq}
 
--- n is the greatest number with this property, or 0 if there is none
+-- for heights of nodes: n is the greatest number with this property, or 0 if there is none
 pub record IsGreatestHeight (P : ℕ → Type 0) (n : ℕ) : Type 0 where
   pub reached : (n ≡ 0) ⊎ P n
   pub most : (m : ℕ) → P m → m ≤ n
@@ -19,7 +19,8 @@ pub record IsGreatestHeight (P : ℕ → Type 0) (n : ℕ) : Type 0 where
 abbrev pub IsGreatestHeightOf : {A : Type 0} → (A → ℕ → Type 0) → List A → ℕ → Type 0
 IsGreatestHeightOf {A = A} Has xs n = IsGreatestHeight (λ m. (x : A) × (Contains xs x × Has x m)) n
 
--- the number is the height of a key in the map, plus 1
+-- the number is the length of the longest call chain through a callee: the height of its key in the
+-- map, plus 1
 abbrev pub HasCalleeHeight : {S : Type 0} → HashMap Key ℕ S → Key → ℕ → Type 0
 HasCalleeHeight heights k m = (h : ℕ) × ((get key_eq heights k ≡ Some h) × (m ≡ suc h))
 
@@ -44,7 +45,7 @@ pub record HasNodeHeight (image : ImageData) (plan : PlanData) (cert : CertData)
   pub key : node.key ≡ k
   pub height : IsHeight image plan cert node h
 
--- the map has only heights of nodes
+-- each number in the map is the height of the node with its key
 abbrev pub AreNodeHeights : {S : Type 0} → ImageData → PlanData → CertData → HashMap Key ℕ S → Type 0
 AreNodeHeights image plan cert heights = (k : Key) (h : ℕ) → get key_eq heights k ≡ Some h → HasNodeHeight image plan cert k h
 

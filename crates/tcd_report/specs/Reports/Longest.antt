@@ -11,21 +11,22 @@ use Rattle.depth_cert.specs.Certs.{CertData}
 use Rattle.tcd_report.specs.Reports.Calls.{HasCallChain}
 use Rattle.std.specs.List.{list_any, range_with_len}
 
--- the number is the height of a node of this priority
+-- the number is the height, in the map, of a node of this interrupt priority
 abbrev pub IsHeightAtPriority : {S : Type 0} → HashMap Key ℕ S → List NodeData → ℕ → ℕ → Type 0
 IsHeightAtPriority heights nodes p m = (n : NodeData) × (Contains nodes n × (((n.key).prio ≡ p) × (get key_eq heights n.key ≡ Some m)))
 
--- the greater of a number, if there is one, and another number
+-- the longest call chain of a priority after one more node: the greater of the longest so far, if
+-- any, and its height
 abbrev pub longest_with : Option ℕ → ℕ → ℕ
 longest_with None h = h
 longest_with (Some n) h = max h n
 
--- the longest call chain of a priority, if it has nodes
+-- the longest call chain of a priority as a list for the report: empty if the priority has no nodes
 abbrev pub longest_calls_of : ℕ → Option ℕ → List LongestCalls
 longest_calls_of p None = []
 longest_calls_of p (Some n) = record { longest = n; prio = p } ∷ []
 
--- the longest call chains of the priorities below a number
+-- for the report: the longest call chains of the interrupt priorities below a number, ascending
 unfoldable pub longest_calls_below : (ℕ → Option ℕ) → ℕ → List LongestCalls
 longest_calls_below row zero = []
 longest_calls_below row (suc n) = longest_calls_below row n ++ longest_calls_of n (row n)
@@ -39,7 +40,7 @@ pub record IsLongestCallChain (image : ImageData) (plan : PlanData) (cert : Cert
   pub reached : HasCallChain image plan cert node n
   pub most : (other : NodeData) (m : ℕ) → Contains cert.nodes other → (other.key).prio ≡ prio → HasCallChain image plan cert other m → m ≤ n
 
--- the priorities of the nodes that are below a number, ascending
+-- the interrupt priorities below a number that nodes have, ascending
 unfoldable pub priorities_below : List NodeData → ℕ → List ℕ
 priorities_below nodes n = filter (λ p. list_any (λ n. (n.key).prio == p) nodes) (range_with_len 0 n)
 
@@ -47,7 +48,7 @@ priorities_below nodes n = filter (λ p. list_any (λ n. (n.key).prio == p) node
 unfoldable pub priority_count : ℕ
 priority_count = 256
 
--- the priorities of the nodes, ascending
+-- the interrupt priorities that nodes have, ascending
 abbrev pub priorities_of : List NodeData → List ℕ
 priorities_of nodes = priorities_below nodes priority_count
 

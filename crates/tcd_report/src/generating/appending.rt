@@ -12,7 +12,7 @@ pub(crate) fn append_segment_bytes(out: &mut Vec<u8>, more: &[u8]) -> Result<(),
     Ok(())
 }
 
-/// Appends zeros.
+/// Appends zero bytes to those of a segment of a generated image.
 pub(crate) fn append_zeros(out: &mut Vec<u8>, count: usize) -> Result<(), NoMemory>
     ensures { OnOk result (out.new.items ≡ out.old.items ++ replicate count 0) }
 {
@@ -22,7 +22,7 @@ pub(crate) fn append_zeros(out: &mut Vec<u8>, count: usize) -> Result<(), NoMemo
     Ok(())
 }
 
-/// Appends the call instruction at one address to a later one.
+/// Appends the instruction at one address of a generated image that calls a later address.
 pub(crate) fn append_call(out: &mut Vec<u8>, at: u32, to: u32) -> Result<(), NoMemory>
     requires forward { at ≤ to }
     requires near { to < at + 2 ^ 24 }

@@ -23,7 +23,7 @@ pub(crate) fn generated_functions(alloc: Global, n: u32) -> Result<Vec<u8>, NoMe
     Ok(out)
 }
 
-/// The address of function i.
+/// Returns the address of function i of a generated image.
 pub(crate) fn generated_function_address(i: u32) -> u32
     requires { i < 1024 }
     ensures { result ≡ generated_function_address i }
@@ -31,7 +31,7 @@ pub(crate) fn generated_function_address(i: u32) -> u32
     0x8000_8000 + 32 * i
 }
 
-/// The main program.
+/// Returns the bytes of a generated image's main program: eight instructions.
 #[tactic(auto, using(crate::proofs::ImageLemmas::Instructions::main_bytes))]
 pub(crate) fn generated_main_code() -> [u8; 32]
     ensures { result ≡ generated_main_code }
@@ -64,8 +64,8 @@ pub(crate) fn append_handler(out: &mut Vec<u8>, n: u32, p: u8) -> Result<(), NoM
     append_segment_bytes(out, &[0x0d, 0x00, 0x40, 0x02, 0x00, 0x80])
 }
 
-// Appends function i of n. It reserves eight bytes of stack, stores a word there, and calls the
-// functions 2i + 1 and 2i + 2, if there are any.
+// Appends function i of n to a generated image. It reserves eight bytes of stack, stores a word
+// there, and calls the functions 2i + 1 and 2i + 2, if there are any.
 #[tactic(auto, using(crate::proofs::ImageLemmas::Instructions::function_bytes))]
 fn append_function(out: &mut Vec<u8>, n: u32, i: u32) -> Result<(), NoMemory>
     requires few { n ≤ 500 }
@@ -81,7 +81,7 @@ fn append_function(out: &mut Vec<u8>, n: u32, i: u32) -> Result<(), NoMemory>
     append_segment_bytes(out, &[0x00, 0x90])
 }
 
-// Appends a call of function i, if i is below n.
+// Appends to a generated image of n functions a call of function i, or nothing if i isn't below n.
 fn append_call_if_below(out: &mut Vec<u8>, n: u32, at: u32, i: u32) -> Result<(), NoMemory>
     requires few { n ≤ 500 }
     requires low { 0x80008000 ≤ at }

@@ -91,7 +91,7 @@ pub fn image_of_functions(alloc: Global, n: u32) -> Result<Image, NoMemory>
     })
 }
 
-/// The text of the plan, the same for each image.
+/// Returns the JSON text of the plan of generated images, the same for each image.
 pub fn generated_plan_text() -> &'static str
     ensures { result.now ≡ generated_plan_text }
 {

@@ -33,7 +33,8 @@ pub(crate) struct Edges {
     pub(crate) keys: Vec<Key>,
 }
 
-/// Finds the addresses where a point with this instruction goes on.
+/// Finds the edges of a point in the graph: the addresses where its instruction goes on, by the
+/// words of their lines.
 pub(crate) fn find_edges(
     ways: &mut Edges,
     judged: &Judged,

@@ -80,7 +80,7 @@ pub(crate) fn append_node_lines<'a>(
     Ok(())
 }
 
-// Appends the lines of a point.
+// Appends the lines of a point to the text of the graph.
 fn append_point_lines(
     graph: &mut Drawing,
     judged: &Judged,

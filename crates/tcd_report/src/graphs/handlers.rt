@@ -44,8 +44,8 @@ pub(crate) fn no_handlers(alloc: Global) -> Handlers
     }
 }
 
-/// Finds the handlers of the interrupts that may come in a state, each entry once. `room` may be
-/// overwritten.
+/// Finds the handlers of the interrupts that may come in a state, for the graph's `irq` lines, each
+/// entry once. `room` may be overwritten.
 pub(crate) fn find_handlers(
     known: &mut Handlers,
     room: &mut Vec<u32>,
@@ -82,7 +82,7 @@ fn set_handler_entries(all: &mut Vec<u32>, plan: &Plan, irqs: &[u8]) -> Result<(
     Ok(())
 }
 
-/// Makes this the front of the lines of handlers. If it is as long as the front before it, it is
+/// Gives the graph's `irq` lines of known handlers this front. A front as long as the one before is
 /// written over that one.
 pub(crate) fn set_handler_line_front(known: &mut Handlers, front: &str) -> Result<(), NoMemory>
     requires { HasHandlerLines known.old.front known.old.entries.items known.old.lines.items }
@@ -100,7 +100,7 @@ pub(crate) fn set_handler_line_front(known: &mut Handlers, front: &str) -> Resul
     make_handler_lines(&mut known.lines, front, &known.entries)
 }
 
-// Makes the lines of handlers with these entries.
+// Makes the graph's `irq` lines, one for each of these handlers' entries, with this front.
 fn make_handler_lines(lines: &mut Vec<u8>, front: &str, entries: &[u32]) -> Result<(), NoMemory>
     ensures { OnOk result (lines.new.items ≡ lines_to front.now (codes "irq ") entries.now) }
 {
@@ -112,7 +112,7 @@ fn make_handler_lines(lines: &mut Vec<u8>, front: &str, entries: &[u32]) -> Resu
     Ok(())
 }
 
-// Writes a front over those of the lines of handlers with these entries.
+// Writes a front over the old one, of the same length, in each of the graph's `irq` lines.
 fn write_handler_fronts(lines: &mut [u8], front: &[u8], entries: &[u32])
     requires { HasHandlerLines (length front.now) entries.now lines.old }
     ensures { lines.new ≡ lines_to front.now (codes "irq ") entries.now }
@@ -132,7 +132,7 @@ fn write_handler_front(lines: &mut [u8], at: usize, front: &[u8])
     lines[at..at + front.len()].copy_from_slice(front);
 }
 
-// The end of the line of a handler with this entry.
+// Returns the end of the graph's `irq` line for a handler with this entry.
 fn irq_line_end(entry: u32) -> [u8; IRQ_END]
     ensures { result ≡ line_end_to (codes "irq ") entry }
 {

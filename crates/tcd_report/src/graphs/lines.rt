@@ -12,7 +12,7 @@ use tc_isa::Shape;
 use tcd_base::NoMemory;
 use tcd_text::{append_ascii, append_hex_word, append_str, hex_word};
 
-/// Makes the front of all lines of a node.
+/// Makes the front of all lines of a node in the graph: its key.
 pub(crate) fn set_node_line_front(front: &mut String, key: &Key) -> Result<(), NoMemory>
     ensures front { OnOk result (string_bytes front.new ≡ key_front key.now) }
     ensures ascii { OnOk result (IsAscii (key_front key.now)) }
@@ -25,7 +25,7 @@ pub(crate) fn set_node_line_front(front: &mut String, key: &Key) -> Result<(), N
     append_str(front, ": ")
 }
 
-/// Makes the front of all lines of a point from that of its node.
+/// Makes the front of all lines of a point in the graph: that of its node, and the address.
 pub(crate) fn set_point_line_front(
     front: &mut String,
     key_front: &str,
@@ -40,7 +40,7 @@ pub(crate) fn set_point_line_front(
     append_str(front, " ")
 }
 
-/// Appends the lines of a point, except that of its own return.
+/// Appends the lines of a point to the graph, except that of its own return.
 pub(crate) fn append_edges(text: &mut String, front: &str, ways: &Edges) -> Result<(), NoMemory>
     requires ascii { IsAscii front.now }
     requires handlers { let irq = ways.now.irq in
@@ -56,7 +56,7 @@ pub(crate) fn append_edges(text: &mut String, front: &str, ways: &Edges) -> Resu
     append_handler_lines(text, front, &ways.irq)
 }
 
-/// Appends the line of a point's own return, which ends with `ret` or `rfe` and no address, if its
+/// Appends to the graph the line of a point's own return, which ends with `ret` or `rfe`, if its
 /// instruction is a return.
 pub(crate) fn append_return(text: &mut String, front: &str, shape: Shape) -> Result<(), NoMemory>
     ensures { OnOk result (string_bytes text.new
@@ -75,7 +75,7 @@ pub(crate) fn append_return(text: &mut String, front: &str, shape: Shape) -> Res
     }
 }
 
-// Appends one line for each of the addresses, which ends with the word and the address.
+// Appends a line to the graph for each of these addresses, with a front, a word, and the address.
 fn append_lines(text: &mut String, front: &str, word: &str, targets: &[u32]) -> Result<(), NoMemory>
     ensures { OnOk result (string_bytes text.new
         ≡ string_bytes text.old ++ lines_to front.now word.now targets.now) }
@@ -88,7 +88,7 @@ fn append_lines(text: &mut String, front: &str, word: &str, targets: &[u32]) -> 
     Ok(())
 }
 
-// Appends the address that a line ends with, and a line feed.
+// Appends the address at which a line of the graph ends, and a line feed.
 fn append_target_address(text: &mut String, to: u32) -> Result<(), NoMemory>
     ensures { OnOk result
         (string_bytes text.new ≡ string_bytes text.old ++ (hex_word to ++ 10 ∷ [])) }

@@ -18,8 +18,8 @@ use tcd_plan::Plan;
 use value_domain::State;
 use vd_transfer::{change_on, identity_change};
 
-/// Appends the addresses where the point may go on in its frame, except those after a call or a
-/// system call.
+/// Appends the successors of a point in its frame, for the graph: addresses, except those after a
+/// call or a system call.
 pub(crate) fn push_successors(
     all: &mut Vec<u32>,
     judged: &Judged,
@@ -84,7 +84,7 @@ pub(crate) fn set_return_addresses(
     Ok(())
 }
 
-// Appends the address of a side of a branch, if that side is possible.
+// Appends the successor by one side of a branch to those in the graph, if that side is possible.
 fn push_branch_successor(
     all: &mut Vec<u32>,
     judged: &Judged,
@@ -116,7 +116,8 @@ fn is_branch_side_possible(judged: &Judged, shape: Shape, s: &State, taken: bool
     change_on(judged.bounds, judged.plan, shape, s, taken, &mut c)
 }
 
-// Appends an address, if the node of this key has an exit.
+// Appends the address after a call, a successor in the graph, if the node of the entered frame's
+// key has an exit.
 fn push_return(all: &mut Vec<u32>, cert: &Cert, key: &Key, back: u32) -> Result<(), NoMemory>
     ensures { OnOk result
         (all.new.items ≡ all.old.items ++ return_address_of_duty cert.now (resume key.now back)) }

@@ -22,8 +22,8 @@ use tcd_base::NoMemory;
 use tcd_plan::Plan;
 use value_domain::State;
 
-/// The length of the longest call chain that begins in each node. Nodes are taken by ascending
-/// need: the need of a node is above that of each node that it calls.
+/// Returns the height of each node: the length of the longest call chain that begins there. Nodes
+/// come by ascending need, so callees before callers.
 pub(crate) fn heights(alloc: Global, judged: &Judged) -> Result<HashMap<Key, u32>, NoMemory>
     requires { IsAcceptedWithLimits judged.now }
     ensures tells { let j = judged.now in
@@ -50,7 +50,7 @@ pub(crate) fn heights(alloc: Global, judged: &Judged) -> Result<HashMap<Key, u32
     Ok(heights)
 }
 
-// The length of the longest call chain that begins in a node.
+// Returns the height of a node: the length of the longest call chain that begins there.
 fn longest_chain_from<'a>(
     judged: &Judged,
     heights: &HashMap<Key, u32>,
@@ -100,7 +100,7 @@ fn height_at_point(
     }
 }
 
-// The needs and keys of the nodes.
+// Returns the need and the key of each node, by which nodes are sorted to find their heights.
 fn height_ranks(alloc: Global, cert: &Cert) -> Result<Vec<(u16, Key)>, NoMemory>
     ensures { IfOk result (λ v. v.items ≡ map height_rank_of cert.now.nodes) }
 {

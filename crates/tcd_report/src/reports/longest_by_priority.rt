@@ -20,7 +20,8 @@ pub(crate) struct LongestCalls {
     pub(crate) prio: u16,
 }
 
-/// The length of the longest call chain of each priority that has nodes.
+/// Returns the length of the longest call chain of each interrupt priority that has nodes, for the
+/// report.
 pub(crate) fn longest_by_priority(
     alloc: Global,
     cert: &Cert,
@@ -62,7 +63,7 @@ pub(crate) fn longest_calls_below(
     Ok(rows)
 }
 
-// The greater of a number, if there is one, and another number.
+// Returns the greater of the longest call chain so far, if there is one, and a node's height.
 fn longest_so_far(known: Option<&u32>, height: u32) -> u32
     ensures { result ≡ longest_with (option_copied known.entry) height }
 {
@@ -72,7 +73,7 @@ fn longest_so_far(known: Option<&u32>, height: u32) -> u32
     }
 }
 
-// Appends the longest chain of a priority, if it has nodes.
+// Appends the longest call chain of a priority to those of the report, if the priority has nodes.
 fn push_longest(rows: &mut Vec<LongestCalls>, prio: u16, row: Option<&u32>) -> Result<(), NoMemory>
     ensures { OnOk result
         (rows.new.items ≡ rows.old.items ++ longest_calls_of prio (option_copied row.entry)) }

@@ -25,7 +25,8 @@ pub(crate) fn need_of_start(image: &Image, plan: &Plan, cert: &Cert) -> u32
     }
 }
 
-// The whole report.
+// Returns the whole report as a JSON object: the CSAs, the longest call chains, the certified need,
+// the nodes, and the reserve.
 pub(crate) fn report_value(
     alloc: Global,
     plan: &Plan,
