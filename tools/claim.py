@@ -52,13 +52,13 @@ OTHER_FIELDS = "  -- the fields of other commands are left out here"
 #: What part 2 begins with: which certificates are accepted, and which files are taken as what.
 LATER = (
     "image_of_file", "GivesPlan",
-    "Accepts", "IsAcceptedWithNeed", "IsAcceptedForTask", "IsLeastOfItsVersion", "NoneAccepted",
-    "KeepsCells", "KeepsApart", "CertData", "certificate_of",
-    "bytes_of", "bytes_of_cert", "bytes_of_routine", "assembled_code", "CannotFail", "IsOneEnd",
-    "refusal_of", "plan_refusal", "image_refusal", "reloc_value_refusal", "ImageErr", "PlanErr",
+    "Accepts", "IsAcceptedWithNeed", "IsAcceptedForTask", "IsLeastOfItsFormat", "NoneAccepted",
+    "KeepsCells", "KeepsRule17", "CertData", "certificate_of", "bytes_of_object", "bytes_of_cert",
+    "bytes_of_routine", "assembled_code", "CannotFail", "IsDecidedStatus", "refusal_of",
+    "plan_refusal", "image_refusal", "reloc_value_refusal", "ImageErr", "PlanErr",
 )
 #: What a page names and doesn't follow: the ends that aren't Done.
-OTHER_ENDS = re.compile(r"RefusalBy\w+|BadInputOf|MayPrintText|AreThere|Ask")
+OTHER_ENDS = re.compile(r"RefusalBy\w+|BadInputOf|MayPrintText|AreInputsPresent|InputRequirement")
 
 
 @dataclasses.dataclass(frozen=True)

@@ -7,7 +7,7 @@ ghost use Rattle.depth_cert.specs.Grammar.{flag_at, set_word_after, set_at, span
 
 use arrayvec::ArrayVec;
 use tcd_base::{BAD_VALUE, FileCursor, FormErr, form_err_at, read_u8, read_u32};
-use value_domain::{Val, span_len, set_span, set_words, write_any};
+use value_domain::{Val, set_span, set_words, span_len, write_any};
 
 /// The first byte of a Span is this plus its step.
 pub const SPAN: u8 = 240;

@@ -52,7 +52,12 @@ pub(crate) fn rule_broken_by_duties(
     ensures registers { RegistersHoldAt at.now scratch.new.registers }
 {
     let jumps = rule_broken_by_successors(at, found, scratch);
-    let entered = rule_broken_by_entries(at, found.shape, found.size, &mut scratch.registers.called);
+    let entered = rule_broken_by_entries(
+        at,
+        found.shape,
+        found.size,
+        &mut scratch.registers.called,
+    );
     let misaligned = rule_broken_by_access(at, found);
     let irqs = rule_broken_by_interrupts(at);
     let leave = rule_broken_by_leaving(at.node, at.point.state, found.shape);

@@ -9,7 +9,7 @@ ghost use Rattle.depth_check.specs.NodeFaults as nodes;
 
 use crate::fast_paths::NO_REGISTERS;
 use crate::last_interrupts::LastInterrupts;
-use crate::points::{PointCheck, PointScratch, are_point_values, rule_broken_at, point_of_walk};
+use crate::points::{PointCheck, PointScratch, are_point_values, point_of_walk, rule_broken_at};
 use crate::rules::BAD_VALUES;
 use elf_image::Image;
 use packed_cert::{Cert, Node, PointWalk};

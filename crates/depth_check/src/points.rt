@@ -17,7 +17,7 @@ ghost use Rattle.depth_cert.specs.Certs.{CertData};
 ghost use Rattle.packed_cert.specs.Walks.{IsNextWithSameState};
 
 use crate::duty_rules::{rule_broken_by_duties, rule_broken_by_interrupts};
-use crate::fast_paths::{CheckedRegisters, rule_broken_by_kept_state, fast_path_next};
+use crate::fast_paths::{CheckedRegisters, fast_path_next, rule_broken_by_kept_state};
 use crate::last_interrupts::LastInterrupts;
 use crate::rules::{SMALL_NEED, has_own_need, lesser_broken_rule};
 use arrayvec::ArrayVec;

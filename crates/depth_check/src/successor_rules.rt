@@ -10,7 +10,7 @@ ghost use Rattle.depth_check.specs.CheckedRegisters.{RegistersHoldAt, RegisterJu
 ghost use Rattle.vd_transfer.specs.Registers.{reg_of};
 ghost use Rattle.vd_transfer.specs.Branches.{refine_of};
 
-use crate::fast_paths::{rule_broken_by_kept_state, may_skip_change, may_skip_refinement};
+use crate::fast_paths::{may_skip_change, may_skip_refinement, rule_broken_by_kept_state};
 use crate::node_covers::{has_covering_points, is_changed_state_covered, is_kept_state_covered};
 use crate::points::{PointCheck, PointScratch, write_change_at};
 use crate::rules::{NO_POINT, lesser_broken_rule};

@@ -73,7 +73,13 @@ pub(crate) fn join_at_place(
     let known = table.places.len();
     if join_without_readers(alloc, table, v, y, incoming)? {
         let again = table.places.len() == known;
-        requeue_readers_after_join(&mut table.places, &mut table.work, &mut table.readers, y, again)?;
+        requeue_readers_after_join(
+            &mut table.places,
+            &mut table.work,
+            &mut table.readers,
+            y,
+            again,
+        )?;
     }
     Ok(())
 }

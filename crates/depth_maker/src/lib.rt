@@ -24,5 +24,6 @@ mod visit;
 
 pub use answering::{MakeErr, make};
 pub use laws::{
-    accepted_laws, return_state_laws, derived_laws, effect_monotonicity_laws, duty_monotonicity_laws, making_laws,
+    accepted_laws, derived_laws, duty_monotonicity_laws, effect_monotonicity_laws, making_laws,
+    return_state_laws,
 };

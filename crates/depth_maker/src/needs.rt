@@ -11,7 +11,7 @@ use crate::rows::{Source, need_rows};
 use cfg_recover::start_key;
 use depth_cert::Key;
 use frame_places::{
-    NEEDS_RULE, NeedRow, frame_edges, least_needs, node_ranks, number_or_zero, needs_by_few_passes,
+    NEEDS_RULE, NeedRow, frame_edges, least_needs, needs_by_few_passes, node_ranks, number_or_zero,
 };
 use std::alloc::{AllocError, Global};
 use tcd_plan::Plan;

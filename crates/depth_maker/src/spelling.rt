@@ -10,8 +10,8 @@ ghost use Rattle.depth_maker.specs.SpotsAsPlaces.{spots_of_entries};
 use crate::rows::Source;
 use depth_cert::{Key, put_u16, write_key, write_no_exit};
 use frame_places::{
-    PointEntry, Spot, frame_number, frames_in_order, sorted_frame_points, place_address,
-    points_in_order,
+    PointEntry, Spot, frame_number, frames_in_order, place_address, points_in_order,
+    sorted_frame_points,
 };
 use std::alloc::Global;
 use tcd_base::{NoMemory, put_u32};

@@ -139,7 +139,8 @@ fn visit_point(
     ensures ok { OnOk result (VisitJoinsDutiesOn site.now.ground.now table.old table.new
         (Point site.now.key site.now.addr)) }
     ensures plain { IfOk result (λ plain. IsTrue plain
-        → EntersNoFrameAt site.now.ground.now.image.now site.now.ground.now.plan.now site.now.addr) }
+        → EntersNoFrameAt site.now.ground.now.image.now site.now.ground.now.plan.now
+        site.now.addr) }
     ensures err { IfErr result (RefusalIsRight site.now.ground.now) }
     ensures results { HoldsCachedResults site.now.ground.now.bounds.now cache.new }
 {

@@ -1,6 +1,6 @@
 // An image: the segments of an executable, within limits that always hold.
 use crate::ImageErr;
-use crate::file_checks::{check_no_overlap, check_program_headers, check_elf_header};
+use crate::file_checks::{check_elf_header, check_no_overlap, check_program_headers};
 use crate::file_writer::elf_file;
 use crate::headers::{E_ENTRY, elf_word_at, load_headers};
 use crate::segments::{Segment, is_held_by_segment, segment_byte, segments_of};

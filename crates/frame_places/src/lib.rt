@@ -23,7 +23,7 @@ pub use needs::reach::{
 pub use needs::row::NeedRow;
 pub use numbers::{frame_number, frame_number_near, frame_numbers, number_frames};
 pub use ordering::{
-    PointEntry, frame_order_numbers, frames_in_order, sorted_frame_points, points_in_order,
+    PointEntry, frame_order_numbers, frames_in_order, points_in_order, sorted_frame_points,
 };
 pub use places::{
     Mark, Marked, Spot, add_or_find_place, add_queued_place, address_in_frame, place_address,

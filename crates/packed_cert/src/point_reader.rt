@@ -18,7 +18,7 @@ use crate::places::{
     ExitPlaces, PointPlace, ReadState, RepeatedState, StatePlaces, VALUES, ValueRow, empty_row,
 };
 use crate::repeated_bytes::count_repeated_before;
-use crate::value_reader::{skip_values_to, read_or_skip_values};
+use crate::value_reader::{read_or_skip_values, skip_values_to};
 use arrayvec::ArrayVec;
 use depth_cert::{CertErr, Exit, read_address, read_flag, read_locals, read_point_count};
 use std::alloc::Global;

@@ -140,12 +140,7 @@ fn count_repeated_from(bytes: &[u8], x: usize, y: usize, from: usize, n: usize) 
 /// Skips `n` bytes of a certificate if they equal those from `x` on. Returns false, and the cursor
 /// stays, if they aren't seen to be equal.
 #[inline(always)]
-pub(crate) fn skip_if_repeated(
-    c: &mut FileCursor<'_>,
-    bytes: &[u8],
-    x: usize,
-    n: usize,
-) -> bool
+pub(crate) fn skip_if_repeated(c: &mut FileCursor<'_>, bytes: &[u8], x: usize, n: usize) -> bool
     requires same { c.old.bytes ≡ bytes.now }
     requires within { x + n ≤ length bytes.now }
     ensures moved { IsTrue result → SkipsRepeatedBytes bytes.now x n c.old c.new }

@@ -138,7 +138,8 @@ pub(crate) fn is_incoming_state_covered(
     requires long { length (all_values upper.now.regs.value)
         ≡ length (incoming_values incoming.now) }
     ensures { IsTrue result
-        ↔ Covers (whole_state upper.now) (incoming_state_with (incoming_values incoming.now) k.now) }
+        ↔ Covers (whole_state upper.now)
+        (incoming_state_with (incoming_values incoming.now) k.now) }
 {
     if !upper.covers_context(k.ie, k.ccpn, k.lower) {
         return false;
@@ -169,7 +170,10 @@ pub(crate) fn join_incoming_state(
     if left.locals.len() != k.locals.len() {
         return Ok(None);
     }
-    let regs = Rc::new(alloc, join_incoming_values(alloc, b, left.regs.as_ref(), incoming)?)?;
+    let regs = Rc::new(
+        alloc,
+        join_incoming_values(alloc, b, left.regs.as_ref(), incoming)?,
+    )?;
     let form = KnownForm::Point(SmallState {
         regs,
         ie: left.ie || k.ie,
@@ -187,7 +191,8 @@ pub(crate) fn is_incoming_exit_covered(upper: &SmallExit, incoming: &Incoming, k
     requires long { length (all_values upper.now.lower.value)
         ≡ length (incoming_values incoming.now) }
     ensures { IsTrue result
-        ↔ ExitCovers (whole_exit upper.now) (incoming_exit_with (incoming_values incoming.now) k.now) }
+        ↔ ExitCovers (whole_exit upper.now)
+        (incoming_exit_with (incoming_values incoming.now) k.now) }
 {
     if !upper.covers_context(k.ie, k.ccpn) {
         return false;
@@ -212,7 +217,10 @@ pub(crate) fn join_incoming_exit(
         (leaving (joined_exit b.now (whole_exit exit.now)
         (incoming_exit_with (incoming_values incoming.now) k.now)))) }
 {
-    let lower = Rc::new(alloc, join_incoming_values(alloc, b, exit.lower.as_ref(), incoming)?)?;
+    let lower = Rc::new(
+        alloc,
+        join_incoming_values(alloc, b, exit.lower.as_ref(), incoming)?,
+    )?;
     let form = KnownForm::Leaves(SmallExit {
         ie: exit.ie || k.ie,
         ccpn: exit.ccpn.min(k.ccpn),

@@ -253,7 +253,8 @@ fn put_value_over(alloc: Global, values: &mut Values, put: &Put) -> Result<(), A
 #[inline(never)]
 fn without_lower_values(alloc: Global, own: &Values) -> Result<Values, AllocError>
     requires { length (all_values own.now) ≡ 27 }
-    ensures { IfOk result (λ values. all_values values ≡ with_lower_unknown_from 0 (all_values own.now)) }
+    ensures { IfOk result (λ values. all_values values
+        ≡ with_lower_unknown_from 0 (all_values own.now)) }
 {
     let mut values = Values {
         known: Vec::with_capacity(alloc, own.known.len() + 1)?,
@@ -289,12 +290,7 @@ fn changed_state_value<'a>(s: &'a State, c: &'a Change, any: &'a Small, i: usize
 /// Returns the value at an index of the caller's state after a called frame returned with this
 /// exit.
 #[inline(always)]
-fn value_after_return<'a>(
-    s: &'a State,
-    exit: &'a SmallExit,
-    any: &'a Small,
-    i: usize,
-) -> Given<'a>
+fn value_after_return<'a>(s: &'a State, exit: &'a SmallExit, any: &'a Small, i: usize) -> Given<'a>
     requires place { i < 27 }
     requires any { any.now ≡ any_val }
     ensures { value_of_given result
@@ -330,12 +326,7 @@ fn base_value<'a>(s: &'a State, base: Base, any: &'a Small, i: usize) -> Given<'
 /// Returns the value at an index after a return: the exit's for a lower register, else `v`, the
 /// caller's.
 #[inline(always)]
-fn lower_or_caller_value<'a>(
-    i: usize,
-    exit: &'a SmallExit,
-    any: &'a Small,
-    v: &'a Val,
-) -> Given<'a>
+fn lower_or_caller_value<'a>(i: usize, exit: &'a SmallExit, any: &'a Small, v: &'a Val) -> Given<'a>
     requires { any.now ≡ any_val }
     ensures { value_of_given result
         ≡ (if states.is_lower_slot i

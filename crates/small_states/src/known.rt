@@ -6,8 +6,8 @@ ghost use Rattle.depth_cert.specs.Known.{CoversKnown, joined_known, state, leavi
 ghost use Rattle.depth_cert.specs.WellFormed.{IsWellFormedKnown};
 
 use crate::incoming::{
-    Given, Incoming, incoming_context, incoming_form, is_incoming_exit_covered,
-    is_incoming_state_covered, is_exit_flow, join_incoming_exit, join_incoming_state,
+    Given, Incoming, incoming_context, incoming_form, is_exit_flow, is_incoming_exit_covered,
+    is_incoming_state_covered, join_incoming_exit, join_incoming_state,
 };
 use crate::incoming_values::{compact_shared_values, compact_values};
 use crate::small_value::{Small, SmallForm};

@@ -14,8 +14,8 @@ use std::marker::Model;
 use std::rc::Rc;
 use tcd_base::NoMemory;
 use value_domain::{
-    Bounds, Val, Words, join_into, join_word_list, alignment_log2, extent_of, is_extent_in_span, is_set,
-    is_equal_span, leq, set_span, set_words, write_any,
+    Bounds, Val, Words, alignment_log2, extent_of, is_equal_span, is_extent_in_span, is_set,
+    join_into, join_word_list, leq, set_span, set_words, write_any,
 };
 use vd_transfer::singleton_word;
 

@@ -15,7 +15,7 @@ use elf_image::Image;
 use tcd_base::sext;
 use tcd_plan::{Device, Plan};
 use value_domain::{
-    Bounds, Val, join_into, join_word_list, extent_of, set_span, set_words, write_any, write_cover,
+    Bounds, Val, extent_of, join_into, join_word_list, set_span, set_words, write_any, write_cover,
 };
 
 /// How many bytes a load takes, and whether it extends their sign.

@@ -13,7 +13,9 @@ mod task_lists;
 mod views;
 
 pub use faults::task_fault;
-pub use laws::{task_fault_laws, safe_tasks_law, task_view_laws, safe_tasks_in_words, tasks_in_words};
+pub use laws::{
+    safe_tasks_in_words, safe_tasks_law, task_fault_laws, task_view_laws, tasks_in_words,
+};
 pub use routine::routine_fault;
 pub use rule_17::TASKS_RULE;
 pub use task_lists::{Task, Tasks, TasksErr};

@@ -1,7 +1,7 @@
 // The draft of an object: the sections and symbols of the lines so far.
 use crate::encode::{assembled_code_size, first_assembled_bytes};
 use crate::rules::is_reloc;
-use crate::sections::{Part, extend_part, extend_by_zeros, number_of_part, part_len, add_part_use};
+use crate::sections::{Part, add_part_use, extend_by_zeros, extend_part, number_of_part, part_len};
 use crate::symbols::{Place, Symbols};
 use std::alloc::{AllocError, Global};
 use std::marker::Model;

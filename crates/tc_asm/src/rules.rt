@@ -154,7 +154,9 @@ impl<'a> Draft<'a> {
     {
         match r {
             None => NO_RULE,
-            Some(r) => self.symbol_limit_rule(r.name).min(self.reloc_limit_rule(*r)),
+            Some(r) => self
+                .symbol_limit_rule(r.name)
+                .min(self.reloc_limit_rule(*r)),
         }
     }
 

@@ -10,7 +10,8 @@ ghost use Rattle.tc_encode.specs.WordSearch.{IsWordOf, are_unused_bits_zero};
 use crate::forms::{fields_of_word, second_code};
 use crate::index::{form_of_first_byte, index_by_codes, place_in_code_index, plain_rows};
 use tc_isa::{
-    Fields, Form, Inst, ROW_COUNT, Row, are_registers_apart, are_unused_fields_zero, rows, uses_by_row,
+    Fields, Form, Inst, ROW_COUNT, Row, are_registers_apart, are_unused_fields_zero, rows,
+    uses_by_row,
 };
 
 /// Returns the instruction of a word, which has 16 bits if its lowest byte is even.

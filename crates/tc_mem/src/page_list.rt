@@ -10,10 +10,10 @@ ghost use Rattle.tc_mem.specs.PlanMemory.{IsMemoryOfZeros};
 ghost use Rattle.tc_mem.specs.Written.{IsMemoryWritten};
 
 use crate::page::{
-    Page, page_area, page_byte_at, page_area_first_word, mapped_half, mapped_word, page_of, put_area, put_byte,
-    put_bytes, put_mapped_half, put_mapped_word,
+    Page, mapped_half, mapped_word, page_area, page_area_first_word, page_byte_at, page_of,
+    put_area, put_byte, put_bytes, put_mapped_half, put_mapped_word,
 };
-use crate::page_numbers::{find_page_near, find_page, page_numbers};
+use crate::page_numbers::{find_page, find_page_near, page_numbers};
 use std::alloc::Global;
 use std::marker::Model;
 use tcd_base::{NoMemory, Range};

@@ -9,7 +9,7 @@ ghost use Rattle.tc_script.specs.Ports.{ArePortsAskable, ArePortsBounded};
 ghost use Rattle.tc_script.specs.DrivenRuns.{IsEventOfTurn, IsDrivenRun};
 ghost use Rattle.tc_machine.specs.Machine.{IsDead};
 
-use crate::area_counts::{count_areas_in_use, area_effect_of_event, update_areas_in_use};
+use crate::area_counts::{area_effect_of_event, count_areas_in_use, update_areas_in_use};
 use crate::known_words::KnownWords;
 use crate::ports::{Ports, port_input};
 use crate::{Script, Turn};

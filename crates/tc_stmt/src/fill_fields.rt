@@ -11,7 +11,7 @@ ghost use Rattle.tc_stmt.specs.OperandForms.{register_by_name, operand_number_mo
 
 use crate::form_index::{ABS, B, BOL, SBR, form_index};
 use crate::row_fields::{
-    NO_RELOC, RowFields, break_rule, field_of, note_misplaced_symbol, put_field_value, note_symbol,
+    NO_RELOC, RowFields, break_rule, field_of, note_misplaced_symbol, note_symbol, put_field_value,
 };
 use crate::row_wants::wants;
 use crate::shape_numbers::{ABSENT, HIGH, HUGE, LOW, NUMBER, SUM, WORD, shape_index};

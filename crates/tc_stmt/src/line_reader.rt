@@ -19,7 +19,8 @@ use crate::source_rules::{BAD_TOKEN, NO_RULE, WRONG_OPERANDS};
 use crate::{RowFields, shape_index, statement};
 use std::alloc::AllocError;
 use tc_lex::{
-    Operand, Piece, Scratch, TokenKind, cut_pieces, is_token_kind, is_same_text, operands, token_text,
+    Operand, Piece, Scratch, TokenKind, cut_pieces, is_same_text, is_token_kind, operands,
+    token_text,
 };
 
 /// Reads a line: adds its items, and returns the least rule that it breaks by itself. The two lists

@@ -1,8 +1,9 @@
 // The forms of input files, from executables to objects.
 use crate::error_lines::{
     bad_cert_line, bad_elf_line, bad_layout_line, bad_object_line, bad_plan_line, bad_script_line,
-    bad_source_line, copy_printed_line, too_long_cert_line, too_long_elf_line, too_long_layout_line,
-    too_long_object_line, too_long_plan_line, too_long_script_line, too_long_source_line,
+    bad_source_line, copy_printed_line, too_long_cert_line, too_long_elf_line,
+    too_long_layout_line, too_long_object_line, too_long_plan_line, too_long_script_line,
+    too_long_source_line,
 };
 use bumpalo::Bump;
 use depth_cert::CertErr;

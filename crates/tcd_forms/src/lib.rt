@@ -8,8 +8,9 @@ mod result_lines;
 pub use error_lines::{
     append_to_printed_line, bad_cert_line, bad_elf_line, bad_layout_line, bad_link_line,
     bad_object_line, bad_plan_line, bad_script_line, bad_source_line, copy_printed_line,
-    too_long_cells_line, too_long_cert_line, too_long_elf_line, too_long_layout_line, too_long_object_line,
-    too_long_plan_line, too_long_script_line, too_long_source_line, too_long_tasks_line,
+    too_long_cells_line, too_long_cert_line, too_long_elf_line, too_long_layout_line,
+    too_long_object_line, too_long_plan_line, too_long_script_line, too_long_source_line,
+    too_long_tasks_line,
 };
 pub use file_forms::{
     CertFile, ElfFile, LIMIT, LayoutFile, ObjectFile, PlacedSourceFile, PlanFile, ScriptFile,

@@ -9,7 +9,7 @@ use crate::json_values::{
 };
 use crate::key_refusals::{first_bad_key, first_missing_key, first_unknown_key};
 use crate::key_table::Holder;
-use crate::limits::{has_valid_areas, has_even_vectors, plan_range_overlap, first_oversized_array};
+use crate::limits::{first_oversized_array, has_even_vectors, has_valid_areas, plan_range_overlap};
 use crate::object_forms::plan_objects_of;
 use crate::plan_parts::{core_of, devices_of, irqs_of, plan_globals_of, ranges_of};
 use crate::{Plan, PlanErr};

@@ -6,7 +6,7 @@ ghost use Rattle.tcd_report.specs.Reports.{IsReport};
 use crate::judged::Judged;
 use crate::reports::heights::heights;
 use crate::reports::longest_by_priority::{longest_by_priority, longest_calls_below};
-use crate::reports::report_text::{need_of_start, nodes_value, longest_calls_value, report_value};
+use crate::reports::report_text::{longest_calls_value, need_of_start, nodes_value, report_value};
 use elf_image::Image;
 use packed_cert::Cert;
 use std::alloc::Global;

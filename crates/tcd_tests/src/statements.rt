@@ -1,7 +1,9 @@
 //! The tokens of worked lines, and the rows that worked statements are.
 use crate::asserts::{is_so, same};
 use tc_isa::rows;
-use tc_lex::{Piece, Scratch, Shape, Token, TokenKind, Value, is_token_kind, operands, token_text, tokens};
+use tc_lex::{
+    Piece, Scratch, Shape, Token, TokenKind, Value, is_token_kind, operands, token_text, tokens,
+};
 use tc_stmt::{is_source_name, shape_index, statement, symbol_rule, wants};
 
 static TOKENS: [Token; 13] = [

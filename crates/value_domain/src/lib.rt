@@ -10,8 +10,8 @@ mod states;
 mod values;
 
 pub use lattice::{
-    Extent, join_into, join_word, join_word_list, cover, cover_words, extent_of, extent_with_words,
-    is_extent_in_span, is_value, join, leq, write_cover, write_cover_words, write_span,
+    Extent, cover, cover_words, extent_of, extent_with_words, is_extent_in_span, is_value, join,
+    join_into, join_word, join_word_list, leq, write_cover, write_cover_words, write_span,
 };
 pub use laws::{state_laws, value_laws};
 pub use limits::Bounds;
@@ -21,6 +21,6 @@ pub use states::{
     join_states,
 };
 pub use values::{
-    Val, Words, alignment_log2, copy_to, span_len, is_set, is_equal_span, member, set_span, set_word,
-    set_words, write_any,
+    Val, Words, alignment_log2, copy_to, is_equal_span, is_set, member, set_span, set_word,
+    set_words, span_len, write_any,
 };

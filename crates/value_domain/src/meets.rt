@@ -4,7 +4,7 @@ ghost use Rattle.value_domain.specs.Values.{IsValue, IsWellFormed, members, rang
 ghost use Rattle.value_domain.specs.Meets.{cover_if_any, value_if_found};
 
 use crate::lattice::{join_word, write_cover};
-use crate::values::{span_len, is_member, is_word_in_span, set_word};
+use crate::values::{is_member, is_word_in_span, set_word, span_len};
 use crate::{Bounds, Val};
 
 /// Overwrites `out` with the meet of an abstract value and a Span: the cover of their common

@@ -15,7 +15,7 @@ ghost use Rattle.vd_transfer.specs.Changes.{state_after};
 
 use crate::change::{Change, set_last_put_destination};
 use crate::changed_states::changed_reg;
-use crate::operands::{build_arg, arg_word, constant_operand, is_register_operand, write_constant};
+use crate::operands::{arg_word, build_arg, constant_operand, is_register_operand, write_constant};
 use crate::operations::write_operation;
 use crate::refinement::{Relation, refine_both_operands, refine_left_operand};
 use crate::registers::{reg_in_state, reg_value, slot_of};

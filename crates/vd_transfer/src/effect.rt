@@ -10,7 +10,7 @@ ghost use Rattle.vd_transfer.specs.EffectsOnStates.{state_with_increased_base, s
 ghost use Rattle.vd_transfer.specs.Changes.{state_after};
 
 use crate::access::Addressing;
-use crate::change::{Base, Change, set_put_destination, set_last_put_destination};
+use crate::change::{Base, Change, set_last_put_destination, set_put_destination};
 use crate::operands::Operation;
 use crate::operations::{operate, write_operation};
 use crate::registers::reg_value;

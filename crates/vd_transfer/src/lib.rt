@@ -23,4 +23,4 @@ pub use changed_states::changed_value;
 pub use effect::change_of;
 pub use laws::{effect_laws, operation_laws, refinement_laws};
 pub use operands::arg_word;
-pub use registers::{A10, is_lower_slot, singleton_word, reg};
+pub use registers::{A10, is_lower_slot, reg, singleton_word};

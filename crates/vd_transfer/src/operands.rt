@@ -7,7 +7,7 @@ ghost use Rattle.vd_transfer.specs.Registers.{arg_of, arg_slot, is_operand_regis
 ghost use Rattle.tc_isa.specs.declared.shapes.Arg.TheVariants.{Word};
 
 use crate::operations::write_operation;
-use crate::registers::{singleton_word, reg_in_state, reg_value, slot_of};
+use crate::registers::{reg_in_state, reg_value, singleton_word, slot_of};
 use tc_isa::{Arg, Op};
 use tcd_plan::Plan;
 use value_domain::{Bounds, State, Val, copy_to, set_word};

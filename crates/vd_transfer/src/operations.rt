@@ -7,12 +7,12 @@ ghost use Rattle.vd_transfer.specs.Registers.{arg_of};
 ghost use Rattle.value_domain.specs.State.{AreValues};
 ghost use Rattle.tc_isa.specs.InBounds.{IsArg};
 
-use crate::operands::{Operation, build_arg, arg_in_state, arg_word, write_constant};
+use crate::operands::{Operation, arg_in_state, arg_word, build_arg, write_constant};
 use crate::strided_interval::result_interval;
 use tc_isa::{Op, alu};
 use tcd_plan::Plan;
 use value_domain::{
-    Bounds, State, Val, join_word, copy_to, extent_of, extent_with_words, is_set, write_cover,
+    Bounds, State, Val, copy_to, extent_of, extent_with_words, is_set, join_word, write_cover,
     write_cover_words, write_span,
 };
 

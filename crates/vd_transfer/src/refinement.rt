@@ -16,7 +16,7 @@ use crate::branch_sides::{Comparison, narrow_side_register, relation_on_side};
 use crate::change::Change;
 use crate::operands::operand_slot;
 use crate::signed_refinement::{is_signed_condition, refine_by_signed_relation};
-use value_domain::{Bounds, State, Val, join_into, extent_of, write_meet, write_meet_with_words};
+use value_domain::{Bounds, State, Val, extent_of, join_into, write_meet, write_meet_with_words};
 
 /// A relation between two words.
 #[derive(Clone, Copy, PartialEq, Eq)]

@@ -90,7 +90,8 @@ fn ship_objects(
 // Makes the best certificate of the image that `ship` linked. Reports both files to write, or why
 // none is accepted.
 fn ship_image(alloc: Global, names: &Shipment<'_>, plan: &Plan, image: &Image) -> Outcome
-    ensures { IsReportOutcome (IsImageShipReport names.now.elf.now names.now.cert.now plan.now image.now) ⊥
+    ensures { IsReportOutcome
+        (IsImageShipReport names.now.elf.now names.now.cert.now plan.now image.now) ⊥
         result }
 {
     let bytes = match image.write(alloc) {

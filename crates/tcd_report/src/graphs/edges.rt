@@ -7,7 +7,7 @@ ghost use Rattle.tcd_report.specs.Graphs.KnownHandlers.{KnowsHandlers};
 ghost use Rattle.tcd_report.specs.Judging.{duties_at};
 ghost use Rattle.depth_cert.specs.Points.{point_of};
 
-use crate::graphs::addresses::{set_unique_addresses, set_sorted_addresses};
+use crate::graphs::addresses::{set_sorted_addresses, set_unique_addresses};
 use crate::graphs::entries::{set_kind_entries, set_misaligned_entry};
 use crate::graphs::handlers::{Handlers, find_handlers};
 use crate::graphs::successors::{push_successors, set_return_addresses};

@@ -37,7 +37,8 @@ pub(crate) fn set_misaligned_entry(
     requires values { AreValues judged.now.bounds.now s.now.regs }
     requires shape { IsShape shape }
     ensures { let j = judged.now in OnOk result (all.new.items
-        ≡ entries_by_rule misaligned_rule (misaligned_duties_of j.bounds.now j.plan.now key.now s.now shape)) }
+        ≡ entries_by_rule misaligned_rule
+        (misaligned_duties_of j.bounds.now j.plan.now key.now s.now shape)) }
 {
     all.clear();
     if may_be_misaligned(judged.bounds, judged.plan, s, shape) {

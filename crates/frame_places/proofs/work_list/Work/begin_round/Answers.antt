@@ -20,7 +20,7 @@ returns-in_err-reserve-clause-err c =
     let old : WorkLists = record { first = o.first.items; next = o.next.items; round = o.round.items; waiting = before } in
     let new : WorkLists = record { first = w.first.items; next = w.next.items; round = c.reserve.new.self.items; waiting = rest } in
     let same = moved_same old new (ap (λ v. v.items) i.0) (ap (λ v. v.items) i.1)
-        (subst (λ l. IsPermutation (o.round.items ++ before) (l ++ rest)) (sym c.in_err-reserve.ensures.items) i.2) in
+    (subst (λ l. IsPermutation (o.round.items ++ before) (l ++ rest)) (sym c.in_err-reserve.ensures.items) i.2) in
     let p = err_from_is_err_and c.from_residual.result c.from_residual.ensures.1 in
     rw p.1 (subst (λ (l : WorkLists). HasSameWork l new) c.self.view_is same)
 
