@@ -616,13 +616,13 @@ class Part:
 
 
 def is_of_values(item):
-    """Whether this says which values there are: a type of src/, or of specs/ without a parameter."""
+    """Says which values there are: a type of src/, or one of specs/ without a parameter."""
     return item.kind == "type" or re.search(rf" {item.name} : Type 0( where)?$", item.text[0])
 
 
 def in_reading_order(items, edges, about):
-    """A definition comes once all that use it have come, if there is such an order; a type of values
-    once one has. A law comes after the definition that it is about."""
+    """A definition comes once all that use it have come, if there is such an order; a type of
+    values once one has. A law comes after the definition that it is about."""
     among = {it.key for it in items}
     waits = collections.Counter(
         key

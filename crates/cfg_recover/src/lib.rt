@@ -32,5 +32,5 @@ pub use keys::{aln_key, entered_key, irq_key, sys_key};
 pub use laws::{fault_laws, frame_laws, move_laws, refusal_laws};
 pub use local_rules::{Located, check_local_rules, check_located, rule_unless};
 pub use operation_cache::OperationCache;
-pub use rom_code::code_at;
+pub use rom_code::{code_at, is_code_in_rom};
 pub use start::{start_key, start_state};

@@ -87,9 +87,9 @@ fn two_bytes_in_rom(image: &Image, plan: &Plan, addr: u32) -> Option<[u8; 2]>
     }
 }
 
-/// Returns true if `count` bytes from the address on are in one rom range.
+/// Returns whether `count` bytes from the address on are inside one rom range.
 #[inline(always)]
-fn is_code_in_rom(plan: &Plan, addr: u32, count: u32) -> bool
+pub fn is_code_in_rom(plan: &Plan, addr: u32, count: u32) -> bool
     ensures decides { IsTrue result ↔ IsInOneRange addr count plan.now.rom }
     ensures fits { IsTrue result → addr + count ≤ 2 ^ 32 }
 {

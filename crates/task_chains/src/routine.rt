@@ -7,9 +7,9 @@ ghost use Rattle.tcd_base.specs.Ranges.{IsInOneRange};
 
 use crate::Tasks;
 use arrayvec::ArrayVec;
+use cfg_recover::is_code_in_rom;
 use elf_image::Image;
 use tc_isa::{lower_half, upper_half};
-use tcd_base::is_in_any_range;
 use tcd_plan::Plan;
 
 /// The number of bytes of the routine: 18 instructions of four bytes.
@@ -118,19 +118,10 @@ fn has_routine_byte(image: &Image, plan: &Plan, tasks: &Tasks, i: u32, byte: u8)
     requires byte { slice_index (routine_bytes tasks.now) i ≡ byte }
     ensures { IsTrue result ↔ HasRoutineByte image.now plan.now tasks.now i }
 {
-    if !is_routine_in_rom(plan, tasks.switch, i + 1) {
+    if !is_code_in_rom(plan, tasks.switch, i + 1) {
         return false;
     }
     image.has_byte(tasks.switch + i, byte)
-}
-
-/// Returns whether the first `n` bytes of the switch routine, which begins at `x`, are inside one
-/// rom range.
-fn is_routine_in_rom(plan: &Plan, x: u32, n: u32) -> bool
-    ensures decides { IsTrue result ↔ IsInOneRange x n plan.now.rom }
-    ensures fits { IsTrue result → x + n ≤ 2 ^ 32 }
-{
-    is_in_any_range(plan.rom.as_slice(), x, n)
 }
 
 /// Returns the words of the switch routine's other form, as a task's view has it, for `n` tasks

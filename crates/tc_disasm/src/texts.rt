@@ -3,7 +3,6 @@ ghost use Rattle.std.specs.Prelude.{◌≡◌, ◌<◌, ◌+◌, ◌++◌, ◌�
 ghost use Rattle.tcd_text.specs.HexNumbers.{hex_word};
 ghost use Rattle.std.specs.Fmt.{decimal};
 
-use tc_isa::Form;
 use tcd_base::NoMemory;
 use tcd_text::{append_ascii, hex_word};
 

@@ -50,7 +50,7 @@ pub record HoldsFile (m : FileMap) (name : List ℕ) (most : ℕ) (HasForm : Lis
 abbrev pub HoldsImage : FileMap → List ℕ → ImageData → Type 0
 HoldsImage m name image = HoldsFile m name (2 ^ 24) (λ bytes. image_of_file bytes ≡ Ok image)
 
--- the name holds this plan
+-- the name holds this plan, of at most 16,777,216 bytes
 abbrev pub HoldsPlan : FileMap → List ℕ → PlanData → Type 0
 HoldsPlan m name plan = HoldsFile m name (2 ^ 24) (λ bytes. GivesPlan bytes (Ok plan))
 
