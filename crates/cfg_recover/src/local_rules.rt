@@ -402,8 +402,8 @@ fn rule_address_by_base(
     Some(alu(Op::Add, x, offset))
 }
 
-/// Tests K5 for the value of a register that names targets: true for a Set, whose words are a known
-/// list of targets.
+/// Tests what K5 asks of a register that names targets: its value is a Set. Its words with bit 0
+/// cleared are the targets.
 fn is_known_target_list(v: &Val) -> bool
     ensures { IsTrue result ↔ IsSome (targets_named_by v.now) }
 {

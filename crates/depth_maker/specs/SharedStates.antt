@@ -33,8 +33,8 @@ pub record PassesStateTo (image : ImageData) (plan : PlanData) (p next : ℕ) : 
   pub duties : (b : Limits) (k : Key) (u : State) → duties_of b image plan k p u shape size ≡ owed 4 (jump next u) ∷ interrupt_duties_of plan k u
   pub enters : EntersNoFrame plan shape
 
--- at this point, the entries of all interrupts that may be taken are covered, so a new successor
--- may share its state
+-- in each state of this point, the entries of all interrupts that may be taken are covered, and
+-- CCPN is below 256, so a new successor may share the state
 abbrev pub MayShareState : Site → made.Table → Type 0
 MayShareState v t =
     (u : State) → value_for t.places (Point v.key v.addr) ≡ Some (state u)

@@ -129,7 +129,7 @@ impl Cert {
 }
 
 /// Returns the places of the state at a key's entry and of the exit of the key's node. `None` if
-/// there is no such node or no point at the entry.
+/// there is no such node or no point at the entry. The bytes and the version are for the contract.
 fn entry_places(
     bytes: &[u8],
     version: u8,

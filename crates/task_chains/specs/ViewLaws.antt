@@ -18,7 +18,7 @@ ViewStoresMissBlock =
     (plan : PlanData) (tasks : TasksData) (u x n : ℕ) → IsPlan plan → AreTasks tasks → FitPlan plan tasks → 0 < n → IsStoreInRange (view_plan_of plan tasks u) (x, n)
     → IsStoreInRange plan (x, n) × MissesBlock tasks (x, n)
 
--- the image of a view is the image outside of the routine
+-- outside of the routine, the image of a view has the image's bytes
 abbrev pub ViewsKeepBytes : Type 0
 ViewsKeepBytes =
     (image : ImageData) (tasks : TasksData) (u x : ℕ) → (x < tasks.switch) ⊎ (tasks.switch + routine_size ≤ x) → image_byte (view_image_of image tasks u) x ≡ image_byte image x

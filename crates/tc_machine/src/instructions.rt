@@ -111,7 +111,7 @@ impl Machine {
         }
     }
 
-    /// Executes an instruction on core registers or the interrupt system.
+    /// Executes an instruction of `n` bytes on core registers or the interrupt system.
     #[tactic(auto, unfolding(crate::specs::Instructions::does))]
     fn execute_system(&mut self, event: &Event, shape: Shape, n: u32)
         requires { IsShape shape }

@@ -15,8 +15,8 @@ pub fn machine_laws()
     ensures runs { RunKeepsMachine }
 {}
 
-/// The laws that pin the definitions: which events fit, which machines start, and what is safe,
-/// each in plain equations.
+/// The laws that pin the definitions of events and runs that fit, of machines that start, of
+/// safety, and of what a store stores.
 pub fn guard_laws()
     ensures events { EveryEventFits }
     ensures runs { EveryRunFits }

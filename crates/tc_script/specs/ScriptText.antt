@@ -12,7 +12,7 @@ use Rattle.tc_script.specs.ScriptData.{ScriptData}
 use Rattle.tc_script.specs.Statements.{script_statement_of}
 use Rattle.tc_script.specs.Ports.{initial_answer_bounds}
 
--- before the first line: no turns, and misaligned accesses don't trap
+-- before the first line: no turns, each peripheral's first bounds, and no misaligned access traps
 abbrev pub empty_script_draft : PlanData → Draft
 empty_script_draft plan = record { script = record { turns = []; bounds = map initial_answer_bounds plan.devices }; aln = false }
 

@@ -70,7 +70,7 @@ abbrev pub arg_slot : Arg → Option ℕ
 arg_slot (Reg r) = slot r
 arg_slot (Word w) = None
 
--- a base register that the access increases has a value in a state
+-- if the access increases its base register, as `after` says, states have a value for it
 abbrev pub IncreasesNoFixedRegister : Arg → Bool → Type 0
 IncreasesNoFixedRegister (Reg r) after = IsTrue after → RegisterHasValue r
 IncreasesNoFixedRegister (Word w) after = Unit {0}

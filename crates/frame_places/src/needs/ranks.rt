@@ -39,7 +39,7 @@ pub fn node_ranks(
     Ok(ranks)
 }
 
-/// Returns the number that a list has at a node's index, as a rank, or 0 past the end.
+/// Returns the number that a list has at a node's index, or 0 past the end.
 pub fn number_or_zero(numbers: &[usize], node: usize) -> usize
     ensures { result ≡ slice_index numbers.now node }
 {
