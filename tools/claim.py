@@ -54,11 +54,11 @@ LATER = (
     "image_of_file", "GivesPlan",
     "Accepts", "IsAcceptedWithNeed", "IsAcceptedForTask", "IsLeastOfItsFormat", "NoneAccepted",
     "KeepsCells", "KeepsRule17", "CertData", "certificate_of", "bytes_of_object", "bytes_of_cert",
-    "bytes_of_routine", "assembled_code", "CannotFail", "IsDecidedStatus", "refusal_of",
-    "plan_refusal", "image_refusal", "reloc_value_refusal", "ImageErr", "PlanErr",
+    "bytes_of_routine", "assembled_code", "CannotFail", "MayPrintText", "IsDecidedStatus",
+    "refusal_of", "plan_refusal", "image_refusal", "reloc_value_refusal", "ImageErr", "PlanErr",
 )
 #: What a page names and doesn't follow: the ends that aren't Done.
-OTHER_ENDS = re.compile(r"RefusalBy\w+|BadInputOf|MayPrintText|AreInputsPresent|InputRequirement")
+OTHER_ENDS = re.compile(r"RefusalBy\w+|BadInputOf|AreInputsPresent|InputRequirement")
 
 
 @dataclasses.dataclass(frozen=True)
