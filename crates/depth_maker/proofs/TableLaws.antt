@@ -111,8 +111,8 @@ module _ (b : Limits) (image : ImageData) (plan : PlanData) (laws : AreMakerLaws
           | inl n ↦ (let r : true ≡ false = sym n.0 ∙ free in cc)
           | inr n ↦ n.3 reads
         ] in
-        let told : (same_place (exit l) y ≡ true) → ⊥ = λ eq. none (subst (λ (z : Place). t.reads z (point k p)) (place_tells (exit l) y eq) h.1) in
-        let apart : same_place (exit l) y ≡ false = elim (same_or_not (same_place (exit l) y)) [ inl n ↦ absurd (told n) | inr n ↦ n ] in
+        let told : (is_same_place (exit l) y ≡ true) → ⊥ = λ eq. none (subst (λ (z : Place). t.reads z (point k p)) (place_tells (exit l) y eq) h.1) in
+        let apart : is_same_place (exit l) y ≡ false = elim (same_or_not (is_same_place (exit l) y)) [ inl n ↦ absurd (told n) | inr n ↦ n ] in
         ((λ x at. let old : t.cells (exit l) ≡ Some x = sym (joined_other t.cells u.cells y well_formed j (exit l) apart) ∙ at in back x old (h.0 x old)), m.reads (exit l) (point k p) h.1 none)
       where
         back : (x : Known) → t.cells (exit l) ≡ Some x → IsReturnCovered t k s l q x → IsReturnCovered u k s l q x
