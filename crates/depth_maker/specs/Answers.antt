@@ -44,7 +44,7 @@ abbrev pub AreLeastCertBytesOn : Ground → ℕ → List ℕ → Type 0
 AreLeastCertBytesOn g version bytes = AreLeastCertBytes g.image.now g.plan.now version bytes
 
 -- the maker's error is right for the image and the plan at hand, and no certificate of the format
--- is accepted
+-- is accepted; of NoMemory nothing is said
 abbrev pub IsRightMakeErrOn : Ground → ℕ → MakeErr → Type 0
 IsRightMakeErrOn g version e = IsRightMakeErr g.image.now g.plan.now version e
 

@@ -42,8 +42,8 @@ pub record IsJoinedAlone (b : Limits) (s t : made.Table) (y : Spot) (v : Known) 
   pub frames : t.frames.items ≡ counted_frames_after (is_some (value_for s.places y)) s.frames.items y
   pub few : AreFewEnough (map place_of_spot t.points.items) t.frames.items
 
--- a join into the maker's table keeps all places without new work as they are, keeps readers and
--- numbers, and never lowers the level
+-- a join into the maker's table keeps all places without new work as they are, and as readers; it
+-- keeps numbers, and never lowers the level
 pub record JoinKeeps (b : Limits) (image : ImageData) (plan : PlanData) (s t : made.Table) : Type 0 where
   pub each :
       (x : Spot) → is_queued (mark_for t.places x) ≡ false

@@ -44,7 +44,7 @@ AreTableEdges s edges = (rows : List NeedRow) × RowsOn s.ground.now s.table.now
 abbrev pub recursion_orders_in : Source → List ℕ
 recursion_orders_in s = map number_of_key (s.table.now).frames.items
 
--- in the maker's table, the point p of the frame k enters a marked frame, from which k is reached
+-- in the maker's table, the point p of the frame k enters a frame that is marked
 pub record EntersMarkedFrame (s : Source) (marks : List Bool) (k : Key) (p : ℕ) : Type 0 where
   pub before : State
   pub next : Key

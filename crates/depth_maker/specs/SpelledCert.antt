@@ -146,7 +146,8 @@ IsTableFrame s k = Contains (s.table.now).frames.items k
 abbrev pub AreClosedCertBytes : ImageData → PlanData → ℕ → List ℕ → Type 0
 AreClosedCertBytes image plan version bytes = (cert : CertData) × (bytes ≡ bytes_of_cert cert) × IsLeastClosedCert image plan version cert
 
--- the bytes spell the certificate of this table, which the maker proves to be the least closed one
+-- the bytes spell a certificate that the maker proves to be the least closed one for the image and
+-- plan of this source
 abbrev pub AreClosedCertBytesOf : Source → ℕ → List ℕ → Type 0
 AreClosedCertBytesOf s version bytes = AreClosedCertBytes (s.ground.now).image.now (s.ground.now).plan.now version bytes
 

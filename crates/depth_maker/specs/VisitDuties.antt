@@ -47,7 +47,7 @@ pub record VisitedPointOwes (b : Limits) (image : ImageData) (plan : PlanData) (
 abbrev pub OwesDuty : Visit → Duty → Type 0
 OwesDuty v d = VisitedPointOwes (v.ground.now).bounds.now (v.ground.now).image.now (v.ground.now).plan.now v.key v.addr v.state.now d
 
--- the visited point has no fault of its own, and owes each of these duties
+-- the visited point owes each of these duties, and has no fault of its own if there is one
 abbrev pub OwesDuties : Visit → List Owed → Type 0
 OwesDuties v ds = (d : Owed) → Contains ds d → VisitedPointOwes (v.ground.now).bounds.now (v.ground.now).image.now (v.ground.now).plan.now v.key v.addr v.state.now d.duty
 

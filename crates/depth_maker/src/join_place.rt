@@ -117,8 +117,8 @@ fn join_without_readers(
     }
 }
 
-/// Puts the points that read the raised exit `y` back on the work list; with `waits`, for the next
-/// round. A point has no readers.
+/// Puts the points that read the raised exit `y` back on the work list, with `waits` for the next
+/// round, and forgets that they read it. A point has no readers.
 fn requeue_readers_after_join(
     places: &mut IndexMap<Spot, Marked<SmallKnown>>,
     work: &mut Work,

@@ -40,8 +40,7 @@ pub(crate) fn first_recursion(
     }
 }
 
-/// Returns the least address at which a point of frame `key` enters a marked frame, from which
-/// `key` is reached, or `None`.
+/// Returns the least address at which a point of frame `key` enters a marked frame, or `None`.
 fn first_recursive_address(
     alloc: Global,
     source: &Source,

@@ -98,7 +98,8 @@ pub record IsMarking (edges : List FrameEdge) (nodes j : ℕ) (marks : List Bool
   pub listed : (k : ℕ) → Contains work k → IsNodeMarked marks k
   pub done : (k t : ℕ) → Contains edges (edge_to k t) → IsNodeMarked marks t → Contains work t ⊎ IsNodeMarked marks k
 
--- all nodes are marked from which a queued node is reached along edges, and the queue is empty
+-- marks and a queue of a search are carried on until the queue is empty: then all nodes are marked
+-- from which a queued node is reached along edges
 abbrev pub MarksAllReaching : {S : Type 0} → IndexMap ℕ (Vec ℕ Global) S → List Bool → List Bool → List ℕ → Type 0
 MarksAllReaching sources old new work =
     (edges : List FrameEdge) (j : ℕ) → ArePredecessors edges sources → IsMarking edges (length old) j old work

@@ -10,8 +10,7 @@ pub record WorkLists : Type 0 where
   pub round : List ℕ
   pub waiting : List ℕ
 
--- all numbers of places on the work list, in its order; some may have no work any more, or be
--- listed twice
+-- all numbers of places on the work list; some may have no work any more, or be listed twice
 abbrev pub all_work : WorkLists → List ℕ
 all_work work = work.first ++ (work.next ++ (work.round ++ work.waiting))
 
@@ -46,7 +45,7 @@ abbrev pub PutsWaitingOrNext : Bool → WorkLists → WorkLists → ℕ → Type
 PutsWaitingOrNext true old new number = PutsWaiting old new number
 PutsWaitingOrNext false old new number = PutsNext old new number
 
--- some of the work list's waiting places, one at least if any waits, become its round
+-- some of the work list's waiting places, one at least if any waits, come into its round
 pub record BeginsRound (old new : WorkLists) : Type 0 where
   pub first : new.first ≡ old.first
   pub next : new.next ≡ old.next

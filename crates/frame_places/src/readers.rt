@@ -50,7 +50,8 @@ pub fn register_reader(
     Ok(())
 }
 
-/// Puts all points that read the exit `y` back on the work list; with `waits`, for the next round.
+/// Puts all points that read the exit `y` back on the work list, with `waits` for the next round,
+/// and forgets that they read it.
 pub fn requeue_readers_of<V>(
     places: &mut IndexMap<Spot, Marked<V>>,
     work: &mut Work,
