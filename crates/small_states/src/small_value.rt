@@ -533,8 +533,8 @@ impl Small {
     }
 
     /// Returns the least compact value with the members of this one and of `v`, a set of `words`.
-    /// If this one is a set of fewer words than it lacks, they are added to `words`. Else those that
-    /// it lacks are added to it, up to 16; if there are more, both sets are merged.
+    /// If this one is a set of fewer words than it lacks, they are added to `words`. Else up to 16
+    /// words that it lacks are added to it; if there are more, both sets are merged.
     #[inline(never)]
     fn join_words(
         &self,
