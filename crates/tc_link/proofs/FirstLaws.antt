@@ -34,7 +34,8 @@ found_from {A} {B} f n (x ∷ xs) (suc i) d r h e g =
 
 pub first_more : {A B : Type 0} (f : ℕ → A → Option B) (xs : List A) (i : ℕ) (d : A) → i < length xs → first_refusal_from f 0 (take i xs) ≡ None → f i (get_or xs i d) ≡ None → first_refusal_from f 0 (take (i + 1) xs) ≡ None
 first_more f xs i d h e g =
-    ap (λ k. first_refusal_from f 0 (take k xs)) (sym (omega arith)) ∙ more_from f 0 xs i d h e (ap (λ k. f k (get_or xs i d)) (omega arith) ∙ g)
+    let next : suc i ≡ i + 1 = omega arith in
+    ap (λ k. first_refusal_from f 0 (take k xs)) (sym next) ∙ more_from f 0 xs i d h e (ap (λ k. f k (get_or xs i d)) (omega arith) ∙ g)
 
 pub first_found : {A B : Type 0} (f : ℕ → A → Option B) (xs : List A) (i : ℕ) (d : A) (r : B) → i < length xs → first_refusal_from f 0 (take i xs) ≡ None → f i (get_or xs i d) ≡ Some r → first_refusal_from f 0 xs ≡ Some r
 first_found f xs i d r h e g = found_from f 0 xs i d r h e (ap (λ k. f k (get_or xs i d)) (omega arith) ∙ g)
