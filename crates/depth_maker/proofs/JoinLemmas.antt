@@ -38,6 +38,7 @@ use Rattle.frame_places.specs.Marks.{AllListed, is_idle, is_queued, mark_for, va
 use Rattle.depth_maker.specs.AssignmentCounts.{AreFewEnough, IsCountedIn}
 use Rattle.depth_maker.specs.Answers.{RefusalNamesFault}
 use Rattle.frame_places.proofs.MarkLemmas.{sides}
+use Rattle.frame_places.proofs.ReaderLemmas.{still_reads, read_already}
 use Rattle.frame_places.specs.Work.{all_work}
 
 pub idle_not_queued : (o : Option Mark) → is_idle o ≡ true → is_queued o ≡ false
@@ -64,10 +65,10 @@ module _ (b : Limits) (image : ImageData) (plan : PlanData) (laws : AreMakerLaws
 
   readers_stay : (z x : Spot) → IsAmongReaders (get spot_eq s.readers z) x → (IsAmongReaders (get spot_eq s.readers y) x → ⊥) → IsAmongReaders (get spot_eq t.readers z) x
   readers_stay z x h none =
-      readers.kept z x (subst (λ r. IsAmongReaders (get spot_eq r z) x) (sym rose.readers) h) (λ i. none (subst (λ r. IsAmongReaders (get spot_eq r y) x) rose.readers i))
+      still_reads m.readers t.readers y readers z x (subst (λ r. IsAmongReaders (get spot_eq r z) x) (sym rose.readers) h) (λ i. none (subst (λ r. IsAmongReaders (get spot_eq r y) x) rose.readers i))
 
   read_before : (z x : Spot) → IsAmongReaders (get spot_eq t.readers z) x → IsAmongReaders (get spot_eq s.readers z) x
-  read_before z x h = subst (λ r. IsAmongReaders (get spot_eq r z) x) rose.readers (readers.alone z x h)
+  read_before z x h = subst (λ r. IsAmongReaders (get spot_eq r z) x) rose.readers (read_already m.readers t.readers y readers z x h)
 
   marks_by : (q : Spot) → ((mark_for t.places q ≡ Some Queued) × ((spot_eq y q ≡ true) ⊎ IsAmongReaders (get spot_eq s.readers y) q))
       ⊎ ((mark_for t.places q ≡ mark_for s.places q) × (spot_eq y q ≡ false) × (IsAmongReaders (get spot_eq s.readers y) q → ⊥))

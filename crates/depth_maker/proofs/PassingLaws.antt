@@ -41,7 +41,7 @@ use Rattle.depth_maker.specs.declared.inputs_and_limits.Ground.{Ground}
 use Rattle.depth_maker.specs.declared.table.Table as made
 use Rattle.depth_maker.proofs.DutyParts.{interrupts_off}
 use Rattle.frame_places.proofs.ReaderLemmas.{none_forgotten}
-use Rattle.depth_maker.proofs.JoinLemmas.{the_joined}
+use Rattle.depth_maker.proofs.JoinLemmas.{exits_after, the_joined}
 use Rattle.depth_maker.proofs.NotedInterrupts.{duties_already}
 use Rattle.depth_maker.proofs.PartLemmas.{Keeps-trans, duties_all, duties_jump, duties_none, duties_then, has_duty_at, jump_asks, owed_well_formed}
 
@@ -139,7 +139,7 @@ module _ (b : Limits) (image : ImageData) (plan : PlanData) (k : Key) (p : ℕ) 
         → IsJoinedAlone b s t (Point k next) (state u) → VisitJoinsDuties b image plan s t (Point k p)
     passed_on laws t fine well_formed irqs small rose =
         let joined : IsJoinedAt b image plan s t (Point k next) (state u) =
-        the_joined b image plan laws s t t (Point k next) (state u) passing_asks rose (Requeues-none t.places (IsAmongReaders (get spot_eq s.readers (Point k next))) (λ q h. fine.exits k next q h)) rose.listed refl (none_forgotten t.readers (Point k next)) refl refl refl fine small in
+        the_joined b image plan laws s t t (Point k next) (state u) passing_asks rose (Requeues-none t.places (IsAmongReaders (get spot_eq s.readers (Point k next))) (λ q h. fine.exits k next q h)) rose.listed refl (none_forgotten t.readers (Point k next) (exits_after b image plan s t (Point k next) (state u) fine rose k next)) refl refl refl fine small in
         let both = duties_then b image plan k p u s s t (interrupt_duties_of plan k u) (owed 4 (jump next u) ∷ []) well_formed
         (λ d c. owed_well_formed b image plan k p u laws d.duty well_formed (owes d (Contains-append_right (owed 4 (jump next u) ∷ []) (interrupt_duties_of plan k u) d c))) irqs (duties_jump b image plan k p u s t 4 next u joined) in
         duties_all b image plan k p u s t passes.shape passes.size at faultless passes.code

@@ -1,6 +1,7 @@
 -- Readers: one more, or none.
 use Rattle.std.proofs.Common.{◌≡◌, ◌⊎◌, inl, inr, List, [], ◌∷◌, ◌++◌, Option, Some, refl, sym, ap, subst, ◌∙◌, Contains}
 use Rattle.std.specs.Prelude.{if◌then◌else◌, ◌↔◌}
+use Rattle.std.proofs.lemmas.Bool.{cases_Bool}
 use Rattle.std.proofs.lemmas.List.Elements.{Contains-append_left, Contains-push, Contains-push_cases}
 use Rattle.std.specs.List.Sorted.{IsPermutation}
 use Rattle.std.proofs.lemmas.List.Sorted.{Contains-permutation, IsPermutation-sym}
@@ -46,8 +47,25 @@ registered_by old new z x list more at adds is =
     ])
 
 -- no place read y
-pub none_forgotten : {S : Type 0} (readers : IndexMap Spot (Vec Spot Global) S) (y : Spot) → ForgetsReaders readers readers y
-none_forgotten readers y = record { kept = λ p q h free. h; alone = λ p q h. h }
+pub none_forgotten : {S : Type 0} (readers : IndexMap Spot (Vec Spot Global) S) (y : Spot) → ((q : Spot) → IsAmongReaders (get spot_eq readers y) q → ⊥) → ForgetsReaders readers readers y
+none_forgotten readers y none = record { gone = none; others = λ p e. refl }
+
+module _ {S : Type 0} (old new : IndexMap Spot (Vec Spot Global) S) (y : Spot) (forgets : ForgetsReaders old new y) where
+  -- a place that doesn't read y reads all that it read
+  pub still_reads : (p q : Spot) → IsAmongReaders (get spot_eq old p) q → (IsAmongReaders (get spot_eq old y) q → ⊥) → IsAmongReaders (get spot_eq new p) q
+  still_reads p q h none =
+      elim (cases_Bool (spot_eq y p)) [
+        | inl e ↦ absurd (none (subst (λ (k : Spot). IsAmongReaders (get spot_eq old k) q) (sym (equal_spots_are_same y p e)) h))
+        | inr e ↦ subst (λ (o : Option (Vec Spot Global)). IsAmongReaders o q) (sym (forgets.others p e)) h
+      ]
+
+  -- a place reads no more than it read
+  pub read_already : (p q : Spot) → IsAmongReaders (get spot_eq new p) q → IsAmongReaders (get spot_eq old p) q
+  read_already p q h =
+      elim (cases_Bool (spot_eq y p)) [
+        | inl e ↦ absurd (forgets.gone q (subst (λ (k : Spot). IsAmongReaders (get spot_eq new k) q) (sym (equal_spots_are_same y p e)) h))
+        | inr e ↦ subst (λ (o : Option (Vec Spot Global)). IsAmongReaders o q) (forgets.others p e) h
+      ]
 
 -- ---- duplicates
 -- with x appended, or there already, these are all places up to it

@@ -90,7 +90,7 @@ pub record RegistersReader {R : Type 0} (old new : IndexMap Spot (Vec Spot Globa
   pub there : IsAmongReaders (get spot_eq new z) x
   pub alone : (p q : Spot) → IsAmongReaders (get spot_eq new p) q → IsAmongReaders (get spot_eq old p) q ⊎ ((spot_eq z p ≡ true) × (q ≡ x))
 
--- no place reads the exit y any more; no other reader is lost, and none is added
+-- no place reads the exit y any more, and each other exit has its readers as before
 pub record ForgetsReaders {R : Type 0} (old new : IndexMap Spot (Vec Spot Global) R) (y : Spot) : Type 0 where
-  pub kept : (p q : Spot) → IsAmongReaders (get spot_eq old p) q → (IsAmongReaders (get spot_eq old y) q → ⊥) → IsAmongReaders (get spot_eq new p) q
-  pub alone : (p q : Spot) → IsAmongReaders (get spot_eq new p) q → IsAmongReaders (get spot_eq old p) q
+  pub gone : (q : Spot) → IsAmongReaders (get spot_eq new y) q → ⊥
+  pub others : (p : Spot) → spot_eq y p ≡ false → get spot_eq new p ≡ get spot_eq old p
