@@ -3,6 +3,7 @@ pub mod BootReports
 pub mod CellcertReports
 pub mod CellsReports
 pub mod CommandLaws
+pub mod DistinctNames
 pub mod GenReports
 pub mod LinkLaws
 pub mod ShipReports

@@ -124,9 +124,8 @@ pub(crate) enum Command<'a> {
     },
 }
 
-/// Returns the command that the program's arguments ask for, or `None` if they are no command. No
-/// memory is allocated.
-pub(crate) fn parse_command(words: &[String]) -> Option<Command<'_>>
+/// Returns the command that the program's arguments ask for, or `None` if they are no command.
+pub(crate) fn parse_command(alloc: Global, words: &[String]) -> Option<Command<'_>>
     ensures is { option_map command_of_value result ≡ command (map string_bytes words.now) }
     ensures limits { IfSome result CommandKeepsLimits }
 {
@@ -134,7 +133,7 @@ pub(crate) fn parse_command(words: &[String]) -> Option<Command<'_>>
         Some(command) => Some(command),
         None => match ship_command(words) {
             Some(command) => Some(command),
-            None => match tasks_command(words) {
+            None => match tasks_command(alloc, words) {
                 Some(command) => Some(command),
                 None => fixed_arity_command(words),
             },
@@ -183,7 +182,7 @@ fn ship_command(words: &[String]) -> Option<Command<'_>>
 
 // Returns the command `tasks` or `taskcert` if the program's arguments ask for one: an image, a
 // plan, its tasks, and certificates.
-fn tasks_command(words: &[String]) -> Option<Command<'_>>
+fn tasks_command(alloc: Global, words: &[String]) -> Option<Command<'_>>
     ensures is { option_map command_of_value result
         ≡ tasks_command_of (map string_bytes words.now) }
     ensures limits { IfSome result CommandKeepsLimits }
@@ -197,7 +196,7 @@ fn tasks_command(words: &[String]) -> Option<Command<'_>>
                 certs,
             })
         }
-        [verb, elf, plan, tasks, certs @ ..] if is_taskcert(verb.as_str(), certs) => {
+        [verb, elf, plan, tasks, certs @ ..] if is_taskcert(alloc, verb.as_str(), certs) => {
             Some(Command::Taskcert {
                 elf: elf.as_str(),
                 plan: plan.as_str(),
@@ -263,13 +262,13 @@ fn is_tasks(verb: &str, certs: &[String]) -> bool
 
 // Returns true if the verb of the program's arguments is `taskcert`, and they name 1 to 65,531
 // certificates, all different.
-fn is_taskcert(verb: &str, certs: &[String]) -> bool
+fn is_taskcert(alloc: Global, verb: &str, certs: &[String]) -> bool
     ensures { result ≡ is_taskcert verb.now (map string_bytes certs.now) }
 {
     verb == "taskcert"
         && !certs.is_empty()
         && certs.len() <= MOST_CERTS
-        && are_distinct_names(certs)
+        && are_distinct_names(alloc, certs)
 }
 
 // Returns the command with one argument after its verb: `dis` or `gen`, or `None` for other verbs.

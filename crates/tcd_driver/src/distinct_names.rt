@@ -1,12 +1,41 @@
 // Names that are all different.
-ghost use Rattle.std.specs.Prelude.{◌≡◌, map, string_bytes};
+ghost use Rattle.std.specs.Prelude.{◌≡◌, map, string_bytes, IfOk};
 ghost use Rattle.std.specs.List.{list_any};
 ghost use Rattle.std.specs.Str.{bytes_eq};
 ghost use Rattle.tcd_driver.specs.DistinctNames.{are_distinct_names};
 
-/// Returns true if no name of a file is there twice. Comparing each pair takes no memory, and seven
-/// names at most make sense.
-pub(crate) fn are_distinct_names(names: &[String]) -> bool
+use std::alloc::{AllocError, Global};
+use std::collections::HashMap;
+
+/// Returns true if no name of a file is there twice. If there is no memory for a map of the names,
+/// each pair is compared.
+pub(crate) fn are_distinct_names(alloc: Global, names: &[String]) -> bool
+    ensures { result ≡ are_distinct_names (map string_bytes names.now) }
+{
+    match are_distinct_by_map(alloc, names) {
+        Ok(distinct) => distinct,
+        Err(_) => are_distinct_in_pairs(names),
+    }
+}
+
+// Whether no name is there twice, by a map of the names before each.
+fn are_distinct_by_map(alloc: Global, names: &[String]) -> Result<bool, AllocError>
+    ensures { IfOk result (λ distinct. distinct ≡ are_distinct_names (map string_bytes names.now)) }
+{
+    let mut seen: HashMap<&str, ()> = HashMap::new(alloc);
+    let mut rest = names;
+    while let [name, others @ ..] = rest {
+        let earlier = seen.insert(name.as_str(), ())?;
+        if earlier.is_some() {
+            return Ok(false);
+        }
+        rest = others;
+    }
+    Ok(true)
+}
+
+// Whether no name is there twice, by comparing each pair.
+fn are_distinct_in_pairs(names: &[String]) -> bool
     ensures { result ≡ are_distinct_names (map string_bytes names.now) }
 {
     let mut rest = names;

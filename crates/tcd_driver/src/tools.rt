@@ -11,7 +11,7 @@ use tcd_base::{Files, Sink};
 use tcd_reading::{Status, finish_outcome, print_with_status};
 
 /// Runs the program on its arguments: reads input files, writes output files, prints one text, and
-/// returns the status. Arguments that are no command end it before any memory is allocated.
+/// returns the status. Arguments that are no command are refused even without memory.
 ///
 /// - `check ELF PLAN CERT` prints whether the certificate shows that every run is safe.
 /// - `cert ELF PLAN CERT` makes the best certificate and writes it.
@@ -55,7 +55,7 @@ pub fn tool<F: Files, S: Sink>(
       status = result;
     }) }
 {
-    match parse_command(words) {
+    match parse_command(alloc, words) {
         Some(command) => {
             let outcome = command.outcome(alloc, files);
             finish_outcome(alloc, outcome, files, out)
