@@ -79,3 +79,9 @@ pub record FlowHasDuties (b : Limits) (image : ImageData) (plan : PlanData) (key
   pub told : duties_of_flow plan key s f ≡ duties_of b image plan key p s shape size
   pub entry : f.irq_entry ≡ irq_entry plan key s 0
   pub leaves : f.leave ≡ flow_leave_of shape
+
+-- law of a Flow that has a point's duties: they are those of the instruction that is there
+abbrev pub FlowDutiesAreOfCode : Type 0
+FlowDutiesAreOfCode =
+    (b : Limits) (image : ImageData) (plan : PlanData) (key : Key) (p : ℕ) (s : State) (f : Flow) (i : Shape) (size : ℕ) → FlowHasDuties b image plan key p s f
+    → IsCode image plan p i size → duties_of_flow plan key s f ≡ duties_of b image plan key p s i size

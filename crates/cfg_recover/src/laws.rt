@@ -1,11 +1,13 @@
 // The laws of points, edges, frames, faults and refusals.
 ghost use Rattle.cfg_recover.specs.FirstFaultLaws.{FirstFaultsNameFirstFailures, CertifiedNeedIsOfStart};
 ghost use Rattle.cfg_recover.specs.EdgeAndFrameLaws.{EdgesMatchSteps, FramesFollowAllRuns, HeldFramesDescribeMachine, StepsAreOwedByPoints};
+ghost use Rattle.cfg_recover.specs.FlowDuties.{FlowDutiesAreOfCode};
 ghost use Rattle.cfg_recover.specs.MovesAreOwed.{InterruptsAreOwed, JumpsAreOwed, PointStoresAreInRange, TrapsAreOwed, CallsAreOwed, SystemCallsAreOwed};
 ghost use Rattle.cfg_recover.specs.RefusalLaws.{RefusalsHaveReasons};
 
 /// The laws of moves, for a machine at a point whose state holds the registers. Each step is a duty
-/// of the point: a jump, a call, a system call, an interrupt or a trap. Stores are in range.
+/// of the point: a jump, a call, a system call, an interrupt or a trap. Stores are in range. A Flow
+/// has the duties of the instruction at its point.
 pub fn move_laws()
     ensures moves { JumpsAreOwed }
     ensures traps { TrapsAreOwed }
@@ -13,6 +15,7 @@ pub fn move_laws()
     ensures system_calls { SystemCallsAreOwed }
     ensures interrupts { InterruptsAreOwed }
     ensures stores { PointStoresAreInRange }
+    ensures flow { FlowDutiesAreOfCode }
 {}
 
 /// The laws of edges and frames: what they are at each step of a machine. Held frames describe the
